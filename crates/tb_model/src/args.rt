@@ -1,0 +1,57 @@
+//! The arguments of a task.
+
+ghost use Rattle.std.specs.Prelude.{◌≡◌, IfOk, [], OnOk, OnErr, ◌++◌, ◌∷◌};
+
+use std::alloc::{AllocError, Global};
+use std::marker::Model;
+
+/// The arguments of a task, in the order of its registers.
+#[derive(Drop, Debug)]
+pub struct Args {
+    list: Vec<i64>,
+}
+
+impl Model for Args {
+    ghost use Rattle.std.specs.Prelude.{List, ℤ};
+
+    ghost Value = { List ℤ };
+
+    ghost view = { λ a. a.list.items };
+}
+
+impl Args {
+    /// No arguments. Takes no memory.
+    pub fn new(alloc: Global) -> Args
+        ensures { result ≡ [] }
+    {
+        Args {
+            list: Vec::new(alloc),
+        }
+    }
+
+    /// Adds an argument behind the others.
+    pub fn push(&mut self, value: i64) -> Result<(), AllocError>
+        ensures ok { OnOk result (self.new ≡ self.old ++ value ∷ []) }
+        ensures err { OnErr result (self.new ≡ self.old) }
+    {
+        self.list.push(value)?;
+        Ok(())
+    }
+
+    /// The arguments, in order.
+    pub fn as_slice(&self) -> &[i64]
+        ensures { result.now ≡ self.now }
+    {
+        self.list.as_slice()
+    }
+}
+
+impl Clone for Args {
+    ghost is_clone = { λ a b. b ≡ a };
+
+    fn clone(&self) -> Result<Args, AllocError> {
+        Ok(Args {
+            list: self.list.clone()?,
+        })
+    }
+}

@@ -1,0 +1,59 @@
+//! The items of a depend clause.
+
+ghost use Rattle.std.specs.Prelude.{◌≡◌, IfOk, [], OnOk, OnErr, ◌++◌, ◌∷◌};
+
+use crate::item::Item;
+use std::alloc::{AllocError, Global};
+use std::marker::Model;
+
+/// The items of a depend clause, in the order in which they were written.
+#[derive(Drop, Debug)]
+pub struct Items {
+    list: Vec<Item>,
+}
+
+impl Model for Items {
+    ghost use Rattle.std.specs.Prelude.{List};
+    ghost use Rattle.tb_model.specs.declared.item.Item.{Item};
+
+    ghost Value = { List Item };
+
+    ghost view = { λ a. a.list.items };
+}
+
+impl Items {
+    /// No items. Takes no memory.
+    pub fn new(alloc: Global) -> Items
+        ensures { result ≡ [] }
+    {
+        Items {
+            list: Vec::new(alloc),
+        }
+    }
+
+    /// Adds an item behind the others.
+    pub fn push(&mut self, item: Item) -> Result<(), AllocError>
+        ensures ok { OnOk result (self.new ≡ self.old ++ item ∷ []) }
+        ensures err { OnErr result (self.new ≡ self.old) }
+    {
+        self.list.push(item)?;
+        Ok(())
+    }
+
+    /// The items, in order.
+    pub fn as_slice(&self) -> &[Item]
+        ensures { result.now ≡ self.now }
+    {
+        self.list.as_slice()
+    }
+}
+
+impl Clone for Items {
+    ghost is_clone = { λ a b. b ≡ a };
+
+    fn clone(&self) -> Result<Items, AllocError> {
+        Ok(Items {
+            list: self.list.clone()?,
+        })
+    }
+}

@@ -1,0 +1,215 @@
+//! Names of tasks.
+
+ghost use Rattle.std.specs.Prelude.{◌≡◌, ◌<◌, ◌≤◌, IfOk, IsOk, IsErrOf, OnOk, OnErr, IsFalse, ◌↔◌, [], ◌++◌, length, string_bytes};
+ghost use Rattle.std.specs.Cmp.Rules.{comparing};
+ghost use Rattle.std.specs.Hash as fed;
+ghost use Rattle.std.specs.Ordering.{as_partial_cmp};
+ghost use Rattle.tb_model.specs.Names.{same_name, name_cmp, child, parent, is_child, is_elder, is_within};
+ghost use Rattle.tb_model.specs.Spelling.{name_text, spells_name, spelled_name};
+ghost use Rattle.tb_model.specs.NameLaws.{same_name_equivalence, same_name_partial, name_cmp_total, name_cmp_ties, same_name_feeds, name_cmp_partial};
+
+use crate::name_refusal::NameRefusal;
+use crate::name_text::{append_name, last_part, spells_name};
+use crate::ordinal::ordinal;
+use smallvec::SmallVec;
+use std::alloc::{AllocError, Global};
+use std::cmp::Ordering;
+use std::hash::{Hash, Hasher};
+use std::marker::Model;
+
+/// The name of a task. Contracts see the path from the task up to the root: the root is the empty
+/// list, and the nth child of `t` is `n ∷ t`. The numbers stand in that order.
+#[derive(Drop, Debug)]
+pub struct TaskName {
+    numbers: SmallVec<u32, 6>,
+}
+
+impl Model for TaskName {
+    ghost use Rattle.std.specs.Prelude.{List, ℕ};
+
+    ghost Value = { List ℕ };
+
+    ghost view = { λ a. a.numbers.items };
+
+    ghost use Rattle.tb_model.specs.Names.{AreFromOne};
+
+    ghost invariant = { λ a. AreFromOne a.numbers.items };
+}
+
+impl Clone for TaskName {
+    ghost use Rattle.std.specs.Prelude.{◌≡◌, ◌≤◌, length};
+
+    ghost is_clone = { λ a b. b ≡ a };
+
+    ghost is_infallible = { λ a. length a ≤ 6 };
+
+    fn clone(&self) -> Result<TaskName, AllocError> {
+        let numbers = SmallVec::from_slice(*self.numbers.allocator(), self.numbers.as_slice())?;
+        Ok(TaskName { numbers })
+    }
+}
+
+impl PartialEq for TaskName {
+    ghost eq = { same_name };
+
+    ghost laws = { same_name_partial };
+
+    #[tactic(auto, using(crate::specs::NameLaws::pointwise_same))]
+    fn eq(&self, other: &TaskName) -> bool {
+        self.numbers == other.numbers
+    }
+}
+
+impl Eq for TaskName {
+    ghost laws = { same_name_equivalence };
+}
+
+impl Ord for TaskName {
+    ghost cmp = { name_cmp };
+
+    ghost total = { name_cmp_total };
+
+    ghost matches_partial_cmp = { λ _ _. Prim.search comparing };
+
+    ghost matches_eq = { name_cmp_ties };
+
+    fn cmp(&self, other: &TaskName) -> Ordering {
+        let others = other.numbers.as_slice().iter().rev();
+        self.numbers.as_slice().iter().rev().cmp(others)
+    }
+}
+
+impl PartialOrd for TaskName {
+    ghost partial_cmp = { as_partial_cmp name_cmp };
+
+    ghost laws = { name_cmp_partial };
+
+    fn partial_cmp(&self, other: &TaskName) -> Option<Ordering> {
+        Some(self.cmp(other))
+    }
+}
+
+impl Hash for TaskName {
+    ghost hash_input = { fed.slice fed.u32 };
+
+    ghost respects_eq = { same_name_feeds };
+
+    fn hash<H: Hasher>(&self, state: &mut H) {
+        self.numbers.hash(state);
+    }
+}
+
+impl TaskName {
+    /// The root's name. Takes no memory.
+    pub fn root(alloc: Global) -> TaskName
+        ensures { result ≡ [] }
+    {
+        TaskName {
+            numbers: SmallVec::new(alloc),
+        }
+    }
+
+    /// The name of the nth child. Takes memory only where this has six numbers or more.
+    pub fn child(&self, n: u32) -> Result<TaskName, AllocError>
+        requires { 0 < n }
+        ensures child { IfOk result (λ c. c ≡ child self.now n) }
+        ensures short { length self.now < 6 → IsOk result }
+    {
+        let parent = self.numbers.as_slice();
+        let mut numbers = SmallVec::with_capacity(*self.numbers.allocator(), parent.len() + 1)?;
+        numbers.push_reserved(n);
+        numbers.extend_from_slice(parent)?;
+        Ok(TaskName { numbers })
+    }
+
+    /// The parent's name, which the root alone hasn't. Takes memory only where that has seven
+    /// numbers or more.
+    pub fn parent(&self) -> Result<Option<TaskName>, AllocError>
+        ensures parent { IfOk result (λ p. p ≡ parent self.now) }
+        ensures short { length self.now ≤ 7 → IsOk result }
+    {
+        match self.numbers.as_slice() {
+            [] => Ok(None),
+            [_, parent @ ..] => {
+                let numbers = SmallVec::from_slice(*self.numbers.allocator(), parent)?;
+                Ok(Some(TaskName { numbers }))
+            }
+        }
+    }
+
+    /// Appends the name as text: `0` for the root, `0.1.12` for the twelfth child of its first.
+    pub fn print(&self, text: &mut String) -> Result<(), AllocError>
+        ensures ok { OnOk result (string_bytes text.new ≡ string_bytes text.old ++ name_text self.now) }
+        ensures err { OnErr result (string_bytes text.new ≡ string_bytes text.old) }
+    {
+        let len = text.len();
+        let printed = append_name(text, self.numbers.as_slice());
+        if printed.is_err() {
+            text.truncate(len);
+        }
+        printed
+    }
+
+    /// The name that the text spells. Takes memory only where that has seven numbers or more.
+    pub fn parse(alloc: Global, text: &[u8]) -> Result<TaskName, NameRefusal>
+        ensures name { IfOk result (λ name. name ≡ spelled_name text.now) }
+        ensures text { IfOk result (λ name. name_text name ≡ text.now) }
+        ensures bad { IsErrOf result NameRefusal.BadName ↔ IsFalse (spells_name text.now) }
+        ensures memory { IsErrOf result NameRefusal.Memory → 6 < length (spelled_name text.now) }
+    {
+        if !spells_name(text) {
+            return Err(NameRefusal::BadName);
+        }
+        let mut numbers = SmallVec::new(alloc);
+        let mut rest = text;
+        let mut at = last_part(rest);
+        'parts: while at > 0 {
+            let Some(number) = ordinal(&rest[at..]) else {
+                return Err(NameRefusal::BadName);
+            };
+            numbers.push(number)?;
+            rest = &rest[..at - 1];
+            at = last_part(rest);
+        }
+        Ok(TaskName { numbers })
+    }
+
+    /// The numbers, the task's own first and the one below the root last. The root has none.
+    pub fn numbers(&self) -> &[u32]
+        ensures { result.now ≡ self.now }
+    {
+        self.numbers.as_slice()
+    }
+
+    /// Whether the other is a child of this.
+    #[tactic(auto, using(crate::specs::NameLaws::pointwise_same))]
+    pub fn is_parent_of(&self, other: &TaskName) -> bool
+        ensures { result ≡ is_child self.now other.now }
+    {
+        match other.numbers.as_slice() {
+            [] => false,
+            [_, parent @ ..] => parent == self.numbers.as_slice(),
+        }
+    }
+
+    /// Whether this is the other or a descendant of it.
+    #[tactic(auto, using(crate::proofs::WithinLemmas::short_without))]
+    pub fn is_within(&self, ancestor: &TaskName) -> bool
+        ensures { result ≡ is_within ancestor.now self.now }
+    {
+        let numbers = self.numbers.as_slice();
+        let front = ancestor.numbers.as_slice();
+        numbers.len() >= front.len() && front == &numbers[numbers.len() - front.len()..]
+    }
+
+    /// Whether the two are children of one task, and this one was generated first.
+    #[tactic(auto, using(crate::specs::NameLaws::pointwise_same))]
+    pub fn is_elder_of(&self, other: &TaskName) -> bool
+        ensures { result ≡ is_elder self.now other.now }
+    {
+        match (self.numbers.as_slice(), other.numbers.as_slice()) {
+            ([m, parent @ ..], [n, others @ ..]) => *m < *n && parent == others,
+            _ => false,
+        }
+    }
+}

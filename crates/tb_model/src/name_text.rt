@@ -1,0 +1,59 @@
+//! Names as bytes: how they are written, and how bytes fall into numbers.
+
+ghost use Rattle.std.specs.Prelude.{◌≡◌, ◌++◌, OnOk, string_bytes};
+ghost use Rattle.tb_model.specs.Spelling.{name_text, spells_name, is_zero, IsLastPart};
+ghost use Rattle.tb_model.specs.Texts.{Begins};
+
+use crate::ordinal::ordinal;
+use itoa::Buffer;
+use std::alloc::AllocError;
+
+/// Appends the name with these numbers, the task's own first. Some of it may stand where memory
+/// runs out.
+pub(crate) fn append_name(text: &mut String, numbers: &[u32]) -> Result<(), AllocError>
+    ensures ok { OnOk result (string_bytes text.new ≡ string_bytes text.old ++ name_text numbers.now) }
+    ensures begins { Begins (string_bytes text.old) (string_bytes text.new) }
+{
+    text.push_str("0")?;
+    let mut at = numbers.len();
+    'levels: while at > 0 {
+        at -= 1;
+        text.push_str(".")?;
+        text.push_str(Buffer::new().format(numbers[at]))?;
+    }
+    Ok(())
+}
+
+/// Where the part behind the last dot begins.
+pub(crate) fn last_part(text: &[u8]) -> usize
+    ensures { IsLastPart text.now result }
+{
+    let mut at = text.len();
+    'bytes: while at > 0 && text[at - 1] != b'.' {
+        at -= 1;
+    }
+    at
+}
+
+/// Whether the text spells a name.
+pub(crate) fn spells_name(text: &[u8]) -> bool
+    ensures { result ≡ spells_name text.now }
+{
+    let mut rest = text;
+    let mut at = last_part(rest);
+    'parts: while at > 0 {
+        match ordinal(&rest[at..]) {
+            None => return false,
+            Some(_) => {}
+        }
+        rest = &rest[..at - 1];
+        at = last_part(rest);
+    }
+    is_zero(rest)
+}
+
+fn is_zero(part: &[u8]) -> bool
+    ensures { result ≡ is_zero part.now }
+{
+    matches!(part, [b'0'])
+}
