@@ -1,0 +1,255 @@
+//! What no clause says: that the calls succeed, and lines from outside.
+
+use crate::write_step;
+use std::cmp::Ordering;
+use std::hash::{DefaultHasher, Hash, Hasher};
+use std::process::Abort;
+use tb_model::{Action, Args, Item, Items, Kind, NameRefusal, Place, StepId, TaskName};
+
+fn name(rt: &(impl Abort + AllocGlobal), text: &str) -> TaskName {
+    TaskName::parse(rt.alloc(), text.as_bytes()).expect(rt, "a name")
+}
+
+fn printed(rt: &(impl Abort + AllocGlobal), name: &TaskName) -> String {
+    let mut text = String::new(rt.alloc());
+    name.print(&mut text).expect(rt, "memory is there");
+    text
+}
+
+#[test]
+fn names_are_read_as_they_are_printed(rt: HostRuntime) {
+    let spelled = ["0", "0.1", "0.1.12", "0.1000000", "0.1.2.3.4.5.6.7.8.9.10"];
+    for text in spelled {
+        assert_eq!(rt; printed(&rt, &name(&rt, text)).as_str(), text);
+    }
+    let wrong = [
+        "",
+        "1",
+        "00",
+        "0.",
+        ".0",
+        "0..1",
+        "0.0",
+        "0.01",
+        "0.1000001",
+        "0.+1",
+        "0.-1",
+        "0#1",
+        "0.4294967297",
+        "0.99999999999999999999",
+        "0 ",
+        "0.a",
+        "0.1.",
+    ];
+    for text in wrong {
+        let refusal = TaskName::parse(rt.alloc(), text.as_bytes()).expect_err(&rt, text);
+        assert_eq!(rt; refusal, NameRefusal::BadName);
+        assert_eq!(rt; refusal.number(), 1);
+    }
+    assert_eq!(rt; NameRefusal::Memory.number(), 0);
+}
+
+#[test]
+fn steps_are_read_as_they_are_printed(rt: HostRuntime) {
+    for text in ["0#1", "0.3#1000000", "0.1.12#7"] {
+        let id = StepId::parse(rt.alloc(), text.as_bytes()).expect(&rt, text);
+        let mut out = String::new(rt.alloc());
+        id.print(&mut out).expect(&rt, "memory is there");
+        assert_eq!(rt; out.as_str(), text);
+    }
+    for text in [
+        "0",
+        "0#",
+        "#1",
+        "0#0",
+        "0#01",
+        "0#1000001",
+        "0#1#1",
+        "0.0#1",
+        "0# 1",
+    ] {
+        let refusal = StepId::parse(rt.alloc(), text.as_bytes()).expect_err(&rt, text);
+        assert_eq!(rt; refusal, NameRefusal::BadName);
+    }
+}
+
+#[test]
+fn names_stand_in_order(rt: HostRuntime) {
+    let order = [
+        "0", "0.1", "0.1.1", "0.1.2", "0.1.10", "0.2", "0.10", "0.10.1",
+    ];
+    for (i, left) in order.iter().enumerate() {
+        for (j, right) in order.iter().enumerate() {
+            let (a, b) = (name(&rt, *left), name(&rt, *right));
+            assert_eq!(rt; a.cmp(&b), i.cmp(&j));
+            assert_eq!(rt; a == b, i == j);
+            assert_eq!(rt; a < b, i < j);
+        }
+    }
+}
+
+#[test]
+fn relatives_of_a_name(rt: HostRuntime) {
+    let child = name(&rt, "0.1.12");
+    let parent = child.parent().expect(&rt, "memory").expect(&rt, "a parent");
+    assert_eq!(rt; printed(&rt, &parent).as_str(), "0.1");
+    assert!(rt; parent.is_parent_of(&child) && !child.is_parent_of(&parent));
+    assert!(rt; name(&rt, "0.1.3").is_elder_of(&child) && !name(&rt, "0.2").is_elder_of(&child));
+    assert!(rt; child.is_within(&parent) && child.is_within(&child) && !parent.is_within(&child));
+    assert!(rt; !child.is_within(&name(&rt, "0.12")));
+    let root = TaskName::root(rt.alloc());
+    assert!(rt; root.parent().expect(&rt, "memory").is_none());
+    let mut deep = root;
+    for n in 1..12u32 {
+        deep = deep.child(n).expect(&rt, "memory is there");
+    }
+    assert_eq!(rt; printed(&rt, &deep).as_str(), "0.1.2.3.4.5.6.7.8.9.10.11");
+    assert_eq!(rt; deep.numbers().len(), 11);
+    let again = deep.clone().expect(&rt, "memory is there");
+    let (mut one, mut two) = (DefaultHasher::new(), DefaultHasher::new());
+    deep.hash(&mut one);
+    again.hash(&mut two);
+    assert_eq!(rt; one.finish(), two.finish());
+}
+
+fn line(rt: &(impl Abort + AllocGlobal), id: &str, action: Action) -> String {
+    let id = StepId::parse(rt.alloc(), id.as_bytes()).expect(rt, "a step");
+    let mut text = String::new(rt.alloc());
+    write_step(&mut text, "t", &id.task, id.k, &action).expect(rt, "memory is there");
+    text
+}
+
+fn spawn(
+    rt: &(impl Abort + AllocGlobal),
+    child: &str,
+    numbers: &[i64],
+    used: &[Item],
+    deferred: bool,
+) -> Action {
+    let mut args = Args::new(rt.alloc());
+    for number in numbers {
+        args.push(*number).expect(rt, "memory is there");
+    }
+    Action::Spawn {
+        child: name(rt, child),
+        body: 7,
+        args,
+        items: items(rt, used),
+        deferred,
+    }
+}
+
+fn items(rt: &(impl Abort + AllocGlobal), used: &[Item]) -> Items {
+    let mut items = Items::new(rt.alloc());
+    for item in used {
+        items.push(*item).expect(rt, "memory is there");
+    }
+    items
+}
+
+fn item(kind: Kind, cell: u32) -> Item {
+    Item {
+        kind,
+        place: Place::Cell(cell),
+    }
+}
+
+#[test]
+fn lines_of_steps(rt: HostRuntime) {
+    let all = Item {
+        kind: Kind::Inout,
+        place: Place::All,
+    };
+    let two = [item(Kind::Mutexinoutset, 0), item(Kind::Inoutset, 65535)];
+    let shown = [
+        (line(&rt, "0#1", Action::Start), "0#1 start"),
+        (
+            line(
+                &rt,
+                "0#2",
+                Action::Let {
+                    reg: 0,
+                    value: i64::MIN,
+                },
+            ),
+            "0#2 let r0 -9223372036854775808",
+        ),
+        (
+            line(
+                &rt,
+                "0.1#2",
+                Action::Load {
+                    reg: 15,
+                    cell: 0,
+                    value: 5,
+                },
+            ),
+            "0.1#2 load r15 0 5",
+        ),
+        (
+            line(
+                &rt,
+                "0#2",
+                Action::Store {
+                    cell: 65535,
+                    value: 1,
+                },
+            ),
+            "0#2 store 65535 1",
+        ),
+        (line(&rt, "0#3", Action::Print { value: 7 }), "0#3 print 7"),
+        (
+            line(
+                &rt,
+                "0#2",
+                spawn(&rt, "0.1", &[], &[item(Kind::In, 0)], true),
+            ),
+            "0#2 spawn 0.1 t depend in 0",
+        ),
+        (
+            line(
+                &rt,
+                "0#4",
+                spawn(&rt, "0.3", &[], &[item(Kind::Out, 0)], true),
+            ),
+            "0#4 spawn 0.3 t depend out 0",
+        ),
+        (
+            line(&rt, "0#2", spawn(&rt, "0.1", &[1, -2], &two, true)),
+            "0#2 spawn 0.1 t 1 -2 depend mutexinoutset 0 depend inoutset 65535",
+        ),
+        (
+            line(&rt, "0#2", spawn(&rt, "0.1", &[], &[all], false)),
+            "0#2 spawn 0.1 t depend inout all undeferred",
+        ),
+        (
+            line(
+                &rt,
+                "0#3",
+                Action::Wait {
+                    items: items(&rt, &[]),
+                },
+            ),
+            "0#3 wait",
+        ),
+        (
+            line(
+                &rt,
+                "0#3",
+                Action::Wait {
+                    items: items(&rt, &[item(Kind::Out, 3)]),
+                },
+            ),
+            "0#3 wait depend out 3",
+        ),
+        (line(&rt, "0#4", Action::Open), "0#4 open"),
+        (line(&rt, "0#6", Action::Close), "0#6 close"),
+        (line(&rt, "0#2", Action::Test { yes: true }), "0#2 test yes"),
+        (line(&rt, "0#2", Action::Test { yes: false }), "0#2 test no"),
+        (line(&rt, "0.2.1#2", Action::End), "0.2.1#2 end"),
+        (line(&rt, "0#3", Action::Fault), "0#3 fault"),
+    ];
+    for (text, expected) in &shown {
+        assert_eq!(rt; text.as_str(), *expected);
+    }
+}
