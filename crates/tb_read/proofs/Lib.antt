@@ -1,0 +1,9 @@
+pub mod PieceLemmas
+pub mod NumberLemmas
+pub mod HeadingLemmas
+pub mod ListLemmas
+pub mod NestingLemmas
+pub mod WellFormedLemmas
+pub mod FollowLemmas
+pub mod ReadLemmas
+pub mod ProgramLemmas

@@ -1,0 +1,13 @@
+pub mod Fault
+pub mod Statements
+pub mod Plans
+pub mod Text
+pub mod Word
+pub mod Grammar
+pub mod Headings
+pub mod Bodies
+pub mod Context
+pub mod Reading
+pub mod Meaning
+pub mod Shown
+pub mod Followed

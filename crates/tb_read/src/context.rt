@@ -1,0 +1,370 @@
+//! What the lines in front of a line tell, and the fault of a line behind them.
+
+ghost use Rattle.std.specs.Prelude.{◌≡◌, ◌++◌, ◌∷◌, [], ◌<◌, ◌≤◌, ◌==◌, drop, length, map, reverse, slice_get, Some, IfOk, OnOk};
+ghost use Rattle.tb_read.specs.Context.{number_at, is_below, is_above, is_some_number, cell_at, was_given, is_outside, was_headed, is_negative, bad_number, arity, no_cells, cell_range, is_open, nesting, duplicate, too_large, is_second_cells, fault_behind, fault_of, last_fault, after, start, blank_cells, with_cell};
+ghost use Rattle.tb_read.specs.declared.context.Block.TheVariants.{Bodied};
+ghost use Rattle.tb_read.specs.Bodies.{named};
+ghost use Rattle.tb_read.specs.Headings.{heading_of};
+
+use crate::body::Body;
+use crate::fault::FaultKind;
+use crate::grammar::{Head, head_of, is_miscounted, is_misplaced};
+use crate::heading::{Heading, Headings};
+use crate::word::{number, same_word, word_at};
+use std::alloc::{AllocError, Global};
+use std::marker::Model;
+
+/// An open block.
+#[derive(Clone, Copy, Debug, Drop, PartialEq, Eq)]
+pub enum Block {
+    Bodied,
+}
+
+/// What the lines so far tell: whether one had words, the number that a line gave each cell, the
+/// bodies, and the open blocks, the innermost last.
+#[derive(Drop)]
+pub struct Lines {
+    begun: bool,
+    cells: Vec<Option<i64>>,
+    bodies: Vec<Body>,
+    blocks: Vec<Block>,
+}
+
+impl Model for Lines {
+    ghost use Rattle.std.specs.Prelude.{◌≤◌, length, map, reverse};
+    ghost use Rattle.tb_read.specs.Context.{Context};
+    ghost use Rattle.tb_read.specs.Bodies.{named};
+
+    ghost Value = { Context };
+
+    ghost view = { λ l. record { begun = l.begun; cells = l.cells.items; bodies = map named l.bodies.items; open_blocks = reverse l.blocks.items } };
+
+    ghost invariant = { λ l. length l.cells.items ≤ 65536 };
+}
+
+fn number_at(words: &[&[u8]], at: usize) -> Option<i64>
+    ensures { result ≡ number_at (map (λ word. word.now) words.now) at }
+{
+    number(word_at(words, at))
+}
+
+fn is_below(found: Option<i64>, least: i64) -> bool
+    ensures { result ≡ is_below found least }
+{
+    match found {
+        Some(x) => x < least,
+        None => false,
+    }
+}
+
+fn is_above(found: Option<i64>, most: i64) -> bool
+    ensures { result ≡ is_above found most }
+{
+    match found {
+        Some(x) => most < x,
+        None => false,
+    }
+}
+
+fn is_some_number(found: Option<i64>) -> bool
+    ensures { result ≡ is_some_number found }
+{
+    match found {
+        Some(x) => x != 0,
+        None => false,
+    }
+}
+
+/// What a line gave a cell, where there is such a cell.
+fn cell_at(cells: &[Option<i64>], found: Option<i64>) -> Option<Option<i64>>
+    ensures { result ≡ cell_at cells.now found }
+{
+    match found {
+        Some(x) => match usize::try_from(x) {
+            Ok(at) => cells.get(at).copied(),
+            Err(_) => None,
+        },
+        None => None,
+    }
+}
+
+fn was_headed(line: usize, heading: Option<Heading>) -> bool
+    ensures { result ≡ was_headed line heading }
+{
+    match heading {
+        Some(heading) => heading.line < line,
+        None => false,
+    }
+}
+
+fn is_negative(head: Head, words: &[&[u8]]) -> bool
+    ensures { result ≡ is_negative head (map (λ word. word.now) words.now) }
+{
+    match head {
+        Head::Cells => is_below(number_at(words, 0), 0),
+        Head::Body => is_below(number_at(words, 1), 0),
+        _ => false,
+    }
+}
+
+fn bad_number(head: Head, words: &[&[u8]]) -> bool
+    ensures { result ≡ bad_number head (map (λ word. word.now) words.now) }
+{
+    is_misplaced(FaultKind::BadNumber, head, words) || is_negative(head, words)
+}
+
+fn arity(head: Head, words: &[&[u8]]) -> bool
+    ensures { result ≡ arity head (map (λ word. word.now) words.now) }
+{
+    is_miscounted(head, words.len())
+        || match head {
+            Head::Body => same_word(word_at(words, 0), b"main")
+                && is_some_number(number_at(words, 1)),
+            _ => false,
+        }
+}
+
+/// So many cells, none of which was given a number.
+fn blank_cells(alloc: Global, found: Option<i64>) -> Result<Vec<Option<i64>>, AllocError>
+    ensures cells { IfOk result (λ cells. cells.items ≡ blank_cells found) }
+    ensures few { IfOk result (λ cells. length cells.items ≤ 65536) }
+{
+    match found {
+        Some(x) => match usize::try_from(x) {
+            Ok(count) => vec![in alloc; None; count.min(65536)],
+            Err(_) => Ok(Vec::new(alloc)),
+        },
+        None => Ok(Vec::new(alloc)),
+    }
+}
+
+/// Gives a cell its first number.
+fn give(cells: &mut Vec<Option<i64>>, found: Option<i64>, first: Option<i64>)
+    ensures cells { cells.new.items ≡ with_cell cells.old.items found first }
+    ensures count { length cells.new.items ≡ length cells.old.items }
+{
+    if let Some(x) = found {
+        if let Ok(at) = usize::try_from(x) {
+            if at < cells.len() {
+                cells[at] = first;
+            }
+        }
+    }
+}
+
+/// Adds one at the end of a stack.
+fn put<T: Copy>(stack: &mut Vec<T>, item: T) -> Result<(), AllocError>
+    ensures { OnOk result (reverse stack.new.items ≡ item ∷ reverse stack.old.items) }
+{
+    Ok(stack.push(item)?)
+}
+
+/// Takes the last one of a stack away, if there is one.
+fn cut<T: Copy>(stack: &mut Vec<T>)
+    ensures { reverse stack.new.items ≡ drop 1 (reverse stack.old.items) }
+{
+    let _ = stack.pop();
+}
+
+impl Lines {
+    /// In front of the first line. Takes no memory.
+    pub fn new(alloc: Global) -> Lines
+        ensures { result ≡ start }
+    {
+        Lines {
+            begun: false,
+            cells: Vec::new(alloc),
+            bodies: Vec::new(alloc),
+            blocks: Vec::new(alloc),
+        }
+    }
+
+    /// The cells and the bodies.
+    pub fn into_parts(self) -> (Vec<Option<i64>>, Vec<Body>)
+        ensures cells { result.0.items ≡ self.cells }
+        ensures bodies { map named result.1.items ≡ self.bodies }
+        ensures few { length result.0.items ≤ 65536 }
+    {
+        (self.cells, self.bodies)
+    }
+
+    fn is_open(&self) -> bool
+        ensures { result ≡ is_open self.now }
+    {
+        !self.blocks.is_empty()
+    }
+
+    /// The innermost open block.
+    pub fn innermost(&self) -> Option<Block>
+        ensures { result ≡ slice_get self.now.open_blocks 0 }
+    {
+        self.blocks.last().copied()
+    }
+
+    fn no_cells(&self, head: Head) -> bool
+        ensures { result ≡ no_cells self.now head }
+    {
+        match head {
+            Head::Cells => false,
+            _ => !self.begun,
+        }
+    }
+
+    fn cell_range(&self, head: Head, words: &[&[u8]]) -> bool
+        ensures { result ≡ cell_range self.now head (map (λ word. word.now) words.now) }
+    {
+        match head {
+            Head::Cell => {
+                let cell = number_at(words, 0);
+                cell.is_some() && cell_at(&self.cells, cell).is_none()
+            }
+            _ => false,
+        }
+    }
+
+    fn nesting(&self, head: Head) -> bool
+        ensures { result ≡ nesting self.now head }
+    {
+        match head {
+            Head::Cells => self.begun,
+            Head::Cell => self.is_open() || !self.bodies.is_empty(),
+            Head::Body => self.is_open(),
+            _ => !self.is_open(),
+        }
+    }
+
+    fn duplicate(&self, line: usize, headings: &Headings<'_>, head: Head, words: &[&[u8]]) -> bool
+        ensures { result ≡ duplicate (record { line = line; heading = heading_of headings.now }) self.now head (map (λ word. word.now) words.now) }
+    {
+        match head {
+            Head::Cell => match cell_at(&self.cells, number_at(words, 0)) {
+                Some(Some(_)) => true,
+                _ => false,
+            },
+            Head::Body => was_headed(line, headings.get(word_at(words, 0))),
+            _ => false,
+        }
+    }
+
+    fn too_large(&self, head: Head, words: &[&[u8]]) -> bool
+        ensures { result ≡ too_large self.now head (map (λ word. word.now) words.now) }
+    {
+        match head {
+            Head::Cells => is_above(number_at(words, 0), 65536),
+            Head::Body => is_above(number_at(words, 1), 16) || 1024 <= self.bodies.len(),
+            _ => false,
+        }
+    }
+
+    fn is_second_cells(&self, head: Head) -> bool
+        ensures { result ≡ is_second_cells self.now head }
+    {
+        match head {
+            Head::Cells => self.begun && !self.is_open(),
+            _ => false,
+        }
+    }
+
+    /// The first fault of a line with a known first word, by the order of the numbers.
+    fn fault_behind(
+        &self,
+        line: usize,
+        headings: &Headings<'_>,
+        head: Head,
+        words: &[&[u8]],
+    ) -> Option<FaultKind>
+        ensures { result ≡ fault_behind (record { line = line; heading = heading_of headings.now }) self.now (Some head) (map (λ word. word.now) words.now) }
+    {
+        if self.is_second_cells(head) {
+            Some(FaultKind::Duplicate)
+        } else if self.no_cells(head) {
+            Some(FaultKind::NoCells)
+        } else if bad_number(head, words) {
+            Some(FaultKind::BadNumber)
+        } else if self.cell_range(head, words) {
+            Some(FaultKind::CellRange)
+        } else if is_misplaced(FaultKind::UnknownWord, head, words) {
+            Some(FaultKind::UnknownWord)
+        } else if arity(head, words) {
+            Some(FaultKind::Arity)
+        } else if self.nesting(head) {
+            Some(FaultKind::Nesting)
+        } else if self.duplicate(line, headings, head, words) {
+            Some(FaultKind::Duplicate)
+        } else if is_misplaced(FaultKind::Register, head, words) {
+            Some(FaultKind::Register)
+        } else if self.too_large(head, words) {
+            Some(FaultKind::TooLarge)
+        } else {
+            None
+        }
+    }
+
+    /// The fault of a line with these words, behind those so far.
+    pub fn fault(&self, line: usize, headings: &Headings<'_>, words: &[&[u8]]) -> Option<FaultKind>
+        ensures { result ≡ fault_of (record { line = line; heading = heading_of headings.now }) self.now (map (λ word. word.now) words.now) }
+    {
+        match words {
+            [] => None,
+            [first, rest @ ..] => match head_of(first) {
+                Some(head) => self.fault_behind(line, headings, head, rest),
+                None => Some(if self.begun {
+                    FaultKind::UnknownWord
+                } else {
+                    FaultKind::NoCells
+                }),
+            },
+        }
+    }
+
+    /// The fault of a text all of whose lines were accepted.
+    pub fn last_fault(&self, line: usize, headings: &Headings<'_>) -> Option<FaultKind>
+        ensures { result ≡ last_fault (record { line = line; heading = heading_of headings.now }) self.now }
+    {
+        if !self.begun {
+            Some(FaultKind::NoCells)
+        } else if self.is_open() {
+            Some(FaultKind::Nesting)
+        } else if headings.get(b"main").is_some() {
+            None
+        } else {
+            Some(FaultKind::NoMain)
+        }
+    }
+
+    /// Takes a line with these words in. An `Err` may have taken a part of it.
+    pub fn accept(&mut self, alloc: Global, line: u32, words: &[&[u8]]) -> Result<(), AllocError>
+        ensures { OnOk result (self.new ≡ after line self.old (map (λ word. word.now) words.now)) }
+    {
+        match words {
+            [] => Ok(()),
+            [first, rest @ ..] => {
+                self.begun = true;
+                match head_of(first) {
+                    Some(Head::Cells) => {
+                        self.cells = blank_cells(alloc, number_at(rest, 0))?;
+                        Ok(())
+                    }
+                    Some(Head::Cell) => {
+                        give(&mut self.cells, number_at(rest, 0), number_at(rest, 1));
+                        Ok(())
+                    }
+                    Some(Head::Body) => self.begin_body(alloc, line, word_at(rest, 0)),
+                    Some(Head::End) => {
+                        cut(&mut self.blocks);
+                        Ok(())
+                    }
+                    _ => Ok(()),
+                }
+            }
+        }
+    }
+
+    fn begin_body(&mut self, alloc: Global, line: u32, name: &[u8]) -> Result<(), AllocError>
+        ensures { OnOk result (self.new ≡ record self.old { bodies = self.old.bodies ++ (record { name = name.now; line = line }) ∷ []; open_blocks = Bodied ∷ self.old.open_blocks }) }
+    {
+        let name = Vec::from_slice(alloc, name)?;
+        self.bodies.push(Body { name, line })?;
+        put(&mut self.blocks, Block::Bodied)
+    }
+}

@@ -1,0 +1,38 @@
+//! One statement of a program, with what is needed to take it.
+
+ghost use Rattle.std.specs.Prelude.{IsTrue};
+ghost use Rattle.tb_read.specs.Statements.{is_sound, is_known};
+
+use std::alloc::AllocError;
+use tb_model::Statement;
+
+/// The statement at a line, the lines that follow (`otherwise` behind a test that says no), and the
+/// number of cells of the program.
+#[derive(Debug, Drop)]
+pub struct Instr {
+    pub line: u32,
+    pub statement: Statement,
+    pub next: u32,
+    pub otherwise: u32,
+    pub cells: u32,
+    /// Its registers are 0 to 15, and it has at most 16 arguments.
+    pub ghost sound: { IsTrue (is_sound statement) },
+    /// Its word is one of those that the notation has so far.
+    pub ghost known: { IsTrue (is_known statement) },
+}
+
+impl Clone for Instr {
+    ghost use Rattle.std.specs.Prelude.{◌≡◌};
+
+    ghost is_clone = { λ a b. b ≡ a };
+
+    fn clone(&self) -> Result<Instr, AllocError> {
+        Ok(Instr {
+            line: self.line,
+            statement: self.statement.clone()?,
+            next: self.next,
+            otherwise: self.otherwise,
+            cells: self.cells,
+        })
+    }
+}

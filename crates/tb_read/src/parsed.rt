@@ -1,0 +1,14 @@
+//! A statement of a text.
+
+ghost use Rattle.std.specs.Prelude.{IsTrue};
+ghost use Rattle.tb_read.specs.Statements.{is_known, is_sound};
+
+use tb_model::Statement;
+
+/// A statement as a line has it.
+#[derive(Debug, Drop)]
+pub struct Parsed {
+    pub statement: Statement,
+    pub ghost sound: { IsTrue (is_sound statement) },
+    pub ghost known: { IsTrue (is_known statement) },
+}

@@ -1,0 +1,101 @@
+//! How a text falls into lines, and a line into words.
+
+ghost use Rattle.std.specs.Prelude.{◌≡◌, ◌<◌, ◌≤◌, length, IfOk, map, drop, suc};
+ghost use Rattle.std.specs.List.{position_or_len};
+ghost use Rattle.tb_read.specs.Text.{is_blank, is_line_feed, numbered, words_of, line_words, before_comment, is_text};
+
+use std::alloc::{AllocError, Global};
+
+fn is_blank(b: u8) -> bool
+    ensures { result ≡ is_blank b }
+{
+    b == b'\t' || b == b'\r' || b == b' '
+}
+
+/// How many bytes lie in front of the first line feed.
+fn line_len(bytes: &[u8]) -> usize
+    ensures len { result ≡ position_or_len is_line_feed bytes.now }
+    ensures within { result ≤ length bytes.now }
+{
+    bytes.iter().take_while(|b| **b != b'\n').count()
+}
+
+/// How many bytes lie in front of the first blank.
+fn word_len(bytes: &[u8]) -> usize
+    ensures len { result ≡ position_or_len is_blank bytes.now }
+    ensures within { result ≤ length bytes.now }
+{
+    bytes.iter().take_while(|b| !is_blank(**b)).count()
+}
+
+/// The bytes behind a place.
+fn behind(bytes: &[u8], at: usize) -> &[u8]
+    ensures { result.now ≡ drop (suc at) bytes.now }
+{
+    if at < bytes.len() {
+        &bytes[at + 1..]
+    } else {
+        &[]
+    }
+}
+
+/// The lines of a text by their numbers, without their line feeds. Place 0 has an empty one.
+pub fn numbered(alloc: Global, text: &[u8]) -> Result<Vec<&[u8]>, AllocError>
+    ensures { IfOk result (λ lines. map (λ line. line.now) lines.items ≡ numbered text.now) }
+{
+    let mut lines = Vec::new(alloc);
+    let mut rest = text;
+    lines.push(&rest[..0])?;
+    while !rest.is_empty() {
+        let at = line_len(rest);
+        lines.push(&rest[..at])?;
+        rest = behind(rest, at);
+    }
+    Ok(lines)
+}
+
+/// The bytes in front of the comment.
+pub fn before_comment(line: &[u8]) -> &[u8]
+    ensures { result.now ≡ before_comment line.now }
+{
+    let mut starts = true;
+    for (at, b) in line.iter().enumerate() {
+        if starts && *b == b'#' {
+            return &line[..at];
+        }
+        starts = is_blank(*b);
+    }
+    line
+}
+
+/// The words of a line that has no comment.
+pub fn words_of(alloc: Global, line: &[u8]) -> Result<Vec<&[u8]>, AllocError>
+    ensures { IfOk result (λ words. map (λ word. word.now) words.items ≡ words_of line.now) }
+{
+    let mut words = Vec::new(alloc);
+    let mut rest = line;
+    while !rest.is_empty() {
+        let at = word_len(rest);
+        if at > 0 {
+            words.push(&rest[..at])?;
+        }
+        rest = behind(rest, at);
+    }
+    Ok(words)
+}
+
+/// Whether each byte is of a text.
+pub fn is_text(bytes: &[u8]) -> bool
+    ensures { result ≡ is_text bytes.now }
+{
+    bytes
+        .iter()
+        .all(|b| is_blank(*b) || (32 <= *b && *b <= 126))
+}
+
+/// The words of a line, without its comment.
+pub fn line_words(alloc: Global, line: &[u8]) -> Result<Vec<&[u8]>, AllocError>
+    ensures { IfOk result (λ words. map (λ word. word.now) words.items ≡ line_words line.now) }
+{
+    words_of(alloc, before_comment(line))
+}

@@ -1,0 +1,125 @@
+//! What a word is.
+
+ghost use Rattle.std.specs.Prelude.{◌≡◌, ◌<◌, nat_lt, length, map, slice_index, ◌&&◌, ◌==◌, IfSome, IsTrue};
+ghost use Rattle.std.specs.List.{list_all};
+ghost use Rattle.std.specs.Char.{is_ascii_digit};
+ghost use Rattle.tb_read.specs.Statements.{is_sound_operand};
+ghost use Rattle.tb_read.specs.Word.{same_word, word_at, is_numeral, number_of, register_of, operand_of, operator_of, resembles_register, is_name, begins_name, continues_name};
+
+use tb_model::{Operand, Operator};
+
+/// Whether two words are the same bytes.
+pub fn same_word(a: &[u8], b: &[u8]) -> bool
+    ensures { result ≡ same_word a.now b.now }
+{
+    a == b
+}
+
+/// The word at a place, an empty one where there is none.
+pub fn word_at<'a>(words: &[&'a [u8]], at: usize) -> &'a [u8]
+    ensures { result.now ≡ word_at (map (λ word. word.now) words.now) at }
+{
+    if at < words.len() { words[at] } else { &[] }
+}
+
+fn are_digits(bytes: &[u8]) -> bool
+    ensures { result ≡ list_all is_ascii_digit bytes.now }
+{
+    bytes.iter().all(|b| b.is_ascii_digit())
+}
+
+fn is_numeral(digits: &[u8]) -> bool
+    ensures { result ≡ is_numeral digits.now }
+{
+    !digits.is_empty() && are_digits(digits)
+}
+
+fn begins_with(word: &[u8], b: u8) -> bool
+    ensures { result ≡ (nat_lt 0 (length word.now) && (slice_index word.now 0 == b)) }
+{
+    !word.is_empty() && word[0] == b
+}
+
+/// The number that the word is.
+pub fn number(word: &[u8]) -> Option<i64>
+    ensures { result ≡ number_of word.now }
+{
+    match str::from_utf8(word) {
+        Ok(text) => if begins_with(word, b'+') {
+            None
+        } else {
+            text.parse::<i64>().ok()
+        },
+        Err(_) => None,
+    }
+}
+
+/// The register that the word is.
+pub fn register(word: &[u8]) -> Option<u8>
+    ensures register { result ≡ register_of word.now }
+    ensures within { IfSome result (λ r. r < 16) }
+{
+    match word {
+        [b'r', d] if d.is_ascii_digit() => Some(*d - b'0'),
+        [b'r', b'1', d] if b'0' <= *d && *d <= b'5' => Some(10 + (*d - b'0')),
+        _ => None,
+    }
+}
+
+/// The number or the register that the word is.
+pub fn operand(word: &[u8]) -> Option<Operand>
+    ensures operand { result ≡ operand_of word.now }
+    ensures sound { IfSome result (λ o. IsTrue (is_sound_operand o)) }
+{
+    match number(word) {
+        Some(x) => Some(Operand::Number(x)),
+        None => match register(word) {
+            Some(reg) => Some(Operand::Register(reg)),
+            None => None,
+        },
+    }
+}
+
+/// The operator that the word is.
+pub fn operator(word: &[u8]) -> Option<Operator>
+    ensures { result ≡ operator_of word.now }
+{
+    if same_word(word, b"+") {
+        Some(Operator::Plus)
+    } else if same_word(word, b"-") {
+        Some(Operator::Minus)
+    } else if same_word(word, b"*") {
+        Some(Operator::Times)
+    } else {
+        None
+    }
+}
+
+/// Whether the word is `r` with digits after it.
+pub fn resembles_register(word: &[u8]) -> bool
+    ensures { result ≡ resembles_register word.now }
+{
+    match word {
+        [b'r', digits @ ..] => is_numeral(digits),
+        _ => false,
+    }
+}
+
+fn begins_name(b: u8) -> bool
+    ensures { result ≡ begins_name b }
+{
+    b.is_ascii_alphabetic() || b == b'_'
+}
+
+fn continue_name(bytes: &[u8]) -> bool
+    ensures { result ≡ list_all continues_name bytes.now }
+{
+    bytes.iter().all(|b| begins_name(*b) || b.is_ascii_digit())
+}
+
+/// Whether the word can name a body.
+pub fn is_name(word: &[u8]) -> bool
+    ensures { result ≡ is_name word.now }
+{
+    !word.is_empty() && word.len() <= 32 && begins_name(word[0]) && continue_name(word)
+}
