@@ -1,0 +1,6 @@
+pub mod Refusals
+pub mod Seen
+pub mod Situation
+pub mod Changes
+pub mod Outcomes
+pub mod Soundness
