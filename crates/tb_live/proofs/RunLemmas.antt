@@ -1,0 +1,231 @@
+-- A Live's journal and run behind a move.
+use Rattle.std.proofs.Common.{◌≡◌, ◌<◌, ◌≤◌, ◌+◌, ℕ, zero, suc, List, [], ◌∷◌, ◌++◌, Bool, true, false, nat_le, not, length, reverse, refl, sym, ap, ap₂, ◌∙◌, subst, ℤ, arith, IsTrue, get_or}
+use Rattle.std.proofs.lemmas.List.{reverse-append, ext_get_or, length-map}
+use Rattle.std.specs.List.{list_any}
+use Rattle.std.proofs.lemmas.Bool.Decides.{nat_tests}
+use Rattle.tb_model.specs.declared.entry.Entry.{Entry}
+use Rattle.tb_model.specs.declared.entry.Entry.TheVariants.{Opened, Stepped, Rolled}
+use Rattle.tb_model.specs.declared.event.Event.{Event}
+use Rattle.tb_model.specs.declared.step_id.StepId.{StepId}
+use Rattle.tb_model.specs.Names.{Name}
+use Rattle.tb_model.specs.Facts.{History, last, ends, is_spawned, prepend_if}
+use Rattle.tb_model.specs.Legal.{Cells, first_number, MayFollow}
+use Rattle.tb_model.specs.Needs.{is_removed, without, step_of}
+use Rattle.tb_model.specs.Equivalent.{stands}
+use Rattle.tb_model.specs.Needers.{first_needer}
+use Rattle.tb_model.specs.Journal.{hist, Sound}
+use Rattle.tb_model.specs.Lines.{Departure, LinesFit}
+use Rattle.tb_model.specs.Program.{Program, Instr, Config as Place, instr_at, IsNext, LegalFor, situation, moved}
+use Rattle.tb_model.proofs.LinesLemmas.{lines_left}
+use Rattle.tb_model.proofs.NextLemmas.{removal_for}
+use Rattle.tb_model.proofs.TestLemmas.{same_refl}
+use Rattle.tb_read.specs.declared.config.Config.{Config}
+use Rattle.tb_read.specs.declared.planned.Plan.{Plan}
+use Rattle.tb_read.specs.Plans.{instruction, line_behind}
+use Rattle.tb_core.specs.declared.removed.Removed.{Removed}
+use Rattle.tb_core.specs.Seen.{Seen}
+use Rattle.tb_core.specs.Seen as core
+use Rattle.tb_core.specs.Situation.{config_of}
+use Rattle.tb_core.specs.Outcomes.{completed, event_of, departure_of, IsCurrent, IsFree, TakesBack}
+use Rattle.tb_core.specs.Outcomes as outcomes
+use Rattle.tb_core.specs.Soundness.{AreLast}
+use Rattle.tb_live.specs.Session.{Session, is_full, numbers_from, cell_numbers}
+use Rattle.tb_live.specs.Moves.{Steps, Undoes}
+use Rattle.tb_live.specs.Soundness.{Fits, IsSound}
+use Rattle.tb_live.proofs.PlanLemmas.{IsPlan, stands_at, holds_registers, plan_instr, plan_follows, moved_taken, own_moves}
+
+-- ---- a journal has more entries than its history has events
+
+left_shorter : (e : StepId) (H : History) → length (without e H) ≤ length H
+left_shorter e [] = omega arith
+left_shorter e (v ∷ H) = at (not (is_removed e H v)) (left_shorter e H)
+  where
+    at : (b : Bool) → length (without e H) ≤ length H → length (prepend_if b v (without e H)) ≤ suc (length H)
+    at true h = omega arith
+    at false h = omega arith
+
+pub shorter : (P : Program) (J : List Entry) → Sound P J → length (hist J) < length J
+shorter P [] s = absurd s
+shorter P (Opened ∷ J) s = omega arith
+shorter P (Stepped seat v ∷ J) s = let r = shorter P J s.0 in omega arith
+shorter P (Rolled seat e ∷ J) s = let r = shorter P J s.0 in omega (arith, left_shorter e (hist J))
+
+-- where the journal has a place, so has the core
+pub has_place : (P : Program) (limit : ℕ) (J : List Entry) (run : Seen) → IsSound P limit J run → nat_le limit (length J) ≡ false → length run.steps < run.limit
+has_place P limit J run s h =
+    let room : length J < limit = grind (arith, nat_tests) in
+    omega (arith, shorter P J s.sound, ap length s.leaves, length-map run.steps (λ (d : Departure). d.event), s.limits, room)
+
+-- ---- behind a step
+
+pub next_event : (P : Program) (run : Seen) (p : Plan) → Fits P run → IsPlan P run p → p.instr.cells ≡ length P.cells → MayFollow run.cells (core.history run) (event_of run p) → IsNext P (core.history run) (event_of run p)
+next_event P run p f i n m = record {
+  may = subst (λ (cells : Cells). MayFollow cells (core.history run) (event_of run p)) f.cells m;
+  follows = plan_follows P run p f i n;
+}
+
+line_fits : (P : Program) (run : Seen) (p : Plan) → Fits P run → IsPlan P run p → LegalFor P (event_of run p ∷ core.history run) → line_behind p.instr p.config p.action ≡ (situation P p.config.task (event_of run p ∷ core.history run)).line
+line_fits P run p f i l =
+    let H = core.history run in
+    let t = p.config.task in
+    let v = event_of run p in
+    let c = situation P t H in
+    let here : Rattle.tb_read.specs.Plans.situation p.config ≡ c =
+    ap (λ (k : Config). Rattle.tb_read.specs.Plans.situation k) i.here
+    ∙ ap₂ {C = Place} (λ (n : ℕ) (rs : List ℤ). record { line = n; regs = rs }) (stands_at P run t f) (holds_registers P run t)
+    in
+    ap₂ (λ (j : Instr) (k : Place). (moved j k p.action).line) (plan_instr P run p f i) here
+    ∙ sym (moved_taken run.cells H t (instr_at P c.line) c p.action)
+    ∙ ap (λ (k : Place). k.line) (sym (own_moves P t v H l (same_refl t)))
+
+pub record Stepped' (P : Program) (limit : ℕ) (J : List Entry) (run : Seen) (p : Plan) (new : Seen) (i : StepId) : Type 0 where
+  pub sound : IsSound P limit (Stepped 0 (event_of run p) ∷ J) new
+  pub next : IsNext P (hist J) (event_of run p)
+  pub id : i ≡ step_of (hist J) (event_of run p)
+
+pub stepped : (P : Program) (limit : ℕ) (J : List Entry) (run new : Seen) (p : Plan) (i : StepId) → IsSound P limit J run → nat_le limit (length J) ≡ false
+    → IsPlan P run p → outcomes.Fits run p → outcomes.Steps run p new i → Stepped' P limit J run p new i
+stepped P limit J run new p i s room plan fitting k =
+    let f = s.fits in
+    let H = core.history run in
+    let v = event_of run p in
+    let n : p.instr.cells ≡ length P.cells = fitting.cells ∙ ap length f.cells in
+    let next = next_event P run p f plan n k.may in
+    let legal : LegalFor P (v ∷ H) = ((f.legal.0, next.may), (f.legal.1, next.follows)) in
+    record {
+      sound = subst (λ (z : Seen). IsSound P limit (Stepped 0 v ∷ J) z) (sym k.now) (record {
+        fits = record {
+          well_formed = f.well_formed;
+          followed = f.followed;
+          cells = f.cells;
+          root_line = f.root_line;
+          lines = (f.lines, line_fits P run p f plan legal);
+          legal = legal;
+        };
+        sound = (s.sound, subst (λ K. IsNext P K v) s.leaves next);
+        leaves = ap (λ K. v ∷ K) s.leaves;
+        limits = s.limits;
+        within = grind (arith, nat_tests);
+        bound = s.bound;
+      });
+      next = subst (λ K. IsNext P K v) s.leaves next;
+      id = k.id ∙ ap (λ K. step_of K v) s.leaves;
+    }
+
+-- ---- behind an undo
+
+pub undone : (P : Program) (limit : ℕ) (J : List Entry) (run new : Seen) (i : StepId) (removed : Removed) → IsSound P limit J run → nat_le limit (length J) ≡ false
+    → TakesBack run i new removed → IsSound P limit (Rolled 0 i ∷ J) new
+undone P limit J run new i removed s room b =
+    let f = s.fits in record {
+      fits = record {
+        well_formed = f.well_formed;
+        followed = f.followed;
+        cells = b.cells ∙ f.cells;
+        root_line = b.root_line ∙ f.root_line;
+        lines = subst (LinesFit P) (sym b.steps) (lines_left P i run.steps f.lines);
+        legal = subst (LegalFor P) (sym b.rest) (removal_for P i (core.history run) f.legal);
+      };
+      sound = (s.sound, ap (stands i) (sym s.leaves) ∙ b.free.stands);
+      leaves = b.rest ∙ ap (without i) s.leaves;
+      limits = b.limit ∙ s.limits;
+      within = grind (arith, nat_tests);
+      bound = s.bound;
+    }
+
+-- ---- the cells
+
+number_from : (k : ℕ) (cells : Cells) (H : History) (c : ℕ) → c < length cells → get_or (numbers_from k cells H) c (ℤ.pos 0) ≡ last (first_number cells c) (k + c) H
+number_from k [] H c h = absurd (omega arith)
+number_from k (x ∷ cells) H zero h = ap (λ n. last x n H) (omega arith)
+number_from k (x ∷ cells) H (suc c) h = number_from (suc k) cells H c (omega arith) ∙ ap (λ n. last (first_number cells c) n H) (omega arith)
+
+count_from : (k : ℕ) (cells : Cells) (H : History) → length (numbers_from k cells H) ≡ length cells
+count_from k [] H = refl
+count_from k (x ∷ cells) H = ap suc (count_from (suc k) cells H)
+
+pub cells_shown : (first : Cells) (H : History) (numbers : List ℤ) → AreLast first H numbers → numbers ≡ numbers_from 0 first H
+cells_shown first H numbers l =
+    ext_get_or (ℤ.pos 0) numbers (numbers_from 0 first H) (l.count ∙ sym (count_from 0 first H))
+    (λ c b.
+    let within : c < length first = omega (arith, l.count, b) in
+    l.number c within ∙ ap (λ n. last (first_number first c) n H) (omega arith) ∙ sym (number_from 0 first H c within))
+
+-- ---- the answers of a Live
+
+abbrev pub shown : Program → ℕ → List Entry → Session
+shown P limit entries = record { program = P; limit = limit; journal = reverse entries }
+
+-- what the program plans for the task's situation
+pub plan_of : (P : Program) (run : Seen) (t : Name) (k : Config) (p : Plan) → k ≡ config_of run t → p.config ≡ k → instruction p.instr ≡ instr_at P k.at → IsPlan P run p
+plan_of P run t k p e q i =
+    let task : p.config.task ≡ t = ap (λ (c : Config). c.task) (q ∙ e) in record {
+      here = q ∙ e ∙ ap (config_of run) (sym task);
+      instr = i ∙ ap (λ (c : Config). instr_at P c.at) (sym q);
+    }
+
+pub record LiveSteps (P : Program) (limit : ℕ) (s : Session) (t : Name) (pushed : List Entry) (new : Seen) (i : StepId) : Type 0 where
+  pub sound : IsSound P limit (reverse pushed) new
+  pub steps : Steps s t (shown P limit pushed) i
+
+pub live_steps : (P : Program) (limit : ℕ) (entries spare pushed : List Entry) (run mid new : Seen) (s : Session) (t : Name) (k : Config) (p : Plan) (v : Event) (i : StepId)
+    → shown P limit entries ≡ s → IsSound P limit (reverse entries) run
+    → IsTrue (is_spawned (core.history run) t) → outcomes.has_ended run t ≡ false → is_full s ≡ false
+    → k ≡ config_of run t → p.config ≡ k → instruction p.instr ≡ instr_at P k.at → outcomes.Fits run p
+    → v ≡ event_of run p → mid ≡ run → outcomes.Steps mid p new i → spare ≡ entries → pushed ≡ spare ++ Stepped 0 v ∷ []
+    → LiveSteps P limit s t pushed new i
+live_steps P limit entries spare pushed run mid new s t k p v i shows sound spawned going room e q j fits event same steps kept grows =
+    let J = reverse entries in
+    let plan = plan_of P run t k p e q j in
+    let task : p.config.task ≡ t = ap (λ (c : Config). c.task) (q ∙ e) in
+    let room' : nat_le limit (length J) ≡ false = ap is_full shows ∙ room in
+    let steps' = subst (λ (z : Seen). outcomes.Steps z p new i) same steps in
+    let done = stepped P limit J run new p i sound room' plan fits steps' in
+    let all : reverse pushed ≡ Stepped 0 (event_of run p) ∷ J =
+    ap reverse (grows ∙ ap (λ es. es ++ Stepped 0 v ∷ []) kept) ∙ reverse-append entries (Stepped 0 v ∷ []) ∙ ap (λ (w : Event). Stepped 0 w ∷ J) event
+    in record {
+      sound = subst (λ (K : List Entry). IsSound P limit K new) (sym all) done.sound;
+      steps = subst (λ (z : Session). Steps z t (shown P limit pushed) i) shows (record {
+        may = record {
+          spawned = ap (λ K. is_spawned K t) (sym sound.leaves) ∙ spawned;
+          going = ap (λ K. list_any (ends t) K) (sym sound.leaves) ∙ going;
+          room = room';
+        };
+        event = event_of run p;
+        of_task = task;
+        next = done.next;
+        id = done.id;
+        now = ap (λ (K : List Entry). record { program = P; limit = limit; journal = K }) all;
+      });
+    }
+
+pub record LiveUndoes (P : Program) (limit : ℕ) (s : Session) (i : StepId) (pushed : List Entry) (new : Seen) (removed : Removed) : Type 0 where
+  pub sound : IsSound P limit (reverse pushed) new
+  pub undoes : Undoes s i (shown P limit pushed) removed
+
+pub live_undoes : (P : Program) (limit : ℕ) (entries spare pushed : List Entry) (run new : Seen) (s : Session) (i copy : StepId) (removed : Removed)
+    → shown P limit entries ≡ s → IsSound P limit (reverse entries) run → is_full s ≡ false
+    → TakesBack run i new removed → copy ≡ i → spare ≡ entries → pushed ≡ spare ++ Rolled 0 copy ∷ []
+    → LiveUndoes P limit s i pushed new removed
+live_undoes P limit entries spare pushed run new s i copy removed shows sound room b same kept grows =
+    let J = reverse entries in
+    let room' : nat_le limit (length J) ≡ false = ap is_full shows ∙ room in
+    let all : reverse pushed ≡ Rolled 0 i ∷ J =
+    ap reverse (grows ∙ ap (λ es. es ++ Rolled 0 copy ∷ []) kept) ∙ reverse-append entries (Rolled 0 copy ∷ []) ∙ ap (λ (w : StepId). Rolled 0 w ∷ J) same
+    in record {
+      sound = subst (λ (K : List Entry). IsSound P limit K new) (sym all) (undone P limit J run new i removed sound room' b);
+      undoes = subst (λ (z : Session). Undoes z i (shown P limit pushed) removed) shows (record {
+        may = record {
+          stands = ap (stands i) (sym sound.leaves) ∙ b.free.stands;
+          unneeded = ap (first_needer i) (sym sound.leaves) ∙ b.free.unneeded;
+          room = room';
+        };
+        id = b.id;
+        now = ap (λ (K : List Entry). record { program = P; limit = limit; journal = K }) all;
+      });
+    }
+
+-- what a Live shows of its cells
+pub live_cells : (P : Program) (limit : ℕ) (entries : List Entry) (run : Seen) (s : Session) (numbers : List ℤ) → shown P limit entries ≡ s → IsSound P limit (reverse entries) run → AreLast run.cells (core.history run) numbers → numbers ≡ cell_numbers s
+live_cells P limit entries run s numbers shows sound l =
+    cells_shown run.cells (core.history run) numbers l ∙ ap₂ (λ (cells : Cells) (H : History). numbers_from 0 cells H) sound.fits.cells sound.leaves ∙ ap cell_numbers shows

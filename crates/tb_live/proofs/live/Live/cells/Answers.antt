@@ -1,0 +1,7 @@
+use Rattle.tb_live.proofs.RunLemmas.{live_cells}
+use Rattle.tb_live.proofs.live.Live.cells.Goals as goal
+
+pub returns : goal.returns
+returns c =
+    let i = c.self.inside in
+    live_cells i.program i.limit i.journal.items i.core.run c.args.self.now c.cells.result.now c.self.view_is c.self.invariant c.cells.ensures

@@ -1,0 +1,4 @@
+pub mod Session
+pub mod Moves
+pub mod Soundness
+pub use Rattle.tb_core.specs.Refusals

@@ -1,0 +1,157 @@
+//! A live run: the program, the core and the journal.
+
+ghost use Rattle.std.specs.Prelude.{◌≡◌, ◌≤◌, IfOk, reverse, slice_get};
+ghost use Rattle.std.specs.Option.{option_copied};
+ghost use Rattle.tb_model.specs.WellFormed.{WellFormed};
+ghost use Rattle.tb_model.specs.State.{printed};
+ghost use Rattle.tb_read.specs.Followed.{IsFollowed};
+ghost use Rattle.tb_live.specs.Session.{opened, history, is_full, cell_numbers};
+ghost use Rattle.tb_live.specs.Moves.{StepsBy, UndoneBy};
+
+use crate::planning::plan_step;
+use std::alloc::{AllocError, Global};
+use std::marker::Model;
+use tb_core::{Core, Removed, StepRefusal, UndoRefusal};
+use tb_model::{Entry, Event, StepId, TaskName};
+use tb_read::Program;
+
+/// A program, its run so far, and the journal of all that was done.
+#[derive(Drop)]
+pub struct Live {
+    alloc: Global,
+    program: Program,
+    core: Core,
+    journal: Vec<Entry>,
+    limit: u32,
+}
+
+impl Model for Live {
+    ghost use Rattle.std.specs.Prelude.{reverse};
+    ghost use Rattle.tb_live.specs.Session.{Session};
+
+    ghost Value = { Session };
+
+    ghost use Rattle.tb_live.specs.Soundness.{IsSound};
+
+    ghost view = { λ l. record { program = l.program; limit = l.limit; journal = reverse l.journal.items } };
+
+    ghost invariant = { λ l. IsSound l.program l.limit (reverse l.journal.items) l.core.run };
+}
+
+impl Live {
+    /// A run in front of its first step. The journal has one entry, of at most `limit`.
+    pub fn open(alloc: Global, program: Program, limit: u32) -> Result<Live, AllocError>
+        requires well_formed { WellFormed program }
+        requires followed { IsFollowed program }
+        requires some { 1 ≤ limit }
+        requires bound { limit ≤ 1000000 }
+        ensures { IfOk result (λ live. live ≡ opened program limit) }
+    {
+        let core = Core::open(alloc, program.cells(), program.root_line(), limit)?;
+        let mut journal = Vec::with_capacity(alloc, 1)?;
+        journal.push(Entry::Opened)?;
+        Ok(Live {
+            alloc,
+            program,
+            core,
+            journal,
+            limit,
+        })
+    }
+
+    /// The program.
+    pub fn program(&self) -> &Program
+        ensures { result.now ≡ self.now.program }
+    {
+        &self.program
+    }
+
+    /// The cells' numbers, in order.
+    pub fn cells(&self) -> &[i64]
+        ensures { result.now ≡ cell_numbers self.now }
+    {
+        self.core.cells()
+    }
+
+    /// The printed numbers, in order.
+    pub fn output(&self) -> &[i64]
+        ensures { result.now ≡ reverse (printed (history self.now)) }
+    {
+        self.core.output()
+    }
+
+    /// The newest event that stands.
+    pub fn newest(&self) -> Option<&Event>
+        ensures { option_copied result ≡ slice_get (history self.now) 0 }
+    {
+        self.core.newest()
+    }
+
+    /// Whether the journal has no place for one more entry.
+    pub fn is_full(&self) -> bool
+        ensures { result ≡ is_full self.now }
+    {
+        self.limit as usize <= self.journal.as_slice().len()
+    }
+
+    /// Takes the next step of a task, for seat 0.
+    pub fn step(&mut self, task: &TaskName) -> Result<StepId, StepRefusal>
+        ensures { StepsBy self.old task.now self.new result }
+    {
+        let config = match self.core.config(task) {
+            Some(config) => config,
+            None => return Err(StepRefusal::NoSuchTask),
+        };
+        if self.core.has_ended(task) {
+            return Err(StepRefusal::Ended);
+        }
+        if self.is_full() {
+            return Err(StepRefusal::Full);
+        }
+        let plan = match plan_step(self.alloc, &self.program, &self.core, &config) {
+            Ok(plan) => plan,
+            Err(_) => return Err(StepRefusal::Memory),
+        };
+        if self.journal.reserve(1).is_err() {
+            return Err(StepRefusal::Memory);
+        }
+        let event = match self.core.reserve_step(&plan) {
+            Ok(event) => event,
+            Err(_) => return Err(StepRefusal::Memory),
+        };
+        match self.core.step(plan) {
+            Ok(id) => {
+                self.journal
+                    .push_reserved(Entry::Stepped { seat: 0, event });
+                Ok(id)
+            }
+            Err(_) => unreachable!(),
+        }
+    }
+
+    /// Takes a step back that nothing needs, for seat 0.
+    pub fn undo(&mut self, id: &StepId) -> Result<Removed, UndoRefusal>
+        ensures { UndoneBy self.old id.now self.new result }
+    {
+        if let Some(refusal) = self.core.keeps(id) {
+            return Err(refusal);
+        }
+        if self.is_full() {
+            return Err(UndoRefusal::Full);
+        }
+        if self.journal.reserve(1).is_err() {
+            return Err(UndoRefusal::Memory);
+        }
+        let entry = match id.clone() {
+            Ok(id) => Entry::Rolled { seat: 0, id },
+            Err(_) => return Err(UndoRefusal::Memory),
+        };
+        match self.core.undo(id) {
+            Ok(removed) => {
+                self.journal.push_reserved(entry);
+                Ok(removed)
+            }
+            Err(_) => unreachable!(),
+        }
+    }
+}
