@@ -1,0 +1,43 @@
+-- The name of a body, by its line.
+use Rattle.std.proofs.Common.{◌≡◌, ℕ, List, [], ◌∷◌, ◌==◌, cond, Bool, true, false, Option, Some, refl, sym, ap, ◌∙◌}
+use Rattle.std.specs.Prelude.{unwrap_or}
+use Rattle.std.specs.Str.{IsUtf8, is_utf8}
+use Rattle.std.proofs.lemmas.Str.{IsUtf8-from_is_utf8, is_utf8-from_IsUtf8}
+use Rattle.tb_model.specs.declared.item.Item.{Item}
+use Rattle.tb_model.specs.declared.action.Action.{Action}
+use Rattle.tb_model.specs.declared.action.Action.TheVariants.{Spawn}
+use Rattle.tb_model.specs.Names.{Name}
+use Rattle.tb_model.specs.Program.{Program, Body}
+use Rattle.tb_read.specs.Bodies as read
+use Rattle.tb_view.specs.Step as view
+use Rattle.taskback.specs.Replies.{as_text}
+
+name_at_by : (b : Bool) (name more : List ℕ) (rest : Option (List ℕ)) → more ≡ unwrap_or rest [] → cond b name more ≡ unwrap_or (cond b (Some name) rest) []
+name_at_by true name more rest e = refl
+name_at_by false name more rest e = e
+
+name_at_is : (bodies : List Body) (line : ℕ) → view.name_at bodies line ≡ unwrap_or (read.name_at line bodies) []
+name_at_is [] line = refl
+name_at_is (b ∷ bodies) line = name_at_by (b.line == line) b.name (view.name_at bodies line) (read.name_at line bodies) (name_at_is bodies line)
+
+-- what an action spawns is named by what was found
+pub spawned_is : (P : Program) (action : Action) (u : Name) (line : ℕ) (args : _) (items : List Item) (deferred : Bool) (found : Option (List ℕ))
+    → action ≡ Spawn u line args items deferred → found ≡ read.name_at line P.bodies → view.spawned_name P action ≡ unwrap_or found []
+spawned_is P action u line args items deferred found e f = ap (view.spawned_name P) e ∙ (name_at_is P.bodies line ∙ ap (λ o. unwrap_or o []) (sym f))
+
+pub text_is : (name text : List ℕ) → text ≡ name → IsUtf8 name → text ≡ as_text name
+text_is name text e u = e ∙ rw (is_utf8-from_IsUtf8 name u)
+
+pub no_text : (name : List ℕ) → (IsUtf8 name → ⊥) → [] ≡ as_text name
+no_text name u = by_test (is_utf8 name) refl
+  where
+    by_test : (b : Bool) → is_utf8 name ≡ b → [] ≡ cond b name []
+    by_test true e = absurd (u (IsUtf8-from_is_utf8 name e))
+    by_test false e = refl
+
+nothing_by : (b : Bool) (none : List ℕ) → none ≡ cond b none none
+nothing_by true none = refl
+nothing_by false none = refl
+
+pub nothing_is : [] ≡ as_text []
+nothing_is = nothing_by (is_utf8 []) []

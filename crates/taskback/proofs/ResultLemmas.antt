@@ -1,0 +1,6 @@
+-- What holds of a value, where there is one.
+use Rattle.std.proofs.Common.{Result, Ok, Err, IfOk}
+
+pub ok_then : {A E : Type 0} (r : Result A E) (P Q : A → Type 0) → ((x : A) → P x → Q x) → IfOk r P → IfOk r Q
+ok_then (Ok x) P Q f h = f x h
+ok_then (Err e) P Q f h = h

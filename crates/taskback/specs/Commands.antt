@@ -1,0 +1,75 @@
+-- The commands, and what a line asks for.
+use Rattle.std.specs.Prelude.{ℕ, Bool, List, [], ◌∷◌, ◌||◌, not, nat_lt, length, codes, if◌then◌else◌, Option, Some, None}
+use Rattle.tb_model.specs.declared.step_id.StepId.{StepId}
+use Rattle.tb_model.specs.Names.{Name}
+use Rattle.tb_model.specs.Spelling.{spells_name, spelled_name, spells_step_id, spelled_step_id}
+use Rattle.tb_read.specs.Text.{line_words, before_comment, is_text}
+use Rattle.tb_read.specs.Word.{same_word}
+use Rattle.taskback.specs.declared.command.Verb.{Verb}
+use Rattle.taskback.specs.declared.command.Verb.TheVariants.{Step as ToStep, Undo as ToUndo, Cells as ToCells, Out as ToOut}
+use Rattle.taskback.specs.declared.command.Command.{Command}
+use Rattle.taskback.specs.declared.command.Command.TheVariants.{Step, Undo, Cells, Out}
+use Rattle.taskback.specs.declared.asked.CommandFault.TheVariants.{Line, Word, Count, Name as BadName}
+use Rattle.taskback.specs.declared.asked.Asked.{Asked}
+use Rattle.taskback.specs.declared.asked.Asked.TheVariants.{Nothing, Command as Asks, Fault}
+
+abbrev pub Words : Type 0
+Words = List (List ℕ)
+
+-- ---- the words behind the first
+
+-- no word
+abbrev pub with_none : Words → Command → Asked
+with_none [] command = Asks command
+with_none (word ∷ words) command = Fault Count
+
+-- one word, which is read so
+abbrev pub with_one : Words → (List ℕ → Asked) → Asked
+with_one (word ∷ []) read = read word
+with_one _ read = Fault Count
+
+-- the task, and the step, that a word names
+abbrev pub task_of : List ℕ → Option Name
+task_of word = if spells_name word then Some (spelled_name word) else None
+
+abbrev pub step_of : List ℕ → Option StepId
+step_of word = if spells_step_id word then Some (spelled_step_id word) else None
+
+-- a word that names nothing is a bad name
+abbrev pub named : {A : Type 0} → Option A → (A → Command) → Asked
+named (Some x) command = Asks (command x)
+named None command = Fault BadName
+
+-- ---- the table: a row a command
+
+abbrev pub verb_of : List ℕ → Option Verb
+verb_of word =
+    if same_word word (codes "step") then Some ToStep
+    else (if same_word word (codes "undo") then Some ToUndo
+    else (if same_word word (codes "cells") then Some ToCells
+    else (if same_word word (codes "out") then Some ToOut
+    else None)))
+
+abbrev pub asked_of : Verb → Words → Asked
+asked_of ToStep words = with_one words (λ word. named (task_of word) Step)
+asked_of ToUndo words = with_one words (λ word. named (step_of word) Undo)
+asked_of ToCells words = with_none words Cells
+asked_of ToOut words = with_none words Out
+
+-- ---- a line
+
+abbrev pub asked_by : Option Verb → Words → Asked
+asked_by (Some verb) words = asked_of verb words
+asked_by None words = Fault Word
+
+-- too long, or with a byte before its comment that is no text
+abbrev pub is_bad_line : List ℕ → Bool
+is_bad_line line = nat_lt 1024 (length line) || not (is_text (before_comment line))
+
+-- a line without words asks for nothing, whatever else is wrong with it
+abbrev pub asked_with : List ℕ → Words → Asked
+asked_with line [] = Nothing
+asked_with line (word ∷ words) = if is_bad_line line then Fault Line else asked_by (verb_of word) words
+
+abbrev pub asked : List ℕ → Asked
+asked line = asked_with line (line_words line)

@@ -1,0 +1,33 @@
+//! Runs a session of commands on a task program.
+#![tactic(auto)]
+
+mod asked;
+mod asking;
+mod command;
+mod counting;
+mod divider;
+mod halt;
+mod line_reader;
+mod opening;
+mod ports;
+mod program;
+mod replies;
+mod serving;
+mod session;
+mod spelling;
+mod step_line;
+#[cfg(test)]
+mod tests;
+mod views;
+mod writing;
+
+pub use counting::{CountedReader, CountedWriter};
+pub use halt::Halt;
+pub use ports::{Failed, Sink, Source};
+pub use session::run;
+use std::process::ExitCode;
+pub use tb_options::{Settings, settings};
+
+fn main(rt: HostRuntime) -> ExitCode {
+    ExitCode::from(program::start(&rt))
+}

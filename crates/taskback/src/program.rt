@@ -1,0 +1,67 @@
+//! The program: options, standard streams and the exit status.
+
+use crate::counting::{CountedReader, CountedWriter};
+use crate::halt::Halt;
+use crate::session::run;
+use std::alloc::AllocError;
+use std::io::{Eprint, Input, Print};
+use std::rt::Env;
+use std::sync::Wait;
+use std::{env, io};
+use tb_options::{Settings, is_memory, settings};
+
+/// The exit status where the options are wrong.
+const USAGE: u8 = 2;
+
+/// Runs the session of the standard streams, and gives the exit status.
+pub fn start<R: Env + Input + Print + Eprint + AllocGlobal + Wait>(rt: &R) -> u8 {
+    match read_options(rt) {
+        Ok(settings) => serve_standard_streams(rt, settings),
+        Err(status) => status,
+    }
+}
+
+/// The settings, or the exit status where there is nothing to run.
+fn read_options<R: Env + Print + Eprint + AllocGlobal>(rt: &R) -> Result<Settings, u8> {
+    let Ok(args) = env::args(rt) else {
+        return Err(told(rt, Halt::Memory));
+    };
+    let words: Result<Vec<String>, AllocError> = args.collect(rt.alloc());
+    let Ok(words) = words else {
+        return Err(told(rt, Halt::Memory));
+    };
+    match settings(rt.alloc(), words.as_slice()) {
+        Ok(settings) => Ok(settings),
+        Err(error) if is_memory(&error) => Err(told(rt, Halt::Memory)),
+        Err(error) => {
+            // There is nowhere else to tell it.
+            let _ = error.print(rt);
+            Err(if error.use_stderr() { USAGE } else { 0 })
+        }
+    }
+}
+
+fn serve_standard_streams<R: Input + Print + Eprint + AllocGlobal + Wait>(
+    rt: &R,
+    settings: Settings,
+) -> u8 {
+    let mut source = CountedReader {
+        inner: rt.reader(),
+        failed: 0,
+    };
+    let mut sink = CountedWriter {
+        inner: io::writer(rt),
+        failed: 0,
+    };
+    match run(rt, rt.alloc(), &mut source, &mut sink, settings) {
+        Ok(()) => 0,
+        Err(halt) => told(rt, halt),
+    }
+}
+
+/// Tells on standard error why there is no more, and gives the exit status.
+fn told<R: Eprint>(rt: &R, halt: Halt) -> u8 {
+    // There is nowhere else to tell it.
+    let _ = eprintln!(rt; "taskback: {halt}");
+    halt.status()
+}
