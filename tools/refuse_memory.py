@@ -1,5 +1,5 @@
 #!/usr/bin/env python3
-"""Refuses each allocation in turn: of the tests whose name says `refused`, and of whole sessions.
+"""Refuses each allocation in turn: of the tests whose name says `refused_growth`, and of whole sessions.
 
     tools/refuse_memory.py        after `rt ci`, or `rt test` in each crate and `./run` once
 
@@ -46,7 +46,7 @@ def main():
         subprocess.run(['cc', '-shared', '-fPIC', '-O1', '-o', library, os.path.join(TOP, 'tools/refuse.c'), '-ldl'], check=True)
         for tests in sorted(glob.glob(os.path.join(TOP, 'crates/*/out/*_tests'))):
             listed = subprocess.run([tests, '--list'], capture_output=True, text=True).stdout
-            for test in re.findall(r'[\w:]*refused\w*', listed):
+            for test in re.findall(r'[\w:]*refused_growth\w*', listed):
                 wrong += refuse_each(test, [tests, test], library, lambda status, out, err: status == 0)
         program = os.path.join(TOP, 'crates/taskback/out/taskback')
         for session in sorted(glob.glob(os.path.join(TOP, 'examples/*.session'))):
