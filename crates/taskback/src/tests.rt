@@ -166,41 +166,56 @@ fn replies_to_the_root(rt: HostRuntime) -> Result<(), Fail> {
 }
 
 #[test]
-fn programs_that_are_run_or_refused(rt: HostRuntime) -> Result<(), Fail> {
+fn programs_that_are_run(rt: HostRuntime) -> Result<(), Fail> {
     let alloc = rt.alloc();
-    let table: [(&[u8], &str, Option<(u32, FaultKind)>); 8] = [
-        (b"", "", Some((1, FaultKind::NoCells))),
-        (ROOT_ALONE, "", None),
-        (
-            b"cells 65537\nbody main 0\nend\n",
-            "",
-            Some((1, FaultKind::TooLarge)),
-        ),
-        (
-            b"cells 1\nbody main 0\nprint r16\nend\n",
-            "",
-            Some((3, FaultKind::Register)),
-        ),
-        (b"cells 1", "", Some((2, FaultKind::NoMain))),
-        (
-            b"cells 1\nbody main 0\nend\nfaulty\n---\nstep 0\n",
-            "",
-            Some((4, FaultKind::UnknownWord)),
-        ),
+    let rows: [(&[u8], &str); 3] = [
+        (ROOT_ALONE, ""),
         (
             b"cells 1\nbody main 0\nend\n --- # c\nstep 0",
             "0#1 start\n",
-            None,
         ),
         (
             b"cells 2 # two\r\ncell 1 -5\n\nbody main 0\nload r3 1\nlet r3 r3 * 3\nstore 0 r3\nstore 2 1\nend\n---\nstep 0\nstep 0\nstep 0\nstep 0\nstep 0\ncells\nstep 0\n",
             "0#1 start\n0#2 load r3 1 -5\n0#3 let r3 -15\n0#4 store 0 -15\n0#5 fault\ncells 2\n0 -15\n1 -5\nrefused 2 Ended\n",
-            None,
         ),
     ];
-    for (text, want, fault) in table {
-        let halt = fault.map(|(line, kind)| Halt::Refused(ReadFault { line, kind }));
-        assert!(rt; is_session(&rt, alloc, whole(text), 10_000, 100, want, halt));
+    for (text, want) in rows {
+        assert!(rt; is_session(&rt, alloc, whole(text), 10_000, 100, want, None));
+    }
+    Ok(())
+}
+
+#[test]
+fn programs_that_are_refused(rt: HostRuntime) -> Result<(), Fail> {
+    let alloc = rt.alloc();
+    let rows: [(&[u8], u32, FaultKind); 7] = [
+        (b"", 1, FaultKind::NoCells),
+        (b"cells 65537\nbody main 0\nend\n", 1, FaultKind::TooLarge),
+        (
+            b"cells 1\nbody main 0\nprint r16\nend\n",
+            3,
+            FaultKind::Register,
+        ),
+        (b"cells 1", 2, FaultKind::NoMain),
+        (
+            b"cells 1\nbody main 0\nif 1 == 1\nend\n",
+            5,
+            FaultKind::Nesting,
+        ),
+        (
+            b"cells 1\nbody main 0\nprint 1\ntaskwait\nend\n---\nstep 0\n",
+            4,
+            FaultKind::UnknownWord,
+        ),
+        (
+            b"cells 1\nbody main 0\nend\nfaulty\n---\nstep 0\n",
+            4,
+            FaultKind::UnknownWord,
+        ),
+    ];
+    for (text, line, kind) in rows {
+        let halt = Some(Halt::Refused(ReadFault { line, kind }));
+        assert!(rt; is_session(&rt, alloc, whole(text), 10_000, 100, "", halt));
     }
     Ok(())
 }

@@ -13,7 +13,8 @@ use Rattle.tb_model.specs.declared.step_id.StepId.{StepId}
 use Rattle.tb_model.specs.Needs.{is_step, step_of}
 use Rattle.tb_model.proofs.FactsLemmas.{own_mine}
 use Rattle.tb_model.proofs.StateLemmas.{over_ended}
-use Rattle.tb_core.specs.Soundness.{is_plain, IsRootStep}
+use Rattle.tb_core.specs.Plain.{is_plain}
+use Rattle.tb_core.specs.Soundness.{IsRootStep}
 
 abbrev pub AreRootSteps : History → Type 0
 AreRootSteps H = AllByRecursion IsRootStep H

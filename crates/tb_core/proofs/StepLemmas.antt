@@ -1,5 +1,5 @@
 -- A step of the root: its event may follow, and the tables stay those of the history.
-use Rattle.std.proofs.Common.{◌≡◌, ◌≢◌, ◌<◌, ◌↔◌, ◌+◌, ℕ, suc, List, [], ◌∷◌, ◌++◌, Bool, true, false, ◌==◌, not, cond, length, map, refl, sym, ap, ap₂, ◌∙◌, subst, ℤ, arith, Option, Some, None, reverse, set, get_or, nat_lt, eq-eqb, eqb-true}
+use Rattle.std.proofs.Common.{◌≡◌, ◌≢◌, ◌<◌, ◌↔◌, ◌+◌, ℕ, suc, List, [], ◌∷◌, ◌++◌, Bool, true, false, ◌==◌, not, cond, length, map, refl, sym, ap, ap₂, ◌∙◌, subst, ℤ, arith, Some, reverse, set, get_or, nat_lt, eq-eqb, eqb-true}
 use Rattle.std.specs.List.{list_any}
 use Rattle.std.proofs.lemmas.Bool.{false≢true, both_ways, and_parts}
 use Rattle.std.proofs.lemmas.Bool.Decides.{nat_tests}
@@ -12,15 +12,12 @@ use Rattle.tb_model.specs.Facts.{History, is_of, own, last, ends, is_spawned, is
 use Rattle.tb_model.specs.Legal.{Cells, first_number, IsRunning, Continues, MayStart, IsTimely, MayFollow, Legal}
 use Rattle.tb_model.specs.State.{printed, called_by}
 use Rattle.tb_model.specs.Records.{register, register_of, args_in, replaced_by}
-use Rattle.tb_model.specs.declared.statement.Statement.{Statement}
-use Rattle.tb_model.specs.declared.statement.Statement.TheVariants.{Start as DoStart, Let as DoLet, Compute as DoCompute, Load as DoLoad, Store as DoStore, Print as DoPrint, Task as DoTask, Taskwait as DoTaskwait, Taskgroup as DoTaskgroup, EndTaskgroup as DoEndTaskgroup, Test as DoTest, End as DoEnd}
-use Rattle.tb_model.specs.Program.{Program, config, zero_ℤ, action_of, or_fault, cell_at, value}
+use Rattle.tb_model.specs.Program.{Program, config, zero_ℤ}
 use Rattle.tb_model.specs.Lines.{events_of, line_of}
 use Rattle.tb_model.proofs.LinesLemmas as lines
 use Rattle.tb_model.specs.Needs.{without}
 use Rattle.tb_model.proofs.RemovalLemmas.{without_newest}
 use Rattle.tb_read.specs.declared.planned.Plan.{Plan}
-use Rattle.tb_read.specs.Statements.{is_known}
 use Rattle.tb_read.specs.Plans.{names_allowed, line_behind}
 use Rattle.tb_store.specs.declared.replaced.Replaced.{Replaced}
 use Rattle.tb_store.specs.Contents.{number_at}
@@ -30,7 +27,8 @@ use Rattle.tb_core.specs.Seen.{Seen, history}
 use Rattle.tb_core.specs.Situation.{written, registers, config_of}
 use Rattle.tb_core.specs.Changes.{AreSame, number_by, cells_by, output_by, Applied, replaced_in, loads}
 use Rattle.tb_core.specs.Outcomes.{completed, has_ended, Fits, IsCurrent, Steps}
-use Rattle.tb_core.specs.Soundness.{departure, seen, newest_over, is_plain, AreLast, IsSound}
+use Rattle.tb_core.specs.Soundness.{departure, seen, newest_over, AreLast, IsSound}
+use Rattle.tb_core.specs.Plain.{is_plain}
 use Rattle.tb_core.proofs.RootLemmas.{AreRootSteps, own_root, own_all, none_spawned, newest_step, no_spawn, none_held, newest_ends, ended_newest}
 
 -- ---- the event may follow
@@ -300,28 +298,6 @@ current s p t o h = record {
   here = h ∙ ap (config_of s) (sym t);
 }
 
-fault_plain : (o : Option ℕ) (f : ℕ → Action) → ((c : ℕ) → is_plain (f c) ≡ true) → is_plain (or_fault o f) ≡ true
-fault_plain None f h = refl
-fault_plain (Some c) f h = h c
-
--- the statements that are read so far make plain actions
-known_plain : (cells : Cells) (t : Name) (n : ℕ) (regs : List ℤ) (x : ℤ) (s : Statement) → is_known s ≡ true → is_plain (action_of cells t n regs x s) ≡ true
-known_plain cells t n regs x DoStart h = refl
-known_plain cells t n regs x (DoLet r a) h = refl
-known_plain cells t n regs x (DoCompute r a o b) h = refl
-known_plain cells t n regs x (DoLoad r a) h = fault_plain (cell_at cells (value regs a)) (λ c. Load r c x) (λ c. refl)
-known_plain cells t n regs x (DoStore a b) h = fault_plain (cell_at cells (value regs a)) (λ c. Store c (value regs b)) (λ c. refl)
-known_plain cells t n regs x (DoPrint a) h = refl
-known_plain cells t n regs x (DoTask body args depends c) h = absurd (false≢true h)
-known_plain cells t n regs x (DoTaskwait depends) h = absurd (false≢true h)
-known_plain cells t n regs x DoTaskgroup h = absurd (false≢true h)
-known_plain cells t n regs x DoEndTaskgroup h = absurd (false≢true h)
-known_plain cells t n regs x (DoTest c) h = absurd (false≢true h)
-known_plain cells t n regs x DoEnd h = refl
-
-pub plan_plain : (cells : Cells) (p : Plan) → p.instr.cells ≡ length cells → is_plain p.action ≡ true
-plan_plain cells p e = ap is_plain (p.evaluated cells (sym e)) ∙ known_plain cells p.config.task 0 p.config.regs zero_ℤ p.instr.statement p.instr.known
-
 sound_same : (first : Cells) (root_line limit : ℕ) (es : List Entry) (tables grown : Tables) → IsSound first root_line limit es tables → AreSame tables grown → IsSound first root_line limit es grown
 sound_same first root_line limit es tables grown s g = record {
   legal = s.legal;
@@ -355,7 +331,7 @@ taken_at first root_line limit es tables new p s f k w applied =
     let a = completed first H t p.action in
     let to = line_behind p.instr p.config p.action in
     let root : t ≡ [] = root_only H t s.roots k.spawned in
-    let plain = plan_plain first p f.cells in
+    let plain = f.plain in
     let allowed : names_allowed (length first) p.action ≡ true = ap (λ n. names_allowed n p.action) (sym f.cells) ∙ p.allowed in
     let starts : (is_start p.action ≡ true) ↔ (own [] H ≡ []) = subst (λ (u : Name). (is_start p.action ≡ true) ↔ (own u H ≡ [])) root (f.starts k.here) in
     let may' = may_follow first H p.action s.legal s.roots plain allowed (ap (has_ended old) (sym root) ∙ k.going) starts in
@@ -397,7 +373,7 @@ taken first root_line limit es spare pushed tables grown new s p a to r v sound 
     let root = root_only H p.config.task sound.roots k'.spawned in
     let allowed : names_allowed (length first) p.action ≡ true = ap (λ n. names_allowed n p.action) (sym f'.cells) ∙ p.allowed in
     let full : a ≡ completed first H p.config.task p.action =
-    loaded ∙ ap (λ cells. loads cells p.action) g.cells ∙ completed_loads first H tables.store.cells p.action sound.cells (plan_plain first p f'.cells) allowed
+    loaded ∙ ap (λ cells. loads cells p.action) g.cells ∙ completed_loads first H tables.store.cells p.action sound.cells f'.plain allowed
     ∙ ap (λ (u : Name). completed first H u p.action) (sym root)
     in
     let same = sound_same first root_line limit (reverse es) tables grown sound g in

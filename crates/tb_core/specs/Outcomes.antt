@@ -21,6 +21,7 @@ use Rattle.tb_core.specs.declared.undo_refusal.UndoRefusal.{UndoRefusal}
 use Rattle.tb_core.specs.declared.undo_refusal.UndoRefusal.TheVariants.{Memory as NoMemory, NoSuchStep, Needed, Full as JournalFull}
 use Rattle.tb_model.specs.Lines.{Departure, without_lines}
 use Rattle.tb_core.specs.Seen.{Seen, Held, history}
+use Rattle.tb_core.specs.Plain.{is_plain}
 use Rattle.tb_core.specs.Situation.{config_of}
 
 -- the action, with the number that a load reads and the number of a spawned child
@@ -39,9 +40,11 @@ departure_of s p = record { event = event_of s p; to = line_behind p.instr p.con
 abbrev pub has_ended : Seen → Name → Bool
 has_ended s t = list_any (ends t) (history s)
 
--- the plan is for this many cells; where it is of its task's situation, it starts exactly a pending task
+-- the plan is for this many cells, and of an action that the core takes so far; where it is of its task's situation, it
+-- starts exactly a pending task
 pub record Fits (s : Seen) (p : Plan) : Type 0 where
   pub cells : p.instr.cells ≡ length s.cells
+  pub plain : IsTrue (is_plain p.action)
   pub starts : p.config ≡ config_of s p.config.task → IsTrue (is_start p.action) ↔ (own p.config.task (history s) ≡ [])
 
 -- the task is there, isn't over, and stands where the plan takes it to stand

@@ -1,8 +1,6 @@
 -- What always holds of a core. So far all its steps are the root's.
-use Rattle.std.specs.Prelude.{◌≡◌, ◌<◌, ◌≤◌, ℕ, List, [], ◌∷◌, ℤ, Bool, true, false, length, map, reverse, IsTrue, ⊤}
+use Rattle.std.specs.Prelude.{◌≡◌, ◌<◌, ◌≤◌, ℕ, List, [], ◌∷◌, ℤ, Bool, false, length, map, reverse, IsTrue, ⊤}
 use Rattle.std.specs.List.{AllByRecursion}
-use Rattle.tb_model.specs.declared.action.Action.{Action}
-use Rattle.tb_model.specs.declared.action.Action.TheVariants.{Spawn, Wait, Open, Close, Test}
 use Rattle.tb_model.specs.declared.event.Event.{Event}
 use Rattle.tb_model.specs.Facts.{History, own, last, is_end}
 use Rattle.tb_model.specs.Legal.{Cells, first_number, Legal}
@@ -14,6 +12,7 @@ use Rattle.tb_core.specs.Changes.{register_by}
 use Rattle.tb_core.specs.declared.entry.Entry.{Entry}
 use Rattle.tb_model.specs.Lines.{Departure, events_of, line_of}
 use Rattle.tb_core.specs.Seen.{Seen}
+use Rattle.tb_core.specs.Plain.{is_plain}
 use Rattle.tb_core.specs.Situation.{registers}
 
 abbrev pub departure : Entry → Departure
@@ -27,15 +26,6 @@ seen first root_line limit entries = record { cells = first; root_line = root_li
 abbrev pub newest_over : List Entry → Bool
 newest_over [] = false
 newest_over (e ∷ entries) = is_end e.event.action
-
--- an action of a statement that can be read so far
-abbrev pub is_plain : Action → Bool
-is_plain (Spawn u line args items deferred) = false
-is_plain (Wait items) = false
-is_plain Open = false
-is_plain Close = false
-is_plain (Test answer) = false
-is_plain _ = true
 
 abbrev pub IsRootStep : Event → Type 0
 IsRootStep v = (v.task ≡ []) × IsTrue (is_plain v.action)

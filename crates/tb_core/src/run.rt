@@ -141,6 +141,7 @@ impl Core {
         ensures some { IfSome result (Keeps self.now.run id.now) }
         ensures none { IfNone result (IsFree self.now.run id.now) }
     {
+        // Reading a field brings in what always holds of a core.
         let _entries = &self.entries;
         if !self.is_standing(id) {
             return Some(UndoRefusal::NoSuchStep);
@@ -209,6 +210,7 @@ impl Core {
         ensures there { IsSome result ↔ IsTrue (is_spawned (history self.now.run) task.now) }
         ensures config { IfSome result (λ c. c ≡ config_of self.now.run task.now) }
     {
+        // Reading a field brings in what always holds of a core.
         let _entries = &self.entries;
         if task.numbers().is_empty() {
             Some(self.root())
@@ -221,6 +223,7 @@ impl Core {
     pub fn has_ended(&self, task: &TaskName) -> bool
         ensures { result ≡ has_ended self.now.run task.now }
     {
+        // Reading a field brings in what always holds of a core.
         let _entries = &self.entries;
         task.numbers().is_empty() && self.is_over()
     }

@@ -27,6 +27,7 @@ use Rattle.tb_read.specs.Plans.{instruction}
 use Rattle.tb_core.specs.Seen.{Seen, history}
 use Rattle.tb_core.specs.Situation.{config_of}
 use Rattle.tb_core.specs.Outcomes.{completed, has_ended}
+use Rattle.tb_core.specs.Plain.{is_plain, is_taken}
 use Rattle.tb_core.specs.Outcomes as outcomes
 use Rattle.tb_core.proofs.StepLemmas.{registers_config}
 use Rattle.tb_model.specs.WellFormed.{WellFormed, Begins, is_begin}
@@ -103,7 +104,7 @@ module _ (cells : Cells) (H : History) (t : Name) where
   store_taken x None = refl
   store_taken x (Some c) = refl
 
-  spawn_taken : (body : ℕ) (args : List ℤ) (deferred : Bool) (o : Option (List Item)) → taken (items_or_fault o (λ is. Spawn (child t 0) body args is deferred)) ≡ items_or_fault o (λ is. Spawn (child t next_number) body args is deferred)
+  spawn_taken : (body : ℕ) (args : List ℤ) (deferred : Bool) (o : Option (List Item)) → taken (items_or_fault o (λ is. Spawn (child t 1) body args is deferred)) ≡ items_or_fault o (λ is. Spawn (child t next_number) body args is deferred)
   spawn_taken body args deferred None = refl
   spawn_taken body args deferred (Some is) = refl
 
@@ -111,7 +112,7 @@ module _ (cells : Cells) (H : History) (t : Name) where
   wait_taken None = refl
   wait_taken (Some is) = refl
 
-  pub taken_planned : (regs : List ℤ) (s : Statement) → taken (action_of cells t 0 regs zero_ℤ s) ≡ action_of cells t next_number regs (loaded (taken (action_of cells t 0 regs zero_ℤ s))) s
+  pub taken_planned : (regs : List ℤ) (s : Statement) → taken (action_of cells t 1 regs zero_ℤ s) ≡ action_of cells t next_number regs (loaded (taken (action_of cells t 1 regs zero_ℤ s))) s
   taken_planned regs DoStart = refl
   taken_planned regs (DoLet r a) = refl
   taken_planned regs (DoCompute r a o b) = refl
@@ -153,10 +154,10 @@ pub plan_instr : (P : Program) (run : Seen) (p : Plan) → Fits P run → IsPlan
 plan_instr P run p f i = i.instr ∙ ap (λ (c : Config). instr_at P c.at) i.here ∙ ap (instr_at P) (stands_at P run p.config.task f)
 
 pub plan_action : (P : Program) (run : Seen) (p : Plan) → Fits P run → IsPlan P run p → p.instr.cells ≡ length P.cells
-    → p.action ≡ action_of P.cells p.config.task 0 (situation P p.config.task (history run)).regs zero_ℤ (instr_at P (situation P p.config.task (history run)).line).statement
+    → p.action ≡ action_of P.cells p.config.task 1 (situation P p.config.task (history run)).regs zero_ℤ (instr_at P (situation P p.config.task (history run)).line).statement
 plan_action P run p f i n =
     p.evaluated P.cells (sym n)
-    ∙ ap₂ (λ (regs : List ℤ) (s : Statement). action_of P.cells p.config.task 0 regs zero_ℤ s)
+    ∙ ap₂ (λ (regs : List ℤ) (s : Statement). action_of P.cells p.config.task 1 regs zero_ℤ s)
     (ap (λ (c : Config). c.regs) i.here ∙ holds_registers P run p.config.task) (ap (λ (j : Instr). j.statement) (plan_instr P run p f i))
 
 -- what is taken is what the definitions plan
@@ -167,7 +168,7 @@ plan_follows P run p f i n =
     let t = p.config.task in
     let c = situation P t H in
     let s = (instr_at P c.line).statement in
-    let same : completed run.cells H t p.action ≡ completed P.cells H t (action_of P.cells t 0 c.regs zero_ℤ s) =
+    let same : completed run.cells H t p.action ≡ completed P.cells H t (action_of P.cells t 1 c.regs zero_ℤ s) =
     ap₂ (λ (cells : Cells) (a : Action). completed cells H t a) f.cells (plan_action P run p f i n)
     in
     same ∙ taken_planned P.cells H t c.regs s ∙ ap (λ a. planned P H t (loaded a)) (sym same)
@@ -180,16 +181,36 @@ starts_pending cells t acts a k = (λ h. subst (λ b. Continues cells t acts b) 
     at : (a ≡ Start) ⊎ (IsRunning acts) → acts ≡ [] → is_start a ≡ true
     at b e = ⊎_elim (λ s. ap is_start s) (λ r. absurd (subst IsRunning e r)) b
 
+fault_plain : (o : Option ℕ) (f : ℕ → Action) → ((c : ℕ) → is_plain (f c) ≡ true) → is_plain (or_fault o f) ≡ true
+fault_plain None f h = refl
+fault_plain (Some c) f h = h c
+
+-- the statements that are taken so far make plain actions
+taken_plain : (cells : Cells) (t : Name) (n : ℕ) (regs : List ℤ) (x : ℤ) (s : Statement) → is_taken s ≡ true → is_plain (action_of cells t n regs x s) ≡ true
+taken_plain cells t n regs x DoStart h = refl
+taken_plain cells t n regs x (DoLet r a) h = refl
+taken_plain cells t n regs x (DoCompute r a o b) h = refl
+taken_plain cells t n regs x (DoLoad r a) h = fault_plain (cell_at cells (value regs a)) (λ c. Load r c x) (λ c. refl)
+taken_plain cells t n regs x (DoStore a b) h = fault_plain (cell_at cells (value regs a)) (λ c. Store c (value regs b)) (λ c. refl)
+taken_plain cells t n regs x (DoPrint a) h = refl
+taken_plain cells t n regs x (DoTask body args depends c) h = absurd (false≢true h)
+taken_plain cells t n regs x (DoTaskwait depends) h = absurd (false≢true h)
+taken_plain cells t n regs x DoTaskgroup h = absurd (false≢true h)
+taken_plain cells t n regs x DoEndTaskgroup h = absurd (false≢true h)
+taken_plain cells t n regs x (DoTest c) h = absurd (false≢true h)
+taken_plain cells t n regs x DoEnd h = refl
+
 pub plan_fits : (P : Program) (run : Seen) (p : Plan) → Fits P run → IsPlan P run p → has_ended run p.config.task ≡ false → p.instr.cells ≡ length P.cells → outcomes.Fits run p
 plan_fits P run p f i going n =
     let H = history run in
     let t = p.config.task in
     let c = situation P t H in
     let s = (instr_at P c.line).statement in
-    let same : is_start p.action ≡ is_start (planned P H t zero_ℤ) = ap is_start (plan_action P run p f i n) ∙ start_same P.cells t 0 (suc (spawn_count (own t H))) c.regs zero_ℤ zero_ℤ s in
+    let same : is_start p.action ≡ is_start (planned P H t zero_ℤ) = ap is_start (plan_action P run p f i n) ∙ start_same P.cells t 1 (suc (spawn_count (own t H))) c.regs zero_ℤ zero_ℤ s in
     let when = starts_pending P.cells t (own t H) (planned P H t zero_ℤ) (what_fits P f.well_formed H f.legal t zero_ℤ going) in
     record {
       cells = n ∙ ap length (sym f.cells);
+      plain = ap is_plain (plan_action P run p f i n) ∙ taken_plain P.cells t 1 c.regs zero_ℤ s (f.taken c.line);
       starts = λ here. (λ h. when.0 (sym same ∙ h), λ e. same ∙ when.1 e);
     }
 

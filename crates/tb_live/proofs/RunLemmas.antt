@@ -29,7 +29,8 @@ use Rattle.tb_core.specs.Situation.{config_of}
 use Rattle.tb_core.specs.Outcomes.{completed, event_of, departure_of, IsCurrent, IsFree, TakesBack}
 use Rattle.tb_core.specs.Outcomes as outcomes
 use Rattle.tb_core.specs.Soundness.{AreLast}
-use Rattle.tb_live.specs.Session.{Session, is_full, numbers_from, cell_numbers}
+use Rattle.tb_model.specs.Alike.{Alike}
+use Rattle.tb_live.specs.Session.{Session, history, is_full, numbers_from, cell_numbers}
 use Rattle.tb_live.specs.Moves.{Steps, Undoes}
 use Rattle.tb_live.specs.Soundness.{Fits, IsSound}
 use Rattle.tb_live.proofs.PlanLemmas.{IsPlan, stands_at, holds_registers, plan_instr, plan_follows, moved_taken, own_moves}
@@ -97,6 +98,7 @@ stepped P limit J run new p i s room plan fitting k =
         fits = record {
           well_formed = f.well_formed;
           followed = f.followed;
+          taken = f.taken;
           cells = f.cells;
           root_line = f.root_line;
           lines = (f.lines, line_fits P run p f plan legal);
@@ -121,6 +123,7 @@ undone P limit J run new i removed s room b =
       fits = record {
         well_formed = f.well_formed;
         followed = f.followed;
+        taken = f.taken;
         cells = b.cells ∙ f.cells;
         root_line = b.root_line ∙ f.root_line;
         lines = subst (LinesFit P) (sym b.steps) (lines_left P i run.steps f.lines);
@@ -212,7 +215,11 @@ live_undoes P limit entries spare pushed run new s i copy removed shows sound ro
     let room' : nat_le limit (length J) ≡ false = ap is_full shows ∙ room in
     let all : reverse pushed ≡ Rolled 0 i ∷ J =
     ap reverse (grows ∙ ap (λ es. es ++ Rolled 0 copy ∷ []) kept) ∙ reverse-append entries (Rolled 0 copy ∷ []) ∙ ap (λ (w : StepId). Rolled 0 w ∷ J) same
-    in record {
+    in
+    let now : shown P limit pushed ≡ record { program = P; limit = limit; journal = Rolled 0 i ∷ J } = ap (λ (K : List Entry). record { program = P; limit = limit; journal = K }) all in
+    let left : core.history new ≡ without i (hist J) = b.rest ∙ ap (without i) sound.leaves in
+    let back : Event = record { task = i.task; action = removed.action } in
+    record {
       sound = subst (λ (K : List Entry). IsSound P limit K new) (sym all) (undone P limit J run new i removed sound room' b);
       undoes = subst (λ (z : Session). Undoes z i (shown P limit pushed) removed) shows (record {
         may = record {
@@ -221,7 +228,9 @@ live_undoes P limit entries spare pushed run new s i copy removed shows sound ro
           room = room';
         };
         id = b.id;
-        now = ap (λ (K : List Entry). record { program = P; limit = limit; journal = K }) all;
+        now = now;
+        again = subst (λ (z : Session). MayFollow P.cells (history z) back) (sym now) (subst (λ (H : History). MayFollow P.cells H back) left (subst (λ (cells : Cells). MayFollow cells (core.history new) back) sound.fits.cells b.again));
+        alike = subst (λ (z : Session). Alike (hist J) (back ∷ history z)) (sym now) (subst (λ (H : History). Alike H (back ∷ without i (hist J))) sound.leaves (subst (λ (H : History). Alike (core.history run) (back ∷ H)) left b.alike));
       });
     }
 

@@ -1,11 +1,13 @@
 -- What a step and an undo answer, and what they leave.
-use Rattle.std.specs.Prelude.{◌≡◌, Bool, Some, None, Result, Ok, Err, IsTrue, IsFalse}
+use Rattle.std.specs.Prelude.{◌≡◌, ◌∷◌, Bool, Some, None, Result, Ok, Err, IsTrue, IsFalse}
 use Rattle.std.specs.List.{list_any}
 use Rattle.tb_model.specs.declared.entry.Entry.TheVariants.{Stepped, Rolled}
 use Rattle.tb_model.specs.declared.event.Event.{Event}
 use Rattle.tb_model.specs.declared.step_id.StepId.{StepId}
 use Rattle.tb_model.specs.Names.{Name}
 use Rattle.tb_model.specs.Facts.{is_spawned, ends}
+use Rattle.tb_model.specs.Legal.{MayFollow}
+use Rattle.tb_model.specs.Alike.{Alike}
 use Rattle.tb_model.specs.Needs.{step_of}
 use Rattle.tb_model.specs.Needers.{first_needer}
 use Rattle.tb_model.specs.Equivalent.{stands}
@@ -50,11 +52,13 @@ pub record MayUndo (s : Session) (i : StepId) : Type 0 where
   pub unneeded : first_needer i (history s) ≡ None
   pub room : IsFalse (is_full s)
 
--- the undo is the journal's newest entry
+-- the undo is the journal's newest entry; the step may be taken again, and then all is as it was
 pub record Undoes (s : Session) (i : StepId) (new : Session) (removed : Removed) : Type 0 where
   pub may : MayUndo s i
   pub id : removed.id ≡ i
   pub now : new ≡ with_entry s (Rolled 0 i)
+  pub again : MayFollow s.program.cells (history new) (record { task = i.task; action = removed.action })
+  pub alike : Alike (history s) (record { task = i.task; action = removed.action } ∷ history new)
 
 -- an undo by its answer; memory may be wanted for the name of what needs the step
 abbrev pub UndoneBy : Session → StepId → Session → Result Removed UndoRefusal → Type 0

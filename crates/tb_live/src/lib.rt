@@ -3,8 +3,10 @@
 
 mod live;
 mod planning;
+mod taken;
 #[cfg(test)]
 mod tests;
 
 pub use live::Live;
+pub use taken::first_untaken;
 pub use tb_core::{Removed, StepRefusal, UndoRefusal};

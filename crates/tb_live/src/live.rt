@@ -2,9 +2,8 @@
 
 ghost use Rattle.std.specs.Prelude.{◌≡◌, ◌≤◌, IfOk, reverse, slice_get};
 ghost use Rattle.std.specs.Option.{option_copied};
-ghost use Rattle.tb_model.specs.WellFormed.{WellFormed};
 ghost use Rattle.tb_model.specs.State.{printed};
-ghost use Rattle.tb_read.specs.Followed.{IsFollowed};
+ghost use Rattle.tb_core.specs.Plain.{AllTaken};
 ghost use Rattle.tb_live.specs.Session.{opened, history, is_full, cell_numbers};
 ghost use Rattle.tb_live.specs.Moves.{StepsBy, UndoneBy};
 
@@ -39,10 +38,10 @@ impl Model for Live {
 }
 
 impl Live {
-    /// A run in front of its first step. The journal has one entry, of at most `limit`.
+    /// A run in front of its first step. The journal has one entry, of at most `limit`. The program
+    /// has none but the statements that `first_untaken` lets pass.
     pub fn open(alloc: Global, program: Program, limit: u32) -> Result<Live, AllocError>
-        requires well_formed { WellFormed program }
-        requires followed { IsFollowed program }
+        requires taken { AllTaken program }
         requires some { 1 ≤ limit }
         requires bound { limit ≤ 1000000 }
         ensures { IfOk result (λ live. live ≡ opened program limit) }

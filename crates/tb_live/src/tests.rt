@@ -2,11 +2,11 @@
 
 ghost use Rattle.std.specs.Prelude.{◌≤◌};
 
-use crate::{Live, StepRefusal, UndoRefusal};
+use crate::{Live, StepRefusal, UndoRefusal, first_untaken};
 use std::alloc::Global;
 use std::test::Fail;
 use tb_model::{Action, StepId, TaskName};
-use tb_read::{laws, read};
+use tb_read::read;
 
 fn opened(alloc: Global, text: &[u8], limit: u32) -> Option<Live>
     requires some { 1 ≤ limit }
@@ -16,7 +16,9 @@ fn opened(alloc: Global, text: &[u8], limit: u32) -> Option<Live>
         Ok(program) => program,
         Err(_) => return None,
     };
-    laws::accepted_is_well_formed();
+    if first_untaken(&program).is_some() {
+        return None;
+    }
     match Live::open(alloc, program, limit) {
         Ok(live) => Some(live),
         Err(_) => None,
@@ -100,6 +102,27 @@ fn ends_and_fills(rt: HostRuntime) -> Result<(), Fail> {
         "an accepted program",
     )?;
     assert_eq!(rt; number_of(short.step(&root)), 7);
+    Ok(())
+}
+
+#[test]
+fn the_first_statement_that_cannot_be_run_is_told(rt: HostRuntime) -> Result<(), Fail> {
+    let rows: [(&[u8], Option<u32>); 4] = [
+        (b"cells 1\nbody main 0\nprint 1\nend\n", None),
+        (
+            b"cells 1\nbody main 0\nprint 1\ntaskwait\ntask main\nend\n",
+            Some(4),
+        ),
+        (b"cells 1\nbody main 0\nif 1 < 2\nend\nend\n", Some(3)),
+        (
+            b"cells 1\nbody main 0\nend\nbody b 0\ntaskgroup\nend\nend\n",
+            Some(5),
+        ),
+    ];
+    for (text, line) in rows {
+        let program = read(rt.alloc(), text).ok().ok_or("an accepted program")?;
+        assert_eq!(rt; first_untaken(&program), line, "{text:?}");
+    }
     Ok(())
 }
 

@@ -2,8 +2,13 @@ pub mod PieceLemmas
 pub mod NumberLemmas
 pub mod HeadingLemmas
 pub mod ListLemmas
-pub mod NestingLemmas
-pub mod WellFormedLemmas
+pub mod LevelLemmas
+pub mod ClauseLemmas
 pub mod FollowLemmas
+pub mod NestingLemmas
+pub mod BodyLemmas
+pub mod FlowLemmas
+pub mod WellFormedLemmas
+pub mod AcceptedLemmas
 pub mod ReadLemmas
 pub mod ProgramLemmas

@@ -2,14 +2,14 @@
 use Rattle.std.proofs.Common.{◌≡◌, ℕ, zero, suc, ◌+◌, List, [], ◌∷◌, ◌++◌, map, slice_get, length, Option, Bor, arith, refl, ap, sym, ◌∙◌, add-one, length-append}
 use Rattle.std.proofs.Math.Path.{fun_ext}
 use Rattle.std.proofs.lemmas.List.{length-map}
-use Rattle.tb_read.specs.Shown.{shown_statement}
-use Rattle.tb_read.specs.declared.parsed.Parsed.{Parsed}
-use Rattle.tb_model.specs.declared.statement.Statement.{Statement}
+use Rattle.tb_read.specs.Shown.{shown_line}
+use Rattle.tb_read.specs.declared.line.Line.{Line}
+use Rattle.tb_read.specs.Flow.{Line as Shown}
 use Rattle.tb_read.specs.Word.{Word}
 use Rattle.tb_read.specs.Headings.{headings_from, heading_of}
 use Rattle.tb_read.specs.Context.{Context, Setting}
 use Rattle.tb_read.specs.Reading.{setting_at, context_at, fault_at, line_fault, behind}
-use Rattle.tb_read.specs.Meaning.{line_statement, statement_at, statements_until, statements}
+use Rattle.tb_read.specs.Meaning.{line_with, line_at, lines_until, lines_in}
 use Rattle.tb_read.specs.declared.heading.Heading.{Heading}
 use Rattle.tb_read.specs.declared.fault.FaultKind.{FaultKind}
 
@@ -28,20 +28,20 @@ pub told_behind : (lines : List (List ℕ)) (at : ℕ) (text : Option (List ℕ)
 told_behind lines at text context more told same e =
     rw add-one (e ∙ ap (behind at text) told ∙ ap (λ l. behind at l (context_at lines at)) (sym same))
 
-pub statements_behind : (lines : List (List ℕ)) (at : ℕ) (text : Option (List ℕ)) (context : Context) (before : List (Option Statement)) (s : Option Statement) →
-    context ≡ context_at lines at → slice_get lines at ≡ text → before ≡ statements_until lines at → s ≡ line_statement context text →
-    before ++ s ∷ [] ≡ statements_until lines (at + 1)
-statements_behind lines at text context before s told same until e =
-    let here : s ≡ statement_at lines at = e ∙ ap (λ k. line_statement k text) told ∙ ap (line_statement (context_at lines at)) (sym same) in
-    rw add-one (ap (λ b. b ++ s ∷ []) until ∙ ap (λ x. statements_until lines at ++ x ∷ []) here)
+pub lines_behind : (texts : List (List ℕ)) (at : ℕ) (text : Option (List ℕ)) (here : Setting) (context : Context) (before : List Shown) (line : Shown) →
+    here ≡ setting_at texts at → context ≡ context_at texts at → slice_get texts at ≡ text → before ≡ lines_until texts at → line ≡ line_with here context text →
+    before ++ line ∷ [] ≡ lines_until texts (at + 1)
+lines_behind texts at text here context before line setting told same until e =
+    let found : line ≡ line_at texts at = e ∙ ap (λ h. line_with h context text) setting ∙ ap (λ k. line_with (setting_at texts at) k text) told ∙ ap (line_with (setting_at texts at) (context_at texts at)) (sym same) in
+    rw add-one (ap (λ b. b ++ line ∷ []) until ∙ ap (λ x. lines_until texts at ++ x ∷ []) found)
 
-pub statements_length : (lines : List (List ℕ)) (n : ℕ) → length (statements_until lines n) ≡ n
-statements_length lines zero = refl
-statements_length lines (suc n) = length-append (statements_until lines n) (statement_at lines n ∷ []) ∙ omega (arith, statements_length lines n)
+pub lines_length : (texts : List (List ℕ)) (n : ℕ) → length (lines_until texts n) ≡ n
+lines_length texts zero = refl
+lines_length texts (suc n) = length-append (lines_until texts n) (line_at texts n ∷ []) ∙ omega (arith, lines_length texts n)
 
--- as many statements as lines
-pub statements_count : (lines : List (Bor (List ℕ))) (all : List (Option Parsed)) → map shown_statement all ≡ statements (map (λ line. line.now) lines) → length all ≡ length lines
-statements_count lines all same =
-    let shown : length (map shown_statement all) ≡ length all = simp length-map in
-    let read : length (map (λ line. line.now) lines) ≡ length lines = simp length-map in
-    omega (arith, shown, read, ap length same, statements_length (map (λ line. line.now) lines) (length (map (λ line. line.now) lines)))
+-- as many lines as texts
+pub lines_count : (texts : List (Bor (List ℕ))) (all : List Line) → map shown_line all ≡ lines_in (map (λ text. text.now) texts) → length all ≡ length texts
+lines_count texts all same =
+    let shown : length (map shown_line all) ≡ length all = simp length-map in
+    let read : length (map (λ text. text.now) texts) ≡ length texts = simp length-map in
+    omega (arith, shown, read, ap length same, lines_length (map (λ text. text.now) texts) (length (map (λ text. text.now) texts)))

@@ -1,12 +1,14 @@
 -- The words of a line: the first, and the place of each behind it.
 use Rattle.std.specs.Prelude.{ℕ, Bool, true, false, not, List, [], ◌∷◌, ◌==◌, if◌then◌else◌, Option, Some, None, is_some, ◌||◌, codes}
-use Rattle.tb_read.specs.Word.{Word, same_word, number_of, register_of, operand_of, operator_of, resembles_register, is_name}
+use Rattle.tb_model.specs.declared.kind.Kind.{Kind}
+use Rattle.tb_model.specs.declared.kind.Kind.TheVariants.{Mutexinoutset}
+use Rattle.tb_read.specs.Word.{Word, same_word, number_of, register_of, operand_of, operator_of, comparison_of, kind_of, is_all, resembles_register, is_name}
 use Rattle.tb_read.specs.declared.fault.FaultKind.{FaultKind}
-use Rattle.tb_read.specs.declared.fault.FaultKind.TheVariants.{BadNumber, UnknownWord, Register}
-use Rattle.tb_read.specs.declared.grammar.Head.{Head}
-use Rattle.tb_read.specs.declared.grammar.Head.TheVariants.{Cells, Cell, Body, End, Let, Load, Store, Print}
-use Rattle.tb_read.specs.declared.grammar.Place.{Place}
-use Rattle.tb_read.specs.declared.grammar.Place.TheVariants.{Number, Destination, Operand, Operator, Name}
+use Rattle.tb_read.specs.declared.fault.FaultKind.TheVariants.{BadNumber, UnknownWord, Register, DependType}
+use Rattle.tb_read.specs.declared.head.Head.{Head}
+use Rattle.tb_read.specs.declared.head.Head.TheVariants.{Cells, Cell, Body, End, Let, Load, Store, Print, Task, Taskwait, Taskgroup, If, Else, While}
+use Rattle.tb_read.specs.declared.place.Place.{Place}
+use Rattle.tb_read.specs.declared.place.Place.TheVariants.{Number, Destination, Operand, Operator, Comparison, Name, Depend, Dependence, Address}
 
 -- the first word of a line
 abbrev pub head_of : Word → Option Head
@@ -19,9 +21,55 @@ head_of word =
     else (if same_word word (codes "load") then Some Load
     else (if same_word word (codes "store") then Some Store
     else (if same_word word (codes "print") then Some Print
-    else None)))))))
+    else (if same_word word (codes "task") then Some Task
+    else (if same_word word (codes "taskwait") then Some Taskwait
+    else (if same_word word (codes "taskgroup") then Some Taskgroup
+    else (if same_word word (codes "if") then Some If
+    else (if same_word word (codes "else") then Some Else
+    else (if same_word word (codes "while") then Some While
+    else None)))))))))))))
 
--- the places behind the first word; words behind these have none
+-- ---- a word at its place
+
+-- a type that the line may name; a `taskwait` excludes nothing
+abbrev pub is_type : Bool → Option Kind → Bool
+is_type on_wait None = false
+is_type on_wait (Some Mutexinoutset) = not on_wait
+is_type on_wait (Some kind) = true
+
+-- an operand is a number or a register
+abbrev pub operand_misfit : Word → Option FaultKind
+operand_misfit word = if is_some (operand_of word) then None else (if resembles_register word then Some Register else Some BadNumber)
+
+-- the fault of a word that isn't what its place is for
+abbrev pub misfit : Place → Word → Option FaultKind
+misfit Number word = if is_some (number_of word) then None else Some BadNumber
+misfit Destination word = if is_some (register_of word) then None else Some Register
+misfit Operand word = operand_misfit word
+misfit Operator word = if is_some (operator_of word) then None else Some UnknownWord
+misfit Comparison word = if is_some (comparison_of word) then None else Some UnknownWord
+misfit Name word = if is_name word then None else Some UnknownWord
+misfit Depend word = if same_word word (codes "depend") then None else Some UnknownWord
+misfit (Dependence on_wait) word = if is_type on_wait (kind_of word) then None else Some DependType
+misfit (Address allows_all) word = if is_all word then (if allows_all then None else Some DependType) else operand_misfit word
+
+-- a word at its place has one of these faults
+abbrev pub is_fault : FaultKind → Option FaultKind → Bool
+is_fault BadNumber (Some BadNumber) = true
+is_fault UnknownWord (Some UnknownWord) = true
+is_fault Register (Some Register) = true
+is_fault DependType (Some DependType) = true
+is_fault _ _ = false
+
+-- some word has the fault at its place; words behind the last place have none
+abbrev pub is_misplaced : FaultKind → List Place → List Word → Bool
+is_misplaced fault [] words = false
+is_misplaced fault (place ∷ places) [] = false
+is_misplaced fault (place ∷ places) (word ∷ words) = is_fault fault (misfit place word) || is_misplaced fault places words
+
+-- ---- the words of a line
+
+-- the places behind the first word, but for the words of a `task` line behind its name, and those of a `taskwait`
 abbrev pub places : Head → List Place
 places Cells = Number ∷ []
 places Cell = Number ∷ Number ∷ []
@@ -31,8 +79,14 @@ places Let = Destination ∷ Operand ∷ Operator ∷ Operand ∷ []
 places Load = Destination ∷ Operand ∷ []
 places Store = Operand ∷ Operand ∷ []
 places Print = Operand ∷ []
+places Task = Name ∷ []
+places Taskwait = []
+places Taskgroup = []
+places If = Operand ∷ Comparison ∷ Operand ∷ []
+places Else = []
+places While = Operand ∷ Comparison ∷ Operand ∷ []
 
--- the number of words behind the first isn't the line's
+-- the number of words behind the first isn't the line's; Clauses counts those of `task` and `taskwait`
 abbrev pub is_miscounted : Head → ℕ → Bool
 is_miscounted Cells words = not (words == 1)
 is_miscounted Cell words = not (words == 2)
@@ -42,24 +96,9 @@ is_miscounted Let words = not (words == 2 || words == 4)
 is_miscounted Load words = not (words == 2)
 is_miscounted Store words = not (words == 2)
 is_miscounted Print words = not (words == 1)
-
--- the fault of a word that isn't what its place is for
-abbrev pub misfit : Place → Word → Option FaultKind
-misfit Number word = if is_some (number_of word) then None else Some BadNumber
-misfit Destination word = if is_some (register_of word) then None else Some Register
-misfit Operand word = if is_some (operand_of word) then None else (if resembles_register word then Some Register else Some BadNumber)
-misfit Operator word = if is_some (operator_of word) then None else Some UnknownWord
-misfit Name word = if is_name word then None else Some UnknownWord
-
--- a word at its place has one of these faults
-abbrev pub is_fault : FaultKind → Option FaultKind → Bool
-is_fault BadNumber (Some BadNumber) = true
-is_fault UnknownWord (Some UnknownWord) = true
-is_fault Register (Some Register) = true
-is_fault _ _ = false
-
--- some word has the fault at its place
-abbrev pub is_misplaced : FaultKind → List Place → List Word → Bool
-is_misplaced fault [] words = false
-is_misplaced fault (place ∷ places) [] = false
-is_misplaced fault (place ∷ places) (word ∷ words) = is_fault fault (misfit place word) || is_misplaced fault places words
+is_miscounted Task words = words == 0
+is_miscounted Taskwait words = false
+is_miscounted Taskgroup words = not (words == 0)
+is_miscounted If words = not (words == 3)
+is_miscounted Else words = not (words == 0)
+is_miscounted While words = not (words == 3)

@@ -4,10 +4,14 @@ pub mod Plans
 pub mod Text
 pub mod Word
 pub mod Grammar
+pub mod Clauses
 pub mod Headings
 pub mod Bodies
 pub mod Context
 pub mod Reading
+pub mod Flow
+pub mod Ways
 pub mod Meaning
 pub mod Shown
 pub mod Followed
+pub mod Soundness

@@ -17,9 +17,9 @@ instruction i = record { statement = i.statement; next = i.next; otherwise = i.o
 abbrev pub situation : Config → Situation
 situation c = record { line = c.at; regs = c.regs }
 
--- the action of the statement, at any cells of that number; a load reads 0 and a child is the 0th until the step fills them in
+-- the action of the statement, at any cells of that number; a load reads 0 and a child is the first until the step fills them in
 abbrev pub IsEvaluation : Instr → Config → Action → Type 0
-IsEvaluation i c a = (cells : List ℤ) → length cells ≡ i.cells → a ≡ action_of cells c.task 0 c.regs zero_ℤ i.statement
+IsEvaluation i c a = (cells : List ℤ) → length cells ≡ i.cells → a ≡ action_of cells c.task 1 c.regs zero_ℤ i.statement
 
 abbrev pub is_place : ℕ → Place → Bool
 is_place cells (Cell c) = nat_lt c cells

@@ -47,17 +47,7 @@ is_sound EndTaskgroup = true
 is_sound (Test c) = is_sound_condition c
 is_sound End = true
 
--- the words that are read so far
-abbrev pub is_known : Statement → Bool
-is_known Start = true
-is_known (Let r a) = true
-is_known (Compute r a o b) = true
-is_known (Load r a) = true
-is_known (Store a b) = true
-is_known (Print a) = true
-is_known (Task line args depends c) = false
-is_known (Taskwait depends) = false
-is_known Taskgroup = false
-is_known EndTaskgroup = false
-is_known (Test c) = false
-is_known End = true
+-- an `if` or a `while`
+abbrev pub is_test : Statement → Bool
+is_test (Test c) = true
+is_test _ = false

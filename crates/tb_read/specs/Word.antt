@@ -1,4 +1,4 @@
--- What a word is: a number, a register, an operand, an operator, a name.
+-- What a word is: a number, a register, an operand, an operator, a comparison, a dependence type, a name.
 use Rattle.std.specs.Prelude.{ℕ, ◌+◌, ◌-◌, ◌^◌, Bool, false, List, [], ◌∷◌, ◌==◌, if◌then◌else◌, nat_le, nat_lt, length, slice_index, ℤ, pos, neg_ℤ, Option, Some, None, ◌||◌, ◌&&◌, codes, nat_eq, slice_index_or}
 use Rattle.std.specs.List.{list_all}
 use Rattle.std.specs.Char.{is_ascii_alphabetic, is_ascii_digit}
@@ -8,6 +8,10 @@ use Rattle.tb_model.specs.declared.operand.Operand.{Operand}
 use Rattle.tb_model.specs.declared.operand.Operand.TheVariants.{Number, Register}
 use Rattle.tb_model.specs.declared.operator.Operator.{Operator}
 use Rattle.tb_model.specs.declared.operator.Operator.TheVariants.{Plus, Minus, Times}
+use Rattle.tb_model.specs.declared.comparison.Comparison.{Comparison}
+use Rattle.tb_model.specs.declared.comparison.Comparison.TheVariants.{Equal, Unequal, Less, AtMost}
+use Rattle.tb_model.specs.declared.kind.Kind.{Kind}
+use Rattle.tb_model.specs.declared.kind.Kind.TheVariants.{In, Out, Inout, Mutexinoutset, Inoutset}
 
 abbrev pub Word : Type 0
 Word = List ℕ
@@ -69,3 +73,25 @@ operator_of word =
     else (if same_word word (codes "-") then Some Minus
     else (if same_word word (codes "*") then Some Times
     else None))
+
+abbrev pub comparison_of : Word → Option Comparison
+comparison_of word =
+    if same_word word (codes "==") then Some Equal
+    else (if same_word word (codes "!=") then Some Unequal
+    else (if same_word word (codes "<") then Some Less
+    else (if same_word word (codes "<=") then Some AtMost
+    else None)))
+
+-- a dependence type: OpenMP 5.2, 15.9.5 depend Clause
+abbrev pub kind_of : Word → Option Kind
+kind_of word =
+    if same_word word (codes "in") then Some In
+    else (if same_word word (codes "out") then Some Out
+    else (if same_word word (codes "inout") then Some Inout
+    else (if same_word word (codes "mutexinoutset") then Some Mutexinoutset
+    else (if same_word word (codes "inoutset") then Some Inoutset
+    else None))))
+
+-- `all` stands for all memory
+abbrev pub is_all : Word → Bool
+is_all word = same_word word (codes "all")

@@ -1,24 +1,23 @@
 //! What the lines in front of a line tell, and the fault of a line behind them.
 
-ghost use Rattle.std.specs.Prelude.{◌≡◌, ◌++◌, ◌∷◌, [], ◌<◌, ◌≤◌, ◌==◌, drop, length, map, reverse, slice_get, Some, IfOk, OnOk};
-ghost use Rattle.tb_read.specs.Context.{number_at, is_below, is_above, is_some_number, cell_at, was_given, is_outside, was_headed, is_negative, bad_number, arity, no_cells, cell_range, is_open, nesting, duplicate, too_large, is_second_cells, fault_behind, fault_of, last_fault, after, start, blank_cells, with_cell};
-ghost use Rattle.tb_read.specs.declared.context.Block.TheVariants.{Bodied};
+ghost use Rattle.std.specs.Prelude.{◌≡◌, ℕ, List, ◌++◌, ◌∷◌, [], ◌<◌, ◌≤◌, ◌==◌, drop, length, map, reverse, slice_get, Some, IfOk, OnOk};
+ghost use Rattle.tb_read.specs.Context.{number_at, is_below, is_above, is_some_number, cell_at, was_given, is_outside, was_headed, is_negative, bad_number, unknown_body, is_miscalled, arity, arity_behind, is_turning, no_cells, cell_range, is_open, nesting, duplicate, too_large, is_second_cells, fault_behind, fault_of, last_fault, after, start, blank_cells, with_cell, blocks_behind};
+ghost use Rattle.tb_read.specs.declared.head.Head.TheVariants.{Body as ABody};
 ghost use Rattle.tb_read.specs.Bodies.{named};
+ghost use Rattle.tb_read.specs.declared.block.Block.{Block};
 ghost use Rattle.tb_read.specs.Headings.{heading_of};
 
+use crate::block::Block;
 use crate::body::Body;
+use crate::clauses::{argument_count, clause_words, is_broken, item_count};
 use crate::fault::FaultKind;
-use crate::grammar::{Head, head_of, is_miscounted, is_misplaced};
+use crate::grammar::{has_misplaced, is_miscounted};
+use crate::head::{Head, head_of};
 use crate::heading::{Heading, Headings};
+use crate::stack::{cut, put, top};
 use crate::word::{number, same_word, word_at};
 use std::alloc::{AllocError, Global};
 use std::marker::Model;
-
-/// An open block.
-#[derive(Clone, Copy, Debug, Drop, PartialEq, Eq)]
-pub enum Block {
-    Bodied,
-}
 
 /// What the lines so far tell: whether one had words, the number that a line gave each cell, the
 /// bodies, and the open blocks, the innermost last.
@@ -110,18 +109,61 @@ fn is_negative(head: Head, words: &[&[u8]]) -> bool
 fn bad_number(head: Head, words: &[&[u8]]) -> bool
     ensures { result ≡ bad_number head (map (λ word. word.now) words.now) }
 {
-    is_misplaced(FaultKind::BadNumber, head, words) || is_negative(head, words)
+    has_misplaced(FaultKind::BadNumber, head, words) || is_negative(head, words)
 }
 
-fn arity(head: Head, words: &[&[u8]]) -> bool
-    ensures { result ≡ arity head (map (λ word. word.now) words.now) }
+fn unknown_body(headings: &Headings<'_>, head: Head, words: &[&[u8]]) -> bool
+    ensures { (line : ℕ) → result ≡ unknown_body (record { line = line; heading = heading_of headings.now }) head (map (λ word. word.now) words.now) }
 {
-    is_miscounted(head, words.len())
-        || match head {
-            Head::Body => same_word(word_at(words, 0), b"main")
-                && is_some_number(number_at(words, 1)),
-            _ => false,
+    match (head, words) {
+        (Head::Task, [name, ..]) => headings.get(name).is_none(),
+        _ => false,
+    }
+}
+
+/// Whether a task has other than its body's number of arguments.
+fn is_miscalled(heading: Option<Heading>, args: usize) -> bool
+    ensures { result ≡ is_miscalled heading args }
+{
+    match heading {
+        Some(heading) => args != heading.params as usize,
+        None => false,
+    }
+}
+
+fn arity_behind(headings: &Headings<'_>, head: Head, words: &[&[u8]]) -> bool
+    ensures { (line : ℕ) → result ≡ arity_behind (record { line = line; heading = heading_of headings.now }) head (map (λ word. word.now) words.now) }
+{
+    match head {
+        Head::Body => {
+            same_word(word_at(words, 0), b"main") && is_some_number(number_at(words, 1))
         }
+        Head::Task => match words {
+            [] => false,
+            [name, rest @ ..] => {
+                is_miscalled(headings.get(name), argument_count(rest))
+                    || is_broken(false, clause_words(rest))
+            }
+        },
+        Head::Taskwait => is_broken(true, words),
+        _ => false,
+    }
+}
+
+fn arity(headings: &Headings<'_>, head: Head, words: &[&[u8]]) -> bool
+    ensures { (line : ℕ) → result ≡ arity (record { line = line; heading = heading_of headings.now }) head (map (λ word. word.now) words.now) }
+{
+    is_miscounted(head, words.len()) || arity_behind(headings, head, words)
+}
+
+/// Whether an `else` may follow in this block.
+fn is_turning(block: Option<Block>) -> bool
+    ensures { (blocks : List Block) → block ≡ slice_get blocks 0 → result ≡ is_turning blocks }
+{
+    match block {
+        Some(Block::Tested) => true,
+        _ => false,
+    }
 }
 
 /// So many cells, none of which was given a number.
@@ -152,18 +194,25 @@ fn give(cells: &mut Vec<Option<i64>>, found: Option<i64>, first: Option<i64>)
     }
 }
 
-/// Adds one at the end of a stack.
-fn put<T: Copy>(stack: &mut Vec<T>, item: T) -> Result<(), AllocError>
-    ensures { OnOk result (reverse stack.new.items ≡ item ∷ reverse stack.old.items) }
+/// Opens and closes what a line with this first word does, other than a body's.
+fn pass(blocks: &mut Vec<Block>, line: u32, head: Head) -> Result<(), AllocError>
+    ensures { OnOk result (reverse blocks.new.items ≡ blocks_behind line head (reverse blocks.old.items)) }
 {
-    Ok(stack.push(item)?)
-}
-
-/// Takes the last one of a stack away, if there is one.
-fn cut<T: Copy>(stack: &mut Vec<T>)
-    ensures { reverse stack.new.items ≡ drop 1 (reverse stack.old.items) }
-{
-    let _ = stack.pop();
+    match head {
+        Head::Body => put(blocks, Block::Bodied { line }),
+        Head::Taskgroup => put(blocks, Block::Grouped),
+        Head::If => put(blocks, Block::Tested),
+        Head::While => put(blocks, Block::Looped { line }),
+        Head::Else => {
+            cut(blocks);
+            put(blocks, Block::Turned)
+        }
+        Head::End => {
+            cut(blocks);
+            Ok(())
+        }
+        _ => Ok(()),
+    }
 }
 
 impl Lines {
@@ -198,7 +247,7 @@ impl Lines {
     pub fn innermost(&self) -> Option<Block>
         ensures { result ≡ slice_get self.now.open_blocks 0 }
     {
-        self.blocks.last().copied()
+        top(&self.blocks)
     }
 
     fn no_cells(&self, head: Head) -> bool
@@ -229,6 +278,7 @@ impl Lines {
             Head::Cells => self.begun,
             Head::Cell => self.is_open() || !self.bodies.is_empty(),
             Head::Body => self.is_open(),
+            Head::Else => !is_turning(self.innermost()),
             _ => !self.is_open(),
         }
     }
@@ -252,6 +302,11 @@ impl Lines {
         match head {
             Head::Cells => is_above(number_at(words, 0), 65536),
             Head::Body => is_above(number_at(words, 1), 16) || 1024 <= self.bodies.len(),
+            Head::Task => match words {
+                [] => false,
+                [_, rest @ ..] => 64 < item_count(false, clause_words(rest)),
+            },
+            Head::Taskwait => 64 < item_count(true, words),
             _ => false,
         }
     }
@@ -283,18 +338,22 @@ impl Lines {
             Some(FaultKind::BadNumber)
         } else if self.cell_range(head, words) {
             Some(FaultKind::CellRange)
-        } else if is_misplaced(FaultKind::UnknownWord, head, words) {
+        } else if has_misplaced(FaultKind::UnknownWord, head, words) {
             Some(FaultKind::UnknownWord)
-        } else if arity(head, words) {
+        } else if unknown_body(headings, head, words) {
+            Some(FaultKind::UnknownBody)
+        } else if arity(headings, head, words) {
             Some(FaultKind::Arity)
         } else if self.nesting(head) {
             Some(FaultKind::Nesting)
         } else if self.duplicate(line, headings, head, words) {
             Some(FaultKind::Duplicate)
-        } else if is_misplaced(FaultKind::Register, head, words) {
+        } else if has_misplaced(FaultKind::Register, head, words) {
             Some(FaultKind::Register)
         } else if self.too_large(head, words) {
             Some(FaultKind::TooLarge)
+        } else if has_misplaced(FaultKind::DependType, head, words) {
+            Some(FaultKind::DependType)
         } else {
             None
         }
@@ -350,21 +409,18 @@ impl Lines {
                         Ok(())
                     }
                     Some(Head::Body) => self.begin_body(alloc, line, word_at(rest, 0)),
-                    Some(Head::End) => {
-                        cut(&mut self.blocks);
-                        Ok(())
-                    }
-                    _ => Ok(()),
+                    Some(head) => pass(&mut self.blocks, line, head),
+                    None => Ok(()),
                 }
             }
         }
     }
 
     fn begin_body(&mut self, alloc: Global, line: u32, name: &[u8]) -> Result<(), AllocError>
-        ensures { OnOk result (self.new ≡ record self.old { bodies = self.old.bodies ++ (record { name = name.now; line = line }) ∷ []; open_blocks = Bodied ∷ self.old.open_blocks }) }
+        ensures { OnOk result (self.new ≡ record self.old { bodies = self.old.bodies ++ (record { name = name.now; line = line }) ∷ []; open_blocks = blocks_behind line ABody self.old.open_blocks }) }
     {
         let name = Vec::from_slice(alloc, name)?;
         self.bodies.push(Body { name, line })?;
-        put(&mut self.blocks, Block::Bodied)
+        put(&mut self.blocks, Block::Bodied { line })
     }
 }

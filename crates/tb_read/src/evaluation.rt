@@ -1,15 +1,19 @@
 //! Evaluates one statement for one task.
 
-ghost use Rattle.std.specs.Prelude.{◌≡◌, ℕ, ℤ, List, length, IfOk, IfSome, IsTrue, ◌<◌};
-ghost use Rattle.tb_model.specs.Program.{value, computed, cell_at, action_of, zero_ℤ};
-ghost use Rattle.tb_read.specs.Statements.{is_known, is_sound};
-ghost use Rattle.tb_read.specs.Plans.{names_allowed};
+ghost use Rattle.std.specs.Prelude.{◌≡◌, ℤ, List, length, map, IfOk, IfSome, IsTrue, ◌<◌, ◌≤◌};
+ghost use Rattle.std.specs.List.{list_all};
+ghost use Rattle.tb_model.specs.Program.{value, computed, compared, is_met, is_deferred, cell_at, place_at, items_at, action_of, zero_ℤ};
+ghost use Rattle.tb_read.specs.Statements.{is_sound};
+ghost use Rattle.tb_read.specs.Plans.{is_place, is_placed, names_allowed};
 
 use crate::config::Config;
 use crate::instr::Instr;
 use crate::planned::Plan;
 use std::alloc::{AllocError, Global};
-use tb_model::{Action, Operand, Operator, Statement};
+use tb_model::{
+    Action, Address, Args, Clause, Comparison, Condition, Item, Items, Operand, Operator, Place,
+    Statement, TaskName,
+};
 
 /// The number of an operand.
 fn value(regs: &[i64; 16], operand: Operand) -> i64
@@ -31,6 +35,37 @@ fn computed(operator: Operator, left: i64, right: i64) -> i64
     }
 }
 
+fn compared(comparison: Comparison, left: i64, right: i64) -> bool
+    ensures { result ≡ compared comparison left right }
+{
+    match comparison {
+        Comparison::Equal => left == right,
+        Comparison::Unequal => left != right,
+        Comparison::Less => left < right,
+        Comparison::AtMost => left <= right,
+    }
+}
+
+fn is_met(regs: &[i64; 16], condition: Condition) -> bool
+    ensures { result ≡ is_met regs.now condition }
+{
+    compared(
+        condition.comparison,
+        value(regs, condition.left),
+        value(regs, condition.right),
+    )
+}
+
+/// Whether a task is deferred by its `if` clause (OpenMP 5.2, section 12.5).
+fn is_deferred(regs: &[i64; 16], clause: Option<Condition>) -> bool
+    ensures { result ≡ is_deferred regs.now clause }
+{
+    match clause {
+        Some(condition) => is_met(regs, condition),
+        None => true,
+    }
+}
+
 /// The cell at an address, where it is one of that many.
 fn cell_at(cells: u32, address: i64) -> Option<u32>
     ensures cell { (all : List ℤ) → length all ≡ cells → result ≡ cell_at all address }
@@ -42,14 +77,66 @@ fn cell_at(cells: u32, address: i64) -> Option<u32>
     }
 }
 
-/// The action that a statement makes of these registers.
-fn action(statement: &Statement, cells: u32, regs: &[i64; 16]) -> Action
-    requires known { IsTrue (is_known statement.now) }
-    requires sound { IsTrue (is_sound statement.now) }
-    ensures evaluated { (all : List ℤ) (t : List ℕ) → length all ≡ cells → result ≡ action_of all t 0 regs.now zero_ℤ statement.now }
-    ensures allowed { IsTrue (names_allowed cells result) }
+/// What an address names, where it is good.
+fn place_at(cells: u32, regs: &[i64; 16], address: Address) -> Option<Place>
+    ensures place { (all : List ℤ) → length all ≡ cells → result ≡ place_at all regs.now address }
+    ensures within { IfSome result (λ place. IsTrue (is_place cells place)) }
 {
-    match statement {
+    match address {
+        Address::All => Some(Place::All),
+        Address::Cell(operand) => match cell_at(cells, value(regs, operand)) {
+            Some(cell) => Some(Place::Cell(cell)),
+            None => None,
+        },
+    }
+}
+
+/// The items of depend clauses, where all their addresses are good.
+fn items_at(
+    alloc: Global,
+    cells: u32,
+    regs: &[i64; 16],
+    clauses: &[Clause],
+) -> Result<Option<Items>, AllocError>
+    ensures items { (all : List ℤ) → length all ≡ cells → IfOk result (λ found. found ≡ items_at all regs.now clauses.now) }
+    ensures within { IfOk result (λ found. IfSome found (λ items. IsTrue (list_all (is_placed cells) items))) }
+{
+    let mut items = Items::new(alloc);
+    for clause in clauses {
+        match place_at(cells, regs, clause.address) {
+            Some(place) => items.push(Item {
+                kind: clause.kind,
+                place,
+            })?,
+            None => return Ok(None),
+        }
+    }
+    Ok(Some(items))
+}
+
+fn args_at(alloc: Global, regs: &[i64; 16], operands: &[Operand]) -> Result<Args, AllocError>
+    ensures { IfOk result (λ args. args ≡ map (value regs.now) operands.now) }
+{
+    let mut args = Args::new(alloc);
+    for operand in operands {
+        args.push(value(regs, *operand))?;
+    }
+    Ok(args)
+}
+
+/// The action that a statement makes for a task with these registers.
+fn action(
+    alloc: Global,
+    statement: &Statement,
+    cells: u32,
+    task: &TaskName,
+    regs: &[i64; 16],
+) -> Result<Action, AllocError>
+    requires { IsTrue (is_sound statement.now) }
+    ensures evaluated { (all : List ℤ) → length all ≡ cells → IfOk result (λ a. a ≡ action_of all task.now 1 regs.now zero_ℤ statement.now) }
+    ensures allowed { IfOk result (λ a. IsTrue (names_allowed cells a)) }
+{
+    Ok(match statement {
         Statement::Start => Action::Start,
         Statement::Let {
             reg,
@@ -90,9 +177,32 @@ fn action(statement: &Statement, cells: u32, regs: &[i64; 16]) -> Action
         Statement::Print { value: operand } => Action::Print {
             value: value(regs, *operand),
         },
+        Statement::Task {
+            body,
+            args,
+            depends,
+            condition,
+        } => match items_at(alloc, cells, regs, depends.as_slice())? {
+            Some(items) => Action::Spawn {
+                child: task.child(1)?,
+                body: *body,
+                args: args_at(alloc, regs, args.as_slice())?,
+                items,
+                deferred: is_deferred(regs, *condition),
+            },
+            None => Action::Fault,
+        },
+        Statement::Taskwait { depends } => match items_at(alloc, cells, regs, depends.as_slice())? {
+            Some(items) => Action::Wait { items },
+            None => Action::Fault,
+        },
+        Statement::Taskgroup => Action::Open,
+        Statement::EndTaskgroup => Action::Close,
+        Statement::Test { condition } => Action::Test {
+            yes: is_met(regs, *condition),
+        },
         Statement::End => Action::End,
-        _ => unreachable!(),
-    }
+    })
 }
 
 /// Evaluates the statement of an instruction for the task that stands at its line.
@@ -101,10 +211,15 @@ pub fn plan(alloc: Global, instr: &Instr, config: &Config) -> Result<Plan, Alloc
     ensures instr { IfOk result (λ p. p.instr ≡ instr.now) }
     ensures config { IfOk result (λ p. p.config ≡ config.now) }
 {
-    let _ = alloc;
     Ok(Plan {
         instr: instr.clone()?,
         config: config.clone()?,
-        action: action(&instr.statement, instr.cells, &config.regs),
+        action: action(
+            alloc,
+            &instr.statement,
+            instr.cells,
+            &config.task,
+            &config.regs,
+        )?,
     })
 }

@@ -1,49 +1,135 @@
 //! Where control goes from each line.
 
-ghost use Rattle.std.specs.Prelude.{◌≡◌, ℕ, ◌<◌, ◌≤◌, ◌+◌, length, map, slice_get, slice_index, vec_len, Some, IfOk};
-ghost use Rattle.tb_read.specs.Meaning.{Arrives};
-ghost use Rattle.tb_read.specs.Shown.{shown_statement};
+ghost use Rattle.std.specs.Prelude.{◌≡◌, ℕ, suc, ◌<◌, ◌≤◌, ◌+◌, ◌∷◌, drop, length, map, reverse, slice_get, slice_index, vec_len, Some, IfOk, OnOk};
+ghost use Rattle.tb_read.specs.Flow.{Arrives, levels_by, levels_over, levels_behind, end_of, turn_of, closed, turned};
+ghost use Rattle.tb_read.specs.Ways.{AreWaysOf};
+ghost use Rattle.tb_read.specs.Shown.{shown_line};
 
-use crate::parsed::Parsed;
+use crate::level::Level;
+use crate::line::Line;
+use crate::stack::{cut, put, top};
+use crate::ways::Ways;
 use std::alloc::{AllocError, Global};
+use tb_model::Statement;
 
-/// The statement of a line.
-pub fn line_at(statements: &[Option<Parsed>], at: usize) -> &Option<Parsed>
-    requires { at < length statements.now }
-    ensures { slice_get (map shown_statement statements.now) at ≡ Some (shown_statement result.now) }
+fn close(levels: &mut Vec<Level>, at: u32) -> Result<(), AllocError>
+    ensures { OnOk result (reverse levels.new.items ≡ closed at ∷ reverse levels.old.items) }
 {
-    &statements[at]
+    put(levels, Level { end: at, turn: at })
+}
+
+/// An `else` is where its block turns.
+fn turn(levels: &mut Vec<Level>, at: u32) -> Result<(), AllocError>
+    ensures { OnOk result (reverse levels.new.items ≡ turned at (reverse levels.old.items)) }
+{
+    match top(levels) {
+        None => Ok(()),
+        Some(level) => {
+            cut(levels);
+            put(
+                levels,
+                Level {
+                    end: level.end,
+                    turn: at,
+                },
+            )
+        }
+    }
+}
+
+fn pass_statement(levels: &mut Vec<Level>, at: u32, statement: &Statement) -> Result<(), AllocError>
+    ensures { OnOk result (reverse levels.new.items ≡ levels_by at statement.now (reverse levels.old.items)) }
+{
+    match statement {
+        Statement::Start | Statement::Taskgroup | Statement::Test { .. } => {
+            cut(levels);
+            Ok(())
+        }
+        Statement::EndTaskgroup | Statement::End => close(levels, at),
+        _ => Ok(()),
+    }
+}
+
+/// From the blocks that are open behind a line to those that are open in front of it.
+fn pass(levels: &mut Vec<Level>, at: u32, line: &Line) -> Result<(), AllocError>
+    ensures { OnOk result (reverse levels.new.items ≡ levels_over at (shown_line line.now) (reverse levels.old.items)) }
+{
+    match line {
+        Line::Passed => Ok(()),
+        Line::Stands(parsed) => pass_statement(levels, at, &parsed.statement),
+        Line::Else => turn(levels, at),
+        Line::EndIf => close(levels, at),
+        Line::EndWhile(_) => close(levels, at),
+    }
+}
+
+fn end_of(at: u32, levels: &[Level]) -> u32
+    ensures { result ≡ end_of at (reverse levels.now) }
+{
+    match top(levels) {
+        Some(level) => level.end,
+        None => at,
+    }
+}
+
+fn turn_of(at: u32, levels: &[Level]) -> u32
+    ensures { result ≡ turn_of at (reverse levels.now) }
+{
+    match top(levels) {
+        Some(level) => level.turn,
+        None => at,
+    }
+}
+
+/// What a line is.
+pub fn line_at(lines: &[Line], at: usize) -> &Line
+    requires { at < length lines.now }
+    ensures { slice_get (map shown_line lines.now) at ≡ Some (shown_line result.now) }
+{
+    &lines[at]
+}
+
+/// Where control stands that goes on behind a line.
+fn behind(arrivals: &[u32], at: u32) -> u32
+    requires { suc at < length arrivals.now }
+    ensures { result ≡ slice_index arrivals.now (suc at) }
+{
+    arrivals[at as usize + 1]
 }
 
 /// Where control stands that comes to a line from above.
-fn arrival(statements: &[Option<Parsed>], arrivals: &[u32], at: usize) -> u32
-    requires at { at < length statements.now }
-    requires few { length statements.now ≤ 65537 }
-    requires room { length arrivals.now ≡ length statements.now + 1 }
-    requires arrives { (n : ℕ) → at < n → n ≤ length statements.now → Arrives (map shown_statement statements.now) n (slice_index arrivals.now n) }
-    requires behind { (n : ℕ) → at < n → n ≤ length statements.now → n ≤ slice_index arrivals.now n }
-    ensures arrives { Arrives (map shown_statement statements.now) at result }
-    ensures behind { at ≤ result }
+fn arrival(lines: &[Line], arrivals: &[u32], levels: &[Level], at: usize) -> u32
+    requires at { at < length lines.now }
+    requires few { length lines.now ≤ 65537 }
+    requires room { length arrivals.now ≡ length lines.now + 1 }
+    requires levels { reverse levels.now ≡ levels_behind (map shown_line lines.now) at }
+    requires arrives { (n : ℕ) → at < n → n ≤ length lines.now → Arrives (map shown_line lines.now) n (slice_index arrivals.now n) }
+    ensures { Arrives (map shown_line lines.now) at result }
 {
-    match line_at(statements, at) {
-        Some(_) => at as u32,
-        None => arrivals[at + 1],
+    match line_at(lines, at) {
+        Line::Passed => behind(arrivals, at as u32),
+        Line::EndIf => behind(arrivals, at as u32),
+        Line::Stands(_) => at as u32,
+        Line::Else => behind(arrivals, end_of(at as u32, levels)),
+        Line::EndWhile(from) => *from,
     }
 }
 
-/// The same, for each line and for the end of the text.
-pub fn arrivals(alloc: Global, statements: &[Option<Parsed>]) -> Result<Vec<u32>, AllocError>
-    requires { length statements.now ≤ 65537 }
-    ensures count { IfOk result (λ arrivals. vec_len arrivals ≡ length statements.now + 1) }
-    ensures arrives { IfOk result (λ arrivals. (n : ℕ) → n ≤ length statements.now → Arrives (map shown_statement statements.now) n (slice_index arrivals.items n)) }
-    ensures behind { IfOk result (λ arrivals. (n : ℕ) → n ≤ length statements.now → n ≤ slice_index arrivals.items n) }
+/// The ways of all lines.
+pub fn ways(alloc: Global, lines: &[Line]) -> Result<Ways, AllocError>
+    requires { length lines.now ≤ 65537 }
+    ensures { IfOk result (λ w. AreWaysOf (map shown_line lines.now) w) }
 {
-    let mut arrivals = vec![in alloc; statements.len() as u32; statements.len() + 1]?;
-    let mut at = statements.len();
+    let mut arrivals = vec![in alloc; lines.len() as u32; lines.len() + 1]?;
+    let mut turns = vec![in alloc; 0; lines.len()]?;
+    let mut levels = Vec::new(alloc);
+    let mut at = lines.len();
     while at > 0 {
         at -= 1;
-        let stands = arrival(statements, &arrivals, at);
+        let stands = arrival(lines, &arrivals, &levels, at);
         arrivals[at] = stands;
+        turns[at] = turn_of(at as u32, &levels);
+        pass(&mut levels, at as u32, line_at(lines, at))?;
     }
-    Ok(arrivals)
+    Ok(Ways { arrivals, turns })
 }

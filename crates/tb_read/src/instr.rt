@@ -1,7 +1,7 @@
 //! One statement of a program, with what is needed to take it.
 
 ghost use Rattle.std.specs.Prelude.{IsTrue};
-ghost use Rattle.tb_read.specs.Statements.{is_sound, is_known};
+ghost use Rattle.tb_read.specs.Statements.{is_sound};
 
 use std::alloc::AllocError;
 use tb_model::Statement;
@@ -17,8 +17,6 @@ pub struct Instr {
     pub cells: u32,
     /// Its registers are 0 to 15, and it has at most 16 arguments.
     pub ghost sound: { IsTrue (is_sound statement) },
-    /// Its word is one of those that the notation has so far.
-    pub ghost known: { IsTrue (is_known statement) },
 }
 
 impl Clone for Instr {

@@ -8,7 +8,7 @@ ghost use Rattle.tb_read.specs.Meaning.{IsPosition, IsProgramOf};
 ghost use Rattle.tb_read.specs.Reading.{IsAccepted};
 
 /// A program that was accepted is well formed. Its root's body begins at a line with a statement,
-/// and each statement but a body's end is followed by one: so no run leaves its body.
+/// and each statement but a body's end is followed by one of the same body: no run leaves its body.
 #[tactic(auto, using(crate::proofs::WellFormedLemmas::accepted_well_formed, crate::proofs::WellFormedLemmas::accepted_root, crate::proofs::WellFormedLemmas::accepted_followed))]
 pub fn accepted_is_well_formed()
     ensures well_formed { (lines : List (List ℕ)) (P : Program) → IsAccepted lines → IsProgramOf lines P → WellFormed P }

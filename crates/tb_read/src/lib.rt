@@ -1,26 +1,34 @@
 //! Reads a program text, and evaluates one statement for one task.
 #![tactic(auto)]
 
+mod block;
 mod body;
 mod build;
+mod clauses;
 mod config;
 mod context;
 mod evaluation;
 mod fault;
 mod follow;
 mod grammar;
+mod head;
 mod heading;
 mod instr;
 pub mod laws;
+mod level;
+mod line;
 mod meaning;
 mod parsed;
+mod place;
 mod planned;
 mod program;
 mod reader;
 mod reading;
+mod stack;
 #[cfg(test)]
 mod tests;
 mod text;
+mod ways;
 mod word;
 
 pub use config::Config;

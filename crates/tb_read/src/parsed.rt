@@ -1,7 +1,7 @@
 //! A statement of a text.
 
 ghost use Rattle.std.specs.Prelude.{IsTrue};
-ghost use Rattle.tb_read.specs.Statements.{is_known, is_sound};
+ghost use Rattle.tb_read.specs.Statements.{is_sound};
 
 use tb_model::Statement;
 
@@ -10,5 +10,4 @@ use tb_model::Statement;
 pub struct Parsed {
     pub statement: Statement,
     pub ghost sound: { IsTrue (is_sound statement) },
-    pub ghost known: { IsTrue (is_known statement) },
 }

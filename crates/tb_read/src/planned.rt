@@ -8,7 +8,7 @@ use crate::instr::Instr;
 use tb_model::Action;
 
 /// What a task does next: its instruction, its situation, and the action that the statement makes of
-/// the two. A load has the number 0, and a spawned child the number 0, until the step is taken.
+/// the two. A load has the number 0, and a spawned task is the first child, until the step is taken.
 #[derive(Debug, Drop)]
 pub struct Plan {
     pub instr: Instr,

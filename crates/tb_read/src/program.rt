@@ -6,7 +6,8 @@ ghost use Rattle.tb_model.specs.Program.{instr_at, no_instr};
 ghost use Rattle.tb_read.specs.Meaning.{IsPosition};
 ghost use Rattle.tb_read.specs.Bodies.{named, name_at};
 ghost use Rattle.tb_read.specs.Plans.{instruction};
-ghost use Rattle.tb_read.specs.Shown.{shown_instr, ArePlaced};
+ghost use Rattle.tb_read.specs.Shown.{shown_instr};
+ghost use Rattle.tb_read.specs.Soundness.{IsKept, IsSound};
 
 use crate::body::Body;
 use crate::instr::Instr;
@@ -23,16 +24,17 @@ pub struct Program {
 }
 
 impl Model for Program {
-    ghost use Rattle.std.specs.Prelude.{◌≤◌, map, length};
+    ghost use Rattle.std.specs.Prelude.{map};
     ghost use Rattle.tb_model.specs.Program.{Program as Model};
     ghost use Rattle.tb_read.specs.Bodies.{named};
-    ghost use Rattle.tb_read.specs.Shown.{shown_instr, ArePlaced};
+    ghost use Rattle.tb_read.specs.Shown.{shown_instr};
+    ghost use Rattle.tb_read.specs.Soundness.{IsKept};
 
     ghost Value = { Model };
 
     ghost view = { λ p. record { cells = p.cells.items; bodies = map named p.bodies.items; lines = map shown_instr p.lines.items; root_line = p.root_line } };
 
-    ghost invariant = { λ p. (length p.cells.items ≤ 65536) × ArePlaced (length p.cells.items) p.lines.items };
+    ghost invariant = { λ p. IsKept (record { cells = p.cells.items; bodies = map named p.bodies.items; lines = map shown_instr p.lines.items; root_line = p.root_line }) p.lines.items };
 }
 
 /// The instruction of a line.
@@ -58,12 +60,8 @@ impl Program {
         lines: Vec<Option<Instr>>,
         root_line: u32,
     ) -> Program
-        requires few { length cells.items ≤ 65536 }
-        requires placed { ArePlaced (length cells.items) lines.items }
-        ensures cells { result.cells ≡ cells.items }
-        ensures bodies { result.bodies ≡ map named bodies.items }
-        ensures lines { result.lines ≡ map shown_instr lines.items }
-        ensures root_line { result.root_line ≡ root_line }
+        requires { IsKept (record { cells = cells.items; bodies = map named bodies.items; lines = map shown_instr lines.items; root_line = root_line }) lines.items }
+        ensures { result ≡ record { cells = cells.items; bodies = map named bodies.items; lines = map shown_instr lines.items; root_line = root_line } }
     {
         Program {
             cells,
@@ -83,9 +81,18 @@ impl Program {
 
     /// The line of the body `main`.
     pub fn root_line(&self) -> u32
-        ensures { result ≡ self.now.root_line }
+        ensures line { result ≡ self.now.root_line }
+        ensures sound { IsSound self.now }
     {
         self.root_line
+    }
+
+    /// One more than the number of the last line. Lines count from 1.
+    pub fn line_count(&self) -> u32
+        ensures count { result ≡ length self.now.lines }
+        ensures few { result ≤ 65537 }
+    {
+        self.lines.len() as u32
     }
 
     /// The name of the body that the line begins.

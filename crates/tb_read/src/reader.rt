@@ -3,18 +3,19 @@
 ghost use Rattle.std.specs.Prelude.{◌≡◌, ◌≢◌, ◌≤◌, ℕ, List, IfOk, IfErr, OnOk, length, map, codes};
 ghost use Rattle.tb_read.specs.Context.{Context};
 ghost use Rattle.tb_read.specs.Headings.{headings_from, heading_of};
-ghost use Rattle.tb_read.specs.Meaning.{IsProgramOf, first_number, line_of, statements};
+ghost use Rattle.tb_read.specs.Meaning.{IsProgramOf, first_number, line_of, lines_in};
 ghost use Rattle.tb_read.specs.Reading.{context_at, IsAccepted, IsFirstFault};
-ghost use Rattle.tb_read.specs.Shown.{shown_statement};
+ghost use Rattle.tb_read.specs.Shown.{shown_line};
 ghost use Rattle.tb_read.specs.Text.{numbered};
 ghost use Rattle.tb_read.specs.declared.fault.FaultKind.TheVariants.{Memory};
 
 use crate::build::instrs;
 use crate::context::Lines;
 use crate::fault::{FaultKind, ReadFault};
-use crate::follow::arrivals;
+use crate::follow::ways;
 use crate::heading::{Headings, headings_of};
-use crate::parsed::Parsed;
+use crate::line::Line;
+use crate::meaning::line_of;
 use crate::program::Program;
 use crate::reading::read_lines;
 use crate::text::numbered;
@@ -26,36 +27,26 @@ fn first_numbers(alloc: Global, cells: &[Option<i64>]) -> Result<Vec<i64>, Alloc
     cells.iter().map(|cell| cell.unwrap_or(0)).collect(alloc)
 }
 
-/// The line of the body `main`.
-fn root_line(lines: &[&[u8]], headings: &Headings<'_>) -> u32
-    requires few { length lines.now ≤ 65537 }
-    requires headings { (name : List ℕ) → heading_of headings.now name ≡ heading_of (headings_from 0 (map (λ line. line.now) lines.now)) name }
-    ensures { result ≡ line_of (heading_of (headings_from 0 (map (λ line. line.now) lines.now)) (codes "main")) }
-{
-    match headings.get(b"main") {
-        Some(main) if main.line < lines.len() => main.line as u32,
-        _ => 0,
-    }
-}
-
 /// The program of lines that are all accepted.
 fn program(
     alloc: Global,
     lines: &[&[u8]],
     before: Lines,
-    all: &[Option<Parsed>],
+    all: &[Line],
     root_line: u32,
 ) -> Result<Program, AllocError>
     requires few { length lines.now ≤ 65537 }
+    requires accepted { IsAccepted (map (λ line. line.now) lines.now) }
     requires told { before ≡ context_at (map (λ line. line.now) lines.now) (length lines.now) }
-    requires all { map shown_statement all.now ≡ statements (map (λ line. line.now) lines.now) }
+    requires all { map shown_line all.now ≡ lines_in (map (λ line. line.now) lines.now) }
     requires root_line { root_line ≡ line_of (heading_of (headings_from 0 (map (λ line. line.now) lines.now)) (codes "main")) }
-    ensures { IfOk result (λ p. IsProgramOf (map (λ line. line.now) lines.now) p) }
+    ensures accepted { OnOk result (IsAccepted (map (λ line. line.now) lines.now)) }
+    ensures program { IfOk result (λ p. IsProgramOf (map (λ line. line.now) lines.now) p) }
 {
-    let arrivals = arrivals(alloc, all)?;
+    let ways = ways(alloc, all)?;
     let (given, bodies) = before.into_parts();
     let cells = first_numbers(alloc, &given)?;
-    let instrs = instrs(alloc, all, &arrivals, cells.len() as u32)?;
+    let instrs = instrs(alloc, all, &ways, cells.len() as u32)?;
     Ok(Program::new(cells, bodies, instrs, root_line))
 }
 
@@ -74,7 +65,7 @@ fn read_known(alloc: Global, lines: &[&[u8]], headings: &Headings<'_>) -> Result
                 line: lines.len() as u32,
                 kind,
             }),
-            None => match program(alloc, lines, before, &all, root_line(lines, headings)) {
+            None => match program(alloc, lines, before, &all, line_of(headings.get(b"main"))) {
                 Ok(program) => Ok(program),
                 Err(_) => Err(ReadFault {
                     line: lines.len() as u32,

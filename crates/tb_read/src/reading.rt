@@ -1,25 +1,25 @@
 //! Reads a program text, line after line.
 
 ghost use Rattle.std.specs.Prelude.{◌≡◌, ◌≢◌, ◌<◌, ◌≤◌, ◌++◌, ◌∷◌, [], ℕ, List, IfOk, IfErr, OnOk, Some, None, length, map, slice_get};
-ghost use Rattle.tb_read.specs.Shown.{shown_statement};
+ghost use Rattle.tb_read.specs.Shown.{shown_line};
 ghost use Rattle.tb_read.specs.Headings.{headings_from, heading_of};
-ghost use Rattle.tb_read.specs.Meaning.{line_statement, statements};
+ghost use Rattle.tb_read.specs.Meaning.{line_with, lines_in};
 ghost use Rattle.tb_read.specs.Reading.{context_at, behind, line_fault, fault_at, IsFirstFault};
 ghost use Rattle.tb_read.specs.declared.fault.FaultKind.TheVariants.{Memory};
 
 use crate::context::Lines;
 use crate::fault::{FaultKind, ReadFault};
 use crate::heading::Headings;
-use crate::meaning::statement_in;
-use crate::parsed::Parsed;
+use crate::line::Line;
+use crate::meaning::line_in;
 use crate::text::{before_comment, is_text, words_of};
 use std::alloc::Global;
 
-/// Takes a line in and adds its statement to those so far, where it is without a fault.
+/// Takes a line in and adds what it is to those so far, where it is without a fault.
 fn read_line(
     alloc: Global,
     before: &mut Lines,
-    all: &mut Vec<Option<Parsed>>,
+    all: &mut Vec<Line>,
     line: usize,
     headings: &Headings<'_>,
     text: &[u8],
@@ -27,7 +27,7 @@ fn read_line(
     ensures accepted { OnOk result (line_fault (record { line = line; heading = heading_of headings.now }) before.old (Some text.now) ≡ None) }
     ensures within { OnOk result (line ≤ 65536) }
     ensures taken { OnOk result (before.new ≡ behind line (Some text.now) before.old) }
-    ensures statement { OnOk result (map shown_statement all.new.items ≡ map shown_statement all.old.items ++ line_statement before.old (Some text.now) ∷ []) }
+    ensures line { OnOk result (map shown_line all.new.items ≡ map shown_line all.old.items ++ line_with (record { line = line; heading = heading_of headings.now }) before.old (Some text.now) ∷ []) }
     ensures refused { IfErr result (λ kind. kind ≢ Memory → line_fault (record { line = line; heading = heading_of headings.now }) before.old (Some text.now) ≡ Some kind) }
 {
     if 1024 < text.len() || 65536 < line {
@@ -41,7 +41,7 @@ fn read_line(
     if let Some(kind) = before.fault(line, headings, &words) {
         return Err(kind);
     }
-    all.push(statement_in(before, &words))?;
+    all.push(line_in(alloc, headings, before, &words)?)?;
     before.accept(alloc, line as u32, &words)?;
     Ok(())
 }
@@ -53,15 +53,15 @@ fn item<T: Copy>(items: &[T], at: usize) -> T
     items[at]
 }
 
-/// All lines in a row: what they tell, and their statements.
+/// All lines in a row: what they tell, and what each is.
 pub fn read_lines(
     alloc: Global,
     lines: &[&[u8]],
     headings: &Headings<'_>,
-) -> Result<(Lines, Vec<Option<Parsed>>), ReadFault>
+) -> Result<(Lines, Vec<Line>), ReadFault>
     requires { (name : List ℕ) → heading_of headings.now name ≡ heading_of (headings_from 0 (map (λ line. line.now) lines.now)) name }
     ensures told { IfOk result (λ r. r.0 ≡ context_at (map (λ line. line.now) lines.now) (length lines.now)) }
-    ensures statements { IfOk result (λ r. map shown_statement r.1.items ≡ statements (map (λ line. line.now) lines.now)) }
+    ensures lines { IfOk result (λ r. map shown_line r.1.items ≡ lines_in (map (λ line. line.now) lines.now)) }
     ensures accepted { OnOk result ((n : ℕ) → n < length lines.now → fault_at (map (λ line. line.now) lines.now) n ≡ None) }
     ensures few { OnOk result (length lines.now ≤ 65537) }
     ensures refused { IfErr result (λ e. e.kind ≢ Memory → IsFirstFault (map (λ line. line.now) lines.now) e.line e.kind) }

@@ -4,9 +4,9 @@ ghost use Rattle.std.specs.Prelude.{◌≡◌, ◌<◌, nat_lt, length, map, sli
 ghost use Rattle.std.specs.List.{list_all};
 ghost use Rattle.std.specs.Char.{is_ascii_digit};
 ghost use Rattle.tb_read.specs.Statements.{is_sound_operand};
-ghost use Rattle.tb_read.specs.Word.{same_word, word_at, is_numeral, number_of, register_of, operand_of, operator_of, resembles_register, is_name, begins_name, continues_name};
+ghost use Rattle.tb_read.specs.Word.{same_word, word_at, is_numeral, number_of, register_of, operand_of, operator_of, resembles_register, is_name, begins_name, continues_name, comparison_of, kind_of, is_all};
 
-use tb_model::{Operand, Operator};
+use tb_model::{Comparison, Kind, Operand, Operator};
 
 /// Whether two words are the same bytes.
 pub fn same_word(a: &[u8], b: &[u8]) -> bool
@@ -93,6 +93,49 @@ pub fn operator(word: &[u8]) -> Option<Operator>
     } else {
         None
     }
+}
+
+/// The comparison that the word is.
+pub fn comparison(word: &[u8]) -> Option<Comparison>
+    ensures { result ≡ comparison_of word.now }
+{
+    if same_word(word, b"==") {
+        Some(Comparison::Equal)
+    } else if same_word(word, b"!=") {
+        Some(Comparison::Unequal)
+    } else if same_word(word, b"<") {
+        Some(Comparison::Less)
+    } else if same_word(word, b"<=") {
+        Some(Comparison::AtMost)
+    } else {
+        None
+    }
+}
+
+/// The dependence type that the word is.
+pub fn kind(word: &[u8]) -> Option<Kind>
+    ensures { result ≡ kind_of word.now }
+{
+    if same_word(word, b"in") {
+        Some(Kind::In)
+    } else if same_word(word, b"out") {
+        Some(Kind::Out)
+    } else if same_word(word, b"inout") {
+        Some(Kind::Inout)
+    } else if same_word(word, b"mutexinoutset") {
+        Some(Kind::Mutexinoutset)
+    } else if same_word(word, b"inoutset") {
+        Some(Kind::Inoutset)
+    } else {
+        None
+    }
+}
+
+/// Whether the word stands for all memory.
+pub fn is_all(word: &[u8]) -> bool
+    ensures { result ≡ is_all word.now }
+{
+    same_word(word, b"all")
 }
 
 /// Whether the word is `r` with digits after it.

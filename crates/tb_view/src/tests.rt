@@ -154,94 +154,40 @@ fn item(kind: Kind, cell: u32) -> Item {
     }
 }
 
+fn wait(rt: &(impl Abort + AllocGlobal), used: &[Item]) -> Action {
+    Action::Wait {
+        items: items(rt, used),
+    }
+}
+
+fn expect_lines(rt: &impl Abort, shown: &[(String, &str)]) {
+    for (text, expected) in shown {
+        assert_eq!(rt; text.as_str(), *expected);
+    }
+}
+
 #[test]
 fn lines_of_steps(rt: HostRuntime) {
-    let all = Item {
-        kind: Kind::Inout,
-        place: Place::All,
+    let least = Action::Let {
+        reg: 0,
+        value: i64::MIN,
     };
-    let two = [item(Kind::Mutexinoutset, 0), item(Kind::Inoutset, 65535)];
+    let load = Action::Load {
+        reg: 15,
+        cell: 0,
+        value: 5,
+    };
+    let store = Action::Store {
+        cell: 65535,
+        value: 1,
+    };
     let shown = [
         (line(&rt, "0#1", Action::Start), "0#1 start"),
-        (
-            line(
-                &rt,
-                "0#2",
-                Action::Let {
-                    reg: 0,
-                    value: i64::MIN,
-                },
-            ),
-            "0#2 let r0 -9223372036854775808",
-        ),
-        (
-            line(
-                &rt,
-                "0.1#2",
-                Action::Load {
-                    reg: 15,
-                    cell: 0,
-                    value: 5,
-                },
-            ),
-            "0.1#2 load r15 0 5",
-        ),
-        (
-            line(
-                &rt,
-                "0#2",
-                Action::Store {
-                    cell: 65535,
-                    value: 1,
-                },
-            ),
-            "0#2 store 65535 1",
-        ),
+        (line(&rt, "0#2", least), "0#2 let r0 -9223372036854775808"),
+        (line(&rt, "0.1#2", load), "0.1#2 load r15 0 5"),
+        (line(&rt, "0#2", store), "0#2 store 65535 1"),
         (line(&rt, "0#3", Action::Print { value: 7 }), "0#3 print 7"),
-        (
-            line(
-                &rt,
-                "0#2",
-                spawn(&rt, "0.1", &[], &[item(Kind::In, 0)], true),
-            ),
-            "0#2 spawn 0.1 t depend in 0",
-        ),
-        (
-            line(
-                &rt,
-                "0#4",
-                spawn(&rt, "0.3", &[], &[item(Kind::Out, 0)], true),
-            ),
-            "0#4 spawn 0.3 t depend out 0",
-        ),
-        (
-            line(&rt, "0#2", spawn(&rt, "0.1", &[1, -2], &two, true)),
-            "0#2 spawn 0.1 t 1 -2 depend mutexinoutset 0 depend inoutset 65535",
-        ),
-        (
-            line(&rt, "0#2", spawn(&rt, "0.1", &[], &[all], false)),
-            "0#2 spawn 0.1 t depend inout all undeferred",
-        ),
-        (
-            line(
-                &rt,
-                "0#3",
-                Action::Wait {
-                    items: items(&rt, &[]),
-                },
-            ),
-            "0#3 wait",
-        ),
-        (
-            line(
-                &rt,
-                "0#3",
-                Action::Wait {
-                    items: items(&rt, &[item(Kind::Out, 3)]),
-                },
-            ),
-            "0#3 wait depend out 3",
-        ),
+        (line(&rt, "0#3", wait(&rt, &[])), "0#3 wait"),
         (line(&rt, "0#4", Action::Open), "0#4 open"),
         (line(&rt, "0#6", Action::Close), "0#6 close"),
         (line(&rt, "0#2", Action::Test { yes: true }), "0#2 test yes"),
@@ -249,7 +195,36 @@ fn lines_of_steps(rt: HostRuntime) {
         (line(&rt, "0.2.1#2", Action::End), "0.2.1#2 end"),
         (line(&rt, "0#3", Action::Fault), "0#3 fault"),
     ];
-    for (text, expected) in &shown {
-        assert_eq!(rt; text.as_str(), *expected);
-    }
+    expect_lines(&rt, &shown);
+}
+
+#[test]
+fn lines_with_items(rt: HostRuntime) {
+    let (read, written) = ([item(Kind::In, 0)], [item(Kind::Out, 3)]);
+    let two = [item(Kind::Mutexinoutset, 0), item(Kind::Inoutset, 65535)];
+    let all = Item {
+        kind: Kind::Inout,
+        place: Place::All,
+    };
+    let first = spawn(&rt, "0.1", &[], &read, true);
+    let third = spawn(&rt, "0.3", &[], &written, true);
+    let called = spawn(&rt, "0.1", &[1, -2], &two, true);
+    let undeferred = spawn(&rt, "0.1", &[], &[all], false);
+    let shown = [
+        (line(&rt, "0#2", first), "0#2 spawn 0.1 t depend in 0"),
+        (line(&rt, "0#4", third), "0#4 spawn 0.3 t depend out 3"),
+        (
+            line(&rt, "0#2", called),
+            "0#2 spawn 0.1 t 1 -2 depend mutexinoutset 0 depend inoutset 65535",
+        ),
+        (
+            line(&rt, "0#2", undeferred),
+            "0#2 spawn 0.1 t depend inout all undeferred",
+        ),
+        (
+            line(&rt, "0#3", wait(&rt, &written)),
+            "0#3 wait depend out 3",
+        ),
+    ];
+    expect_lines(&rt, &shown);
 }

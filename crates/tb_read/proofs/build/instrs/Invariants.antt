@@ -1,13 +1,13 @@
 use Rattle.std.proofs.Common.{◌≡◌, ◌<◌, ℕ, map, length, slice_index_or}
 use Rattle.tb_model.specs.Program.{no_instr}
 use Rattle.tb_read.specs.Meaning.{IsInstrAt}
-use Rattle.tb_read.specs.Shown.{shown_statement, shown_instr, ArePlaced}
+use Rattle.tb_read.specs.Shown.{shown_line, shown_instr, ArePlaced}
 use Rattle.tb_read.proofs.build.instrs.Given as goal
 
 -- the instructions so far
 abbrev pub invariant-loop-at : goal.invariant-loop-at
 invariant-loop-at l = record {
   count : length l.instrs.items ≡ l.at;
-  instrs : (n : ℕ) → n < l.at → IsInstrAt (map shown_statement l.statements) n (slice_index_or (map shown_instr l.instrs.items) n no_instr);
+  instrs : (n : ℕ) → n < l.at → IsInstrAt (map shown_line l.lines) n (slice_index_or (map shown_instr l.instrs.items) n no_instr);
   placed : ArePlaced l.cells l.instrs.items;
 }

@@ -1,27 +1,29 @@
-use Rattle.std.proofs.Common.{◌≡◌, ◌∙◌, sym, ap, map, arith, length, subst}
+use Rattle.std.proofs.Common.{◌≡◌, ◌≤◌, ◌∙◌, sym, ap, map, arith, length, subst}
 use Rattle.std.proofs.lemmas.List.{length-map}
-use Rattle.tb_read.specs.Meaning.{AreInstrsOf, first_number}
-use Rattle.tb_read.specs.Reading.{context_at}
-use Rattle.tb_read.specs.Shown.{shown_statement, shown_instr}
-use Rattle.tb_read.proofs.ReadLemmas.{statements_count}
+use Rattle.tb_read.specs.Meaning.{IsProgramOf, first_number}
+use Rattle.tb_read.specs.Shown.{ArePlaced}
+use Rattle.tb_read.proofs.ReadLemmas.{lines_count}
+use Rattle.tb_read.proofs.AcceptedLemmas.{has_of, program_means, program_kept}
 use Rattle.tb_read.proofs.reader.program.Goals as goal
 
-pub arrivals-requires : goal.arrivals-requires
-arrivals-requires c = omega (arith, statements_count c.args.lines.now c.args.all.now c.requires.all)
+pub ways-requires : goal.ways-requires
+ways-requires c = omega (arith, lines_count c.args.lines.now c.args.all.now c.requires.all)
 
 pub instrs-requires-clause-few : goal.instrs-requires-clause-few
-instrs-requires-clause-few c = omega (arith, statements_count c.args.lines.now c.args.all.now c.requires.all)
+instrs-requires-clause-few c = omega (arith, lines_count c.args.lines.now c.args.all.now c.requires.all)
 
-pub returns : goal.returns
-returns c =
-    let lines = map (λ line. line.now) c.args.lines.now in
-    let whole : length c.args.lines.now ≡ length lines = simp length-map in
-    let told : c.args.before ≡ context_at lines (length lines) = c.requires.told ∙ ap (context_at lines) whole in
-    let shown : length (map shown_instr c.in_ok-instrs.instrs.items) ≡ length c.in_ok-instrs.instrs.items = simp length-map in
-    record {
-      cells = c.new.ensures.cells ∙ c.in_ok-cells.ensures ∙ ap (map first_number) (c.deref.ensures.value ∙ c.into_parts-given.ensures.cells) ∙ ap (λ k. map first_number k.cells) told;
-      bodies = c.new.ensures.bodies ∙ c.into_parts-given.ensures.bodies ∙ ap (λ k. k.bodies) told;
-      root_line = c.new.ensures.root_line ∙ c.requires.root_line;
-      count = ap length c.new.ensures.lines ∙ shown ∙ c.in_ok-instrs.ensures.count ∙ statements_count c.args.lines.now c.args.all.now c.requires.all ∙ whole;
-      instrs = subst (λ s. AreInstrsOf s c.new.result.lines) c.requires.all (subst (AreInstrsOf (map shown_statement c.args.all.now)) (sym c.new.ensures.lines) c.in_ok-instrs.ensures.instrs);
-    }
+pub new-requires : goal.new-requires
+new-requires c =
+    let numbers = c.in_ok-cells.ensures ∙ ap (map first_number) (c.deref.ensures.value ∙ c.into_parts-given.ensures.cells) in
+    let has = has_of c.args.lines.now c.args.before c.args.all.now c.in_ok-instrs.instrs.items _ _ c.args.root_line
+    c.requires.accepted c.requires.told c.requires.all numbers c.into_parts-given.ensures.bodies c.requires.root_line c.in_ok-instrs.ensures.count c.in_ok-instrs.ensures.instrs in
+    let shown : length (map first_number c.deref.result.now) ≡ length c.deref.result.now = simp length-map in
+    let few : length c.in_ok-cells.cells.items ≤ 65536 = omega (arith, ap length c.in_ok-cells.ensures, shown, ap length c.deref.ensures.value, c.into_parts-given.ensures.few) in
+    program_kept _ _ _ _ _ _ _ has few (omega (arith, lines_count c.args.lines.now c.args.all.now c.requires.all, c.requires.few)) (subst (λ n. ArePlaced n c.in_ok-instrs.instrs.items) (omega (arith, c.len.ensures)) c.in_ok-instrs.ensures.placed)
+
+pub returns-clause-program : goal.returns-clause-program
+returns-clause-program c =
+    let numbers = c.in_ok-cells.ensures ∙ ap (map first_number) (c.deref.ensures.value ∙ c.into_parts-given.ensures.cells) in
+    let has = has_of c.args.lines.now c.args.before c.args.all.now c.in_ok-instrs.instrs.items _ _ c.args.root_line
+    c.requires.accepted c.requires.told c.requires.all numbers c.into_parts-given.ensures.bodies c.requires.root_line c.in_ok-instrs.ensures.count c.in_ok-instrs.ensures.instrs in
+    subst (IsProgramOf (map (λ line. line.now) c.args.lines.now)) (sym c.new.ensures) (program_means _ _ _ _ _ _ _ has)

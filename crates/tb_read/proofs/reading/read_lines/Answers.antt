@@ -2,7 +2,7 @@ use Rattle.std.proofs.Common.{◌∙◌, map, Some, arith, refl}
 use Rattle.std.proofs.lemmas.List.{length-map}
 use borrow.Author.Count.{below_more}
 use Rattle.tb_read.proofs.ListLemmas.{get_map}
-use Rattle.tb_read.proofs.ReadLemmas.{same_setting, fault_here, told_behind, statements_behind}
+use Rattle.tb_read.proofs.ReadLemmas.{same_setting, fault_here, told_behind, lines_behind}
 use Rattle.tb_read.proofs.reading.read_lines.Goals as goal
 
 pub loop-at-preserved : goal.loop-at-preserved
@@ -14,7 +14,7 @@ loop-at-preserved c =
       few = omega (arith, c.in-Ok.ensures.within);
       told = told_behind lines c.loop-at.at (Some c.item.result.now) _ _ c.loop-at.invariant.told here c.in-Ok.ensures.taken;
       faultless = below_more _ c.loop-at.at c.loop-at.invariant.faultless (fault_here lines c.loop-at.at (Some c.item.result.now) _ _ _ setting c.loop-at.invariant.told here c.in-Ok.ensures.accepted);
-      statements = c.in-Ok.ensures.statement ∙ statements_behind lines c.loop-at.at (Some c.item.result.now) _ _ _ c.loop-at.invariant.told here c.loop-at.invariant.statements refl;
+      lines = c.in-Ok.ensures.line ∙ lines_behind lines c.loop-at.at (Some c.item.result.now) _ _ _ _ setting c.loop-at.invariant.told here c.loop-at.invariant.lines refl;
     }
 
 pub returns-in-Err-clause-refused : goal.returns-in-Err-clause-refused

@@ -1,0 +1,108 @@
+#!/usr/bin/env python3
+"""Measures the reader on long program texts, through crates/tb_read_rows.
+
+    bench/reading.py [PROGRAM]
+
+Each text comes with 6,553 and with 65,536 lines, the most that a program can have. It is read whole, and
+its program is written out, or it has a fault in its last line alone: so the first also pays for the
+instructions and for printing them. A run reads ten copies of the longer text, or a hundred of the
+shorter, and the best of three runs counts, by the processor's time. Memory is that of a run on one
+copy; a run can't show less than the 10 MB of this script, from which it begins.
+"""
+import os
+import sys
+import tempfile
+
+TOP = os.path.join(os.path.dirname(os.path.abspath(__file__)), '..')
+HEAD, END = b'cells 8\nbody main 0\n', b'end\n'
+STATEMENTS = [b'  let r1 r0 + 1\n', b'  store r1 -7\n', b'  load r2 3\n', b'  print r2\n']
+TASKS = [b'  task main depend in r1 depend out all if r0 < 2 # a task\n', b'  taskwait depend inout 7\n']
+
+
+def of_lines(some, lines):
+    """A text of so many lines, whose body repeats these."""
+    count = lines - 3
+    return HEAD + b''.join(some) * (count // len(some)) + b''.join(some[:count % len(some)]) + END
+
+
+def nested(lines):
+    count = (lines - 3) // 2
+    return HEAD + b'# odd\n' * ((lines - 3) % 2) + b'if r0 == 0\n' * count + END * count + END
+
+
+def bodies(lines):
+    """A thousand bodies, as far as there are lines for them."""
+    count = min(1000, lines // 16)
+    parts = [of_lines(STATEMENTS, lines - (count - 1) * (lines // count))]
+    for n in range(1, count):
+        parts.append(b'body b%d 0\n' % n + b'  print 1\n' * (lines // count - 2) + END)
+    return b''.join(parts)
+
+
+TEXTS = [
+    ('statements', lambda lines: of_lines(STATEMENTS, lines)),
+    ('tasks and waits', lambda lines: of_lines(TASKS, lines)),
+    ('nested ifs', nested),
+    ('a thousand bodies', bodies),
+    ('comments', lambda lines: of_lines([b'# ' + b'y' * 60 + b'\n'], lines)),
+]
+
+
+def faulty(text):
+    """The text with a fault in its last line, an `end`."""
+    return text[:-len(END)] + b'fly\n'
+
+
+def prepare(path, text_of, lines, copies):
+    """Writes the copies, in a process of its own, so that a measured run doesn't begin with its memory."""
+    child = os.fork()
+    if child == 0:
+        text = text_of(lines)
+        assert text.count(b'\n') == lines
+        with open(path, 'wb') as texts:
+            for _ in range(copies):
+                texts.write(b'%d\n' % len(text) + text)
+        os._exit(0)
+    _, status = os.waitpid(child, 0)
+    if status != 0:
+        sys.exit('the texts could not be written')
+
+
+def measure(program, path):
+    """The processor's time and the memory of a run, the least of three."""
+    runs = []
+    for _ in range(3):
+        child = os.fork()
+        if child == 0:
+            os.dup2(os.open(path, os.O_RDONLY), 0)
+            os.dup2(os.open(os.devnull, os.O_WRONLY), 1)
+            os.execv(program, [program])
+        _, status, used = os.wait4(child, 0)
+        runs.append((used.ru_utime + used.ru_stime, used.ru_maxrss / 1024))
+        if status != 0:
+            sys.exit('the program ended with status %d' % status)
+    return min(runs)
+
+
+def report(program, name, how, text_of, folder):
+    path, times = os.path.join(folder, 'texts'), []
+    for lines, copies in ((6553, 100), (65536, 10)):
+        prepare(path, text_of, lines, copies)
+        taken = measure(program, path)[0] / copies
+        prepare(path, text_of, lines, 1)
+        times.append(taken)
+        print('%-18s %-8s %6d lines, %4.1f MB of text: %6.2f ms, %8.0f lines a second, %5.1f MB'
+              % (name, how, lines, os.path.getsize(path) / 1e6, 1000 * taken, lines / taken, measure(program, path)[1]))
+    print('%-18s %-8s ten times the lines take %.1f times the time' % (name, how, times[1] / times[0]))
+
+
+def main():
+    program = os.path.abspath(sys.argv[1] if len(sys.argv) > 1 else os.path.join(TOP, 'crates/tb_read_rows/out/tb_read_rows'))
+    with tempfile.TemporaryDirectory() as folder:
+        for name, text_of in TEXTS:
+            report(program, name, 'accepted', text_of, folder)
+            report(program, name, 'faulty', lambda lines: faulty(text_of(lines)), folder)
+
+
+if __name__ == '__main__':
+    main()

@@ -1,0 +1,17 @@
+//! What a line is to the flow of control.
+
+use crate::parsed::Parsed;
+
+/// What a line of a text is to the flow of control.
+#[derive(Debug, Drop)]
+pub enum Line {
+    /// Control passes over it.
+    Passed,
+    /// A task can stand there.
+    Stands(Parsed),
+    Else,
+    /// The end of an `if`, over which control passes.
+    EndIf,
+    /// The end of the `while` of that line.
+    EndWhile(u32),
+}

@@ -1,0 +1,69 @@
+//! What is refused for memory.
+
+use crate::{Config, FaultKind, Program, ReadFault, plan, read};
+use std::process::Abort;
+use std::test::Fail;
+use tb_model::{Action, TaskName};
+
+const TEXT: &[u8] =
+    b"cells 2\ncell 1 5\nbody main 0\nif r0 == 0\ntask b r0 7 depend in r0 depend out all if 1 < 2\nelse\ntaskwait\nend\nend\nbody b 2\nend\n";
+
+/// The answer, or at a refusal for memory that of the same call made again.
+fn read_twice(rt: &(impl Abort + AllocGlobal), text: &[u8]) -> Result<Program, ReadFault> {
+    match read(rt.alloc(), text) {
+        Err(fault) if fault.kind == FaultKind::Memory => read(rt.alloc(), text),
+        answer => answer,
+    }
+}
+
+#[test]
+fn a_refused_growth_of_read_leaves_its_answer(rt: HostRuntime) -> Result<(), Fail> {
+    let program = read_twice(&rt, TEXT)?;
+    assert_eq!(rt; program.cells(), [0, 5].as_slice());
+    assert_eq!(rt; program.root_line(), 3);
+    assert_eq!(rt; program.body_name(10), Some(b"b".as_slice()));
+    let test = program.instr(4).ok_or("no test")?;
+    assert_eq!(rt; (test.next, test.otherwise), (5, 7));
+    let faulty = read_twice(&rt, b"cells 1\nbody main 0\nprint 1 2 3 4 5\nend\n");
+    assert!(rt;
+        matches!(
+            faulty,
+            Err(ReadFault {
+                line: 3,
+                kind: FaultKind::Arity
+            })
+        )
+    );
+    Ok(())
+}
+
+#[test]
+fn a_refused_growth_of_plan_leaves_its_answer(rt: HostRuntime) -> Result<(), Fail> {
+    let program = read_twice(&rt, TEXT)?;
+    let instr = program.instr(5).ok_or("no task")?;
+    let config = Config {
+        task: TaskName::root(rt.alloc()),
+        steps: 2,
+        at: instr.line,
+        regs: [1, 0, 0, 0, 0, 0, 0, 0, 0, 0, 0, 0, 0, 0, 0, 0],
+    };
+    let planned = match plan(rt.alloc(), instr, &config) {
+        Ok(planned) => planned,
+        Err(_) => plan(rt.alloc(), instr, &config)?,
+    };
+    let Action::Spawn {
+        body,
+        args,
+        items,
+        deferred,
+        ..
+    } = &planned.action
+    else {
+        return Err(Fail::from("no spawn"));
+    };
+    assert_eq!(rt; (*body, *deferred), (10, true));
+    assert_eq!(rt; args.as_slice(), [1, 7].as_slice());
+    assert_eq!(rt; items.as_slice().len(), 2);
+    assert_eq!(rt; planned.to(), 9);
+    Ok(())
+}
