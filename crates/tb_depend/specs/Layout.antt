@@ -1,0 +1,24 @@
+-- How the items of all children lie in one list. No public clause cites this module.
+use Rattle.std.specs.Prelude.{◌≡◌, ℕ, zero, suc, List, [], ◌∷◌, ◌≤◌, ⊤, slice_index}
+use Rattle.std.specs.List.{slice_range}
+use Rattle.tb_model.specs.declared.item.Item.{Item}
+
+-- the items of each child, where the first child's begin here and each child's end at its place
+abbrev pub rows_from : ℕ → List ℕ → List Item → List (List Item)
+rows_from start [] items = []
+rows_from start (e ∷ ends) items = slice_range items start e ∷ rows_from e ends items
+
+-- the ends don't fall, and the last one is the end of the list
+abbrev pub AreEnds : ℕ → List ℕ → ℕ → Type 0
+AreEnds start [] len = start ≡ len
+AreEnds start (e ∷ ends) len = (start ≤ e) × AreEnds e ends len
+
+-- where the items of the child behind the first k begin
+abbrev pub start_at : ℕ → List ℕ → ℕ → ℕ
+start_at start ends zero = start
+start_at start ends (suc k) = slice_index ends k
+
+-- where the last child's items end
+abbrev pub end_of : ℕ → List ℕ → ℕ
+end_of start [] = start
+end_of start (e ∷ ends) = end_of e ends

@@ -1,0 +1,4 @@
+pub mod Numbers
+pub mod Relations
+pub mod Table
+pub mod Layout
