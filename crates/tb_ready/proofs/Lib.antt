@@ -1,0 +1,3 @@
+pub mod LayoutLemmas
+pub mod TasksLemmas
+pub mod OrderLemmas

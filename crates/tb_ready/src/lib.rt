@@ -1,0 +1,12 @@
+//! The tasks by name in the order of spawning, and which of them are marked.
+#![tactic(auto)]
+
+mod names;
+mod order;
+#[cfg(test)]
+mod random_tests;
+mod ready;
+#[cfg(test)]
+mod tests;
+
+pub use ready::Ready;

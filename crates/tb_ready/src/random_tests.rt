@@ -1,0 +1,144 @@
+//! The answers against a plain program over a list of names, on lists made by a fixed rule.
+
+use crate::Ready;
+use std::alloc::{AllocError, Global};
+use std::test::Fail;
+use tb_model::TaskName;
+
+/// A name with its mark.
+#[derive(Drop)]
+struct Row {
+    name: TaskName,
+    marked: bool,
+}
+
+/// Whether a stands before b: number by number from the root, a parent before its children.
+fn stands_before(a: &TaskName, b: &TaskName) -> bool {
+    let depth = a.numbers().len();
+    let other = b.numbers().len();
+    for level in 1..=depth {
+        let own = a.numbers().get(depth.wrapping_sub(level));
+        let its = b.numbers().get(other.wrapping_sub(level));
+        match (own, its) {
+            (Some(m), Some(n)) => {
+                if m != n {
+                    return m < n;
+                }
+            }
+            _ => return false,
+        }
+    }
+    depth < other
+}
+
+/// The least marked name that isn't to be skipped, by a look at all.
+fn least<'a>(rows: &'a [Row], skip: &[TaskName]) -> Option<&'a TaskName> {
+    let mut best: Option<&'a TaskName> = None;
+    for row in rows {
+        if row.marked && !skip.contains(&row.name) {
+            best = match best {
+                Some(other) if stands_before(other, &row.name) => Some(other),
+                _ => Some(&row.name),
+            };
+        }
+    }
+    best
+}
+
+fn place(rows: &[Row], name: &TaskName) -> Option<usize> {
+    for (at, row) in rows.iter().enumerate() {
+        if row.name == *name {
+            return Some(at);
+        }
+    }
+    None
+}
+
+/// A fixed rule for numbers that look random.
+#[derive(Drop)]
+struct Dice {
+    state: u32,
+}
+
+impl Dice {
+    /// A number below the bound.
+    fn below(&mut self, bound: u32) -> u32 {
+        self.state = self.state.wrapping_mul(1664525).wrapping_add(1013904223);
+        (self.state >> 16).checked_rem(bound).unwrap_or(0)
+    }
+
+    /// One of thirteen names, the root among them.
+    fn name(&mut self, alloc: Global) -> Result<TaskName, AllocError> {
+        let mut name = TaskName::root(alloc);
+        for _ in 0..self.below(3) {
+            name = name.child(1.max(self.below(4)))?;
+        }
+        Ok(name)
+    }
+}
+
+/// One more call, on both.
+fn step(
+    alloc: Global,
+    dice: &mut Dice,
+    ready: &mut Ready,
+    rows: &mut Vec<Row>,
+) -> Result<(), AllocError> {
+    let name = dice.name(alloc)?;
+    let there = place(rows, &name);
+    match dice.below(5) {
+        0 => {
+            ready.remove(&name);
+            if let Some(at) = there {
+                if at < rows.len() {
+                    let _row = rows.remove(at);
+                }
+            }
+        }
+        1 | 2 => {
+            let marked = dice.below(3) > 0;
+            ready.mark(&name, marked);
+            if let Some(at) = there {
+                if let Some(row) = rows.get_mut(at) {
+                    row.marked = marked;
+                }
+            }
+        }
+        _ => {
+            ready.add(name.clone()?)?;
+            if there.is_none() {
+                rows.push(Row {
+                    name,
+                    marked: false,
+                })?;
+            }
+        }
+    }
+    Ok(())
+}
+
+#[test]
+fn agrees_with_the_plain_program(rt: HostRuntime) -> Result<(), Fail> {
+    let alloc = rt.alloc();
+    let mut dice = Dice { state: 7 };
+    for _ in 0..200u32 {
+        let mut ready = Ready::new(alloc);
+        let mut rows: Vec<Row> = Vec::new(alloc);
+        let mut skip: Vec<TaskName> = Vec::new(alloc);
+        for turn in 0..24u32 {
+            step(alloc, &mut dice, &mut ready, &mut rows)?;
+            if turn % 8 == 7 {
+                skip.push(dice.name(alloc)?)?;
+            }
+            assert!(rt; ready.least(&skip) == least(&rows, &skip));
+        }
+        assert_eq!(rt; ready.len(), rows.len());
+        for (at, row) in rows.iter().enumerate() {
+            assert!(rt; ready.nth(at) == Some(&row.name));
+            assert_eq!(rt; ready.can(&row.name), row.marked);
+        }
+        let other = dice.name(alloc)?;
+        assert_eq!(rt; ready.is_there(&other), place(&rows, &other).is_some());
+    }
+    Ok(())
+}

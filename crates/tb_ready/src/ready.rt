@@ -1,0 +1,134 @@
+//! The tasks by name.
+
+ghost use Rattle.std.specs.Prelude.{◌≡◌, ◌<◌, ◌≤◌, ◌+◌, [], IsOk, OnOk, OnErr, IsSome, is_some, unwrap_or, false, length, slice_get};
+ghost use Rattle.std.specs.Option.{option_copied};
+ghost use Rattle.std.specs.Map.{keys_of};
+ghost use Rattle.tb_ready.specs.Tasks.{mark_of, with_name, without_name, with_mark, IsLeast};
+
+use crate::names::Names;
+use crate::order::{forget, least, set_mark};
+use std::alloc::{AllocError, Global};
+use std::marker::Model;
+use tb_model::TaskName;
+
+/// The tasks by name in the order of spawning, and which of them are marked.
+#[derive(Drop)]
+pub struct Ready {
+    names: Names,
+    // the places of the marked names, by rising name; it has room for all names
+    order: Vec<usize>,
+}
+
+impl Model for Ready {
+    ghost use Rattle.std.specs.Prelude.{◌≤◌, ◌-◌, min, length, vec_capacity};
+    ghost use Rattle.tb_ready.specs.Tasks.{Tasks};
+    ghost use Rattle.tb_ready.specs.Order.{IsOrder};
+
+    ghost Value = { Tasks };
+
+    ghost view = { λ r. record { tasks = r.names.tasks; room = min r.names.room (vec_capacity r.order - length r.names.tasks) } };
+
+    ghost invariant = { λ r. IsOrder r.names.tasks r.order.items × (length r.names.tasks ≤ vec_capacity r.order) };
+}
+
+impl Ready {
+    /// No task. Takes no memory.
+    pub fn new(alloc: Global) -> Ready
+        ensures { result.tasks ≡ [] }
+    {
+        Ready {
+            names: Names::new(alloc),
+            order: Vec::new(alloc),
+        }
+    }
+
+    /// How many names there are.
+    pub fn len(&self) -> usize
+        ensures { result ≡ length self.now.tasks }
+    {
+        self.names.len()
+    }
+
+    /// The name at this index, in the order of spawning.
+    pub fn nth(&self, index: usize) -> Option<&TaskName>
+        ensures { option_copied result ≡ slice_get (keys_of self.now.tasks) index }
+    {
+        if index < self.names.len() {
+            Some(self.names.name(index))
+        } else {
+            None
+        }
+    }
+
+    /// Whether the name is there.
+    pub fn is_there(&self, name: &TaskName) -> bool
+        ensures { result ≡ is_some (mark_of self.now.tasks name.now) }
+    {
+        self.names.find(name).is_some()
+    }
+
+    /// Whether the name is there and marked.
+    pub fn can(&self, name: &TaskName) -> bool
+        ensures { result ≡ unwrap_or (mark_of self.now.tasks name.now) false }
+    {
+        match self.names.find(name) {
+            Some(at) => self.names.is_marked(at),
+            None => false,
+        }
+    }
+
+    /// The least marked name that is none of those to skip.
+    pub fn least(&self, skip: &[TaskName]) -> Option<&TaskName>
+        ensures { IsLeast self.now.tasks skip.now (option_copied result) }
+    {
+        least(&self.names, &self.order, skip)
+    }
+
+    /// Makes the room that `add` needs, whatever the name, and changes nothing else.
+    pub fn reserve_add(&mut self, _name: &TaskName) -> Result<(), AllocError>
+        ensures tasks { self.new.tasks ≡ self.old.tasks }
+        ensures room { OnOk result (0 < self.new.room) }
+        ensures succeeds { 0 < self.old.room → IsOk result }
+        ensures keeps { self.old.room ≤ self.new.room }
+    {
+        self.names.reserve()?;
+        self.order.reserve(self.names.len() - self.order.len() + 1)
+    }
+
+    /// Adds a name behind the others, unmarked. One that is there stays as it is, and needs no
+    /// memory. With room none is taken, and `mark` never takes any.
+    pub fn add(&mut self, name: TaskName) -> Result<(), AllocError>
+        ensures tasks { OnOk result (self.new.tasks ≡ with_name self.old.tasks name) }
+        ensures err { OnErr result (self.new.tasks ≡ self.old.tasks) }
+        ensures succeeds { 0 < self.old.room → IsOk result }
+        ensures there { IsSome (mark_of self.old.tasks name) → IsOk result }
+        ensures keeps { self.old.room ≤ self.new.room + 1 }
+    {
+        if self.is_there(&name) {
+            return Ok(());
+        }
+        self.reserve_add(&name)?;
+        self.names.push(name);
+        Ok(())
+    }
+
+    /// Removes a name, marked or not. Where it isn't there, nothing changes.
+    pub fn remove(&mut self, name: &TaskName)
+        ensures tasks { self.new.tasks ≡ without_name self.old.tasks name.now }
+        ensures room { self.old.room ≤ self.new.room }
+    {
+        if let Some(at) = self.names.find(name) {
+            forget(&mut self.names, &mut self.order, at);
+        }
+    }
+
+    /// Sets the mark of a name. Where it isn't there, nothing changes. The room stays.
+    pub fn mark(&mut self, name: &TaskName, marked: bool)
+        ensures tasks { self.new.tasks ≡ with_mark self.old.tasks name.now marked }
+        ensures room { self.new.room ≡ self.old.room }
+    {
+        if let Some(at) = self.names.find(name) {
+            set_mark(&mut self.names, &mut self.order, at, marked);
+        }
+    }
+}
