@@ -1,14 +1,13 @@
 -- The relations of siblings.
 use Rattle.std.proofs.Common.{◌≡◌, ◌<◌, ◌≤◌, ◌+◌, ◌-◌, ℕ, zero, suc, List, [], ◌∷◌, ◌++◌, Bool, true, false, ◌&&◌, ◌||◌, ◌==◌, cond, length, take, refl, sym, ap, ap₂, ◌∙◌, ◌⊎◌, inl, inr, arith, nat_lt, eqb-true, eq-eqb}
 use Rattle.std.specs.Prelude.{min, Contains, IsTrue, ◌↔◌}
-use Rattle.std.specs.List.{list_any}
 use Rattle.std.proofs.lemmas.Bool.{le-ltb, cases_lt, and_parts, or_cases, both_ways, false≢true}
 use Rattle.std.proofs.lemmas.List.{length-append}
 use Rattle.std.proofs.Math.Seq.{take-append_seam}
 use Rattle.tb_model.specs.declared.item.Item.{Item}
 use Rattle.tb_model.specs.declared.action.Action.{Action}
 use Rattle.tb_model.specs.declared.action.Action.TheVariants.{Spawn}
-use Rattle.tb_model.specs.Items.{Relation, is_before, is_apart, some_meet, has_no_items, meets}
+use Rattle.tb_model.specs.Items.{Relation, is_before, is_apart, some_meet, has_no_items}
 use Rattle.tb_model.specs.Legal.{spawn_count}
 use Rattle.tb_model.specs.Siblings.{nth_items, child_before, child_apart, child_covered}
 use Rattle.tb_depend.specs.Relations.{items_at, depends, excludes, is_covered, preds_of, apart_of, covered_by, spawned_items}

@@ -1,5 +1,5 @@
 -- How the items of all children lie in one list. No public clause cites this module.
-use Rattle.std.specs.Prelude.{◌≡◌, ℕ, zero, suc, List, [], ◌∷◌, ◌≤◌, ⊤, slice_index}
+use Rattle.std.specs.Prelude.{◌≡◌, ℕ, zero, suc, List, [], ◌∷◌, ◌≤◌, slice_index}
 use Rattle.std.specs.List.{slice_range}
 use Rattle.tb_model.specs.declared.item.Item.{Item}
 

@@ -97,9 +97,10 @@ impl Siblings {
         ensures succeeds { HasRoomFor self.old items.now → IsOk result }
         ensures keeps { KeepsRoom self.old self.new }
     {
+        let count = self.len();
         self.ends.reserve(1)?;
         self.items.reserve(items.len())?;
-        self.spare.reserve(self.ends.len())
+        self.spare.reserve(count)
     }
 
     /// Adds a child behind the others, and tells the children on which it depends. With room it

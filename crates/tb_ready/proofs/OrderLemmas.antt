@@ -5,6 +5,8 @@ use Rattle.std.specs.List.{list_any}
 use Rattle.std.specs.declared.cmp.Ordering.{Ordering}
 use Rattle.std.specs.declared.cmp.Ordering.TheVariants.{Less, Equal, Greater}
 use Rattle.std.specs.Ordering.{is_lt, is_le, is_eq, ordering_reverse}
+use Rattle.std.specs.Result.{OnErr, IsOk}
+use Rattle.std.proofs.Common.{Result, Ok, Err}
 use Rattle.std.proofs.lemmas.Bool.{both_ways, false_from_ne_true, false≢true, cases_lt, cases_eq, le-ltb, lt-ltb, and_parts, and_from, not-true, not_from_false}
 use Rattle.std.proofs.lemmas.Cmp.{tied_itself}
 use Rattle.tb_model.specs.Names.{Name, same_name, name_cmp}
@@ -34,6 +36,10 @@ less_behind m n h d = at (name_cmp m n) refl h
     at Less e l = absurd (false≢true (sym l))
     at Equal e l = absurd (d (same_true m n (name_cmp_ties m n ∙ ap is_eq e)))
     at Greater e l = name_cmp_total.antisymm n m ∙ ap ordering_reverse e
+
+pub ok_unless : {T E : Type 0} {P : Type 0} (r : Result T E) → OnErr r P → (P → ⊥) → IsOk r
+ok_unless (Ok x) h n = refl
+ok_unless (Err e) h n = absurd (n h)
 
 pub less_from_test : (o : Ordering) → is_lt o ≡ true → o ≡ Less
 less_from_test Less h = refl

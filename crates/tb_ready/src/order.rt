@@ -1,24 +1,36 @@
 //! The order of the marked names, as a list of their places.
 
-ghost use Rattle.std.specs.Prelude.{◌≡◌, ◌<◌, ◌≤◌, ℕ, false, true, length, remove, slice_index, vec_capacity};
+ghost use Rattle.std.specs.Prelude.{◌≡◌, ◌<◌, ◌≤◌, false, true, length, remove, slice_index};
+ghost use Rattle.std.specs.VecDeque.{deque_capacity};
 ghost use Rattle.std.specs.Option.{option_copied};
 ghost use Rattle.tb_ready.specs.Tasks.{IsLeast};
-ghost use Rattle.tb_ready.specs.Layout.{mark_at, set_at};
-ghost use Rattle.tb_ready.specs.Order.{IsOrder, IsPlace, moved_up};
+ghost use Rattle.tb_ready.specs.Layout.{name_at, mark_at, set_at, AreUnique};
+ghost use Rattle.tb_ready.specs.Order.{IsOrder, IsPlace};
 
 use crate::names::Names;
+use std::collections::VecDeque;
 use tb_model::TaskName;
 
+/// The kth of the marked names, from 0.
+fn marked<'a>(names: &'a Names, order: &VecDeque<usize>, k: usize) -> &'a TaskName
+    requires order { IsOrder names.now.tasks order.now.items }
+    requires there { k < length order.now.items }
+    ensures name { result.now ≡ name_at names.now.tasks (slice_index order.now.items k) }
+    ensures unique { AreUnique names.now.tasks }
+{
+    names.name(order[k])
+}
+
 /// Where a name goes among the marked ones, by binary search.
-fn place_of(names: &Names, order: &[usize], name: &TaskName) -> usize
-    requires { IsOrder names.now.tasks order.now }
-    ensures { IsPlace names.now.tasks order.now name.now result }
+fn place_of(names: &Names, order: &VecDeque<usize>, name: &TaskName) -> usize
+    requires { IsOrder names.now.tasks order.now.items }
+    ensures { IsPlace names.now.tasks order.now.items name.now result }
 {
     let mut low = 0;
     let mut high = order.len();
     'halves: while low < high {
         let middle = low + (high - low) / 2;
-        if names.name(order[middle]).cmp(name).is_lt() {
+        if marked(names, order, middle).cmp(name).is_lt() {
             low = middle + 1;
         } else {
             high = middle;
@@ -28,15 +40,15 @@ fn place_of(names: &Names, order: &[usize], name: &TaskName) -> usize
 }
 
 /// Marks the name at a place, which isn't. The list has room.
-fn put_in(names: &mut Names, order: &mut Vec<usize>, at: usize)
+fn put_in(names: &mut Names, order: &mut VecDeque<usize>, at: usize)
     requires order { IsOrder names.old.tasks order.old.items }
     requires there { at < length names.old.tasks }
     requires unmarked { mark_at names.old.tasks at ≡ false }
-    requires room { length names.old.tasks ≤ vec_capacity order.old }
+    requires room { length names.old.tasks ≤ deque_capacity order.old }
     ensures order { IsOrder names.new.tasks order.new.items }
     ensures tasks { names.new.tasks ≡ set_at names.old.tasks at true }
     ensures room { names.new.room ≡ names.old.room }
-    ensures capacity { vec_capacity order.new ≡ vec_capacity order.old }
+    ensures capacity { deque_capacity order.old ≤ deque_capacity order.new }
 {
     let place = place_of(names, order, names.name(at));
     order.insert(place, at).unwrap();
@@ -44,14 +56,14 @@ fn put_in(names: &mut Names, order: &mut Vec<usize>, at: usize)
 }
 
 /// Unmarks the name at a place, which is marked. The list keeps its room.
-fn take_out(names: &mut Names, order: &mut Vec<usize>, at: usize)
+fn take_out(names: &mut Names, order: &mut VecDeque<usize>, at: usize)
     requires order { IsOrder names.old.tasks order.old.items }
     requires there { at < length names.old.tasks }
     requires marked { mark_at names.old.tasks at ≡ true }
     ensures order { IsOrder names.new.tasks order.new.items }
     ensures tasks { names.new.tasks ≡ set_at names.old.tasks at false }
     ensures room { names.new.room ≡ names.old.room }
-    ensures capacity { vec_capacity order.new ≡ vec_capacity order.old }
+    ensures capacity { deque_capacity order.old ≤ deque_capacity order.new }
 {
     let place = place_of(names, order, names.name(at));
     let _at = order.remove(place);
@@ -59,19 +71,19 @@ fn take_out(names: &mut Names, order: &mut Vec<usize>, at: usize)
 }
 
 /// Sets the mark of the name at a place.
-pub(crate) fn set_mark(names: &mut Names, order: &mut Vec<usize>, at: usize, marked: bool)
+pub(crate) fn set_mark(names: &mut Names, order: &mut VecDeque<usize>, at: usize, mark: bool)
     requires order { IsOrder names.old.tasks order.old.items }
     requires there { at < length names.old.tasks }
-    requires room { length names.old.tasks ≤ vec_capacity order.old }
+    requires room { length names.old.tasks ≤ deque_capacity order.old }
     ensures order { IsOrder names.new.tasks order.new.items }
-    ensures tasks { names.new.tasks ≡ set_at names.old.tasks at marked }
+    ensures tasks { names.new.tasks ≡ set_at names.old.tasks at mark }
     ensures room { names.new.room ≡ names.old.room }
-    ensures capacity { vec_capacity order.new ≡ vec_capacity order.old }
+    ensures capacity { deque_capacity order.old ≤ deque_capacity order.new }
 {
-    if names.is_marked(at) == marked {
+    if names.is_marked(at) == mark {
         return;
     }
-    if marked {
+    if mark {
         put_in(names, order, at);
     } else {
         take_out(names, order, at);
@@ -79,27 +91,28 @@ pub(crate) fn set_mark(names: &mut Names, order: &mut Vec<usize>, at: usize, mar
 }
 
 /// Removes the name at a place, marked or not.
-pub(crate) fn forget(names: &mut Names, order: &mut Vec<usize>, at: usize)
+#[tactic(auto, using(crate::proofs::TasksLemmas::length_set, crate::proofs::TasksLemmas::mark_set_here, crate::proofs::TasksLemmas::remove_set))]
+pub(crate) fn forget(names: &mut Names, order: &mut VecDeque<usize>, at: usize)
     requires order { IsOrder names.old.tasks order.old.items }
     requires there { at < length names.old.tasks }
-    requires room { length names.old.tasks ≤ vec_capacity order.old }
+    requires room { length names.old.tasks ≤ deque_capacity order.old }
     ensures order { IsOrder names.new.tasks order.new.items }
     ensures tasks { names.new.tasks ≡ remove names.old.tasks at }
     ensures room { names.old.room ≤ names.new.room }
-    ensures capacity { vec_capacity order.new ≡ vec_capacity order.old }
+    ensures capacity { deque_capacity order.old ≤ deque_capacity order.new }
 {
     set_mark(names, order, at, false);
     close_gap(names, order, at);
     names.remove(at);
 }
 
-/// Moves the places behind one that goes.
-fn close_gap(names: &Names, order: &mut Vec<usize>, gone: usize)
+/// Moves the places behind one that goes, whose name is unmarked.
+fn close_gap(names: &Names, order: &mut VecDeque<usize>, gone: usize)
     requires order { IsOrder names.now.tasks order.old.items }
     requires there { gone < length names.now.tasks }
-    ensures len { length order.new.items ≡ length order.old.items }
-    ensures moved { (a : ℕ) → a < length order.old.items → slice_index order.new.items a ≡ moved_up gone (slice_index order.old.items a) }
-    ensures capacity { vec_capacity order.new ≡ vec_capacity order.old }
+    requires unmarked { mark_at names.now.tasks gone ≡ false }
+    ensures order { IsOrder (remove names.now.tasks gone) order.new.items }
+    ensures capacity { deque_capacity order.old ≤ deque_capacity order.new }
 {
     // behind the last name no place moves
     if gone == names.len() - 1 {
@@ -115,14 +128,14 @@ fn close_gap(names: &Names, order: &mut Vec<usize>, gone: usize)
 /// The least marked name that is none of those to skip.
 pub(crate) fn least<'a>(
     names: &'a Names,
-    order: &[usize],
+    order: &VecDeque<usize>,
     skip: &[TaskName],
 ) -> Option<&'a TaskName>
-    requires { IsOrder names.now.tasks order.now }
+    requires { IsOrder names.now.tasks order.now.items }
     ensures { IsLeast names.now.tasks skip.now (option_copied result) }
 {
-    for at in order {
-        let name = names.name(*at);
+    for k in 0..order.len() {
+        let name = marked(names, order, k);
         if !skip.contains(name) {
             return Some(name);
         }

@@ -8,6 +8,7 @@ ghost use Rattle.tb_ready.specs.Tasks.{mark_of, with_name, without_name, with_ma
 use crate::names::Names;
 use crate::order::{forget, least, set_mark};
 use std::alloc::{AllocError, Global};
+use std::collections::VecDeque;
 use std::marker::Model;
 use tb_model::TaskName;
 
@@ -15,20 +16,22 @@ use tb_model::TaskName;
 #[derive(Drop)]
 pub struct Ready {
     names: Names,
-    // the places of the marked names, by rising name; it has room for all names
-    order: Vec<usize>,
+    // the places of the marked names, by rising name, with room for all names; a deque, since tasks
+    // are mostly spawned at its end and end at its beginning
+    order: VecDeque<usize>,
 }
 
 impl Model for Ready {
-    ghost use Rattle.std.specs.Prelude.{◌≤◌, ◌-◌, min, length, vec_capacity};
+    ghost use Rattle.std.specs.Prelude.{◌≤◌, ◌-◌, min, length};
+    ghost use Rattle.std.specs.VecDeque.{deque_capacity};
     ghost use Rattle.tb_ready.specs.Tasks.{Tasks};
     ghost use Rattle.tb_ready.specs.Order.{IsOrder};
 
     ghost Value = { Tasks };
 
-    ghost view = { λ r. record { tasks = r.names.tasks; room = min r.names.room (vec_capacity r.order - length r.names.tasks) } };
+    ghost view = { λ r. record { tasks = r.names.tasks; room = min r.names.room (deque_capacity r.order - length r.names.tasks) } };
 
-    ghost invariant = { λ r. IsOrder r.names.tasks r.order.items × (length r.names.tasks ≤ vec_capacity r.order) };
+    ghost invariant = { λ r. IsOrder r.names.tasks r.order.items × (length r.names.tasks ≤ deque_capacity r.order) };
 }
 
 impl Ready {
@@ -38,7 +41,7 @@ impl Ready {
     {
         Ready {
             names: Names::new(alloc),
-            order: Vec::new(alloc),
+            order: VecDeque::new(alloc),
         }
     }
 
@@ -50,6 +53,7 @@ impl Ready {
     }
 
     /// The name at this index, in the order of spawning.
+    #[tactic(auto, using(crate::proofs::TasksLemmas::nth_name, crate::proofs::TasksLemmas::nth_none))]
     pub fn nth(&self, index: usize) -> Option<&TaskName>
         ensures { option_copied result ≡ slice_get (keys_of self.now.tasks) index }
     {
@@ -122,10 +126,10 @@ impl Ready {
         }
     }
 
-    /// Sets the mark of a name. Where it isn't there, nothing changes. The room stays.
+    /// Sets the mark of a name. Where it isn't there, nothing changes.
     pub fn mark(&mut self, name: &TaskName, marked: bool)
         ensures tasks { self.new.tasks ≡ with_mark self.old.tasks name.now marked }
-        ensures room { self.new.room ≡ self.old.room }
+        ensures room { self.old.room ≤ self.new.room }
     {
         if let Some(at) = self.names.find(name) {
             set_mark(&mut self.names, &mut self.order, at, marked);

@@ -1,4 +1,4 @@
-use Rattle.std.proofs.Common.{◌≡◌, ap, ◌∙◌, unwrap_or, sym}
+use Rattle.std.proofs.Common.{ap, ◌∙◌, unwrap_or}
 use Rattle.tb_depend.proofs.LayoutLemmas.{end_of_last}
 use Rattle.tb_depend.proofs.layout.end_of.Goals as goal
 

@@ -1,4 +1,4 @@
-use Rattle.std.proofs.Common.{arith, rules, refl, sym, ◌≡◌, ◌≤◌, length}
+use Rattle.std.proofs.Common.{arith, rules, sym, ◌≤◌, length}
 use Rattle.tb_depend.proofs.LayoutLemmas.{row_is, row_outside}
 use Rattle.tb_depend.proofs.layout.row.Goals as goal
 use Rattle.tb_depend.proofs.layout.row.Goals.{then-n-eq0-via-then-n-eq0, then-n-eq0-via-else-n-eq0+then-n-ends}

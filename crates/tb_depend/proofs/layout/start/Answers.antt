@@ -1,5 +1,4 @@
-use Rattle.std.proofs.Common.{length, ◌≡◌, ◌≤◌, get_or, arith, subst, sym, zero}
-use Rattle.tb_depend.specs.Layout.{start_at}
+use Rattle.std.proofs.Common.{length, ◌≤◌, get_or, subst, sym}
 use Rattle.tb_depend.proofs.LayoutLemmas.{row_from, row_to, start_behind}
 use Rattle.tb_depend.proofs.layout.start.Goals as goal
 

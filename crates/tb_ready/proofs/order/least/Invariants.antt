@@ -6,6 +6,6 @@ use Rattle.tb_ready.specs.Layout.{name_at}
 use Rattle.tb_ready.proofs.order.least.Given as goal
 
 -- the names so far are to be skipped
-abbrev pub invariant-loop-at : goal.invariant-loop-at
-invariant-loop-at l =
-    (a : ℕ) → a < l.at-index → list_any (λ s. same_name s (name_at l.names.tasks (slice_index l.order a))) l.skip ≡ true
+abbrev pub invariant-loop-k : goal.invariant-loop-k
+invariant-loop-k l =
+    (a : ℕ) → a < l.k → list_any (λ s. same_name s (name_at l.names.tasks (slice_index l.order.items a))) l.skip ≡ true

@@ -10,9 +10,9 @@ use Rattle.tb_ready.proofs.order.place_of.Given as goal
 abbrev pub invariant-halves : goal.invariant-halves
 invariant-halves l = record {
   low : l.low ≤ l.high;
-  high : l.high ≤ length l.order;
-  below : (a : ℕ) → a < l.low → name_cmp (name_at l.names.tasks (slice_index l.order a)) l.name ≡ Less;
-  above : (a : ℕ) → l.high ≤ a → a < length l.order → is_lt (name_cmp (name_at l.names.tasks (slice_index l.order a)) l.name) ≡ false;
+  high : l.high ≤ length l.order.items;
+  below : (a : ℕ) → a < l.low → name_cmp (name_at l.names.tasks (slice_index l.order.items a)) l.name ≡ Less;
+  above : (a : ℕ) → l.high ≤ a → a < length l.order.items → is_lt (name_cmp (name_at l.names.tasks (slice_index l.order.items a)) l.name) ≡ false;
 }
 
 abbrev pub decreases-halves : goal.decreases-halves

@@ -1,4 +1,4 @@
-use Rattle.std.proofs.Common.{◌≡◌, ◌≤◌, ◌-◌, ap, ◌∙◌, arith, length}
+use Rattle.std.proofs.Common.{◌≡◌, ◌-◌, ap, ◌∙◌, arith, length}
 use Rattle.std.specs.Prelude.{min}
 use Rattle.tb_depend.specs.Relations.{depends}
 use Rattle.tb_depend.specs.Numbers.{numbers_where}
