@@ -18,6 +18,7 @@ fn name(alloc: Global, numbers: &[u32]) -> Result<TaskName, AllocError> {
 fn the_least_marked_name_comes_first(rt: HostRuntime) -> Result<(), Fail> {
     let alloc = rt.alloc();
     let mut ready = Ready::new(alloc);
+    let nobody: Vec<TaskName> = Vec::new(alloc);
     let rows: [&[u32]; 5] = [
         [10].as_slice(),
         [9, 1].as_slice(),
@@ -29,7 +30,7 @@ fn the_least_marked_name_comes_first(rt: HostRuntime) -> Result<(), Fail> {
         ready.add(name(alloc, numbers)?)?;
     }
     assert_eq!(rt; ready.len(), 5);
-    assert!(rt; ready.least([].as_slice()).is_none());
+    assert!(rt; ready.least(&nobody).is_none());
     for numbers in rows {
         assert!(rt; !ready.can(&name(alloc, numbers)?));
         ready.mark(&name(alloc, numbers)?, true);
@@ -56,6 +57,7 @@ fn the_least_marked_name_comes_first(rt: HostRuntime) -> Result<(), Fail> {
 fn an_end_and_its_undo_take_no_memory(rt: HostRuntime) -> Result<(), Fail> {
     let alloc = rt.alloc();
     let mut ready = Ready::new(alloc);
+    let nobody: Vec<TaskName> = Vec::new(alloc);
     let child = name(alloc, [1].as_slice())?;
     ready.add(TaskName::root(alloc))?;
     ready.reserve_add(&child)?;
@@ -69,12 +71,12 @@ fn an_end_and_its_undo_take_no_memory(rt: HostRuntime) -> Result<(), Fail> {
     ready.mark(&child, false);
     assert!(rt; ready.is_there(&child) && !ready.can(&child));
     ready.mark(&child, true);
-    assert!(rt; ready.least([].as_slice()) == Some(&child));
+    assert!(rt; ready.least(&nobody) == Some(&child));
     ready.remove(&child);
     assert!(rt; !ready.is_there(&child) && !ready.can(&child));
     ready.mark(&child, true);
     ready.remove(&child);
-    assert!(rt; ready.len() == 1 && ready.least([].as_slice()).is_none());
+    assert!(rt; ready.len() == 1 && ready.least(&nobody).is_none());
     ready.add(child.clone()?)?;
     assert!(rt;
         ready.is_there(&child) && !ready.can(&child),
