@@ -1,3 +1,4 @@
 pub mod LayoutLemmas
 pub mod TasksLemmas
 pub mod OrderLemmas
+pub mod ChangeLemmas

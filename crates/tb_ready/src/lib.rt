@@ -1,6 +1,7 @@
 //! The tasks by name in the order of spawning, and which of them are marked.
 #![tactic(auto)]
 
+pub mod laws;
 mod names;
 mod order;
 #[cfg(test)]

@@ -1,6 +1,9 @@
 //! Names and their marks, by place.
 
 ghost use Rattle.std.specs.Prelude.{◌≡◌, ◌<◌, ◌≤◌, ◌+◌, [], ◌∷◌, ◌++◌, OnOk, OnErr, IsOk, IfSome, IsSome, Some, None, false, length, slice_get, remove};
+ghost use Rattle.std.specs.List.{IsDistinct};
+ghost use Rattle.std.specs.Map.{keys_of};
+ghost use Rattle.tb_model.specs.Names.{same_name};
 ghost use Rattle.tb_ready.specs.Tasks.{mark_of};
 ghost use Rattle.tb_ready.specs.Layout.{name_at, mark_at, set_at, AreUnique, StandsAt};
 
@@ -48,7 +51,8 @@ impl Names {
     /// How many names there are.
     #[tactic(auto, using(crate::proofs::LayoutLemmas::length_tasks))]
     pub(crate) fn len(&self) -> usize
-        ensures { result ≡ length self.now.tasks }
+        ensures len { result ≡ length self.now.tasks }
+        ensures distinct { IsDistinct same_name (keys_of self.now.tasks) }
     {
         self.keys.len()
     }

@@ -2,7 +2,9 @@
 
 ghost use Rattle.std.specs.Prelude.{◌≡◌, ◌<◌, ◌≤◌, ◌+◌, [], IsOk, OnOk, OnErr, IsSome, is_some, unwrap_or, false, length, slice_get};
 ghost use Rattle.std.specs.Option.{option_copied};
+ghost use Rattle.std.specs.List.{IsDistinct};
 ghost use Rattle.std.specs.Map.{keys_of};
+ghost use Rattle.tb_model.specs.Names.{same_name};
 ghost use Rattle.tb_ready.specs.Tasks.{mark_of, with_name, without_name, with_mark, IsLeast};
 
 use crate::names::Names;
@@ -45,9 +47,10 @@ impl Ready {
         }
     }
 
-    /// How many names there are.
+    /// How many names there are. No name is there twice.
     pub fn len(&self) -> usize
-        ensures { result ≡ length self.now.tasks }
+        ensures len { result ≡ length self.now.tasks }
+        ensures distinct { IsDistinct same_name (keys_of self.now.tasks) }
     {
         self.names.len()
     }
