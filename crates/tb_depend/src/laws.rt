@@ -20,7 +20,8 @@ pub fn numbers()
 /// A child that is added changes no other, and taken off it leaves the others.
 #[tactic(auto, using(crate::proofs::RelationsLemmas::items_front, crate::proofs::RelationsLemmas::items_last, crate::proofs::RelationsLemmas::take_added))]
 pub fn one_more_child()
-    ensures others { (siblings : List (List Item)) (items : List Item) (n : ℕ) → n ≤ length siblings →
+    ensures others { (siblings : List (List Item)) (items : List Item) (n : ℕ) →
+        n ≤ length siblings →
         items_at (siblings ++ items ∷ []) n ≡ items_at siblings n }
     ensures last { (siblings : List (List Item)) (items : List Item) →
         items_at (siblings ++ items ∷ []) (length siblings + 1) ≡ items }
@@ -33,9 +34,12 @@ pub fn one_more_child()
 #[tactic(auto, using(crate::proofs::RelationsLemmas::length_spawned, crate::proofs::RelationsLemmas::items_spawned, crate::proofs::RelationsLemmas::depends_spawned, crate::proofs::RelationsLemmas::excludes_spawned, crate::proofs::RelationsLemmas::covered_spawned))]
 pub fn children_of_task()
     ensures count { (acts : List Action) → length (spawned_items acts) ≡ spawn_count acts }
-    ensures items { (acts : List Action) (n : ℕ) → items_at (spawned_items acts) n ≡ nth_items n acts }
-    ensures before { (acts : List Action) (m n : ℕ) → depends (spawned_items acts) n m ≡ child_before acts m n }
-    ensures apart { (acts : List Action) (m n : ℕ) → excludes (spawned_items acts) n m ≡ child_apart acts m n }
+    ensures items { (acts : List Action) (n : ℕ) →
+        items_at (spawned_items acts) n ≡ nth_items n acts }
+    ensures before { (acts : List Action) (m n : ℕ) →
+        depends (spawned_items acts) n m ≡ child_before acts m n }
+    ensures apart { (acts : List Action) (m n : ℕ) →
+        excludes (spawned_items acts) n m ≡ child_apart acts m n }
     ensures covers { (acts : List Action) (items : List Item) (n : ℕ) →
         is_covered (spawned_items acts) items n ≡ child_covered acts items n }
 {}

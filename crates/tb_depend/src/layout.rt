@@ -48,10 +48,13 @@ pub(crate) fn push_row(items: &mut Vec<Item>, ends: &mut Vec<usize>, new: &[Item
     requires ends { AreEnds 0 ends.old.items (length items.old.items) }
     requires a_place { vec_len ends.old < vec_capacity ends.old }
     requires its_items { vec_len items.old + length new.now ≤ vec_capacity items.old }
-    ensures rows { rows_from 0 ends.new.items items.new.items ≡ rows_from 0 ends.old.items items.old.items ++ new.now ∷ [] }
+    ensures rows { rows_from 0 ends.new.items items.new.items
+        ≡ rows_from 0 ends.old.items items.old.items ++ new.now ∷ [] }
     ensures ends { AreEnds 0 ends.new.items (length items.new.items) }
-    ensures places { vec_capacity ends.old - vec_len ends.old ≤ vec_capacity ends.new - vec_len ends.new + 1 }
-    ensures item_places { vec_capacity items.old - vec_len items.old ≤ vec_capacity items.new - vec_len items.new + length new.now }
+    ensures places { vec_capacity ends.old - vec_len ends.old
+        ≤ vec_capacity ends.new - vec_len ends.new + 1 }
+    ensures item_places { vec_capacity items.old - vec_len items.old
+        ≤ vec_capacity items.new - vec_len items.new + length new.now }
 {
     let end = items.as_slice().len() + new.len();
     items.extend_from_slice(new).unwrap();
@@ -61,11 +64,16 @@ pub(crate) fn push_row(items: &mut Vec<Item>, ends: &mut Vec<usize>, new: &[Item
 /// Takes the last child off, and keeps its room.
 pub(crate) fn pop_row(items: &mut Vec<Item>, ends: &mut Vec<usize>)
     requires ends { AreEnds 0 ends.old.items (length items.old.items) }
-    ensures rows { rows_from 0 ends.new.items items.new.items ≡ take (length ends.old.items - 1) (rows_from 0 ends.old.items items.old.items) }
+    ensures rows { rows_from 0 ends.new.items items.new.items
+        ≡ take (length ends.old.items - 1) (rows_from 0 ends.old.items items.old.items) }
     ensures ends { AreEnds 0 ends.new.items (length items.new.items) }
-    ensures places { 0 < vec_len ends.old → vec_capacity ends.new - vec_len ends.new ≡ vec_capacity ends.old - vec_len ends.old + 1 }
-    ensures item_places { vec_capacity items.new - vec_len items.new ≡ vec_capacity items.old - vec_len items.old + length (items_at (rows_from 0 ends.old.items items.old.items) (length ends.old.items)) }
-    ensures keeps { vec_capacity ends.old - vec_len ends.old ≤ vec_capacity ends.new - vec_len ends.new }
+    ensures places { 0 < vec_len ends.old →
+        vec_capacity ends.new - vec_len ends.new ≡ vec_capacity ends.old - vec_len ends.old + 1 }
+    ensures item_places { vec_capacity items.new - vec_len items.new
+        ≡ vec_capacity items.old - vec_len items.old
+        + length (items_at (rows_from 0 ends.old.items items.old.items) (length ends.old.items)) }
+    ensures keeps { vec_capacity ends.old - vec_len ends.old
+        ≤ vec_capacity ends.new - vec_len ends.new }
 {
     if let Some(_end) = ends.pop() {
         let kept = end_of(ends);

@@ -108,7 +108,8 @@ impl Siblings {
     #[tactic(auto, using(crate::proofs::LayoutLemmas::length_rows))]
     pub fn add(&mut self, items: &[Item]) -> Result<Preds, AllocError>
         ensures added { OnOk result (self.new.siblings ≡ self.old.siblings ++ items.now ∷ []) }
-        ensures preds { IfOk result (λ preds. preds ≡ preds_of self.new.siblings (length self.new.siblings)) }
+        ensures preds { IfOk result (λ preds.
+            preds ≡ preds_of self.new.siblings (length self.new.siblings)) }
         ensures err { OnErr result (self.new.siblings ≡ self.old.siblings) }
         ensures succeeds { HasRoomFor self.old items.now → IsOk result }
         ensures places { self.old.places ≤ self.new.places + 1 }
@@ -124,7 +125,8 @@ impl Siblings {
     #[tactic(auto, using(crate::proofs::LayoutLemmas::length_rows))]
     pub fn drop_last(&mut self)
         ensures siblings { self.new.siblings ≡ take (length self.old.siblings - 1) self.old.siblings }
-        ensures frees { 0 < length self.old.siblings → FreesRoom self.old self.new (length (items_at self.old.siblings (length self.old.siblings))) }
+        ensures frees { 0 < length self.old.siblings → FreesRoom self.old self.new
+            (length (items_at self.old.siblings (length self.old.siblings))) }
         ensures keeps { KeepsRoom self.old self.new }
     {
         pop_row(&mut self.items, &mut self.ends);

@@ -24,9 +24,11 @@ pub fn one_more_name()
 pub fn one_mark()
     ensures marked { (tasks : List (Name × Bool)) (name : Name) (mark : Bool) →
         mark_of (with_mark tasks name mark) name ≡ option_map (λ _. mark) (mark_of tasks name) }
-    ensures others { (tasks : List (Name × Bool)) (name other : Name) (mark : Bool) → same_name other name ≡ false →
+    ensures others { (tasks : List (Name × Bool)) (name other : Name) (mark : Bool) →
+        same_name other name ≡ false →
         mark_of (with_mark tasks name mark) other ≡ mark_of tasks other }
-    ensures back { (tasks : List (Name × Bool)) (name : Name) (was mark : Bool) → mark_of tasks name ≡ Some was →
+    ensures back { (tasks : List (Name × Bool)) (name : Name) (was mark : Bool) →
+        mark_of tasks name ≡ Some was →
         with_mark (with_mark tasks name mark) name was ≡ tasks }
 {}
 
