@@ -1,0 +1,7 @@
+pub mod BesideLemmas
+pub mod StateLemmas
+pub mod StandingLemmas
+pub mod TransitionLemmas
+pub mod SystemLemmas
+pub mod AxiomsLemmas
+pub mod IndependenceLemmas
