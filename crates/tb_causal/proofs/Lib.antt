@@ -5,3 +5,4 @@ pub mod TransitionLemmas
 pub mod SystemLemmas
 pub mod AxiomsLemmas
 pub mod IndependenceLemmas
+mod ExampleLemmas

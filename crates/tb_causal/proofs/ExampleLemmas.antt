@@ -1,0 +1,209 @@
+-- A small program, by computation: the premises of each law are met, and what isn't independent doesn't commute.
+use Rattle.std.proofs.Common.{◌≡◌, ◌≢◌, List, [], ◌∷◌, ◌++◌, Bool, true, false, ◌&&◌, refl, sym, ap, ◌∙◌, cond, ℤ, ℕ, None, arith}
+use Rattle.std.specs.List.{list_any}
+use Rattle.std.proofs.lemmas.Bool.{false≢true, and_parts, both_ways}
+use Rattle.tb_model.specs.declared.kind.Kind.TheVariants.{Mutexinoutset}
+use Rattle.tb_model.specs.declared.place.Place.TheVariants.{Cell}
+use Rattle.tb_model.specs.declared.item.Item.{Item}
+use Rattle.tb_model.specs.declared.clause.Clause.{Clause}
+use Rattle.tb_model.specs.declared.address.Address.TheVariants.{Cell as At}
+use Rattle.tb_model.specs.declared.operand.Operand.TheVariants.{Number}
+use Rattle.tb_model.specs.declared.action.Action.{Action}
+use Rattle.tb_model.specs.declared.action.Action.TheVariants.{Start, Spawn}
+use Rattle.tb_model.specs.declared.event.Event.{Event}
+use Rattle.tb_model.specs.declared.step_id.StepId.{StepId}
+use Rattle.tb_model.specs.declared.statement.Statement.TheVariants.{Start as DoStart, Task as DoSpawn}
+use Rattle.tb_model.specs.Names.{Name, is_elder, same_name}
+use Rattle.tb_model.specs.Items.{some_meet, is_before}
+use Rattle.tb_model.specs.Facts.{History, own, items_of, before, apart, holds, IsSpawned, HasStarted, HasEnded}
+use Rattle.tb_model.specs.Legal.{Cells, MayFollow, MayStart}
+use Rattle.tb_model.specs.Needs.{needs}
+use Rattle.tb_model.specs.Equivalent.{Equivalent, needs_in}
+use Rattle.tb_model.specs.Program.{Program, LegalFor}
+use Rattle.tb_causal.specs.Systems.{Square, IsPath, end_of, Parabola, CausallyEquivalent}
+use Rattle.tb_causal.specs.Runs.{Label, Step, Undo, Enabled, target, inverse, event, Independent, exclude, runs}
+use Rattle.tb_causal.proofs.TransitionLemmas.{kept, square}
+use Rattle.tb_causal.proofs.AxiomsLemmas.{axioms}
+use Rattle.tb_causal.proofs.SystemLemmas.{parabolic, consistent}
+
+abbrev by : Name → Action → Event
+by t a = record { task = t; action = a }
+
+abbrev one : Name
+one = 1 ∷ []
+
+abbrev two : Name
+two = 2 ∷ []
+
+-- cells 1 / body main 0 / task a with these clauses / task a with these clauses / end / body a 0 / end
+abbrev program : List Clause → Program
+program cs = record {
+  cells = ℤ.pos 0 ∷ [];
+  bodies = [];
+  lines =
+      record { statement = DoStart; next = 1; otherwise = 1 }
+      ∷ record { statement = DoSpawn 3 [] cs None; next = 2; otherwise = 2 }
+      ∷ record { statement = DoSpawn 3 [] cs None; next = 4; otherwise = 4 }
+      ∷ record { statement = DoStart; next = 4; otherwise = 4 } ∷ [];
+  root_line = 0;
+}
+
+-- both were generated
+abbrev ready : List Item → History
+ready is = by [] (Spawn two 3 [] is true) ∷ by [] (Spawn one 3 [] is true) ∷ by [] Start ∷ []
+
+-- the first steps of the two
+abbrev first : Label
+first = Step (record { task = one; k = 1 }) Start
+
+abbrev second : Label
+second = Step (record { task = two; k = 1 }) Start
+
+abbrev cells : Cells
+cells = ℤ.pos 0 ∷ []
+
+root_may : MayFollow cells [] (by [] Start)
+root_may = record { own = refl; resumed = λ u h. absurd (false≢true h); timely = record { spawned = refl; behind = λ u h. absurd (nobody u h); alone = λ u h s. absurd (false≢true s) } }
+  where
+    nobody : (u : Name) → before [] u [] ≡ true → ⊥
+    nobody [] h = false≢true h
+    nobody (n ∷ u) h = false≢true h
+
+-- a child may start, where its items put nobody before it
+child_may : (k : ℕ) (is : List Item) → own (k ∷ []) (ready is) ≡ [] → IsSpawned (ready is) (k ∷ []) → items_of (k ∷ []) (ready is) ≡ is → ((p q : Bool) → some_meet is_before is (cond p is [] ++ (cond q is [] ++ [])) ≡ false) → MayFollow cells (ready is) (by (k ∷ []) Start)
+child_may k is o s i n = record {
+  own = o;
+  resumed = λ u h. absurd (false≢true (sym (ap (λ acts. holds acts u) o) ∙ h));
+  timely = record { spawned = s; behind = λ u b. absurd (nobody u b); alone = λ u b t. absurd (unstarted u b t) };
+}
+  where
+    nobody : (u : Name) → before (ready is) u (k ∷ []) ≡ true → ⊥
+    nobody u b =
+        let c = and_parts (is_elder u (k ∷ [])) (some_meet is_before (items_of (k ∷ []) (ready is)) (items_of u (ready is))) b in
+        both_ways _ (ap (λ js. some_meet is_before js (items_of u (ready is))) i ∙ n _ _) c.1
+
+    unstarted : (u : Name) → apart (ready is) u (k ∷ []) ≡ true → HasStarted (ready is) u → ⊥
+    unstarted [] b t = false≢true b
+    unstarted (m ∷ u) b t = false≢true t
+
+-- ---- two tasks without clauses
+
+abbrev free : Program
+free = program []
+
+free_run : LegalFor free (ready [])
+free_run = (
+  (((tt, root_may), record { own = (refl, refl, omega arith, tt); resumed = λ u h. absurd (false≢true h); timely = tt }), record { own = (refl, refl, omega arith, tt); resumed = λ u h. absurd (false≢true h); timely = tt }),
+  (((tt, refl), refl), refl),
+)
+
+first_enabled : Enabled free (ready []) first
+first_enabled = (refl, record { may = child_may 1 [] refl refl refl (λ p q. refl); follows = refl })
+
+second_enabled : Enabled free (ready []) second
+second_enabled = (refl, record { may = child_may 2 [] refl refl refl (λ p q. refl); follows = refl })
+
+-- independent, so either order will do
+starts_independent : Independent (ready []) first second
+starts_independent = (refl, refl, refl)
+
+starts_square : Square (runs free) (ready []) first second
+starts_square = square free (ready []) first second free_run first_enabled second_enabled starts_independent
+
+one_order : IsPath (runs free) (ready []) (first ∷ second ∷ [])
+one_order = (first_enabled, (starts_square.first, tt))
+
+other_order : IsPath (runs free) (ready []) (second ∷ first ∷ [])
+other_order = (second_enabled, (starts_square.second, tt))
+
+orders_equivalent : CausallyEquivalent (runs free) (ready []) (first ∷ second ∷ []) (second ∷ first ∷ [])
+orders_equivalent = consistent (runs free) (axioms free) (ready []) _ _ free_run one_order other_order starts_square.meet
+
+-- in the middle of the history the first start is undone
+abbrev both : History
+both = by two Start ∷ by one Start ∷ ready []
+
+middle_undone : Enabled free both (inverse first)
+middle_undone = (refl, refl)
+
+middle_left : target both (inverse first) ≡ by two Start ∷ ready []
+middle_left = refl
+
+-- steps with an undo behind them, and the one step that is left of them
+with_undo : IsPath (runs free) (ready []) (first ∷ second ∷ inverse first ∷ [])
+with_undo = (first_enabled, (starts_square.first, (middle_undone, tt)))
+
+undone_equivalent : CausallyEquivalent (runs free) (ready []) (first ∷ second ∷ inverse first ∷ []) (second ∷ [])
+undone_equivalent =
+    consistent (runs free) (axioms free) (ready []) _ _ free_run with_undo (second_enabled, tt)
+    (((axioms free).refl) (by two Start ∷ ready []) (kept free (ready []) second free_run second_enabled))
+
+-- two different undos from one run are independent
+other_undone : Enabled free both (inverse second)
+other_undone = (refl, refl)
+
+undos_apart : Independent both (inverse first) (inverse second)
+undos_apart = (λ e. false≢true (ap (λ (i : StepId). same_name two i.task) e), refl, refl)
+
+-- the spawn of the first task stays while its start stands
+abbrev spawn_one : StepId
+spawn_one = record { task = []; k = 2 }
+
+needed_spawn : needs_in (record { task = one; k = 1 }) spawn_one both ≡ true
+needed_spawn = refl
+
+spawn_stays : Enabled free both (Undo spawn_one (Spawn one 3 [] [] true)) → ⊥
+spawn_stays h = omega (arith, h.0)
+
+-- the start of the second task and the undo of its spawn aren't independent, those of the first and of that spawn are
+abbrev undo_spawn : Label
+undo_spawn = Undo (record { task = []; k = 3 }) (Spawn two 3 [] [] true)
+
+spawn_undone : Enabled free (ready []) undo_spawn
+spawn_undone = (refl, refl)
+
+start_needs_spawn : Independent (ready []) second undo_spawn → ⊥
+start_needs_spawn h = false≢true (sym h)
+
+start_beside_undo : Square (runs free) (ready []) first undo_spawn
+start_beside_undo = square free (ready []) first undo_spawn free_run first_enabled spawn_undone refl
+
+-- ---- two tasks that exclude each other
+
+abbrev exclusive : Program
+exclusive = program (record { kind = Mutexinoutset; address = At (Number (ℤ.pos 0)) } ∷ [])
+
+abbrev held : List Item
+held = record { kind = Mutexinoutset; place = Cell 0 } ∷ []
+
+exclusive_run : LegalFor exclusive (ready held)
+exclusive_run = (
+  (
+    ((tt, root_may), record { own = (refl, refl, omega arith, (omega arith, tt)); resumed = λ u h. absurd (false≢true h); timely = tt }),
+    record { own = (refl, refl, omega arith, (omega arith, tt)); resumed = λ u h. absurd (false≢true h); timely = tt },
+  ),
+  (((tt, refl), refl), refl),
+)
+
+nobody_before : (p q : Bool) → some_meet is_before held (cond p held [] ++ (cond q held [] ++ [])) ≡ false
+nobody_before true true = refl
+nobody_before true false = refl
+nobody_before false true = refl
+nobody_before false false = refl
+
+either_starts : Enabled exclusive (ready held) first × Enabled exclusive (ready held) second
+either_starts = (
+  (refl, record { may = child_may 1 held refl refl refl nobody_before; follows = refl }),
+  (refl, record { may = child_may 2 held refl refl refl nobody_before; follows = refl }),
+)
+
+-- neither needs the other
+no_needs : (needs (by one Start ∷ ready held) (by two Start) (by one Start) ≡ false) × (needs (by two Start ∷ ready held) (by one Start) (by two Start) ≡ false)
+no_needs = (refl, refl)
+
+-- and yet the second can't start behind the first: so the two must not count as independent
+excluded : Enabled exclusive (target (ready held) first) second → ⊥
+excluded h = false≢true (h.1.may.timely.alone one refl refl)
+
+not_independent : Independent (ready held) first second → ⊥
+not_independent h = false≢true (sym h.2)
