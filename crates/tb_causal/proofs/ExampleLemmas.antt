@@ -9,10 +9,10 @@ use Rattle.tb_model.specs.declared.clause.Clause.{Clause}
 use Rattle.tb_model.specs.declared.address.Address.TheVariants.{Cell as At}
 use Rattle.tb_model.specs.declared.operand.Operand.TheVariants.{Number}
 use Rattle.tb_model.specs.declared.action.Action.{Action}
-use Rattle.tb_model.specs.declared.action.Action.TheVariants.{Start, Spawn}
+use Rattle.tb_model.specs.declared.action.Action.TheVariants.{Start, Print, Spawn}
 use Rattle.tb_model.specs.declared.event.Event.{Event}
 use Rattle.tb_model.specs.declared.step_id.StepId.{StepId}
-use Rattle.tb_model.specs.declared.statement.Statement.TheVariants.{Start as DoStart, Task as DoSpawn}
+use Rattle.tb_model.specs.declared.statement.Statement.TheVariants.{Start as DoStart, Print as DoPrint, Task as DoSpawn}
 use Rattle.tb_model.specs.Names.{Name, is_elder, same_name}
 use Rattle.tb_model.specs.Items.{some_meet, is_before}
 use Rattle.tb_model.specs.Facts.{History, own, items_of, before, apart, holds, IsSpawned, HasStarted, HasEnded}
@@ -35,7 +35,7 @@ one = 1 ∷ []
 abbrev two : Name
 two = 2 ∷ []
 
--- cells 1 / body main 0 / task a with these clauses / task a with these clauses / end / body a 0 / end
+-- cells 1 / body main 0 / task a with these clauses / task a with these clauses / end / body a 0 / print 7 / end
 abbrev program : List Clause → Program
 program cs = record {
   cells = ℤ.pos 0 ∷ [];
@@ -43,8 +43,9 @@ program cs = record {
   lines =
       record { statement = DoStart; next = 1; otherwise = 1 }
       ∷ record { statement = DoSpawn 3 [] cs None; next = 2; otherwise = 2 }
-      ∷ record { statement = DoSpawn 3 [] cs None; next = 4; otherwise = 4 }
-      ∷ record { statement = DoStart; next = 4; otherwise = 4 } ∷ [];
+      ∷ record { statement = DoSpawn 3 [] cs None; next = 5; otherwise = 5 }
+      ∷ record { statement = DoStart; next = 4; otherwise = 4 }
+      ∷ record { statement = DoPrint (Number (ℤ.pos 7)); next = 5; otherwise = 5 } ∷ [];
   root_line = 0;
 }
 
@@ -138,6 +139,29 @@ undone_equivalent =
     consistent (runs free) (axioms free) (ready []) _ _ free_run with_undo (second_enabled, tt)
     (((axioms free).refl) (by two Start ∷ ready []) (kept free (ready []) second free_run second_enabled))
 
+-- an undo isn't independent of itself: it can't be taken twice
+undone_once : Enabled free (target both (inverse first)) (inverse first) → ⊥
+undone_once h = omega (arith, h.0)
+
+-- behind both starts each may print, and the two orders differ
+abbrev print_one : Label
+print_one = Step (record { task = one; k = 2 }) (Print (ℤ.pos 7))
+
+abbrev print_two : Label
+print_two = Step (record { task = two; k = 2 }) (Print (ℤ.pos 7))
+
+either_prints : Enabled free both print_one × Enabled free both print_two
+either_prints = (
+  (refl, record { may = record { own = refl; resumed = λ u h. absurd (false≢true h); timely = tt }; follows = refl }),
+  (refl, record { may = record { own = refl; resumed = λ u h. absurd (false≢true h); timely = tt }; follows = refl }),
+)
+
+prints_dependent : Independent both print_one print_two → ⊥
+prints_dependent h = false≢true (sym h.0)
+
+orders_differ : Equivalent (target (target both print_one) print_two) (target (target both print_two) print_one) → ⊥
+orders_differ q = false≢true (q.there (record { task = two; k = 2 }) (record { task = one; k = 2 }) refl)
+
 -- two different undos from one run are independent
 other_undone : Enabled free both (inverse second)
 other_undone = (refl, refl)
@@ -155,6 +179,10 @@ needed_spawn = refl
 spawn_stays : Enabled free both (Undo spawn_one (Spawn one 3 [] [] true)) → ⊥
 spawn_stays h = omega (arith, h.0)
 
+-- its undo would leave too little
+with_all_that_need_it : target both (Undo spawn_one (Spawn one 3 [] [] true)) ≡ by [] Start ∷ []
+with_all_that_need_it = refl
+
 -- the start of the second task and the undo of its spawn aren't independent, those of the first and of that spawn are
 abbrev undo_spawn : Label
 undo_spawn = Undo (record { task = []; k = 3 }) (Spawn two 3 [] [] true)
@@ -164,6 +192,9 @@ spawn_undone = (refl, refl)
 
 start_needs_spawn : Independent (ready []) second undo_spawn → ⊥
 start_needs_spawn h = false≢true (sym h)
+
+no_start_without_spawn : Enabled free (target (ready []) undo_spawn) second → ⊥
+no_start_without_spawn h = false≢true h.1.may.timely.spawned
 
 start_beside_undo : Square (runs free) (ready []) first undo_spawn
 start_beside_undo = square free (ready []) first undo_spawn free_run first_enabled spawn_undone refl
