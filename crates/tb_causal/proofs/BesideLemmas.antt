@@ -1,21 +1,21 @@
 -- Two events of different tasks that may both come next: each may still come behind the other.
 use Rattle.std.proofs.Common.{◌≡◌, ◌≢◌, ℕ, suc, [], ◌∷◌, true, false, ◌&&◌, ◌||◌, ◌==◌, ⊎_elim, refl, sym, ap, ap₂, ◌∙◌, subst, cond, Some, ℤ, ne_eqb, eq-eqb}
 use Rattle.std.specs.List.{list_any}
-use Rattle.std.proofs.lemmas.Bool.{or_cases, or_right, or_parts, and_parts, and_from, both_ways, false≢true}
+use Rattle.std.proofs.lemmas.Bool.{or_cases, or_left, or_right, or_parts, and_parts, and_from, both_ways, false≢true, false_from_ne_true}
 use Rattle.tb_model.specs.declared.action.Action.{Action}
 use Rattle.tb_model.specs.declared.action.Action.TheVariants.{Start, Load, Store, Wait, Close}
 use Rattle.tb_model.specs.declared.event.Event.{Event}
 use Rattle.tb_model.specs.Names.{Name, is_child, is_elder}
 use Rattle.tb_model.specs.Items.{some_meet, is_before, is_apart, has_no_items}
-use Rattle.tb_model.specs.Facts.{History, is_of, own, is_start, is_spawn_of, is_store_to, last, items_of, before, apart, spawns, ends, starts, is_member, covers, holds, HasEnded, IsSpawned}
+use Rattle.tb_model.specs.Facts.{History, is_of, own, is_start, is_end, is_spawn_of, is_store_to, last, items_of, before, apart, spawns, ends, starts, is_member, covers, holds, HasEnded, HasStarted, IsSpawned}
 use Rattle.tb_model.specs.State.{spawn_of, called_by}
-use Rattle.tb_model.specs.Legal.{Cells, first_number, spawn_count, Continues, IsTimely, MayFollow, Legal}
+use Rattle.tb_model.specs.Legal.{Cells, first_number, spawn_count, Continues, IsTimely, MayStart, MayFollow, Legal}
 use Rattle.tb_model.specs.Needs.{conflicts, needs}
 use Rattle.tb_model.specs.Program.{Program, LegalFor, IsNext, config, instr_at, action_of, planned, loaded}
-use Rattle.tb_model.proofs.TestLemmas.{same_true}
+use Rattle.tb_model.proofs.TestLemmas.{same_true, same_refl}
 use Rattle.tb_model.proofs.PartsLemmas.{not_stored}
 use Rattle.tb_model.proofs.NeighboursLemmas.{start_only}
-use Rattle.tb_model.proofs.FactsLemmas.{grown, running_acts, cons_tail, own_other, spawn_names, acted_spawned, begun, not_started, not_running, member_up, elder_not, items_stay, not_again}
+use Rattle.tb_model.proofs.FactsLemmas.{grown, running_acts, cons_tail, own_other, spawn_names, acted_spawned, begun, not_started, ends_own, not_running, member_up, elder_not, items_stay, not_again}
 use Rattle.tb_causal.specs.Runs.{exclude}
 
 conflict_load : (b : Action) (r c : ℕ) (x : ℤ) → conflicts b (Load r c x) ≡ false → is_store_to c b ≡ false
@@ -111,3 +111,18 @@ next_beside P H f e l m n x y z =
       };
       follows = n.follows ∙ sym (planned_other P f H e.task (loaded e.action) o.0 q.0);
     }
+
+-- where the second start still comes behind the first, the two don't exclude each other
+pub not_excluded : (cells : Cells) (H : History) (f e : Event) → Legal cells H → MayFollow cells H f → MayFollow cells (f ∷ H) e → is_of e.task f ≡ false → exclude H f e ≡ false
+not_excluded cells H f e l m n o =
+    false_from_ne_true (exclude H f e) (λ h.
+    let x = and_parts (is_start f.action && is_start e.action) (apart H f.task e.task) h in
+    let y = and_parts (is_start f.action) (is_start e.action) x.0 in
+    let st = start_only f.action y.0 in
+    let no : (w : Name) → spawns w f ≡ false = λ w. ap (is_spawn_of w) st in
+    let may : MayStart (f ∷ H) e.task = subst (IsTimely cells (f ∷ H) e.task) (start_only e.action y.1) n.timely in
+    let fresh : own f.task H ≡ [] = subst (Continues cells f.task (own f.task H)) st m.own in
+    let apart_then = apart_kept cells H l e.task f o m f.task (no f.task) (no e.task) ∙ x.1 in
+    let started : HasStarted (f ∷ H) f.task = or_left (starts f.task f) _ (and_from (is_of f.task f) (is_start f.action) (same_refl f.task) y.0) in
+    ⊎_elim (λ z. false≢true (sym (ap is_end st) ∙ (and_parts (is_of f.task f) (is_end f.action) z).1)) (λ z. not_started f.task H (ends f.task) (ends_own f.task) fresh z)
+    (or_cases (ends f.task f) (list_any (ends f.task) H) (may.alone f.task apart_then started)))

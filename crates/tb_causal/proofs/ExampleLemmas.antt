@@ -1,6 +1,5 @@
 -- A small program, by computation: the premises of each law are met, and what isn't independent doesn't commute.
-use Rattle.std.proofs.Common.{◌≡◌, ◌≢◌, List, [], ◌∷◌, ◌++◌, Bool, true, false, ◌&&◌, refl, sym, ap, ◌∙◌, cond, ℤ, ℕ, None, arith}
-use Rattle.std.specs.List.{list_any}
+use Rattle.std.proofs.Common.{◌≡◌, List, [], ◌∷◌, ◌++◌, Bool, true, false, refl, sym, ap, ◌∙◌, cond, ℤ, ℕ, None, arith}
 use Rattle.std.proofs.lemmas.Bool.{false≢true, and_parts, both_ways}
 use Rattle.tb_model.specs.declared.kind.Kind.TheVariants.{Mutexinoutset}
 use Rattle.tb_model.specs.declared.place.Place.TheVariants.{Cell}
@@ -15,16 +14,16 @@ use Rattle.tb_model.specs.declared.step_id.StepId.{StepId}
 use Rattle.tb_model.specs.declared.statement.Statement.TheVariants.{Start as DoStart, Print as DoPrint, Task as DoSpawn}
 use Rattle.tb_model.specs.Names.{Name, is_elder, same_name}
 use Rattle.tb_model.specs.Items.{some_meet, is_before}
-use Rattle.tb_model.specs.Facts.{History, own, items_of, before, apart, holds, IsSpawned, HasStarted, HasEnded}
-use Rattle.tb_model.specs.Legal.{Cells, MayFollow, MayStart}
+use Rattle.tb_model.specs.Facts.{History, own, items_of, before, apart, holds, IsSpawned, HasStarted}
+use Rattle.tb_model.specs.Legal.{Cells, MayFollow}
 use Rattle.tb_model.specs.Needs.{needs}
 use Rattle.tb_model.specs.Equivalent.{Equivalent, needs_in}
 use Rattle.tb_model.specs.Program.{Program, LegalFor}
-use Rattle.tb_causal.specs.Systems.{Square, IsPath, end_of, Parabola, CausallyEquivalent}
-use Rattle.tb_causal.specs.Runs.{Label, Step, Undo, Enabled, target, inverse, event, Independent, exclude, runs}
+use Rattle.tb_causal.specs.Systems.{Square, IsPath, CausallyEquivalent}
+use Rattle.tb_causal.specs.Runs.{Label, Step, Undo, Enabled, target, inverse, Independent, runs}
 use Rattle.tb_causal.proofs.TransitionLemmas.{kept, square}
 use Rattle.tb_causal.proofs.AxiomsLemmas.{axioms}
-use Rattle.tb_causal.proofs.SystemLemmas.{parabolic, consistent}
+use Rattle.tb_causal.proofs.SystemLemmas.{consistent}
 
 abbrev by : Name → Action → Event
 by t a = record { task = t; action = a }

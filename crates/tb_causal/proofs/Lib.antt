@@ -5,4 +5,5 @@ pub mod TransitionLemmas
 pub mod SystemLemmas
 pub mod AxiomsLemmas
 pub mod IndependenceLemmas
+pub mod RollbackLemmas
 mod ExampleLemmas

@@ -21,7 +21,8 @@ use Rattle.tb_causal.specs.Runs.{kth}
 
 -- ---- a step that is removed stands
 
-none_removed : (e : StepId) (H : History) → stands e H ≡ false → removed e H ≡ []
+-- what doesn't stand takes nothing with it
+pub none_removed : (e : StepId) (H : History) → stands e H ≡ false → removed e H ≡ []
 none_removed e [] s = refl
 none_removed e (v ∷ H) s =
     let o = or_parts (is_step e H v) (stands e H) s in

@@ -16,7 +16,8 @@ module _ (S : System) (A : Axioms S) where
     pub path : IsPath S y ms
     pub ends : S.Same (end_of S x ls) (end_of S y ms)
 
-  from_same : (x y : S.State) (ls : List S.Label) → S.IsState x → S.IsState y → S.Same x y → IsPath S x ls → Reaches x ls y ls
+  -- the same labels from an equivalent state
+  pub from_same : (x y : S.State) (ls : List S.Label) → S.IsState x → S.IsState y → S.Same x y → IsPath S x ls → Reaches x ls y ls
   from_same x y [] s t q p = record { path = tt; ends = q }
   from_same x y (l ∷ ls) s t q p =
       let c = A.congruent x y l s t q p.0 in

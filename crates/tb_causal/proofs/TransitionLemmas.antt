@@ -102,7 +102,8 @@ module _ (P : Program) (H : History) (i : StepId) (a : Action) (j : StepId) (b :
       }
 
 -- two steps
-exclude_sym : (H : History) (v w : Event) → exclude H v w ≡ exclude H w v
+-- exclusion holds both ways
+pub exclude_sym : (H : History) (v w : Event) → exclude H v w ≡ exclude H w v
 exclude_sym H v w = ap₂ (λ x y. x && y) (and_comm (is_start v.action) (is_start w.action)) (apart_same H v.task w.task)
   where
     and_comm : (x y : Bool) → (x && y) ≡ (y && x)
@@ -150,30 +151,49 @@ same_step i j H a k h =
     let n : i.k ≡ j.k = k ∙ ap (λ u. suc (length (own u H))) t ∙ sym (eqb-true j.k _ o.1) in
     λ x. record { task = t x; k = n x }
 
--- of different steps
-pub undo_beside_undo : (P : Program) (H : History) (i : StepId) (a : Action) (j : StepId) (b : Action) → LegalFor P H → Enabled P H (Undo i a) → Enabled P H (Undo j b) → i ≢ j → Square (runs P) H (Undo i a) (Undo j b)
-undo_beside_undo P H i a j b l s t d =
-    let G = without i H in
-    let g = kept P H (Undo i a) l s in
-    let back = loop P H (Undo i a) l s in
-    let vG : LegalFor P (event i a ∷ G) = kept P G (Step i a) g back.0 in
-    let there : Enabled P (event i a ∷ G) (Undo j b) × Equivalent (without j H) (without j (event i a ∷ G)) = congruent P H (event i a ∷ G) (Undo j b) l vG (equivalent_sym back.1) t in
-    let no : is_step j G (event i a) ≡ false = false_from_ne_true (is_step j G (event i a)) (λ h. d (same_step i j G a back.0.0 h)) in
-    let p = peeled j G (event i a) there.0.0 no in
-    let u : Enabled P G (Undo j b) = (p.0, sym (kth_more j G (unneeded_stands j G p.0) (event i a)) ∙ there.0.1) in
-    let f = step_beside_undo P G i a j b g back.0 u (needs_one j G p.0 (event i a) ∙ p.1) in
-    let K = without j G in
-    let k : LegalFor P K = removal_for P j G g in
-    let vK : LegalFor P (event i a ∷ K) = kept P K (Step i a) k f.second in
-    let jH : LegalFor P (without j H) = removal_for P j H l in
-    let q : Equivalent (event i a ∷ K) (without j H) = equivalent_trans P.cells (event i a ∷ K) (without j (event i a ∷ G)) (without j H) vK.0 (removal_for P j (event i a ∷ G) vG).0 (equivalent_sym f.meet) (equivalent_sym there.1) in
-    let o = loop P K (Step i a) k f.second in
-    let c = congruent P (event i a ∷ K) (without j H) (Undo i a) vK jH q o.0 in
-    record {
-      first = u;
-      second = c.0;
-      meet = equivalent_trans P.cells K (without i (event i a ∷ K)) (without i (without j H)) k.0 (removal_for P i (event i a ∷ K) vK).0 (equivalent_sym o.1) c.1;
-    }
+-- behind one undo the other can be taken, and what was undone doesn't need it
+module _ (P : Program) (H : History) (i : StepId) (a : Action) (j : StepId) (b : Action) (l : LegalFor P H) (s : Enabled P H (Undo i a)) (t : Enabled P H (Undo j b)) (d : i ≢ j) where
+  abbrev G : History
+  G = without i H
+
+  g : LegalFor P G
+  g = kept P H (Undo i a) l s
+
+  back : Enabled P G (Step i a) × Equivalent (event i a ∷ G) H
+  back = loop P H (Undo i a) l s
+
+  vG : LegalFor P (event i a ∷ G)
+  vG = kept P G (Step i a) g back.0
+
+  there : Enabled P (event i a ∷ G) (Undo j b) × Equivalent (without j H) (without j (event i a ∷ G))
+  there = congruent P H (event i a ∷ G) (Undo j b) l vG (equivalent_sym back.1) t
+
+  parts : IsUnneeded j G × (list_any (needs G (event i a)) (removed j G) ≡ false)
+  parts =
+      peeled j G (event i a) there.0.0 (false_from_ne_true (is_step j G (event i a)) (λ h. d (same_step i j G a back.0.0 h)))
+
+  pub undo_behind : Enabled P G (Undo j b)
+  undo_behind = (parts.0, sym (kth_more j G (unneeded_stands j G parts.0) (event i a)) ∙ there.0.1)
+
+  pub undone_needs_not : needs_step G (event i a) j G ≡ false
+  undone_needs_not = needs_one j G parts.0 (event i a) ∙ parts.1
+
+  -- two undos of different steps
+  pub undo_beside_undo : Square (runs P) H (Undo i a) (Undo j b)
+  undo_beside_undo =
+      let f = step_beside_undo P G i a j b g back.0 undo_behind undone_needs_not in
+      let K = without j G in
+      let k : LegalFor P K = removal_for P j G g in
+      let vK : LegalFor P (event i a ∷ K) = kept P K (Step i a) k f.second in
+      let jH : LegalFor P (without j H) = removal_for P j H l in
+      let q : Equivalent (event i a ∷ K) (without j H) = equivalent_trans P.cells (event i a ∷ K) (without j (event i a ∷ G)) (without j H) vK.0 (removal_for P j (event i a ∷ G) vG).0 (equivalent_sym f.meet) (equivalent_sym there.1) in
+      let o = loop P K (Step i a) k f.second in
+      let c = congruent P (event i a ∷ K) (without j H) (Undo i a) vK jH q o.0 in
+      record {
+        first = undo_behind;
+        second = c.0;
+        meet = equivalent_trans P.cells K (without i (event i a ∷ K)) (without i (without j H)) k.0 (removal_for P i (event i a ∷ K) vK).0 (equivalent_sym o.1) c.1;
+      }
 
 -- ---- in whole
 

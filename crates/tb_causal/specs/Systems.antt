@@ -64,6 +64,13 @@ module _ (S : System) where
     pub forward : AreForward forth
     pub equivalent : CausallyEquivalent x ls (back ++ forth)
 
+  -- a path back from one state to the other
+  pub record PathBack (x y : S.State) : Type 0 where
+    pub labels : List S.Label
+    pub path : IsPath x labels
+    pub backward : AreBackward labels
+    pub ends : S.Same (end_of x labels) y
+
   -- an infinite path back
   pub record EndlessBack (x : ℕ → S.State) (l : ℕ → S.Label) : Type 0 where
     pub states : (n : ℕ) → S.IsState (x n)

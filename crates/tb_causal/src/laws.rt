@@ -10,10 +10,11 @@ ghost use Rattle.std.specs.Prelude.{◌≡◌, ◌≢◌, ◌↔◌, ◌+◌, �
 ghost use Rattle.tb_model.specs.declared.action.Action.{Action};
 ghost use Rattle.tb_model.specs.declared.step_id.StepId.{StepId};
 ghost use Rattle.tb_model.specs.Facts.{History, own};
+ghost use Rattle.tb_model.specs.Needs.{without};
 ghost use Rattle.tb_model.specs.Needers.{first_needer};
 ghost use Rattle.tb_model.specs.Program.{Program, LegalFor};
-ghost use Rattle.tb_model.specs.Equivalent.{Equivalent, needs_in};
-ghost use Rattle.tb_causal.specs.Systems.{Square, IsPath, end_of, AreBackward, Parabola, CausallyEquivalent, EndlessBack};
+ghost use Rattle.tb_model.specs.Equivalent.{Equivalent, needs_in, stands};
+ghost use Rattle.tb_causal.specs.Systems.{Square, IsPath, end_of, AreBackward, Parabola, CausallyEquivalent, EndlessBack, PathBack};
 ghost use Rattle.tb_causal.specs.Runs.{Label, Step, Undo, Enabled, Independent, target, inverse, is_undo, kth, runs};
 
 // States and transitions.
@@ -62,6 +63,17 @@ pub fn backward_transitions_independent()
         IsTrue (is_undo l) → IsTrue (is_undo m) → l ≢ m → Independent H l m }
 {}
 
+/// Independence is symmetric and irreflexive, and coinitial independence propagates (Lanese,
+/// Phillips and Ulidowski): behind one of two independent transitions, the way back and the other
+/// one are independent.
+pub fn independence_propagates()
+    ensures symmetric { (H : History) (l m : Label) → Independent H l m → Independent H m l }
+    ensures irreflexive { (H : History) (l : Label) → Independent H l l → ⊥ }
+    ensures propagates { (P : Program) (H : History) (l m : Label) → LegalFor P H →
+        Enabled P H l → Enabled P H m → Independent H l m →
+        Independent (target H l) (inverse l) m }
+{}
+
 /// Well-foundedness (Lanese, Phillips and Ulidowski): each undo makes the run shorter by one, so no
 /// path of undos is infinite.
 pub fn well_foundedness()
@@ -102,4 +114,17 @@ pub fn causal_consistency()
         IsPath (runs P) H r → IsPath (runs P) H s →
         CausallyEquivalent (runs P) H r s
         ↔ Equivalent (end_of (runs P) H r) (end_of (runs P) H s) }
+{}
+
+// Rollback, this project's own: a step and all that need it go in one move.
+
+/// A rollback is a path of undos, and the least one that takes its step back: a run without the
+/// step that undos reach, they reach from what the rollback leaves.
+pub fn rollback_is_least()
+    ensures path { (P : Program) (H : History) (e : StepId) →
+        LegalFor P H → PathBack (runs P) H (without e H) }
+    ensures least { (P : Program) (H : History) (e : StepId) (r : List Label) → LegalFor P H →
+        IsPath (runs P) H r → AreBackward (runs P) r →
+        IsFalse (stands e (end_of (runs P) H r)) →
+        PathBack (runs P) (without e H) (end_of (runs P) H r) }
 {}
