@@ -17,13 +17,15 @@ use Rattle.tb_model.specs.Items.{some_meet, is_before}
 use Rattle.tb_model.specs.Facts.{History, own, items_of, before, apart, holds, IsSpawned, HasStarted}
 use Rattle.tb_model.specs.Legal.{Cells, MayFollow}
 use Rattle.tb_model.specs.Needs.{needs}
-use Rattle.tb_model.specs.Equivalent.{Equivalent, needs_in}
+use Rattle.tb_model.specs.Equivalent.{Equivalent, needs_in, stands}
 use Rattle.tb_model.specs.Program.{Program, LegalFor}
-use Rattle.tb_causal.specs.Systems.{Square, IsPath, CausallyEquivalent}
-use Rattle.tb_causal.specs.Runs.{Label, Step, Undo, Enabled, target, inverse, Independent, runs}
+use Rattle.tb_causal.specs.Systems.{Square, IsPath, end_of, CausallyEquivalent, PathBack}
+use Rattle.tb_causal.specs.Runs.{Label, Step, Undo, Enabled, target, inverse, Independent, runs, steps_of}
 use Rattle.tb_causal.proofs.TransitionLemmas.{kept, square}
 use Rattle.tb_causal.proofs.AxiomsLemmas.{axioms}
 use Rattle.tb_causal.proofs.SystemLemmas.{consistent}
+use Rattle.tb_causal.proofs.RollbackLemmas.{rollback_least}
+use Rattle.tb_causal.proofs.StandingLemmas.{none_unneeded, unneeded_none}
 
 abbrev by : Name → Action → Event
 by t a = record { task = t; action = a }
@@ -129,6 +131,10 @@ middle_undone = (refl, refl)
 middle_left : target both (inverse first) ≡ by two Start ∷ ready []
 middle_left = refl
 
+-- the steps that lead to a run
+steps_to_one : steps_of (by one Start ∷ ready []) ≡ steps_of (ready []) ++ first ∷ []
+steps_to_one = refl
+
 -- steps with an undo behind them, and the one step that is left of them
 with_undo : IsPath (runs free) (ready []) (first ∷ second ∷ inverse first ∷ [])
 with_undo = (first_enabled, (starts_square.first, (middle_undone, tt)))
@@ -160,6 +166,13 @@ prints_dependent h = false≢true (sym h.0)
 
 orders_differ : Equivalent (target (target both print_one) print_two) (target (target both print_two) print_one) → ⊥
 orders_differ q = false≢true (q.there (record { task = two; k = 2 }) (record { task = one; k = 2 }) refl)
+
+-- so the two runs aren't one state, though they have the same steps: the last print alone can be undone
+last_print_undone : Enabled free (target (target both print_two) print_one) (inverse print_one)
+last_print_undone = (refl, refl)
+
+first_print_stays : Enabled free (target (target both print_one) print_two) (inverse print_one) → ⊥
+first_print_stays h = omega (arith, h.0)
 
 -- two different undos from one run are independent
 other_undone : Enabled free both (inverse second)
@@ -197,6 +210,29 @@ no_start_without_spawn h = false≢true h.1.may.timely.spawned
 
 start_beside_undo : Square (runs free) (ready []) first undo_spawn
 start_beside_undo = square free (ready []) first undo_spawn free_run first_enabled spawn_undone refl
+
+-- ---- ways back
+
+both_run : LegalFor free both
+both_run =
+    kept free (by one Start ∷ ready []) second (kept free (ready []) first free_run first_enabled) starts_square.first
+
+-- both starts are undone, the second one first
+undos : IsPath (runs free) both (inverse second ∷ inverse first ∷ [])
+undos = (other_undone, ((refl, refl), tt))
+
+gone : stands (record { task = one; k = 1 }) (end_of (runs free) both (inverse second ∷ inverse first ∷ [])) ≡ false
+gone = refl
+
+-- the rollback of the first start leaves the second, so the same run is reached from what it leaves
+least_way : PathBack (runs free) (by two Start ∷ ready []) (ready [])
+least_way =
+    rollback_least free both (record { task = one; k = 1 }) (inverse second ∷ inverse first ∷ []) both_run undos (refl, (refl, tt)) gone
+
+-- no step needs the first start, which stands: so it can be undone
+can_go : Enabled free both (inverse first)
+can_go =
+    (none_unneeded (record { task = one; k = 1 }) both refl (unneeded_none (record { task = one; k = 1 }) both middle_undone.0), refl)
 
 -- ---- two tasks that exclude each other
 

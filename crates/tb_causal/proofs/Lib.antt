@@ -5,5 +5,6 @@ pub mod TransitionLemmas
 pub mod SystemLemmas
 pub mod AxiomsLemmas
 pub mod IndependenceLemmas
+pub mod OriginLemmas
 pub mod RollbackLemmas
 mod ExampleLemmas

@@ -76,11 +76,13 @@ module _ (S : System) (A : Axioms S) where
   beginning x [] ms p = tt
   beginning x (l ∷ ls) ms p = (p.0, beginning (S.target x l) ls ms p.1)
 
-  joined : (x : S.State) (ls ms : List S.Label) → IsPath S x ls → IsPath S (end_of S x ls) ms → IsPath S x (ls ++ ms)
+  -- one path behind another
+  pub joined : (x : S.State) (ls ms : List S.Label) → IsPath S x ls → IsPath S (end_of S x ls) ms → IsPath S x (ls ++ ms)
   joined x [] ms p q = q
   joined x (l ∷ ls) ms p q = (p.0, joined (S.target x l) ls ms p.1 q)
 
-  end_joined : (x : S.State) (ls ms : List S.Label) → end_of S x (ls ++ ms) ≡ end_of S (end_of S x ls) ms
+  -- ends where that one does
+  pub end_joined : (x : S.State) (ls ms : List S.Label) → end_of S x (ls ++ ms) ≡ end_of S (end_of S x ls) ms
   end_joined x [] ms = refl
   end_joined x (l ∷ ls) ms = end_joined (S.target x l) ls ms
 

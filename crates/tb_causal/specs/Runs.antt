@@ -1,10 +1,10 @@
 -- The runs of a program as a reversible transition system: steps, and undos of steps that nothing needs.
-use Rattle.std.specs.Prelude.{◌≡◌, ◌≢◌, ℕ, suc, List, [], ◌∷◌, Bool, true, false, ◌&&◌, ◌==◌, if◌then◌else◌, length, Option, Some, None, IsFalse}
+use Rattle.std.specs.Prelude.{◌≡◌, ◌≢◌, ℕ, suc, List, [], ◌∷◌, ◌++◌, Bool, true, false, ◌&&◌, ◌==◌, if◌then◌else◌, length, Option, Some, None, IsFalse}
 use Rattle.tb_model.specs.declared.action.Action.{Action}
 use Rattle.tb_model.specs.declared.event.Event.{Event}
 use Rattle.tb_model.specs.declared.step_id.StepId.{StepId}
 use Rattle.tb_model.specs.Facts.{History, own, apart, is_start}
-use Rattle.tb_model.specs.Needs.{needs, without}
+use Rattle.tb_model.specs.Needs.{needs, step_of, without}
 use Rattle.tb_model.specs.Equivalent.{Equivalent, needs_in, needs_step}
 use Rattle.tb_model.specs.Reordering.{IsUnneeded}
 use Rattle.tb_model.specs.Program.{Program, LegalFor, IsNext}
@@ -71,3 +71,8 @@ runs P = record {
   is_backward = is_undo;
   Independent = Independent;
 }
+
+-- the steps of a history, the first one first
+abbrev pub steps_of : History → List Label
+steps_of [] = []
+steps_of (v ∷ H) = steps_of H ++ Step (step_of H v) v.action ∷ []

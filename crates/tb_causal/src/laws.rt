@@ -6,7 +6,7 @@
 //! step out wherever it stands. Transitions are coinitial where they begin in one state, and paths
 //! are cofinal where they end in equivalent ones.
 
-ghost use Rattle.std.specs.Prelude.{◌≡◌, ◌≢◌, ◌↔◌, ◌+◌, ℕ, suc, List, length, Some, None, IsTrue, IsFalse};
+ghost use Rattle.std.specs.Prelude.{◌≡◌, ◌≢◌, ◌↔◌, ◌+◌, ℕ, suc, List, [], length, Some, None, IsTrue, IsFalse};
 ghost use Rattle.tb_model.specs.declared.action.Action.{Action};
 ghost use Rattle.tb_model.specs.declared.step_id.StepId.{StepId};
 ghost use Rattle.tb_model.specs.Facts.{History, own};
@@ -15,7 +15,7 @@ ghost use Rattle.tb_model.specs.Needers.{first_needer};
 ghost use Rattle.tb_model.specs.Program.{Program, LegalFor};
 ghost use Rattle.tb_model.specs.Equivalent.{Equivalent, needs_in, stands};
 ghost use Rattle.tb_causal.specs.Systems.{Square, IsPath, end_of, AreBackward, Parabola, CausallyEquivalent, EndlessBack, PathBack};
-ghost use Rattle.tb_causal.specs.Runs.{Label, Step, Undo, Enabled, Independent, target, inverse, is_undo, kth, runs};
+ghost use Rattle.tb_causal.specs.Runs.{Label, Step, Undo, Enabled, Independent, target, inverse, is_undo, kth, runs, steps_of};
 
 // States and transitions.
 
@@ -114,6 +114,16 @@ pub fn causal_consistency()
         IsPath (runs P) H r → IsPath (runs P) H s →
         CausallyEquivalent (runs P) H r s
         ↔ Equivalent (end_of (runs P) H r) (end_of (runs P) H s) }
+{}
+
+/// Equivalence of runs, whose form is this project's own, is causal equivalence: two runs are
+/// equivalent exactly where the paths of steps that lead to them are causally equivalent.
+pub fn equivalence_is_causal()
+    ensures path { (P : Program) (H : History) →
+        LegalFor P H → IsPath (runs P) [] (steps_of H) }
+    ensures end { (P : Program) (H : History) → end_of (runs P) [] (steps_of H) ≡ H }
+    ensures causal { (P : Program) (G H : History) → LegalFor P G → LegalFor P H →
+        Equivalent G H ↔ CausallyEquivalent (runs P) [] (steps_of G) (steps_of H) }
 {}
 
 // Rollback, this project's own: a step and all that need it go in one move.
