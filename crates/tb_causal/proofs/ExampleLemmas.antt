@@ -8,7 +8,7 @@ use Rattle.tb_model.specs.declared.clause.Clause.{Clause}
 use Rattle.tb_model.specs.declared.address.Address.TheVariants.{Cell as At}
 use Rattle.tb_model.specs.declared.operand.Operand.TheVariants.{Number}
 use Rattle.tb_model.specs.declared.action.Action.{Action}
-use Rattle.tb_model.specs.declared.action.Action.TheVariants.{Start, Print, Spawn}
+use Rattle.tb_model.specs.declared.action.Action.TheVariants.{Start, Print, Spawn, End}
 use Rattle.tb_model.specs.declared.event.Event.{Event}
 use Rattle.tb_model.specs.declared.step_id.StepId.{StepId}
 use Rattle.tb_model.specs.declared.statement.Statement.TheVariants.{Start as DoStart, Print as DoPrint, Task as DoSpawn}
@@ -18,7 +18,7 @@ use Rattle.tb_model.specs.Facts.{History, own, items_of, before, apart, holds, I
 use Rattle.tb_model.specs.Legal.{Cells, MayFollow}
 use Rattle.tb_model.specs.Needs.{needs}
 use Rattle.tb_model.specs.Equivalent.{Equivalent, needs_in, stands}
-use Rattle.tb_model.specs.Program.{Program, LegalFor}
+use Rattle.tb_model.specs.Program.{Program, LegalFor, Follows}
 use Rattle.tb_causal.specs.Systems.{Square, IsPath, end_of, CausallyEquivalent, PathBack}
 use Rattle.tb_causal.specs.Runs.{Label, Step, Undo, Enabled, target, inverse, Independent, runs, steps_of}
 use Rattle.tb_causal.proofs.TransitionLemmas.{kept, square}
@@ -148,6 +148,18 @@ undone_equivalent =
 undone_once : Enabled free (target both (inverse first)) (inverse first) → ⊥
 undone_once h = omega (arith, h.0)
 
+-- a step of another number than its task's next couldn't be undone
+wrong_number_stays : Enabled free (by one Start ∷ ready []) (Undo (record { task = one; k = 9 }) Start) → ⊥
+wrong_number_stays h = omega (arith, h.0)
+
+-- an undo that names what the step didn't do couldn't be taken back
+wrong_action_lost : Enabled free (target both (Undo (record { task = one; k = 1 }) End)) (Step (record { task = one; k = 1 }) End) → ⊥
+wrong_action_lost h = h.1.may.own
+
+-- a step doesn't take itself back, and can't be taken twice
+no_second_start : Enabled free (by one Start ∷ ready []) first → ⊥
+no_second_start h = omega (arith, h.0)
+
 -- behind both starts each may print, and the two orders differ
 abbrev print_one : Label
 print_one = Step (record { task = one; k = 2 }) (Print (ℤ.pos 7))
@@ -270,6 +282,13 @@ no_needs = (refl, refl)
 -- and yet the second can't start behind the first: so the two must not count as independent
 excluded : Enabled exclusive (target (ready held) first) second → ⊥
 excluded h = false≢true (h.1.may.timely.alone one refl refl)
+
+-- though the program gives it, no run goes on so
+gives_it : Follows exclusive (by one Start ∷ ready held) (by two Start)
+gives_it = refl
+
+no_run : LegalFor exclusive (by two Start ∷ by one Start ∷ ready held) → ⊥
+no_run h = false≢true (h.0.1.timely.alone one refl refl)
 
 not_independent : Independent (ready held) first second → ⊥
 not_independent h = false≢true (sym h.2)

@@ -1,5 +1,5 @@
 -- The parabolic lemma and causal consistency, in any reversible system that meets the axioms.
-use Rattle.std.proofs.Common.{◌≡◌, ℕ, zero, suc, ◌+◌, List, [], ◌∷◌, ◌++◌, length, Bool, true, false, not, ⊎_elim, refl, sym, ap, ◌∙◌, subst, arith, append_assoc, append-nil}
+use Rattle.std.proofs.Common.{◌≡◌, ℕ, zero, suc, ◌+◌, List, [], ◌∷◌, ◌++◌, length, Bool, true, false, not, ⊎_elim, refl, sym, ap, ◌∙◌, subst, arith, append_assoc, append-nil, ◌≤◌, length-append}
 use Rattle.tb_causal.specs.Systems.{System, Square, IsPath, end_of, AreBackward, AreForward, Parabola, EndlessBack, CausallyEquivalent, same, turned, by_way, behind, swap, cancel}
 use Rattle.tb_causal.specs.Axioms.{Axioms, Back}
 
@@ -101,7 +101,7 @@ module _ (S : System) (A : Axioms S) where
       subst (λ n. CausallyEquivalent S x (l ∷ m ∷ ms) (m ∷ n ∷ ms)) (A.twice l) (by_way there (by_way across away))
 
   past : (x : S.State) (l : S.Label) (ms : List S.Label) → S.IsState x → S.Enabled x l → S.is_backward l ≡ false → IsPath S (S.target x l) ms → AreBackward S ms → Parabola S x (l ∷ ms)
-  past x l [] s a f p b = record { back = []; forth = l ∷ []; backward = tt; forward = (f, tt); equivalent = same x (l ∷ []) }
+  past x l [] s a f p b = record { back = []; forth = l ∷ []; backward = tt; forward = (f, tt); equivalent = same x (l ∷ []); no_longer = omega arith }
   past x l (m ∷ ms) s a f p b =
       ⊎_elim
       (λ e. record {
@@ -110,12 +110,13 @@ module _ (S : System) (A : Axioms S) where
         backward = b.1;
         forward = tt;
         equivalent = subst (CausallyEquivalent S x (l ∷ m ∷ ms)) (sym (append-nil ms)) (subst (λ k. CausallyEquivalent S x (l ∷ k ∷ ms) ms) e (cancel x l ms a));
+        no_longer = omega arith;
       })
       (λ i.
       let c = swapped x l m ms s a p.0 i in
       let r = ((sound c s).0 (a, p)).path in
       let rest = past (S.target x m) l ms (A.kept x m s r.0) r.1.0 f r.1.1 b.1 in
-      record { back = m ∷ rest.back; forth = rest.forth; backward = (b.0, rest.backward); forward = rest.forward; equivalent = by_way c (behind x m rest.equivalent) })
+      record { back = m ∷ rest.back; forth = rest.forth; backward = (b.0, rest.backward); forward = rest.forward; equivalent = by_way c (behind x m rest.equivalent); no_longer = omega (arith, rest.no_longer) })
       (A.backward (S.target x l) (S.inverse l) m (A.kept x l s a) (A.loop x l s a).0 p.0 (A.turns l ∙ ap not f) b.0)
 
   forward_both : (ls ms : List S.Label) → AreForward S ls → AreForward S ms → AreForward S (ls ++ ms)
@@ -123,11 +124,11 @@ module _ (S : System) (A : Axioms S) where
   forward_both (l ∷ ls) ms f g = (f.0, forward_both ls ms f.1 g)
 
   pub parabolic : (x : S.State) (ls : List S.Label) → S.IsState x → IsPath S x ls → Parabola S x ls
-  parabolic x [] s p = record { back = []; forth = []; backward = tt; forward = tt; equivalent = same x [] }
+  parabolic x [] s p = record { back = []; forth = []; backward = tt; forward = tt; equivalent = same x []; no_longer = omega arith }
   parabolic x (l ∷ ls) s p = at (S.is_backward l) refl (parabolic (S.target x l) ls (A.kept x l s p.0) p.1)
     where
       at : (b : Bool) → S.is_backward l ≡ b → Parabola S (S.target x l) ls → Parabola S x (l ∷ ls)
-      at true e r = record { back = l ∷ r.back; forth = r.forth; backward = (e, r.backward); forward = r.forward; equivalent = behind x l r.equivalent }
+      at true e r = record { back = l ∷ r.back; forth = r.forth; backward = (e, r.backward); forward = r.forward; equivalent = behind x l r.equivalent; no_longer = omega (arith, r.no_longer) }
       at false e r =
           let whole = ((sound r.equivalent (A.kept x l s p.0)).0 p.1).path in
           let q = past x l r.back s p.0 e (beginning (S.target x l) r.back r.forth whole) r.backward in
@@ -139,6 +140,7 @@ module _ (S : System) (A : Axioms S) where
             equivalent =
                 by_way (behind x l r.equivalent)
                 (subst (CausallyEquivalent S x (l ∷ (r.back ++ r.forth))) (append_assoc q.back q.forth r.forth) (in_front q.equivalent r.forth));
+            no_longer = omega (arith, q.no_longer, r.no_longer, length-append q.forth r.forth);
           }
 
   -- ---- the way back along a path
@@ -186,6 +188,19 @@ module _ (S : System) (A : Axioms S) where
   grown : (x : S.State) (ls : List S.Label) → S.IsState x → IsPath S x ls → AreForward S ls → A.size (end_of S x ls) ≡ length ls + A.size x
   grown x [] s p f = omega arith
   grown x (l ∷ ls) s p f = omega (arith, grown (S.target x l) ls (A.kept x l s p.0) p.1 f.1, A.grows x l s p.0 f.0)
+
+  bounded : (x : S.State) (ls : List S.Label) → S.IsState x → IsPath S x ls → A.size (end_of S x ls) ≤ length ls + A.size x
+  bounded x [] s p = omega arith
+  bounded x (l ∷ ls) s p = at (S.is_backward l) refl (bounded (S.target x l) ls (A.kept x l s p.0) p.1)
+    where
+      at : (b : Bool) → S.is_backward l ≡ b → A.size (end_of S (S.target x l) ls) ≤ length ls + A.size (S.target x l) → A.size (end_of S (S.target x l) ls) ≤ suc (length ls) + A.size x
+      at true e h = omega (arith, h, A.shrinks x l s p.0 e)
+      at false e h = omega (arith, h, A.grows x l s p.0 e)
+
+  -- a path forward is no longer than one that ends alike
+  pub shortest : (x : S.State) (ls ms : List S.Label) → S.IsState x → IsPath S x ls → IsPath S x ms → AreForward S ms → S.Same (end_of S x ls) (end_of S x ms) → length ms ≤ length ls
+  shortest x ls ms s p q f e =
+      omega (arith, grown x ms s q f, bounded x ls s p, A.same_size _ _ (end_state x ls s p) (end_state x ms s q) e)
 
   -- where nothing can be taken back, a path that returns is nothing
   returning : (x : S.State) (ls : List S.Label) → S.IsState x → A.size x ≡ 0 → IsPath S x ls → S.Same (end_of S x ls) x → CausallyEquivalent S x ls []

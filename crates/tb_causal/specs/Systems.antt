@@ -1,6 +1,6 @@
 -- Reversible transition systems, their paths, and the causal equivalence of paths.
 -- After Danos and Krivine (CONCUR 2004), and Lanese, Phillips and Ulidowski (FoSSaCS 2020).
-use Rattle.std.specs.Prelude.{ℕ, suc, List, [], ◌∷◌, ◌++◌, Bool, IsTrue, IsFalse, ⊤}
+use Rattle.std.specs.Prelude.{ℕ, suc, ◌+◌, ◌≤◌, length, List, [], ◌∷◌, ◌++◌, Bool, IsTrue, IsFalse, ⊤}
 
 -- what the definitions below speak of; a transition is a label that is enabled in a state
 pub record System : Type 1 where
@@ -56,13 +56,14 @@ module _ (S : System) where
     swap : (x : S.State) (l m : S.Label) (ls : List S.Label) → S.Enabled x l → S.Enabled x m → S.Independent x l m → CausallyEquivalent x (l ∷ m ∷ ls) (m ∷ l ∷ ls)
     cancel : (x : S.State) (l : S.Label) (ls : List S.Label) → S.Enabled x l → CausallyEquivalent x (l ∷ S.inverse l ∷ ls) ls
 
-  -- a path that first goes back and then forward, and is causally equivalent
+  -- a path that first goes back and then forward, is causally equivalent, and no longer
   pub record Parabola (x : S.State) (ls : List S.Label) : Type 0 where
     pub back : List S.Label
     pub forth : List S.Label
     pub backward : AreBackward back
     pub forward : AreForward forth
     pub equivalent : CausallyEquivalent x ls (back ++ forth)
+    pub no_longer : length back + length forth ≤ length ls
 
   -- a path back from one state to the other
   pub record PathBack (x y : S.State) : Type 0 where

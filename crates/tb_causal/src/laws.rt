@@ -6,7 +6,7 @@
 //! step out wherever it stands. Transitions are coinitial where they begin in one state, and paths
 //! are cofinal where they end in equivalent ones.
 
-ghost use Rattle.std.specs.Prelude.{◌≡◌, ◌≢◌, ◌↔◌, ◌+◌, ℕ, suc, List, [], length, Some, None, IsTrue, IsFalse};
+ghost use Rattle.std.specs.Prelude.{◌≡◌, ◌≢◌, ◌↔◌, ◌≤◌, ℕ, suc, List, [], length, Some, None, IsTrue, IsFalse};
 ghost use Rattle.tb_model.specs.declared.action.Action.{Action};
 ghost use Rattle.tb_model.specs.declared.step_id.StepId.{StepId};
 ghost use Rattle.tb_model.specs.Facts.{History, own};
@@ -14,7 +14,7 @@ ghost use Rattle.tb_model.specs.Needs.{without};
 ghost use Rattle.tb_model.specs.Needers.{first_needer};
 ghost use Rattle.tb_model.specs.Program.{Program, LegalFor};
 ghost use Rattle.tb_model.specs.Equivalent.{Equivalent, needs_in, stands};
-ghost use Rattle.tb_causal.specs.Systems.{Square, IsPath, end_of, AreBackward, Parabola, CausallyEquivalent, EndlessBack, PathBack};
+ghost use Rattle.tb_causal.specs.Systems.{Square, IsPath, end_of, AreBackward, AreForward, Parabola, CausallyEquivalent, EndlessBack, PathBack};
 ghost use Rattle.tb_causal.specs.Runs.{Label, Step, Undo, Enabled, Independent, target, inverse, is_undo, kth, runs, steps_of};
 
 // States and transitions.
@@ -101,10 +101,18 @@ pub fn causal_liveness()
 // What follows for paths.
 
 /// The parabolic lemma (Danos and Krivine): each path is causally equivalent to one that first
-/// undoes, and then only goes forward.
+/// undoes, and then only takes steps, and that is no longer.
 pub fn parabolic_lemma()
     ensures { (P : Program) (H : History) (r : List Label) →
         LegalFor P H → IsPath (runs P) H r → Parabola (runs P) H r }
+{}
+
+/// The shortening lemma (Danos and Krivine): a path of steps is no longer than any other that is
+/// coinitial and cofinal with it.
+pub fn shortening_lemma()
+    ensures { (P : Program) (H : History) (r s : List Label) → LegalFor P H →
+        IsPath (runs P) H r → IsPath (runs P) H s → AreForward (runs P) s →
+        Equivalent (end_of (runs P) H r) (end_of (runs P) H s) → length s ≤ length r }
 {}
 
 /// Causal consistency (Danos and Krivine): two coinitial paths are causally equivalent exactly
