@@ -57,11 +57,11 @@ irreflexive H (Step i a) n =
 irreflexive H (Undo i a) n = n.0 refl
 
 -- the step that it was
-newest_is : (H : History) (i : StepId) (a : Action) → i.k ≡ suc (length (own i.task H)) → step_of H (event i a) ≡ i
+pub newest_is : (H : History) (i : StepId) (a : Action) → i.k ≡ suc (length (own i.task H)) → step_of H (event i a) ≡ i
 newest_is H i a k = λ x. record { task = i.task; k = sym k x }
 
 -- behind the step, a direct need of it is one of its event
-newest_need : (H : History) (i : StepId) (a : Action) (w : Event) → i.k ≡ suc (length (own i.task H)) → needs_step (event i a ∷ H) w i (event i a ∷ H) ≡ needs (event i a ∷ H) w (event i a)
+pub newest_need : (H : History) (i : StepId) (a : Action) (w : Event) → i.k ≡ suc (length (own i.task H)) → needs_step (event i a ∷ H) w i (event i a ∷ H) ≡ needs (event i a ∷ H) w (event i a)
 newest_need H i a w k =
     let v = event i a in
     subst (λ e. needs_step (v ∷ H) w e (v ∷ H) ≡ needs (v ∷ H) w v) (newest_is H i a k) (needs_it v H (v ∷ H) w [])

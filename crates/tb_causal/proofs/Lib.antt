@@ -5,6 +5,7 @@ pub mod TransitionLemmas
 pub mod SystemLemmas
 pub mod AxiomsLemmas
 pub mod IndependenceLemmas
+pub mod CommutingLemmas
 pub mod OriginLemmas
 pub mod RollbackLemmas
 mod ExampleLemmas

@@ -74,6 +74,13 @@ pub fn independence_propagates()
         Independent (target H l) (inverse l) m }
 {}
 
+/// Two different transitions from one state are independent exactly where they commute, so no
+/// wider independence has the square property.
+pub fn independence_is_commuting()
+    ensures { (P : Program) (H : History) (l m : Label) → LegalFor P H →
+        Enabled P H l → Enabled P H m → l ≢ m → Independent H l m ↔ Square (runs P) H l m }
+{}
+
 /// Well-foundedness (Lanese, Phillips and Ulidowski): each undo makes the run shorter by one, so no
 /// path of undos is infinite.
 pub fn well_foundedness()
