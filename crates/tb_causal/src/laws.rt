@@ -86,7 +86,8 @@ pub fn independence_is_commuting()
 pub fn well_foundedness()
     ensures shorter { (P : Program) (H : History) (l : Label) →
         Enabled P H l → IsTrue (is_undo l) → suc (length (target H l)) ≡ length H }
-    ensures no_endless_path { (P : Program) (H : ℕ → History) (l : ℕ → Label) → EndlessBack (runs P) H l → ⊥ }
+    ensures no_endless_path { (P : Program) (H : ℕ → History) (l : ℕ → Label) →
+        EndlessBack (runs P) H l → ⊥ }
 {}
 
 /// Causal safety: a step can be undone only where all that need it have been undone, whether they
@@ -123,12 +124,14 @@ pub fn shortening_lemma()
 {}
 
 /// Causal consistency (Danos and Krivine): two coinitial paths are causally equivalent exactly
-/// where they are cofinal.
+/// where they are cofinal. What is causally equivalent to a path is one.
 pub fn causal_consistency()
-    ensures { (P : Program) (H : History) (r s : List Label) → LegalFor P H →
+    ensures cofinal { (P : Program) (H : History) (r s : List Label) → LegalFor P H →
         IsPath (runs P) H r → IsPath (runs P) H s →
         CausallyEquivalent (runs P) H r s
         ↔ Equivalent (end_of (runs P) H r) (end_of (runs P) H s) }
+    ensures paths { (P : Program) (H : History) (r s : List Label) → LegalFor P H →
+        IsPath (runs P) H r → CausallyEquivalent (runs P) H r s → IsPath (runs P) H s }
 {}
 
 /// Equivalence of runs, whose form is this project's own, is causal equivalence: two runs are
