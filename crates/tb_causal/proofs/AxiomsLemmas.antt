@@ -33,10 +33,10 @@ same_undo P H i a j b q s t =
     let c : a ≡ b = cc (sym s ∙ ap (λ y. kth y.k (own y.task H)) q ∙ t) in λ x. Undo (q x) (c x)
 
 -- two undos from one state are one, or independent
-pub undos : (P : Program) (H : History) (l m : Label) → Enabled P H l → Enabled P H m → is_undo l ≡ true → is_undo m ≡ true → (l ≡ m) ⊎ Independent H l m
-undos P H (Step i a) m s t u w = absurd (false≢true u)
-undos P H (Undo i a) (Step j b) s t u w = absurd (false≢true w)
-undos P H (Undo i a) (Undo j b) s t u w = at (same_name i.task j.task && (i.k == j.k)) refl
+pub one_or_independent : (P : Program) (H : History) (l m : Label) → Enabled P H l → Enabled P H m → is_undo l ≡ true → is_undo m ≡ true → (l ≡ m) ⊎ Independent H l m
+one_or_independent P H (Step i a) m s t u w = absurd (false≢true u)
+one_or_independent P H (Undo i a) (Step j b) s t u w = absurd (false≢true w)
+one_or_independent P H (Undo i a) (Undo j b) s t u w = at (same_name i.task j.task && (i.k == j.k)) refl
   where
     at : (x : Bool) → (same_name i.task j.task && (i.k == j.k)) ≡ x → (Undo i a ≡ Undo j b) ⊎ Independent H (Undo i a) (Undo j b)
     at true e = let q = same_id i j e in inl (same_undo P H i a j b q s.1 t.1)
@@ -67,7 +67,7 @@ axioms P = record {
   turns = turns;
   loop = λ H l s e. loop P H l s e;
   square = λ H l m s a b i. square P H l m s a b i;
-  backward = λ H l m s a b u w. undos P H l m a b u w;
+  backward = λ H l m s a b u w. one_or_independent P H l m a b u w;
   size = λ H. length H;
   same_size = λ G H s t q. equivalent_length P.cells G H t.0 q;
   shrinks = λ H l s e u. shrinks P H l e u;

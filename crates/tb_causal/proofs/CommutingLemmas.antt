@@ -18,7 +18,7 @@ use Rattle.tb_causal.specs.Runs.{Label, Step, Undo, Enabled, event, Independent,
 use Rattle.tb_causal.proofs.StateLemmas.{equivalent_sym}
 use Rattle.tb_causal.proofs.StandingLemmas.{unneeded_none}
 use Rattle.tb_causal.proofs.BesideLemmas.{not_excluded}
-use Rattle.tb_causal.proofs.AxiomsLemmas.{undos}
+use Rattle.tb_causal.proofs.AxiomsLemmas.{one_or_independent}
 use Rattle.tb_causal.proofs.IndependenceLemmas.{newest_is, newest_need}
 
 -- ---- a step that isn't there yet
@@ -91,4 +91,4 @@ commuting P H (Step i a) (Step j b) l s t d q =
 commuting P H (Step i a) (Undo j b) l s t d q = undo_behind_step P H i a j b s q.first
 commuting P H (Undo i a) (Step j b) l s t d q = undo_behind_step P H j b i a t q.second
 commuting P H (Undo i a) (Undo j b) l s t d q =
-    ⊎_elim (λ e. absurd (d e)) (λ n. n) (undos P H (Undo i a) (Undo j b) s t refl refl)
+    ⊎_elim (λ e. absurd (d e)) (λ n. n) (one_or_independent P H (Undo i a) (Undo j b) s t refl refl)

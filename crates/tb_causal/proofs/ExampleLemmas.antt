@@ -20,7 +20,10 @@ use Rattle.tb_model.specs.Needs.{needs}
 use Rattle.tb_model.specs.Equivalent.{Equivalent, needs_in, stands}
 use Rattle.tb_model.specs.Program.{Program, LegalFor, Follows}
 use Rattle.tb_causal.specs.Systems.{Square, IsPath, end_of, CausallyEquivalent, PathBack}
-use Rattle.tb_causal.specs.Runs.{Label, Step, Undo, Enabled, target, inverse, Independent, runs, steps_of}
+use Rattle.tb_model.specs.declared.entry.Entry.{Entry}
+use Rattle.tb_model.specs.declared.entry.Entry.TheVariants.{Opened, Stepped, Rolled}
+use Rattle.tb_model.specs.Journal.{Sound}
+use Rattle.tb_causal.specs.Runs.{Label, Step, Undo, Enabled, target, inverse, Independent, runs, steps_of, undos, path_of}
 use Rattle.tb_causal.proofs.TransitionLemmas.{kept, square}
 use Rattle.tb_causal.proofs.AxiomsLemmas.{axioms}
 use Rattle.tb_causal.proofs.SystemLemmas.{consistent}
@@ -223,15 +226,15 @@ no_start_without_spawn h = false≢true h.1.may.timely.spawned
 start_beside_undo : Square (runs free) (ready []) first undo_spawn
 start_beside_undo = square free (ready []) first undo_spawn free_run first_enabled spawn_undone refl
 
--- ---- ways back
+-- ---- ways back, and a journal
 
 both_run : LegalFor free both
 both_run =
     kept free (by one Start ∷ ready []) second (kept free (ready []) first free_run first_enabled) starts_square.first
 
 -- both starts are undone, the second one first
-undos : IsPath (runs free) both (inverse second ∷ inverse first ∷ [])
-undos = (other_undone, ((refl, refl), tt))
+both_undone : IsPath (runs free) both (inverse second ∷ inverse first ∷ [])
+both_undone = (other_undone, ((refl, refl), tt))
 
 gone : stands (record { task = one; k = 1 }) (end_of (runs free) both (inverse second ∷ inverse first ∷ [])) ≡ false
 gone = refl
@@ -239,12 +242,30 @@ gone = refl
 -- the rollback of the first start leaves the second, so the same run is reached from what it leaves
 least_way : PathBack (runs free) (by two Start ∷ ready []) (ready [])
 least_way =
-    rollback_least free both (record { task = one; k = 1 }) (inverse second ∷ inverse first ∷ []) both_run undos (refl, (refl, tt)) gone
+    rollback_least free both (record { task = one; k = 1 }) (inverse second ∷ inverse first ∷ []) both_run both_undone (refl, (refl, tt)) gone
 
 -- no step needs the first start, which stands: so it can be undone
 can_go : Enabled free both (inverse first)
 can_go =
     (none_unneeded (record { task = one; k = 1 }) both refl (unneeded_none (record { task = one; k = 1 }) both middle_undone.0), refl)
+
+-- a journal of three steps and the rollback of the last
+abbrev journal : List Entry
+journal =
+    Rolled 0 (record { task = []; k = 3 }) ∷ Stepped 0 (by [] (Spawn two 3 [] [] true)) ∷ Stepped 1 (by [] (Spawn one 3 [] [] true)) ∷ Stepped 0 (by [] Start) ∷ Opened ∷ []
+
+journal_sound : Sound free journal
+journal_sound = (
+  (((refl, record { may = root_may; follows = refl }), record { may = free_run.0.0.1; follows = refl }), record { may = free_run.0.1; follows = refl }),
+  refl,
+)
+
+what_it_did : path_of journal ≡ steps_of (ready []) ++ undo_spawn ∷ []
+what_it_did = refl
+
+-- a rollback of the first spawn: the starts of both tasks, the second spawn and it
+rollback_undoes : undos spawn_one both ≡ inverse second ∷ inverse first ∷ undo_spawn ∷ Undo spawn_one (Spawn one 3 [] [] true) ∷ []
+rollback_undoes = refl
 
 -- ---- two tasks that exclude each other
 

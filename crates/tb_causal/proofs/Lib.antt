@@ -6,6 +6,6 @@ pub mod SystemLemmas
 pub mod AxiomsLemmas
 pub mod IndependenceLemmas
 pub mod CommutingLemmas
-pub mod OriginLemmas
 pub mod RollbackLemmas
+pub mod OriginLemmas
 mod ExampleLemmas

@@ -16,7 +16,7 @@ use Rattle.tb_model.proofs.NeedsLemmas.{equivalent_without}
 use Rattle.tb_model.proofs.OneByOneLemmas.{one_unneeded, kept_more, kept_whole}
 use Rattle.tb_model.proofs.ReorderingLemmas.{undone}
 use Rattle.tb_causal.specs.Systems.{IsPath, end_of, AreBackward, PathBack}
-use Rattle.tb_causal.specs.Runs.{Label, Step, Undo, Enabled, event, target, runs}
+use Rattle.tb_causal.specs.Runs.{Label, Step, Undo, Enabled, event, target, undos, runs}
 use Rattle.tb_causal.proofs.StateLemmas.{equivalent_refl, equivalent_sym, equivalent_trans}
 use Rattle.tb_causal.proofs.StandingLemmas.{kth_stands, none_removed}
 use Rattle.tb_causal.proofs.TransitionLemmas.{loop}
@@ -27,50 +27,42 @@ use Rattle.tb_causal.proofs.SystemLemmas.{end_state, from_same}
 -- ---- one undo after another, from the newest event that goes
 
 -- a path of undos that ends exactly there
-record Undos (P : Program) (H K : History) : Type 0 where
-  labels : List Label
-  path : IsPath (runs P) H labels
-  backward : AreBackward (runs P) labels
-  ends : end_of (runs P) H labels ≡ K
+pub record Undone (P : Program) (H K : History) (ls : List Label) : Type 0 where
+  pub path : IsPath (runs P) H ls
+  pub backward : AreBackward (runs P) ls
+  pub ends : end_of (runs P) H ls ≡ K
 
-undos_left : (P : Program) (e : StepId) (later rest : History) → Undos P (kept e later rest ++ rest) (without e (later ++ rest))
-undos_left P e later [] = record {
-  labels = [];
+undone_from : (P : Program) (e : StepId) (later rest : History) → Undone P (kept e later rest ++ rest) (without e (later ++ rest)) (undos e rest)
+undone_from P e later [] = record {
   path = tt;
   backward = tt;
   ends = append-nil (kept e later []) ∙ kept_whole e later ∙ ap (without e) (sym (append-nil later));
 }
-undos_left P e later (u ∷ front) = at (is_removed e front u) refl (subst (λ K. Undos P (kept e (later ++ u ∷ []) front ++ front) (without e K)) (append_assoc later (u ∷ []) front) (undos_left P e (later ++ u ∷ []) front))
+undone_from P e later (u ∷ front) =
+    at (is_removed e front u) refl
+    (subst (λ K. Undone P (kept e (later ++ u ∷ []) front ++ front) (without e K) (undos e front)) (append_assoc later (u ∷ []) front) (undone_from P e (later ++ u ∷ []) front))
   where
-    at : (b : Bool) → is_removed e front u ≡ b → Undos P (kept e (later ++ u ∷ []) front ++ front) (without e (later ++ u ∷ front)) → Undos P (kept e later (u ∷ front) ++ u ∷ front) (without e (later ++ u ∷ front))
+    K : History
+    K = kept e later (u ∷ front)
+
+    W : History
+    W = without e (later ++ u ∷ front)
+
+    at : (b : Bool) → is_removed e front u ≡ b → Undone P (kept e (later ++ u ∷ []) front ++ front) W (undos e front) → Undone P (K ++ u ∷ front) W (prepend_if b (Undo (step_of front u) u.action) (undos e front))
     at true g r =
-        let K = kept e later (u ∷ front) in
         let h = one_unneeded e later u front g in
         let q : kept e (later ++ u ∷ []) front ++ front ≡ without (step_of front u) (K ++ u ∷ front) =
         ap (λ L. L ++ front) (kept_more e later u front ∙ ap (λ b. K ++ prepend_if (not b) u []) g ∙ append-nil K) ∙ sym (undone K front u h) in
-        let r' = subst (λ L. Undos P L (without e (later ++ u ∷ front))) q r in
-        record {
-          labels = Undo (step_of front u) u.action ∷ r'.labels;
-          path = ((h, kth_stands K u front), r'.path);
-          backward = (refl, r'.backward);
-          ends = r'.ends;
-        }
+        let r' = subst (λ L. Undone P L W (undos e front)) q r in
+        record { path = ((h, kth_stands K u front), r'.path); backward = (refl, r'.backward); ends = r'.ends }
     at false g r =
-        let K = kept e later (u ∷ front) in
         let q : kept e (later ++ u ∷ []) front ++ front ≡ K ++ u ∷ front =
         ap (λ L. L ++ front) (kept_more e later u front ∙ ap (λ b. K ++ prepend_if (not b) u []) g) ∙ append_assoc K (u ∷ []) front in
-        subst (λ L. Undos P L (without e (later ++ u ∷ front))) q r
+        subst (λ L. Undone P L W (undos e front)) q r
 
--- the path of a rollback
-pub rollback_path : (P : Program) (H : History) (e : StepId) → LegalFor P H → PathBack (runs P) H (without e H)
-rollback_path P H e l =
-    let r = undos_left P e [] H in
-    record {
-      labels = r.labels;
-      path = r.path;
-      backward = r.backward;
-      ends = subst (λ K. Equivalent K (without e H)) (sym r.ends) (equivalent_refl P.cells (without e H) (removal_for P e H l).0);
-    }
+-- a rollback is the path of its undos
+pub rolled : (P : Program) (H : History) (e : StepId) → Undone P H (without e H) (undos e H)
+rolled P H e = undone_from P e [] H
 
 -- ---- the least
 

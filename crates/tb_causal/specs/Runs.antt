@@ -3,10 +3,13 @@ use Rattle.std.specs.Prelude.{◌≡◌, ◌≢◌, ℕ, suc, List, [], ◌∷�
 use Rattle.tb_model.specs.declared.action.Action.{Action}
 use Rattle.tb_model.specs.declared.event.Event.{Event}
 use Rattle.tb_model.specs.declared.step_id.StepId.{StepId}
-use Rattle.tb_model.specs.Facts.{History, own, apart, is_start}
-use Rattle.tb_model.specs.Needs.{needs, step_of, without}
+use Rattle.tb_model.specs.declared.entry.Entry.{Entry}
+use Rattle.tb_model.specs.declared.entry.Entry.TheVariants.{Opened, Stepped, Rolled}
+use Rattle.tb_model.specs.Facts.{History, own, apart, is_start, prepend_if}
+use Rattle.tb_model.specs.Needs.{needs, step_of, is_removed, without}
 use Rattle.tb_model.specs.Equivalent.{Equivalent, needs_in, needs_step}
 use Rattle.tb_model.specs.Reordering.{IsUnneeded}
+use Rattle.tb_model.specs.Journal.{hist}
 use Rattle.tb_model.specs.Program.{Program, LegalFor, IsNext}
 use Rattle.tb_causal.specs.Systems.{System}
 
@@ -76,3 +79,15 @@ runs P = record {
 abbrev pub steps_of : History → List Label
 steps_of [] = []
 steps_of (v ∷ H) = steps_of H ++ Step (step_of H v) v.action ∷ []
+
+-- the undos of a rollback: of the step and all that need it, the newest first
+abbrev pub undos : StepId → History → List Label
+undos e [] = []
+undos e (v ∷ H) = prepend_if (is_removed e H v) (Undo (step_of H v) v.action) (undos e H)
+
+-- what a journal did: its steps, and the undos of its rollbacks
+abbrev pub path_of : List Entry → List Label
+path_of [] = []
+path_of (Opened ∷ J) = []
+path_of (Stepped seat v ∷ J) = path_of J ++ Step (step_of (hist J) v) v.action ∷ []
+path_of (Rolled seat e ∷ J) = path_of J ++ undos e (hist J)

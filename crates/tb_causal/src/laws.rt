@@ -8,14 +8,16 @@
 
 ghost use Rattle.std.specs.Prelude.{◌≡◌, ◌≢◌, ◌↔◌, ◌≤◌, ℕ, suc, List, [], length, Some, None, IsTrue, IsFalse};
 ghost use Rattle.tb_model.specs.declared.action.Action.{Action};
+ghost use Rattle.tb_model.specs.declared.entry.Entry.{Entry};
 ghost use Rattle.tb_model.specs.declared.step_id.StepId.{StepId};
+ghost use Rattle.tb_model.specs.Journal.{hist, Sound};
 ghost use Rattle.tb_model.specs.Facts.{History, own};
 ghost use Rattle.tb_model.specs.Needs.{without};
 ghost use Rattle.tb_model.specs.Needers.{first_needer};
 ghost use Rattle.tb_model.specs.Program.{Program, LegalFor};
 ghost use Rattle.tb_model.specs.Equivalent.{Equivalent, needs_in, stands};
 ghost use Rattle.tb_causal.specs.Systems.{Square, IsPath, end_of, AreBackward, AreForward, Parabola, CausallyEquivalent, EndlessBack, PathBack};
-ghost use Rattle.tb_causal.specs.Runs.{Label, Step, Undo, Enabled, Independent, target, inverse, is_undo, kth, runs, steps_of};
+ghost use Rattle.tb_causal.specs.Runs.{Label, Step, Undo, Enabled, Independent, target, inverse, is_undo, kth, runs, steps_of, undos, path_of};
 
 // States and transitions.
 
@@ -146,13 +148,27 @@ pub fn equivalence_is_causal()
 
 // Rollback, this project's own: a step and all that need it go in one move.
 
-/// A rollback is a path of undos, and the least one that takes its step back: a run without the
-/// step that undos reach, they reach from what the rollback leaves.
+/// A rollback is a path of undos, one for the step and for each that needs it, and the least way
+/// back without the step: any run without it that undos reach, they reach from what the rollback
+/// leaves.
 pub fn rollback_is_least()
-    ensures path { (P : Program) (H : History) (e : StepId) →
-        LegalFor P H → PathBack (runs P) H (without e H) }
+    ensures path { (P : Program) (H : History) (e : StepId) → IsPath (runs P) H (undos e H) }
+    ensures backward { (P : Program) (H : History) (e : StepId) →
+        AreBackward (runs P) (undos e H) }
+    ensures end { (P : Program) (H : History) (e : StepId) →
+        end_of (runs P) H (undos e H) ≡ without e H }
     ensures least { (P : Program) (H : History) (e : StepId) (r : List Label) → LegalFor P H →
         IsPath (runs P) H r → AreBackward (runs P) r →
         IsFalse (stands e (end_of (runs P) H r)) →
         PathBack (runs P) (without e H) (end_of (runs P) H r) }
+{}
+
+/// What a sound journal did is a path from the empty history, which ends in the journal's. So
+/// journals leave equivalent histories exactly where what they did is causally equivalent.
+pub fn journal_is_a_path()
+    ensures path { (P : Program) (J : List Entry) → Sound P J → IsPath (runs P) [] (path_of J) }
+    ensures end { (P : Program) (J : List Entry) →
+        Sound P J → end_of (runs P) [] (path_of J) ≡ hist J }
+    ensures causal { (P : Program) (I J : List Entry) → Sound P I → Sound P J →
+        Equivalent (hist I) (hist J) ↔ CausallyEquivalent (runs P) [] (path_of I) (path_of J) }
 {}
