@@ -6,7 +6,7 @@
 Each text comes with 6,553 and with 65,536 lines, the most that a program can have. It is read whole, and
 its program is written out, or it has a fault in its last line alone: so the first also pays for the
 instructions and for printing them. A run reads ten copies of the longer text, or a hundred of the
-shorter, and the best of three runs counts, by the processor's time. Memory is that of a run on one
+shorter, and the best of seven runs counts, by the processor's time. Memory is that of a run on one
 copy; a run can't show less than the 10 MB of this script, from which it begins.
 """
 import os
@@ -68,31 +68,30 @@ def prepare(path, text_of, lines, copies):
         sys.exit('the texts could not be written')
 
 
-def measure(program, path):
-    """The processor's time and the memory of a run, the least of three."""
-    runs = []
-    for _ in range(3):
-        child = os.fork()
-        if child == 0:
-            os.dup2(os.open(path, os.O_RDONLY), 0)
-            os.dup2(os.open(os.devnull, os.O_WRONLY), 1)
-            os.execv(program, [program])
-        _, status, used = os.wait4(child, 0)
-        runs.append((used.ru_utime + used.ru_stime, used.ru_maxrss / 1024))
-        if status != 0:
-            sys.exit('the program ended with status %d' % status)
-    return min(runs)
+def run(program, path):
+    """The processor's time and the memory of a run."""
+    child = os.fork()
+    if child == 0:
+        os.dup2(os.open(path, os.O_RDONLY), 0)
+        os.dup2(os.open(os.devnull, os.O_WRONLY), 1)
+        os.execv(program, [program])
+    _, status, used = os.wait4(child, 0)
+    if status != 0:
+        sys.exit('the program ended with status %d' % status)
+    return used.ru_utime + used.ru_stime, used.ru_maxrss / 1024
 
 
 def report(program, name, how, text_of, folder):
-    path, times = os.path.join(folder, 'texts'), []
-    for lines, copies in ((6553, 100), (65536, 10)):
+    sizes = [(6553, 100), (65536, 10)]
+    paths = [os.path.join(folder, str(lines)) for lines, _ in sizes]
+    for path, (lines, copies) in zip(paths, sizes):
         prepare(path, text_of, lines, copies)
-        taken = measure(program, path)[0] / copies
+    rounds = [[run(program, path)[0] for path in paths] for _ in range(7)]
+    times = [min(round[at] for round in rounds) / copies for at, (_, copies) in enumerate(sizes)]
+    for path, (lines, _), taken in zip(paths, sizes, times):
         prepare(path, text_of, lines, 1)
-        times.append(taken)
         print('%-18s %-8s %6d lines, %4.1f MB of text: %6.2f ms, %8.0f lines a second, %5.1f MB'
-              % (name, how, lines, os.path.getsize(path) / 1e6, 1000 * taken, lines / taken, measure(program, path)[1]))
+              % (name, how, lines, os.path.getsize(path) / 1e6, 1000 * taken, lines / taken, run(program, path)[1]))
     print('%-18s %-8s ten times the lines take %.1f times the time' % (name, how, times[1] / times[0]))
 
 

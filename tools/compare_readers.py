@@ -16,17 +16,19 @@ import shlex
 import subprocess
 import sys
 
-NUMBERS = ['0', '1', '2', '3', '12', '-1', '-0', '007', '65535', '9223372036854775807', '-9223372036854775808']
-WRONG_NUMBERS = ['9223372036854775808', '-9223372036854775809', '4x', '+1', '-', '--1', 'R1', 'r', 'rr1', 'all', 'x', '==', '1.0']
+NUMBERS = ['0', '1', '2', '3', '12', '-1', '-0', '007', '-08', '65535', '4294967296', '9223372036854775807',
+           '-9223372036854775808', '0' * 30 + '1', '-' + '0' * 30 + '9223372036854775808']
+WRONG_NUMBERS = ['9223372036854775808', '-9223372036854775809', '4x', '+1', '-', '--1', 'R1', 'r', 'rr1', 'all', 'x', '==', '1.0', '0#3',
+                 '0' * 30 + '9223372036854775808', '18446744073709551616']
 WRONG_REGISTERS = ['r16', 'r17', 'r01', 'r00', 'r99', 'r999999999999999999999']
 BODIES = ['main', 'a', 'b', 'c', '_x1', 'if', 'depend', 'x' * 32]
 STRANGERS = ['nobody', 'end', 'task', 'MAIN', 'x' * 31]
-WRONG_NAMES = ['9x', 'x' * 33, 'a-b', '-', 'é', '0']
+WRONG_NAMES = ['9x', 'x' * 33, 'a-b', '-', 'é', '0', 'a#b', 'a.b']
 TYPES = ['in', 'out', 'inout', 'mutexinoutset', 'inoutset']
 COMPARISONS = ['==', '!=', '<', '<=']
 WORDS = ['cells', 'cell', 'body', 'end', 'let', 'load', 'store', 'print', 'task', 'taskwait', 'taskgroup',
          'if', 'else', 'while', 'depend', 'all', 'fly', '---', '+', '*', '~', '=', '>', 'End'] + TYPES + COMPARISONS
-BLANKS = [' '] * 6 + ['  ', '\t', ' \r', ' \t ']
+BLANKS = [' '] * 6 + ['  ', '\t', '\r', ' \t ']
 
 
 class Text:
@@ -37,13 +39,17 @@ class Text:
         self.cells = r.choice([0, 1, 2, 5, 65536])
         self.params = {name: r.choice([0, 0, 1, 2, 16]) for name in BODIES[1:] if r.random() < 0.4}
         self.params['main'] = 0
-        self.lines.append(['cells', str(self.cells)])
-        for cell in r.sample(range(min(self.cells, 9)), min(self.cells, r.choice([0, 0, 1, 2, 3]))):
-            self.lines.append(['cell', r.choice(['', '', '0']) + str(cell), r.choice(NUMBERS)])
+        self.lines.append(['cells', self.written(self.cells)])
+        there = [cell for cell in (0, 1, 2, 3, 4, 65535) if cell < self.cells]
+        for cell in r.sample(there, min(len(there), r.choice([0, 0, 1, 2, 3]))):
+            self.lines.append(['cell', self.written(cell), r.choice(NUMBERS)])
         for name in r.sample(sorted(self.params), len(self.params)):
-            self.lines.append(['body', name, str(self.params[name])])
+            self.lines.append(['body', name, self.written(self.params[name])])
             self.block(1)
             self.lines.append(['end'])
+
+    def written(self, number):
+        return self.r.choice(['', '', '', '0', '000', '-' if number == 0 else '']) + str(number)
 
     def operand(self):
         return 'r%d' % self.r.randrange(16) if self.r.random() < 0.5 else self.r.choice(NUMBERS)
@@ -155,7 +161,8 @@ class Text:
         return True
 
     def spoil_bytes(self, words):
-        words.append(self.r.choice(['\x01', '\x7f', 'a\xe9', ' ' * 1030, '#' + 'y' * 1030, 'z' * 1030, ' ' * 1010]))
+        words.append(self.r.choice(['\x01', '\x7f', 'a\xe9', '\x0b', '\x0c', '\x1c', '\x85', '\xa0', '\x00',
+                                    ' ' * 1030, '#' + 'y' * 1030, 'z' * 1030, ' ' * 1010]))
         return True
 
     def spoil_cell(self, at):
@@ -216,7 +223,7 @@ class Text:
         for words in self.lines:
             line = self.r.choice(['', '', '  ', '\t']) + self.r.choice(BLANKS).join(words)
             if self.r.random() < 0.1:
-                line += self.r.choice([' # note', ' #', '  # \x01 any byte \xff', '\t#joined'])
+                line += self.r.choice([' # note', ' #', '  # \x01 any byte \xff\x00\x0b', '\t#joined'])
             lines.append(line)
             while self.r.random() < 0.08:
                 lines.append(self.r.choice(['', '   ', '# alone', '\t']))

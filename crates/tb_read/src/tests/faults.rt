@@ -237,6 +237,23 @@ fn limits(rt: HostRuntime) -> Result<(), Fail> {
 }
 
 #[test]
+fn bodies_up_to_the_limit(rt: HostRuntime) -> Result<(), Fail> {
+    let mut text = String::new(rt.alloc());
+    text.push_str("cells 0\nbody main 0\nend\n")?;
+    for n in 1u32..1024 {
+        write!(text, "body b{n} 0\nend\n")?;
+    }
+    assert_eq!(rt; fault(text.as_bytes(), rt.alloc()), None);
+    text.push_str("body b1024 0\nend\n")?;
+    let expected = ReadFault {
+        line: 2050,
+        kind: FaultKind::TooLarge,
+    };
+    assert_eq!(rt; fault(text.as_bytes(), rt.alloc()), Some(expected));
+    Ok(())
+}
+
+#[test]
 fn a_fault_has_a_text(rt: HostRuntime) -> Result<(), Fail> {
     let found = fault(b"cells 1\nbody main 0\nprint r16\nend", rt.alloc()).ok_or("no fault")?;
     let text = format!(in rt.alloc(); "{found}")?;

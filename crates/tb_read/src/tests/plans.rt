@@ -5,16 +5,16 @@ use std::process::Abort;
 use std::test::Fail;
 use tb_model::{Action, TaskName};
 
-/// The plan of a statement on line 3 of a program with two cells, for task `0`. Its registers are
-/// 0, 5, -1, the greatest and the least number, and zeros.
-fn planned(rt: &(impl Abort + AllocGlobal), statement: &str) -> Result<Plan, Fail> {
+/// The plan of a line of a program with two cells and this statement on line 3, for task `0`. Its
+/// registers are 0, 5, -1, the greatest and the least number, and zeros.
+fn planned(rt: &(impl Abort + AllocGlobal), statement: &str, line: u32) -> Result<Plan, Fail> {
     let mut text = String::new(rt.alloc());
     write!(
         text,
         "cells 2\nbody main 0\n{statement}\nend\nbody b 2\nend\n"
     )?;
     let program = read(rt.alloc(), text.as_bytes())?;
-    let instr = program.instr(3).ok_or("no statement")?;
+    let instr = program.instr(line).ok_or("no statement")?;
     let config = Config {
         task: TaskName::root(rt.alloc()),
         steps: 1,
@@ -43,7 +43,7 @@ fn planned(rt: &(impl Abort + AllocGlobal), statement: &str) -> Result<Plan, Fai
 
 fn expect_actions(rt: &(impl Abort + AllocGlobal), rows: &[(&str, &str, u32)]) -> Result<(), Fail> {
     for (statement, action, to) in rows {
-        let found = planned(rt, statement)?;
+        let found = planned(rt, statement, 3)?;
         let text = format!(in rt.alloc(); "{:?}", found.action)?;
         assert_eq!(rt; text.as_str(), *action, "{statement}");
         assert_eq!(rt; found.to(), *to, "{statement}");
@@ -122,9 +122,20 @@ fn tests_and_blocks(rt: HostRuntime) -> Result<(), Fail> {
     expect_actions(&rt, &rows)
 }
 
+#[test]
+fn a_body_starts_and_a_group_closes(rt: HostRuntime) -> Result<(), Fail> {
+    let start = planned(&rt, "taskgroup\nend", 2)?;
+    assert!(rt; matches!(start.action, Action::Start));
+    assert_eq!(rt; start.to(), 3);
+    let close = planned(&rt, "taskgroup\nend", 4)?;
+    assert!(rt; matches!(close.action, Action::Close));
+    assert_eq!(rt; close.to(), 5);
+    Ok(())
+}
+
 /// The spawn of a `task` line: its body, its arguments, its items, whether it is deferred.
 fn spawn(rt: &(impl Abort + AllocGlobal), statement: &str) -> Result<String, Fail> {
-    match &planned(rt, statement)?.action {
+    match &planned(rt, statement, 3)?.action {
         Action::Spawn {
             child,
             body,
