@@ -36,3 +36,4 @@ mod ExampleLemmas
 pub mod NeedersLemmas
 pub mod MembersLemmas
 pub mod CausesLemmas
+pub mod OrderLemmas

@@ -22,4 +22,5 @@ pub mod Lines
 pub mod Rules
 pub mod WellFormed
 pub mod Ordered
+pub mod LeastNames
 pub mod Needers

@@ -1,0 +1,8 @@
+//! Which of a task's children hold what they exclude each other from.
+#![tactic(auto)]
+
+mod holders;
+#[cfg(test)]
+mod tests;
+
+pub use holders::Holders;
