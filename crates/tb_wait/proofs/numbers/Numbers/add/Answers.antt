@@ -1,0 +1,27 @@
+use Rattle.std.proofs.Common.{arith, sym, ap, ◌∙◌, subst, true}
+use Rattle.tb_wait.specs.Numbers.{has, IsPut}
+use Rattle.tb_wait.proofs.NumbersLemmas.{insert_fits, added, added_rises, not_full, at_ok}
+use Rattle.tb_wait.proofs.numbers.Numbers.add.Goals as goal
+
+pub unwrap-requires : goal.unwrap-requires
+unwrap-requires c =
+    let items = ap (λ v. v.items) c.self.view_is in
+    let bound = ap (λ v. v.bound) c.self.view_is in
+    let absent = ap (λ xs. has xs c.args.n) items ∙ sym c.has.ensures ∙ c.if-not-has.true in
+    let fits = insert_fits c.self.inside.items.items c.args.n c.self.inside.bound c.self.invariant.0 c.requires.from_one (omega (arith, bound, c.requires.room)) absent in
+    not_full c.insert.result _ _ c.insert.ensures.full (omega (arith, fits, c.self.inside.items.ok.0, c.self.invariant.1))
+
+pub invariant_of-self : goal.invariant_of-self
+invariant_of-self c =
+    let items = ap (λ v. v.items) c.self.view_is in
+    let bound = ap (λ v. v.bound) c.self.view_is in
+    let absent = ap (λ xs. has xs c.args.n) items ∙ sym c.has.ensures ∙ c.if-not-has.true in
+    let new = at_ok c.insert.result c.unwrap.result c.unwrap.ensures c.insert.ensures.items in
+    ( added_rises c.self.inside.items.items c.insert.new.self.items c.args.n c.self.inside.bound c.gap-at.result c.self.invariant.0 c.requires.from_one (omega (arith, bound, c.requires.room)) absent c.gap-at.ensures.gap new
+    , omega (arith, c.insert.ensures.capacity, c.self.invariant.1) )
+
+pub returns-then-not-has-clause-set : goal.returns-then-not-has-clause-set
+returns-then-not-has-clause-set c =
+    let new = at_ok c.insert.result c.unwrap.result c.unwrap.ensures c.insert.ensures.items in
+    subst (λ xs. IsPut xs c.args.n true c.insert.new.self.items) (ap (λ v. v.items) c.self.view_is)
+    (added c.self.inside.items.items c.insert.new.self.items c.args.n c.gap-at.result c.gap-at.ensures.gap new)

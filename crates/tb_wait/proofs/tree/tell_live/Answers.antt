@@ -1,0 +1,41 @@
+use Rattle.std.proofs.Common.{ap, ◌∙◌, subst}
+use Rattle.tb_wait.specs.Numbers.{IsPut}
+use Rattle.tb_wait.specs.Tree.{node, is_live}
+use Rattle.tb_wait.proofs.TreeLemmas.{owner_within, number_from_one, number_within, children_live, live_step, links_live, linked_same}
+use Rattle.tb_wait.proofs.tree.tell_live.Goals as goal
+
+pub shown-requires : goal.shown-requires
+shown-requires c =
+    owner_within c.args.nodes.now.items c.requires.linked c.args.at c.requires.below c.requires.within c.owner-owner.result (c.owner-owner.ensures ∙ ap (λ n. n.owner) c.shown-child.ensures)
+
+pub set_live-requires-clause-within : goal.set_live-requires-clause-within
+set_live-requires-clause-within c =
+    owner_within c.args.nodes.now.items c.requires.linked c.args.at c.requires.below c.requires.within c.owner-owner.result (c.owner-owner.ensures ∙ ap (λ n. n.owner) c.shown-child.ensures)
+
+pub set_live-requires-clause-from_one : goal.set_live-requires-clause-from_one
+set_live-requires-clause-from_one c =
+    number_from_one c.args.nodes.now.items c.requires.linked c.args.at c.requires.below c.requires.within c.number-number.result (c.number-number.ensures ∙ ap (λ n. n.number) c.shown-child.ensures)
+
+pub set_live-requires-clause-child : goal.set_live-requires-clause-child
+set_live-requires-clause-child c =
+    number_within c.args.nodes.now.items c.requires.linked c.args.at c.requires.below c.requires.within c.owner-owner.result c.number-number.result
+        (c.owner-owner.ensures ∙ ap (λ n. n.owner) c.shown-child.ensures) (c.number-number.ensures ∙ ap (λ n. n.number) c.shown-child.ensures)
+
+pub returns-clause-children : goal.returns-clause-children
+returns-clause-children c =
+    children_live c.args.nodes.now.items c.set_live.new.nodes.items c.requires.linked c.args.at c.requires.below c.requires.within c.owner-owner.result c.number-number.result
+        (c.owner-owner.ensures ∙ ap (λ n. n.owner) c.shown-child.ensures) (c.number-number.ensures ∙ ap (λ n. n.number) c.shown-child.ensures)
+        c.is_live-live.result c.set_live.ensures.same c.set_live.ensures.set c.set_live.ensures.others c.requires.children
+
+pub returns-clause-above : goal.returns-clause-above
+returns-clause-above c = λ yes j k i place other.
+    let owner = c.owner-owner.ensures ∙ ap (λ n. n.owner) c.shown-child.ensures in
+    let live = c.is_live-live.ensures ∙ ap is_live c.shown-child.ensures in
+    live_step c.args.nodes.now.items c.set_live.new.nodes.items c.requires.linked c.args.at c.requires.below c.requires.within c.owner-owner.result c.number-number.result
+        owner (c.number-number.ensures ∙ ap (λ n. n.number) c.shown-child.ensures)
+        c.set_live.ensures.same (subst (λ b. IsPut (node c.args.nodes.now.items c.owner-owner.result).live c.number-number.result b (node c.set_live.new.nodes.items c.owner-owner.result).live) live c.set_live.ensures.set)
+        c.set_live.ensures.others c.requires.live j k i place other
+
+pub returns-clause-linked : goal.returns-clause-linked
+returns-clause-linked c =
+    linked_same c.args.nodes.now.items c.set_live.new.nodes.items (links_live c.args.nodes.now.items c.set_live.new.nodes.items c.set_live.ensures.same) c.requires.linked

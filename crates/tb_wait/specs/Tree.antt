@@ -1,0 +1,93 @@
+-- The tree of the tasks that were ever generated, by their places in a list: who hasn't ended, and below whom.
+-- No public clause cites this module.
+use Rattle.std.specs.Prelude.{◌≡◌, ◌≢◌, ◌<◌, ◌≤◌, ◌-◌, ℕ, suc, Bool, true, false, not, ◌||◌, List, [], ◌∷◌, Option, Some, length, slice_get, slice_index_or}
+use Rattle.tb_wait.specs.Numbers.{has, is_empty}
+
+-- the place of the parent, the number among its children, whether the task stands and hasn't ended, the places of the
+-- children by their numbers, the numbers of those that haven't ended, the numbers of those within which some task hasn't
+-- ended, and how many more children fit with no memory
+pub record Node : Type 0 where
+  pub owner : ℕ
+  pub number : ℕ
+  pub pending : Bool
+  pub places : List ℕ
+  pub unended : List ℕ
+  pub live : List ℕ
+  pub room : ℕ
+
+abbrev pub Nodes : Type 0
+Nodes = List Node
+
+-- a node without children
+abbrev pub leaf : ℕ → ℕ → Node
+leaf owner number = record { owner = owner; number = number; pending = false; places = []; unended = []; live = []; room = 0 }
+
+-- the node at a place
+abbrev pub node : Nodes → ℕ → Node
+node nodes i = slice_index_or nodes i (leaf 0 0)
+
+-- some task within the node hasn't ended: its own, or one within a child
+abbrev pub is_live : Node → Bool
+is_live n = n.pending || not (is_empty n.live)
+
+-- the (k + 1)th child of the node at j is at i
+abbrev pub IsPlace : Nodes → ℕ → ℕ → ℕ → Type 0
+IsPlace nodes j k i = slice_get (node nodes j).places k ≡ Some i
+
+-- each node but the first is a child of one in front of it, and only of that one
+pub record IsLinked (nodes : Nodes) : Type 0 where
+  pub root : 0 < length nodes
+  pub up : (i : ℕ) → 0 < i → i < length nodes → (k : ℕ) × ((node nodes i).number ≡ suc k) × IsPlace nodes (node nodes i).owner k i
+  pub before : (j k i : ℕ) → IsPlace nodes j k i → j < i
+  pub within : (j k i : ℕ) → IsPlace nodes j k i → i < length nodes
+  pub owner : (j k i : ℕ) → IsPlace nodes j k i → (node nodes i).owner ≡ j
+  pub number : (j k i : ℕ) → IsPlace nodes j k i → (node nodes i).number ≡ suc k
+
+-- only children are counted
+pub record AreChildren (nodes : Nodes) : Type 0 where
+  pub unended : (j n : ℕ) → has (node nodes j).unended n ≡ true → (0 < n) × (n ≤ length (node nodes j).places)
+  pub live : (j n : ℕ) → has (node nodes j).live n ≡ true → (0 < n) × (n ≤ length (node nodes j).places)
+
+-- each parent knows of the child, but perhaps of the one at x, whether it hasn't ended
+abbrev pub KnowsUnendedBut : Nodes → ℕ → Type 0
+KnowsUnendedBut nodes x = (j k i : ℕ) → IsPlace nodes j k i → i ≢ x → has (node nodes j).unended (suc k) ≡ (node nodes i).pending
+
+-- and whether some task within it hasn't ended
+abbrev pub KnowsLiveBut : Nodes → ℕ → Type 0
+KnowsLiveBut nodes x = (j k i : ℕ) → IsPlace nodes j k i → i ≢ x → has (node nodes j).live (suc k) ≡ is_live (node nodes i)
+
+-- the root is nobody's child, so that all but it are all
+pub record IsTree (nodes : Nodes) : Type 0 where
+  pub linked : IsLinked nodes
+  pub children : AreChildren nodes
+  pub unended : KnowsUnendedBut nodes 0
+  pub live : KnowsLiveBut nodes 0
+
+-- the same tasks with the same children
+pub record SameLinks (old new : Nodes) : Type 0 where
+  pub len : length new ≡ length old
+  pub owner : (i : ℕ) → (node new i).owner ≡ (node old i).owner
+  pub number : (i : ℕ) → (node new i).number ≡ (node old i).number
+  pub places : (i : ℕ) → (node new i).places ≡ (node old i).places
+  pub room : (i : ℕ) → (node new i).room ≡ (node old i).room
+
+-- nothing but who is known to be live has changed
+pub record SameButLive (old new : Nodes) : Type 0 where
+  pub len : length new ≡ length old
+  pub same : (i : ℕ) → node new i ≡ record (node old i) { live = (node new i).live }
+
+-- the node at x stands and hasn't ended just where the flag is set, and the others as before
+pub record SetsPending (old : Nodes) (x : ℕ) (pending : Bool) (new : Nodes) : Type 0 where
+  pub links : SameLinks old new
+  pub set : (node new x).pending ≡ pending
+  pub others : (i : ℕ) → i ≢ x → (node new i).pending ≡ (node old i).pending
+
+-- and who is known to have not ended
+pub record SameButUnended (old new : Nodes) : Type 0 where
+  pub len : length new ≡ length old
+  pub same : (i : ℕ) → node new i ≡ record (node old i) { unended = (node new i).unended }
+
+-- and who stands and hasn't ended
+pub record SameButPending (old new : Nodes) : Type 0 where
+  pub len : length new ≡ length old
+  pub same : (i : ℕ) → node new i ≡ record (node old i) { pending = (node new i).pending }

@@ -1,0 +1,127 @@
+//! The tree of tasks, and what its nodes know of their children.
+
+ghost use Rattle.std.specs.Prelude.{◌≡◌, ◌≢◌, ◌<◌, ◌≤◌, ℕ, length, true, false};
+ghost use Rattle.tb_wait.specs.Tree.{node, IsTree, IsLinked, AreChildren, KnowsLiveBut, KnowsUnendedBut, SameButLive, SameButUnended, SameButPending, SetsPending};
+ghost use Rattle.tb_wait.specs.Numbers.{IsPut};
+
+use crate::node::Node;
+
+/// Sets whether the task at the place stands and hasn't ended, and tells all above it. This goes
+/// up the line of owners as far as something changes.
+pub fn set_pending(nodes: &mut Vec<Node>, at: usize, pending: bool)
+    requires tree { IsTree nodes.old.items }
+    requires within { at < length nodes.old.items }
+    ensures tree { IsTree nodes.new.items }
+    ensures set { SetsPending nodes.old.items at pending nodes.new.items }
+{
+    flag(nodes, at, pending);
+    tell_unended(nodes, at);
+    refresh(nodes, at);
+}
+
+// Tells the owner whether the node stands and hasn't ended.
+fn tell_unended(nodes: &mut Vec<Node>, at: usize)
+    requires linked { IsLinked nodes.old.items }
+    requires children { AreChildren nodes.old.items }
+    requires within { at < length nodes.old.items }
+    requires unended { KnowsUnendedBut nodes.old.items at }
+    requires live { KnowsLiveBut nodes.old.items at }
+    ensures linked { IsLinked nodes.new.items }
+    ensures children { AreChildren nodes.new.items }
+    ensures unended { KnowsUnendedBut nodes.new.items 0 }
+    ensures live { KnowsLiveBut nodes.new.items at }
+    ensures set { SetsPending nodes.old.items at (node nodes.old.items at).pending nodes.new.items }
+{
+    if at == 0 {
+        return;
+    }
+    let child = shown(nodes, at);
+    let (owner, number, pending) = (child.owner(), child.number(), child.is_pending());
+    set_unended(nodes, owner, number, pending);
+}
+
+// Tells the owners upwards whether the node at the place is live.
+fn refresh(nodes: &mut Vec<Node>, start: usize)
+    requires linked { IsLinked nodes.old.items }
+    requires children { AreChildren nodes.old.items }
+    requires within { start < length nodes.old.items }
+    requires live { KnowsLiveBut nodes.old.items start }
+    ensures same { SameButLive nodes.old.items nodes.new.items }
+    ensures linked { IsLinked nodes.new.items }
+    ensures children { AreChildren nodes.new.items }
+    ensures live { KnowsLiveBut nodes.new.items 0 }
+{
+    let mut at = start;
+    while at > 0 {
+        let owner = shown(nodes, at).owner();
+        if !tell_live(nodes, at) {
+            return;
+        }
+        at = owner;
+    }
+}
+
+// Tells the owner whether the node is live, and answers whether the owner took it otherwise.
+fn tell_live(nodes: &mut Vec<Node>, at: usize) -> bool
+    requires linked { IsLinked nodes.old.items }
+    requires children { AreChildren nodes.old.items }
+    requires below { 0 < at }
+    requires within { at < length nodes.old.items }
+    requires live { KnowsLiveBut nodes.old.items at }
+    ensures same { SameButLive nodes.old.items nodes.new.items }
+    ensures linked { IsLinked nodes.new.items }
+    ensures children { AreChildren nodes.new.items }
+    ensures above { result ≡ true → KnowsLiveBut nodes.new.items (node nodes.old.items at).owner }
+    ensures done { result ≡ false → KnowsLiveBut nodes.new.items 0 }
+{
+    let child = shown(nodes, at);
+    let (owner, number, live) = (child.owner(), child.number(), child.is_live());
+    if shown(nodes, owner).has_live(number) == live {
+        return false;
+    }
+    set_live(nodes, owner, number, live);
+    true
+}
+
+/// The node at the place.
+#[tactic(auto, using(crate::proofs::TreeLemmas::shown))]
+pub fn shown(nodes: &Vec<Node>, at: usize) -> &Node
+    requires { at < length nodes.now.items }
+    ensures { result.now ≡ node nodes.now.items at }
+{
+    &nodes[at]
+}
+
+#[tactic(auto, using(crate::proofs::TreeLemmas::shown))]
+fn flag(nodes: &mut Vec<Node>, at: usize, pending: bool)
+    requires { at < length nodes.old.items }
+    ensures set { (node nodes.new.items at).pending ≡ pending }
+    ensures same { SameButPending nodes.old.items nodes.new.items }
+    ensures others { (i : ℕ) → i ≢ at → (node nodes.new.items i).pending ≡ (node nodes.old.items i).pending }
+{
+    nodes[at].set_pending(pending);
+}
+
+#[tactic(auto, using(crate::proofs::TreeLemmas::shown))]
+fn set_unended(nodes: &mut Vec<Node>, at: usize, number: u32, unended: bool)
+    requires within { at < length nodes.old.items }
+    requires from_one { 0 < number }
+    requires child { number ≤ length (node nodes.old.items at).places }
+    ensures set { IsPut (node nodes.old.items at).unended number unended (node nodes.new.items at).unended }
+    ensures same { SameButUnended nodes.old.items nodes.new.items }
+    ensures others { (i : ℕ) → i ≢ at → (node nodes.new.items i).unended ≡ (node nodes.old.items i).unended }
+{
+    nodes[at].set_unended(number, unended);
+}
+
+#[tactic(auto, using(crate::proofs::TreeLemmas::shown))]
+fn set_live(nodes: &mut Vec<Node>, at: usize, number: u32, live: bool)
+    requires within { at < length nodes.old.items }
+    requires from_one { 0 < number }
+    requires child { number ≤ length (node nodes.old.items at).places }
+    ensures set { IsPut (node nodes.old.items at).live number live (node nodes.new.items at).live }
+    ensures same { SameButLive nodes.old.items nodes.new.items }
+    ensures others { (i : ℕ) → i ≢ at → (node nodes.new.items i).live ≡ (node nodes.old.items i).live }
+{
+    nodes[at].set_live(number, live);
+}
