@@ -1,2 +1,4 @@
 pub mod NumbersLemmas
 pub mod TreeLemmas
+pub mod RowLemmas
+pub mod WaitLemmas

@@ -1,2 +1,5 @@
 pub mod Numbers
 pub mod Tree
+pub mod Kin
+pub mod Rows
+pub use Rattle.tb_model.specs.LeastNames

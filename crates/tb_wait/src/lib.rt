@@ -3,4 +3,9 @@
 
 mod node;
 mod numbers;
+mod row;
+mod rows;
 mod tree;
+mod wait;
+
+pub use wait::Wait;

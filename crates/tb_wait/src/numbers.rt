@@ -76,11 +76,7 @@ impl Numbers {
         ensures set { IsPut self.old.items n there self.new.items }
         ensures bound { self.new.bound ≡ self.old.bound }
     {
-        if there {
-            self.add(n)
-        } else {
-            self.remove(n)
-        }
+        if there { self.add(n) } else { self.remove(n) }
     }
 
     fn add(&mut self, n: u32)

@@ -1,6 +1,6 @@
 //! The tree of tasks, and what its nodes know of their children.
 
-ghost use Rattle.std.specs.Prelude.{◌≡◌, ◌≢◌, ◌<◌, ◌≤◌, ℕ, length, true, false};
+ghost use Rattle.std.specs.Prelude.{◌≡◌, ◌≢◌, ◌<◌, ◌≤◌, ℕ, length, vec_capacity, true, false};
 ghost use Rattle.tb_wait.specs.Tree.{node, IsTree, IsLinked, AreChildren, KnowsLiveBut, KnowsUnendedBut, SameButLive, SameButUnended, SameButPending, SetsPending};
 ghost use Rattle.tb_wait.specs.Numbers.{IsPut};
 
@@ -13,6 +13,7 @@ pub fn set_pending(nodes: &mut Vec<Node>, at: usize, pending: bool)
     requires within { at < length nodes.old.items }
     ensures tree { IsTree nodes.new.items }
     ensures set { SetsPending nodes.old.items at pending nodes.new.items }
+    ensures capacity { vec_capacity nodes.new ≡ vec_capacity nodes.old }
 {
     flag(nodes, at, pending);
     tell_unended(nodes, at);
@@ -31,6 +32,7 @@ fn tell_unended(nodes: &mut Vec<Node>, at: usize)
     ensures unended { KnowsUnendedBut nodes.new.items 0 }
     ensures live { KnowsLiveBut nodes.new.items at }
     ensures set { SetsPending nodes.old.items at (node nodes.old.items at).pending nodes.new.items }
+    ensures capacity { vec_capacity nodes.new ≡ vec_capacity nodes.old }
 {
     if at == 0 {
         return;
@@ -50,6 +52,7 @@ fn refresh(nodes: &mut Vec<Node>, start: usize)
     ensures linked { IsLinked nodes.new.items }
     ensures children { AreChildren nodes.new.items }
     ensures live { KnowsLiveBut nodes.new.items 0 }
+    ensures capacity { vec_capacity nodes.new ≡ vec_capacity nodes.old }
 {
     let mut at = start;
     while at > 0 {
@@ -73,6 +76,7 @@ fn tell_live(nodes: &mut Vec<Node>, at: usize) -> bool
     ensures children { AreChildren nodes.new.items }
     ensures above { result ≡ true → KnowsLiveBut nodes.new.items (node nodes.old.items at).owner }
     ensures done { result ≡ false → KnowsLiveBut nodes.new.items 0 }
+    ensures capacity { vec_capacity nodes.new ≡ vec_capacity nodes.old }
 {
     let child = shown(nodes, at);
     let (owner, number, live) = (child.owner(), child.number(), child.is_live());
@@ -98,6 +102,7 @@ fn flag(nodes: &mut Vec<Node>, at: usize, pending: bool)
     ensures set { (node nodes.new.items at).pending ≡ pending }
     ensures same { SameButPending nodes.old.items nodes.new.items }
     ensures others { (i : ℕ) → i ≢ at → (node nodes.new.items i).pending ≡ (node nodes.old.items i).pending }
+    ensures capacity { vec_capacity nodes.new ≡ vec_capacity nodes.old }
 {
     nodes[at].set_pending(pending);
 }
@@ -110,6 +115,7 @@ fn set_unended(nodes: &mut Vec<Node>, at: usize, number: u32, unended: bool)
     ensures set { IsPut (node nodes.old.items at).unended number unended (node nodes.new.items at).unended }
     ensures same { SameButUnended nodes.old.items nodes.new.items }
     ensures others { (i : ℕ) → i ≢ at → (node nodes.new.items i).unended ≡ (node nodes.old.items i).unended }
+    ensures capacity { vec_capacity nodes.new ≡ vec_capacity nodes.old }
 {
     nodes[at].set_unended(number, unended);
 }
@@ -122,6 +128,7 @@ fn set_live(nodes: &mut Vec<Node>, at: usize, number: u32, live: bool)
     ensures set { IsPut (node nodes.old.items at).live number live (node nodes.new.items at).live }
     ensures same { SameButLive nodes.old.items nodes.new.items }
     ensures others { (i : ℕ) → i ≢ at → (node nodes.new.items i).live ≡ (node nodes.old.items i).live }
+    ensures capacity { vec_capacity nodes.new ≡ vec_capacity nodes.old }
 {
     nodes[at].set_live(number, live);
 }

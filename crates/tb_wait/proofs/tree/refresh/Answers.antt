@@ -6,13 +6,14 @@ use Rattle.tb_wait.proofs.tree.refresh.Goals as goal
 pub loop-at-smaller : goal.loop-at-smaller
 loop-at-smaller c =
     owner_before c.loop-at.nodes.items c.loop-at.invariant.linked c.loop-at.at c.loop-at-test.true c.loop-at.invariant.within c.owner-owner.result
-        (c.owner-owner.ensures ∙ ap (λ n. n.owner) c.shown.ensures)
+    (c.owner-owner.ensures ∙ ap (λ n. n.owner) c.shown.ensures)
 
 pub loop-at-preserved : goal.loop-at-preserved
 loop-at-preserved c =
     let owner = c.owner-owner.ensures ∙ ap (λ n. n.owner) c.shown.ensures in
     let before = owner_before c.loop-at.nodes.items c.loop-at.invariant.linked c.loop-at.at c.loop-at-test.true c.loop-at.invariant.within c.owner-owner.result owner in
     record {
+      capacity = c.tell_live.ensures.capacity ∙ c.loop-at.invariant.capacity;
       same = live_along c.args.nodes.now.items c.loop-at.nodes.items c.tell_live.new.nodes.items c.loop-at.invariant.same c.tell_live.ensures.same;
       linked = c.tell_live.ensures.linked;
       children = c.tell_live.ensures.children;

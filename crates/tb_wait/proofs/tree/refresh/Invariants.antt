@@ -1,9 +1,10 @@
-use Rattle.std.proofs.Common.{◌<◌, length}
+use Rattle.std.proofs.Common.{◌≡◌, ◌<◌, length, vec_capacity}
 use Rattle.tb_wait.specs.Tree.{IsLinked, AreChildren, KnowsLiveBut, SameButLive}
 use Rattle.tb_wait.proofs.tree.refresh.Given as goal
 
 abbrev pub invariant-loop-at : goal.invariant-loop-at
 invariant-loop-at l = record {
+  capacity : vec_capacity l.nodes ≡ vec_capacity l.fn.nodes;
   same : SameButLive l.fn.nodes.items l.nodes.items;
   linked : IsLinked l.nodes.items;
   children : AreChildren l.nodes.items;

@@ -19,22 +19,22 @@ set_live-requires-clause-from_one c =
 pub set_live-requires-clause-child : goal.set_live-requires-clause-child
 set_live-requires-clause-child c =
     number_within c.args.nodes.now.items c.requires.linked c.args.at c.requires.below c.requires.within c.owner-owner.result c.number-number.result
-        (c.owner-owner.ensures ∙ ap (λ n. n.owner) c.shown-child.ensures) (c.number-number.ensures ∙ ap (λ n. n.number) c.shown-child.ensures)
+    (c.owner-owner.ensures ∙ ap (λ n. n.owner) c.shown-child.ensures) (c.number-number.ensures ∙ ap (λ n. n.number) c.shown-child.ensures)
 
 pub returns-clause-children : goal.returns-clause-children
 returns-clause-children c =
     children_live c.args.nodes.now.items c.set_live.new.nodes.items c.requires.linked c.args.at c.requires.below c.requires.within c.owner-owner.result c.number-number.result
-        (c.owner-owner.ensures ∙ ap (λ n. n.owner) c.shown-child.ensures) (c.number-number.ensures ∙ ap (λ n. n.number) c.shown-child.ensures)
-        c.is_live-live.result c.set_live.ensures.same c.set_live.ensures.set c.set_live.ensures.others c.requires.children
+    (c.owner-owner.ensures ∙ ap (λ n. n.owner) c.shown-child.ensures) (c.number-number.ensures ∙ ap (λ n. n.number) c.shown-child.ensures)
+    c.is_live-live.result c.set_live.ensures.same c.set_live.ensures.set c.set_live.ensures.others c.requires.children
 
 pub returns-clause-above : goal.returns-clause-above
 returns-clause-above c = λ yes j k i place other.
     let owner = c.owner-owner.ensures ∙ ap (λ n. n.owner) c.shown-child.ensures in
     let live = c.is_live-live.ensures ∙ ap is_live c.shown-child.ensures in
     live_step c.args.nodes.now.items c.set_live.new.nodes.items c.requires.linked c.args.at c.requires.below c.requires.within c.owner-owner.result c.number-number.result
-        owner (c.number-number.ensures ∙ ap (λ n. n.number) c.shown-child.ensures)
-        c.set_live.ensures.same (subst (λ b. IsPut (node c.args.nodes.now.items c.owner-owner.result).live c.number-number.result b (node c.set_live.new.nodes.items c.owner-owner.result).live) live c.set_live.ensures.set)
-        c.set_live.ensures.others c.requires.live j k i place other
+    owner (c.number-number.ensures ∙ ap (λ n. n.number) c.shown-child.ensures)
+    c.set_live.ensures.same (subst (λ b. IsPut (node c.args.nodes.now.items c.owner-owner.result).live c.number-number.result b (node c.set_live.new.nodes.items c.owner-owner.result).live) live c.set_live.ensures.set)
+    c.set_live.ensures.others c.requires.live j k i place other
 
 pub returns-clause-linked : goal.returns-clause-linked
 returns-clause-linked c =

@@ -16,9 +16,10 @@ invariant_of-self c =
     let items = ap (λ v. v.items) c.self.view_is in
     let bound = ap (λ v. v.bound) c.self.view_is in
     let absent = ap (λ xs. has xs c.args.n) items ∙ sym c.has.ensures ∙ c.if-not-has.true in
-    let new = at_ok c.insert.result c.unwrap.result c.unwrap.ensures c.insert.ensures.items in
-    ( added_rises c.self.inside.items.items c.insert.new.self.items c.args.n c.self.inside.bound c.gap-at.result c.self.invariant.0 c.requires.from_one (omega (arith, bound, c.requires.room)) absent c.gap-at.ensures.gap new
-    , omega (arith, c.insert.ensures.capacity, c.self.invariant.1) )
+    let new = at_ok c.insert.result c.unwrap.result c.unwrap.ensures c.insert.ensures.items in (
+      added_rises c.self.inside.items.items c.insert.new.self.items c.args.n c.self.inside.bound c.gap-at.result c.self.invariant.0 c.requires.from_one (omega (arith, bound, c.requires.room)) absent c.gap-at.ensures.gap new,
+      omega (arith, c.insert.ensures.capacity, c.self.invariant.1),
+    )
 
 pub returns-then-not-has-clause-set : goal.returns-then-not-has-clause-set
 returns-then-not-has-clause-set c =

@@ -8,9 +8,10 @@ invariant_of-self c =
     let there = ap (λ xs. has xs c.args.n) (ap (λ v. v.items) c.self.view_is) ∙ sym c.has.ensures ∙ c.if-has.true in
     let within = has_within c.self.inside.items.items c.args.n c.self.inside.bound c.gap-at.result c.self.invariant.0 there c.gap-at.ensures.gap in
     let found = c.remove-n.ensures.variant.1 (omega (arith, within, c.self.inside.items.ok.0)) in
-    let new = at_some c.remove-n.result found c.remove-n.ensures.items in
-    ( removed_rises c.self.inside.items.items c.remove-n.new.self.items c.args.n c.self.inside.bound c.gap-at.result c.self.invariant.0 c.gap-at.ensures.gap new
-    , omega (arith, c.remove-n.ensures.capacity, c.self.invariant.1) )
+    let new = at_some c.remove-n.result found c.remove-n.ensures.items in (
+      removed_rises c.self.inside.items.items c.remove-n.new.self.items c.args.n c.self.inside.bound c.gap-at.result c.self.invariant.0 c.gap-at.ensures.gap new,
+      omega (arith, c.remove-n.ensures.capacity, c.self.invariant.1),
+    )
 
 pub returns-then-has-clause-set : goal.returns-then-has-clause-set
 returns-then-has-clause-set c =

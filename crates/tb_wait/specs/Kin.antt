@@ -1,0 +1,143 @@
+-- What a contract sees of the table of waits: what it keeps of each task that stands.
+use Rattle.std.specs.Prelude.{◌≡◌, ◌≢◌, ◌<◌, ◌≤◌, ℕ, suc, Bool, true, false, not, ◌&&◌, List, [], ◌∷◌, Option, Some, None, is_some, if◌then◌else◌}
+use Rattle.std.specs.Option.{option_map}
+use Rattle.std.specs.Map.{lookup}
+use Rattle.tb_model.specs.Names.{Name, same_name, is_child}
+use Rattle.tb_model.specs.Siblings.{is_later}
+
+-- what is kept of a task: whether it is over, the number of its last child, and what that number was at the beginning of each
+-- open group, the innermost first, and of each closed group, the last closed first
+pub record Kin : Type 0 where
+  pub over : Bool
+  pub children : ℕ
+  pub groups : List ℕ
+  pub shut : List ℕ
+
+-- a task that was ever generated: what is kept of it while it stands, and how many more children and groups of it fit with
+-- no memory
+pub record Slot : Type 0 where
+  pub kin : Option Kin
+  pub child_room : ℕ
+  pub group_room : ℕ
+
+-- the tasks that were ever generated, in no order that matters
+abbrev pub Tasks : Type 0
+Tasks = List (Name × Slot)
+
+-- the tasks, and how many names that were never generated fit with no memory
+pub record Table : Type 0 where
+  pub tasks : Tasks
+  pub room : ℕ
+
+abbrev pub slot : Tasks → Name → Option Slot
+slot tasks t = lookup (same_name t) tasks
+
+abbrev pub kin_in : Option Slot → Option Kin
+kin_in None = None
+kin_in (Some s) = s.kin
+
+-- what is kept of t, and None where t doesn't stand
+abbrev pub kin : Tasks → Name → Option Kin
+kin tasks t = kin_in (slot tasks t)
+
+-- t was ever generated, so it has its room
+abbrev pub is_known : Tasks → Name → Bool
+is_known tasks t = is_some (slot tasks t)
+
+-- ---- changes of one task
+
+-- a task that was just generated
+abbrev pub fresh : Kin
+fresh = record { over = false; children = 0; groups = []; shut = [] }
+
+abbrev pub with_over : Bool → Kin → Kin
+with_over b k = record k { over = b }
+
+abbrev pub with_children : ℕ → Kin → Kin
+with_children n k = record k { children = n }
+
+-- a list without its first, and that first in front of another
+abbrev pub rest_of : List ℕ → List ℕ
+rest_of [] = []
+rest_of (x ∷ xs) = xs
+
+abbrev pub moved : List ℕ → List ℕ → List ℕ
+moved [] to = to
+moved (x ∷ xs) to = x ∷ to
+
+abbrev pub opened_kin : Kin → Kin
+opened_kin k = record k { groups = k.children ∷ k.groups }
+
+abbrev pub unopened_kin : Kin → Kin
+unopened_kin k = record k { groups = rest_of k.groups }
+
+abbrev pub closed_kin : Kin → Kin
+closed_kin k = record k { groups = rest_of k.groups; shut = moved k.groups k.shut }
+
+abbrev pub unclosed_kin : Kin → Kin
+unclosed_kin k = record k { groups = moved k.shut k.groups; shut = rest_of k.shut }
+
+-- ---- changes of the table
+
+-- this task's part changes so, where it stands, and no other's
+abbrev pub Changes : Tasks → Name → (Kin → Kin) → Tasks → Type 0
+Changes old t f new = (u : Name) → kin new u ≡ (if same_name t u then option_map f (kin old u) else kin old u)
+
+-- all is as before
+abbrev pub IsSame : Tasks → Tasks → Type 0
+IsSame old new = (u : Name) → kin new u ≡ kin old u
+
+-- a task more, and its parent's number
+abbrev pub Adds : Tasks → Name → ℕ → Tasks → Type 0
+Adds old p n new = (u : Name) →
+    kin new u ≡ (if same_name (n ∷ p) u then Some fresh else if same_name p u then option_map (with_children n) (kin old u) else kin old u)
+
+-- the last child of p less
+abbrev pub Drops : Tasks → Name → ℕ → Tasks → Type 0
+Drops old p n new = (u : Name) →
+    kin new u ≡ (if same_name (suc n ∷ p) u then None else if same_name p u then option_map (with_children n) (kin old u) else kin old u)
+
+-- a name that was once there keeps its place
+abbrev pub KeepsNames : Tasks → Tasks → Type 0
+KeepsNames old new = (t : Name) → is_known old t ≡ true → is_known new t ≡ true
+
+-- at least the room of the one row is there in the other
+abbrev pub IsRoomIn : Slot → Option Slot → Type 0
+IsRoomIn s None = ⊥
+IsRoomIn s (Some r) = (s.child_room ≤ r.child_room) × (s.group_room ≤ r.group_room)
+
+-- nothing loses its room: neither the table, nor a name, nor a task
+pub record KeepsRoom (old new : Table) : Type 0 where
+  pub room : old.room ≤ new.room
+  pub slots : (t : Name) (s : Slot) → slot old.tasks t ≡ Some s → IsRoomIn s (slot new.tasks t)
+
+-- t, where it was ever generated, has room for one more group
+abbrev pub HasGroupRoom : Tasks → Name → Type 0
+HasGroupRoom tasks t = (s : Slot) → slot tasks t ≡ Some s → 0 < s.group_room
+
+-- t stands in an open group
+abbrev pub HasOpenGroup : Tasks → Name → Type 0
+HasOpenGroup tasks t = (k : Kin) × (kin tasks t ≡ Some k) × (k.groups ≢ [])
+
+-- ---- who isn't done
+
+-- t stands and isn't over
+abbrev pub IsUnended : Tasks → Name → Type 0
+IsUnended tasks t = (k : Kin) × (kin tasks t ≡ Some k) × (k.over ≡ false)
+
+-- u is an unended child of t
+abbrev pub IsUnendedChild : Tasks → Name → Name → Type 0
+IsUnendedChild tasks t u = (is_child t u ≡ true) × IsUnended tasks u
+
+-- m is an unended child of t with a number above n, or an unended descendant of such a child
+abbrev pub IsUnendedLater : Tasks → Name → ℕ → Name → Type 0
+IsUnendedLater tasks t n m = (is_later t n m ≡ true) × IsUnended tasks m
+
+-- n is the first number
+abbrev pub Begins : ℕ → List ℕ → Type 0
+Begins n [] = ⊥
+Begins n (m ∷ ms) = n ≡ m
+
+-- m is an unended member of t's innermost open group
+abbrev pub IsUnendedMember : Tasks → Name → Name → Type 0
+IsUnendedMember tasks t m = (k : Kin) × (n : ℕ) × (kin tasks t ≡ Some k) × Begins n k.groups × IsUnendedLater tasks t n m

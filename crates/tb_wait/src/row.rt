@@ -1,0 +1,184 @@
+//! What is kept of one task.
+
+ghost use Rattle.std.specs.Prelude.{◌≡◌, ◌≢◌, ◌<◌, ◌≤◌, ◌-◌, ◌+◌, [], OnOk, OnErr, IsOk, Some, None, is_some, reverse};
+ghost use Rattle.tb_wait.specs.Rows.{blank, is_pending, children_of, groups_of};
+ghost use Rattle.std.specs.Option.{option_map};
+ghost use Rattle.tb_wait.specs.Kin.{fresh, with_over, with_children, opened_kin, unopened_kin, closed_kin, unclosed_kin};
+
+use std::alloc::{AllocError, Global};
+use std::marker::Model;
+
+/// A task that was ever generated. While it doesn't stand, it is as a fresh one.
+#[derive(Drop)]
+pub struct Row {
+    stands: bool,
+    over: bool,
+    children: u32,
+    groups: Vec<u32>,
+    shut: Vec<u32>,
+    child_room: usize,
+    group_room: usize,
+}
+
+impl Model for Row {
+    ghost use Rattle.std.specs.Prelude.{◌≡◌, ◌≤◌, ◌+◌, [], reverse, vec_len, vec_capacity, false};
+    ghost use Rattle.tb_wait.specs.Kin.{Slot};
+    ghost use Rattle.tb_wait.specs.Rows.{kin_if};
+
+    ghost Value = { Slot };
+
+    ghost view = { λ r. record {
+      kin = kin_if r.stands (record { over = r.over; children = r.children; groups = reverse r.groups.items; shut = reverse r.shut.items });
+      child_room = r.child_room;
+      group_room = r.group_room;
+    } };
+
+    ghost invariant = { λ r. (vec_len r.groups + vec_len r.shut + r.group_room ≤ vec_capacity r.groups)
+        × (vec_len r.groups + vec_len r.shut + r.group_room ≤ vec_capacity r.shut)
+        × (r.stands ≡ false → (r.over ≡ false) × (r.children ≡ 0) × (r.groups.items ≡ []) × (r.shut.items ≡ [])) };
+}
+
+impl Row {
+    /// A task that doesn't stand.
+    pub fn new(alloc: Global) -> Row
+        ensures { result ≡ blank }
+    {
+        Row {
+            stands: false,
+            over: false,
+            children: 0,
+            groups: Vec::new(alloc),
+            shut: Vec::new(alloc),
+            child_room: 0,
+            group_room: 0,
+        }
+    }
+
+    /// Whether it stands.
+    pub fn stands(&self) -> bool
+        ensures { result ≡ is_some self.now.kin }
+    {
+        self.stands
+    }
+
+    /// Whether it stands and isn't over.
+    pub fn is_pending(&self) -> bool
+        ensures { result ≡ is_pending self.now.kin }
+    {
+        self.stands && !self.over
+    }
+
+    /// The number of its last child.
+    pub fn children(&self) -> u32
+        ensures { result ≡ children_of self.now.kin }
+    {
+        self.children
+    }
+
+    /// What that number was at the beginning of each open group, the outermost first.
+    pub fn groups(&self) -> &[u32]
+        ensures { result.now ≡ reverse (groups_of self.now.kin) }
+    {
+        self.groups.as_slice()
+    }
+
+    /// The task stands from now on.
+    pub fn appear(&mut self)
+        requires { self.old.kin ≡ None }
+        ensures { self.new ≡ record self.old { kin = Some fresh } }
+    {
+        self.stands = true;
+    }
+
+    /// The task stands no longer. It is as it was when it came.
+    pub fn vanish(&mut self)
+        requires { self.old.kin ≡ Some fresh }
+        ensures { self.new ≡ record self.old { kin = None } }
+    {
+        self.stands = false;
+    }
+
+    /// Sets whether it is over.
+    pub fn set_over(&mut self, over: bool)
+        ensures { self.new ≡ record self.old { kin = option_map (with_over over) self.old.kin } }
+    {
+        if self.stands {
+            self.over = over;
+        }
+    }
+
+    /// Sets the number of its last child.
+    pub fn set_children(&mut self, n: u32)
+        ensures { self.new ≡ record self.old { kin = option_map (with_children n) self.old.kin } }
+    {
+        if self.stands {
+            self.children = n;
+        }
+    }
+
+    /// Sets how many more children fit with no memory.
+    pub fn set_child_room(&mut self, room: usize)
+        ensures { self.new ≡ record self.old { child_room = room } }
+    {
+        self.child_room = room;
+    }
+
+    /// Makes room for one more group.
+    pub fn reserve_group(&mut self) -> Result<(), AllocError>
+        ensures ok { OnOk result (0 < self.new.group_room) }
+        ensures same { self.new ≡ record self.old { group_room = self.new.group_room } }
+        ensures keeps { self.old.group_room ≤ self.new.group_room }
+        ensures succeeds { 0 < self.old.group_room → IsOk result }
+    {
+        if self.group_room == 0 {
+            let shut = self.shut.len();
+            let groups = self.groups.len();
+            self.groups.reserve(shut + 1)?;
+            self.shut.reserve(groups + 1)?;
+            self.group_room = 1;
+        }
+        Ok(())
+    }
+
+    /// Opens a group.
+    pub fn open(&mut self)
+        requires { 0 < self.old.group_room }
+        ensures kin { self.new.kin ≡ option_map opened_kin self.old.kin }
+        ensures child_room { self.new.child_room ≡ self.old.child_room }
+    {
+        if self.stands {
+            self.groups.push_reserved(self.children);
+            self.group_room -= 1;
+        }
+    }
+
+    /// Takes the innermost group off.
+    pub fn unopen(&mut self)
+        ensures kin { self.new.kin ≡ option_map unopened_kin self.old.kin }
+        ensures child_room { self.new.child_room ≡ self.old.child_room }
+        ensures keeps { self.old.group_room ≤ self.new.group_room }
+        ensures group_room { groups_of self.old.kin ≢ [] → self.new.group_room ≡ self.old.group_room + 1 }
+    {
+        if self.groups.pop().is_some() {
+            self.group_room += 1;
+        }
+    }
+
+    /// Closes the innermost group.
+    pub fn close(&mut self)
+        ensures { self.new ≡ record self.old { kin = option_map closed_kin self.old.kin } }
+    {
+        if let Some(group) = self.groups.pop() {
+            self.shut.push_reserved(group);
+        }
+    }
+
+    /// Opens the last closed group again.
+    pub fn unclose(&mut self)
+        ensures { self.new ≡ record self.old { kin = option_map unclosed_kin self.old.kin } }
+    {
+        if let Some(group) = self.shut.pop() {
+            self.groups.push_reserved(group);
+        }
+    }
+}

@@ -1,0 +1,141 @@
+//! The rows of the table, by index.
+
+ghost use Rattle.std.specs.Prelude.{◌≡◌, ◌≢◌, ◌<◌, ◌≤◌, ◌-◌, [], OnOk, OnErr, IsOk, Some, None, is_some, length, vec_capacity};
+ghost use Rattle.std.specs.Option.{option_map};
+ghost use Rattle.tb_wait.specs.Kin.{with_over, with_children, opened_kin, unopened_kin, closed_kin, unclosed_kin, fresh};
+ghost use Rattle.tb_wait.specs.Rows as Rows;
+ghost use Rattle.tb_wait.specs.Rows.{slot_at, groups_of, ChangesSlot, SetsStanding};
+
+use crate::row::Row;
+use std::alloc::AllocError;
+
+/// Whether the task stands and isn't over.
+#[tactic(auto, using(crate::proofs::RowLemmas::shown))]
+pub fn is_pending(rows: &Vec<Row>, at: usize) -> bool
+    requires { at < length rows.now.items }
+    ensures { result ≡ Rows.is_pending (slot_at rows.now.items at).kin }
+{
+    rows[at].is_pending()
+}
+
+#[tactic(auto, using(crate::proofs::RowLemmas::shown))]
+pub fn set_over(rows: &mut Vec<Row>, at: usize, over: bool)
+    requires { at < length rows.old.items }
+    ensures slot { let s = slot_at rows.old.items at in
+        ChangesSlot rows.old.items at (record s { kin = option_map (with_over over) s.kin }) rows.new.items }
+    ensures capacity { vec_capacity rows.new ≡ vec_capacity rows.old }
+{
+    rows[at].set_over(over);
+}
+
+#[tactic(auto, using(crate::proofs::RowLemmas::shown))]
+pub fn set_children(rows: &mut Vec<Row>, at: usize, n: u32)
+    requires { at < length rows.old.items }
+    ensures slot { let s = slot_at rows.old.items at in
+        ChangesSlot rows.old.items at (record s { kin = option_map (with_children n) s.kin }) rows.new.items }
+    ensures capacity { vec_capacity rows.new ≡ vec_capacity rows.old }
+{
+    rows[at].set_children(n);
+}
+
+#[tactic(auto, using(crate::proofs::RowLemmas::shown))]
+pub fn close(rows: &mut Vec<Row>, at: usize)
+    requires { at < length rows.old.items }
+    ensures slot { let s = slot_at rows.old.items at in
+        ChangesSlot rows.old.items at (record s { kin = option_map closed_kin s.kin }) rows.new.items }
+    ensures capacity { vec_capacity rows.new ≡ vec_capacity rows.old }
+{
+    rows[at].close();
+}
+
+#[tactic(auto, using(crate::proofs::RowLemmas::shown))]
+pub fn unclose(rows: &mut Vec<Row>, at: usize)
+    requires { at < length rows.old.items }
+    ensures slot { let s = slot_at rows.old.items at in
+        ChangesSlot rows.old.items at (record s { kin = option_map unclosed_kin s.kin }) rows.new.items }
+    ensures capacity { vec_capacity rows.new ≡ vec_capacity rows.old }
+{
+    rows[at].unclose();
+}
+
+#[tactic(auto, using(crate::proofs::RowLemmas::shown))]
+pub fn reserve_group(rows: &mut Vec<Row>, at: usize) -> Result<(), AllocError>
+    requires { at < length rows.old.items }
+    ensures ok { OnOk result (0 < (slot_at rows.new.items at).group_room) }
+    ensures slot { let s = slot_at rows.old.items at in
+        ChangesSlot rows.old.items at (record s { group_room = (slot_at rows.new.items at).group_room }) rows.new.items }
+    ensures keeps { (slot_at rows.old.items at).group_room ≤ (slot_at rows.new.items at).group_room }
+    ensures succeeds { 0 < (slot_at rows.old.items at).group_room → IsOk result }
+    ensures capacity { vec_capacity rows.new ≡ vec_capacity rows.old }
+{
+    rows[at].reserve_group()
+}
+
+#[tactic(auto, using(crate::proofs::RowLemmas::shown))]
+pub fn open(rows: &mut Vec<Row>, at: usize)
+    requires within { at < length rows.old.items }
+    requires room { 0 < (slot_at rows.old.items at).group_room }
+    ensures slot { ChangesSlot rows.old.items at (slot_at rows.new.items at) rows.new.items }
+    ensures kin { (slot_at rows.new.items at).kin ≡ option_map opened_kin (slot_at rows.old.items at).kin }
+    ensures child_room { (slot_at rows.new.items at).child_room ≡ (slot_at rows.old.items at).child_room }
+    ensures capacity { vec_capacity rows.new ≡ vec_capacity rows.old }
+{
+    rows[at].open();
+}
+
+#[tactic(auto, using(crate::proofs::RowLemmas::shown))]
+pub fn unopen(rows: &mut Vec<Row>, at: usize)
+    requires within { at < length rows.old.items }
+    ensures slot { ChangesSlot rows.old.items at (slot_at rows.new.items at) rows.new.items }
+    ensures kin { (slot_at rows.new.items at).kin ≡ option_map unopened_kin (slot_at rows.old.items at).kin }
+    ensures child_room { (slot_at rows.new.items at).child_room ≡ (slot_at rows.old.items at).child_room }
+    ensures keeps { (slot_at rows.old.items at).group_room ≤ (slot_at rows.new.items at).group_room }
+    ensures group_room { groups_of (slot_at rows.old.items at).kin ≢ [] → 0 < (slot_at rows.new.items at).group_room }
+    ensures capacity { vec_capacity rows.new ≡ vec_capacity rows.old }
+{
+    rows[at].unopen();
+}
+
+#[tactic(auto, using(crate::proofs::RowLemmas::shown))]
+fn appear(rows: &mut Vec<Row>, at: usize)
+    requires within { at < length rows.old.items }
+    requires absent { (slot_at rows.old.items at).kin ≡ None }
+    ensures slot { ChangesSlot rows.old.items at (record (slot_at rows.old.items at) { kin = Some fresh }) rows.new.items }
+    ensures capacity { vec_capacity rows.new ≡ vec_capacity rows.old }
+{
+    rows[at].appear();
+}
+
+#[tactic(auto, using(crate::proofs::RowLemmas::shown))]
+fn vanish(rows: &mut Vec<Row>, at: usize)
+    requires within { at < length rows.old.items }
+    requires fresh { (slot_at rows.old.items at).kin ≡ Some fresh }
+    ensures slot { ChangesSlot rows.old.items at (record (slot_at rows.old.items at) { kin = None }) rows.new.items }
+    ensures capacity { vec_capacity rows.new ≡ vec_capacity rows.old }
+{
+    rows[at].vanish();
+}
+
+/// The task comes to stand, as the last child of the row above.
+pub fn enter(rows: &mut Vec<Row>, at: usize, owner: usize, number: u32)
+    requires within { at < length rows.old.items }
+    requires above { owner < at }
+    requires absent { (slot_at rows.old.items at).kin ≡ None }
+    ensures rows { SetsStanding rows.old.items at owner (Some fresh) number rows.new.items }
+    ensures capacity { vec_capacity rows.new ≡ vec_capacity rows.old }
+{
+    appear(rows, at);
+    set_children(rows, owner, number);
+}
+
+/// The task, which was the last child of the row above, stands no longer.
+pub fn leave(rows: &mut Vec<Row>, at: usize, owner: usize, number: u32)
+    requires within { at < length rows.old.items }
+    requires above { owner < at }
+    requires fresh { (slot_at rows.old.items at).kin ≡ Some fresh }
+    ensures rows { SetsStanding rows.old.items at owner None (number - 1) rows.new.items }
+    ensures capacity { vec_capacity rows.new ≡ vec_capacity rows.old }
+{
+    vanish(rows, at);
+    set_children(rows, owner, number.saturating_sub(1));
+}

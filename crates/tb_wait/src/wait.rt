@@ -1,0 +1,141 @@
+//! The table of waits.
+
+ghost use Rattle.std.specs.Prelude.{◌≡◌, ◌≢◌, ◌<◌, ◌≤◌, ◌-◌, ◌+◌, ℕ, [], ◌∷◌, true, false, OnOk, OnErr, IsOk, IfOk, Some, None, is_some, length, vec_capacity, suc, List, if◌then◌else◌};
+ghost use Rattle.std.specs.Option.{option_copied, option_map};
+ghost use Rattle.tb_model.specs.Names.{same_name, child};
+ghost use Rattle.tb_model.specs.LeastNames.{IsLeastName};
+ghost use Rattle.tb_wait.specs.Kin.{kin, fresh, with_over, opened_kin, unopened_kin, closed_kin, unclosed_kin, Changes, IsSame, KeepsNames, KeepsRoom, HasGroupRoom, HasOpenGroup, IsUnendedChild, IsUnendedMember};
+ghost use Rattle.tb_wait.specs.Rows as Rows;
+ghost use Rattle.tb_wait.specs.Rows.{slot_at, ChangesSlot};
+
+use crate::node::Node;
+use crate::row::Row;
+use crate::rows;
+use crate::tree::set_pending;
+use indexmap::IndexSet;
+use std::alloc::{AllocError, Global};
+use std::marker::Model;
+use tb_model::TaskName;
+
+/// What is kept of each task that was generated. A name that was once there keeps its place, so
+/// that what comes back finds its room.
+#[derive(Drop)]
+pub struct Wait {
+    alloc: Global,
+    names: IndexSet<TaskName>,
+    rows: Vec<Row>,
+    nodes: Vec<Node>,
+    room: usize,
+}
+
+impl Model for Wait {
+    ghost use Rattle.std.specs.Prelude.{◌≤◌, ◌+◌, length, vec_capacity};
+    ghost use Rattle.indexmap.specs.IndexSet.{spare};
+    ghost use Rattle.tb_wait.specs.Kin.{Table};
+    ghost use Rattle.std.specs.List.{zip};
+    ghost use Rattle.tb_wait.specs.Rows.{Fits};
+
+    ghost Value = { Table };
+
+    ghost view = { λ w. record { tasks = zip w.names.keys w.rows.items; room = w.room } };
+
+    ghost invariant = { λ w. Fits w.names.keys w.rows.items w.nodes.items
+        × (w.room ≤ spare w.names)
+        × (length w.rows.items + w.room ≤ vec_capacity w.rows)
+        × (length w.nodes.items + w.room ≤ vec_capacity w.nodes) };
+}
+
+impl Wait {
+    /// The task is over.
+    pub fn ended(&mut self, task: &TaskName)
+        ensures tasks { Changes self.old.tasks task.now (with_over true) self.new.tasks }
+        ensures room { KeepsRoom self.old self.new }
+    {
+        self.set_over(task, true)
+    }
+
+    /// Undoes that.
+    pub fn unended(&mut self, task: &TaskName)
+        ensures tasks { Changes self.old.tasks task.now (with_over false) self.new.tasks }
+        ensures room { KeepsRoom self.old self.new }
+    {
+        self.set_over(task, false)
+    }
+
+    /// Makes the room that `opened` needs, and changes nothing else.
+    pub fn reserve_opened(&mut self, task: &TaskName) -> Result<(), AllocError>
+        ensures ok { OnOk result (HasGroupRoom self.new.tasks task.now) }
+        ensures tasks { IsSame self.old.tasks self.new.tasks }
+        ensures room { KeepsRoom self.old self.new }
+        ensures succeeds { HasGroupRoom self.old.tasks task.now → IsOk result }
+    {
+        match self.names.get_index_of(task) {
+            Some(at) => rows::reserve_group(&mut self.rows, at),
+            None => Ok(()),
+        }
+    }
+
+    /// The task opened a group. With room it takes no memory.
+    pub fn opened(&mut self, task: &TaskName) -> Result<(), AllocError>
+        ensures ok { OnOk result (Changes self.old.tasks task.now opened_kin self.new.tasks) }
+        ensures err { OnErr result (IsSame self.old.tasks self.new.tasks) }
+        ensures names { KeepsNames self.old.tasks self.new.tasks }
+        ensures succeeds { HasGroupRoom self.old.tasks task.now → IsOk result }
+    {
+        self.reserve_opened(task)?;
+        self.open(task);
+        Ok(())
+    }
+
+    fn open(&mut self, task: &TaskName)
+        requires { HasGroupRoom self.old.tasks task.now }
+        ensures tasks { Changes self.old.tasks task.now opened_kin self.new.tasks }
+        ensures names { KeepsNames self.old.tasks self.new.tasks }
+    {
+        if let Some(at) = self.names.get_index_of(task) {
+            rows::open(&mut self.rows, at);
+        }
+    }
+
+    /// Undoes that. The room for the group stays.
+    pub fn unopened(&mut self, task: &TaskName)
+        ensures tasks { Changes self.old.tasks task.now unopened_kin self.new.tasks }
+        ensures room { KeepsRoom self.old self.new }
+        ensures group_room { HasOpenGroup self.old.tasks task.now → HasGroupRoom self.new.tasks task.now }
+    {
+        if let Some(at) = self.names.get_index_of(task) {
+            rows::unopen(&mut self.rows, at);
+        }
+    }
+
+    /// The task closed its innermost group.
+    pub fn closed(&mut self, task: &TaskName)
+        ensures tasks { Changes self.old.tasks task.now closed_kin self.new.tasks }
+        ensures room { KeepsRoom self.old self.new }
+    {
+        if let Some(at) = self.names.get_index_of(task) {
+            rows::close(&mut self.rows, at);
+        }
+    }
+
+    /// Undoes that. The room for the group was kept.
+    pub fn unclosed(&mut self, task: &TaskName)
+        ensures tasks { Changes self.old.tasks task.now unclosed_kin self.new.tasks }
+        ensures room { KeepsRoom self.old self.new }
+    {
+        if let Some(at) = self.names.get_index_of(task) {
+            rows::unclose(&mut self.rows, at);
+        }
+    }
+
+    fn set_over(&mut self, task: &TaskName, over: bool)
+        ensures tasks { Changes self.old.tasks task.now (with_over over) self.new.tasks }
+        ensures room { KeepsRoom self.old self.new }
+    {
+        if let Some(at) = self.names.get_index_of(task) {
+            rows::set_over(&mut self.rows, at, over);
+            let pending = rows::is_pending(&self.rows, at);
+            set_pending(&mut self.nodes, at, pending);
+        }
+    }
+}
