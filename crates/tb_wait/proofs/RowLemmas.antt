@@ -6,8 +6,8 @@ use Rattle.std.proofs.lemmas.List.{get_or_default}
 use Rattle.std.proofs.lemmas.Bool.{false≢true}
 use Rattle.tb_model.specs.Names.{Name, same_name}
 use Rattle.tb_model.proofs.TestLemmas.{same_true, same_refl}
-use Rattle.tb_wait.specs.Kin.{Kin, Slot, Tasks, Table, slot, kin, kin_in, is_known, Changes, KeepsRoom, KeepsNames, IsRoomIn}
-use Rattle.tb_wait.specs.Rows.{blank, key, slot_at, is_pending, children_of, ChangesSlot, Fits}
+use Rattle.tb_wait.specs.Kin.{Kin, Slot, Tasks, Table, slot, kin, kin_in, is_known, Changes, KeepsRoom, KeepsNames, IsRoomIn, with_children}
+use Rattle.tb_wait.specs.Rows.{blank, key, slot_at, is_pending, children_of, ChangesSlot, SetsStanding, Fits}
 use Rattle.tb_wait.specs.Tree.{Nodes, node, IsTree, IsPlace, SameLinks}
 
 pub shown : (slots : List Slot) (i : ℕ) (s : Slot) → i < length slots → s ≡ get_or slots i s → s ≡ slot_at slots i
@@ -167,3 +167,66 @@ fits_change names old new nodes after at s f c k tree links pending = record {
 -- the row that changed, as it is found there
 pub here_slot_of : (old new : List Slot) (at : ℕ) (s : Slot) → ChangesSlot old at s new → ChangesSlot old at (slot_at new at) new
 here_slot_of old new at s c = record { len = c.len; here = refl; others = c.others }
+
+-- ---- two rows that change
+
+module _ (names : List Name) (old new : List Slot) (d : AreDistinct names) (l : length old ≡ length names) (at owner : ℕ) (w : at < length names) (o : owner < length names) (k : Option Kin) (n : ℕ) (c : SetsStanding old at owner k n new) where
+  two_slots : (u : Name) → slot (zip names new) u ≡ cond (same_name (key names at) u) (Some (slot_at new at)) (cond (same_name (key names owner) u) (Some (slot_at new owner)) (slot (zip names old) u))
+  two_slots u = by (same_name (key names at) u) refl (same_name (key names owner) u) refl
+    where
+      m : length new ≡ length names
+      m = c.len ∙ l
+
+      rest : same_name (key names at) u ≡ false → same_name (key names owner) u ≡ false → (q : Option Slot) → slot (zip names old) u ≡ q → slot (zip names new) u ≡ slot (zip names old) u
+      rest g h None n =
+          no_slot u names new (λ i a k. let is : Some (slot_at old i) ≡ None = sym (slot_of_key u names old i d l a k) ∙ n in cc) ∙ sym n
+      rest g h (Some r) n =
+          let is = key_of_slot u names old r n in
+          let not_at : is.index ≢ at = λ x. false≢true (sym g ∙ subst (λ y. same_name (key names at) y ≡ true) (ap (key names) (sym x) ∙ is.named) (same_refl (key names at))) in
+          let not_owner : is.index ≢ owner = λ x. false≢true (sym h ∙ subst (λ y. same_name (key names owner) y ≡ true) (ap (key names) (sym x) ∙ is.named) (same_refl (key names owner))) in
+          slot_of_key u names new is.index d m is.within is.named ∙ ap Some (c.others is.index not_at not_owner) ∙ sym (slot_of_key u names old is.index d l is.within is.named)
+
+      by : (a : Bool) → same_name (key names at) u ≡ a → (b : Bool) → same_name (key names owner) u ≡ b
+          → slot (zip names new) u ≡ cond a (Some (slot_at new at)) (cond b (Some (slot_at new owner)) (slot (zip names old) u))
+      by true g b h = slot_of_key u names new at d m w (same_true (key names at) u g)
+      by false g true h = slot_of_key u names new owner d m o (same_true (key names owner) u h)
+      by false g false h = rest g h (slot (zip names old) u) refl
+
+  pub two_kins : (u : Name) → kin (zip names new) u ≡ cond (same_name (key names at) u) k (cond (same_name (key names owner) u) (option_map (with_children n) (kin (zip names old) u)) (kin (zip names old) u))
+  two_kins u = ap kin_in (two_slots u) ∙ by (same_name (key names at) u) (same_name (key names owner) u) refl
+    where
+      by : (a b : Bool) → same_name (key names owner) u ≡ b → kin_in (cond a (Some (slot_at new at)) (cond b (Some (slot_at new owner)) (slot (zip names old) u)))
+          ≡ cond a k (cond b (option_map (with_children n) (kin (zip names old) u)) (kin (zip names old) u))
+      by true b h = ap (λ s. s.kin) c.here
+      by false true h = ap (λ s. s.kin) c.above ∙ ap (λ q. option_map (with_children n) (kin_in q)) (sym (slot_of_key u names old owner d l o (same_true (key names owner) u h)))
+      by false false h = refl
+
+  pub two_rooms : (r : ℕ) → KeepsRoom (record { tasks = zip names old; room = r }) (record { tasks = zip names new; room = r })
+  two_rooms r = record {
+    room = omega arith;
+    slots = λ t q e. let is = key_of_slot t names old q e in
+        subst (IsRoomIn q) (sym (slot_of_key t names new is.index d (c.len ∙ l) is.within is.named)) (by q is.index is.holds (is.index == at) refl (is.index == owner) refl);
+  }
+    where
+      by : (q : Slot) (i : ℕ) → slot_at old i ≡ q → (x : Bool) → (i == at) ≡ x → (y : Bool) → (i == owner) ≡ y → (q.child_room ≤ (slot_at new i).child_room) × (q.group_room ≤ (slot_at new i).group_room)
+      by q i e true h y g =
+          let is = eqb-true i at h in
+          let same = ap (slot_at new) is ∙ c.here in
+          let was = ap (slot_at old) (sym is) ∙ e in
+          (omega (arith, ap (λ z. z.child_room) same, ap (λ z. z.child_room) was), omega (arith, ap (λ z. z.group_room) same, ap (λ z. z.group_room) was))
+      by q i e false h true g =
+          let is = eqb-true i owner g in
+          let same = ap (slot_at new) is ∙ c.above in
+          let was = ap (slot_at old) (sym is) ∙ e in
+          (omega (arith, ap (λ z. z.child_room) same, ap (λ z. z.child_room) was), omega (arith, ap (λ z. z.group_room) same, ap (λ z. z.group_room) was))
+      by q i e false h false g =
+          let same = c.others i (λ y. false≢true (sym h ∙ eq-eqb i at y)) (λ y. false≢true (sym g ∙ eq-eqb i owner y)) ∙ e in
+          (omega (arith, ap (λ z. z.child_room) same), omega (arith, ap (λ z. z.group_room) same))
+
+-- names that are known stay known, where only rows change
+pub same_names : (names : List Name) (old new : List Slot) → AreDistinct names → length old ≡ length names → length new ≡ length names → KeepsNames (zip names old) (zip names new)
+same_names names old new d l m t h = by (slot (zip names old) t) refl
+  where
+    by : (o : Option Slot) → slot (zip names old) t ≡ o → is_known (zip names new) t ≡ true
+    by None e = absurd (false≢true (sym (ap is_some e) ∙ h))
+    by (Some s) e = let is = key_of_slot t names old s e in ap is_some (slot_of_key t names new is.index d m is.within is.named)

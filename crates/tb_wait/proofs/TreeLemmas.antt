@@ -1,10 +1,12 @@
 -- What the nodes of the tree know of their children stays right.
-use Rattle.std.proofs.Common.{◌≡◌, ◌≢◌, ℕ, zero, suc, ◌+◌, ◌-◌, ◌<◌, ◌≤◌, List, [], ◌∷◌, Bool, true, false, not, cond, ◌||◌, ◌==◌, nat_eq, Some, None, length, slice_get, get_or, refl, sym, ap, ◌∙◌, subst, arith, eqb-true, eq-eqb, ne_eqb, ap₂}
+use Rattle.std.proofs.Common.{◌≡◌, ◌≢◌, ℕ, zero, suc, ◌+◌, ◌-◌, ◌<◌, ◌≤◌, List, [], ◌∷◌, Bool, true, false, not, cond, ◌||◌, ◌==◌, nat_eq, Some, None, length, slice_get, get_or, refl, sym, ap, ◌∙◌, subst, arith, eqb-true, eq-eqb, ne_eqb, ap₂, ◌++◌, ◌⊎◌, inl, inr, ⊎_elim, nat_lt, length-append}
+use Rattle.std.proofs.Math.ListN.{get_or-eq_default}
+use Rattle.std.proofs.lemmas.Bool.Decides.{nat_tests}
 use Rattle.std.proofs.lemmas.List.{get_or_default}
 use Rattle.std.proofs.lemmas.Option.{slice_get_within}
 use Rattle.std.proofs.lemmas.Bool.{false≢true}
 use Rattle.tb_wait.specs.Numbers.{has, is_empty, IsPut}
-use Rattle.tb_wait.specs.Tree.{Node, Nodes, leaf, node, is_live, IsPlace, IsLinked, AreChildren, KnowsUnendedBut, KnowsLiveBut, IsTree, SameLinks, SameButLive, SameButUnended, SameButPending, SetsPending}
+use Rattle.tb_wait.specs.Tree.{Node, Nodes, leaf, node, is_live, IsPlace, IsLinked, AreChildren, KnowsUnendedBut, KnowsLiveBut, IsTree, SameLinks, SameButLive, SameButUnended, SameButPending, SetsPending, AddsNode, SameButRoom}
 
 pub shown : (nodes : Nodes) (i : ℕ) (n : Node) → i < length nodes → n ≡ get_or nodes i n → n ≡ node nodes i
 shown nodes i n l e = e ∙ get_or_default nodes i n (leaf 0 0) l
@@ -258,3 +260,181 @@ live_along a b c x y = record {
 
 pub after_refresh : (told new : Nodes) → IsLinked new → AreChildren new → KnowsLiveBut new 0 → KnowsUnendedBut told 0 → SameButLive told new → IsTree new
 after_refresh told new l c k u s = record { linked = l; children = c; unended = live_keeps_unended told new s u; live = k }
+
+-- ---- one more node
+
+slice_get-last : (xs : List ℕ) (y : ℕ) → slice_get (xs ++ y ∷ []) (length xs) ≡ Some y
+slice_get-last [] y = refl
+slice_get-last (x ∷ xs) y = slice_get-last xs y
+
+slice_get-front : (xs : List ℕ) (y k i : ℕ) → slice_get xs k ≡ Some i → slice_get (xs ++ y ∷ []) k ≡ Some i
+slice_get-front [] y k i e = cc
+slice_get-front (x ∷ xs) y zero i e = e
+slice_get-front (x ∷ xs) y (suc k) i e = slice_get-front xs y k i e
+
+slice_get-either : (xs : List ℕ) (y k i : ℕ) → slice_get (xs ++ y ∷ []) k ≡ Some i → (slice_get xs k ≡ Some i) ⊎ ((k ≡ length xs) × (i ≡ y))
+slice_get-either [] y zero i e = inr (refl, cc)
+slice_get-either [] y (suc k) i e = cc
+slice_get-either (x ∷ xs) y zero i e = inl e
+slice_get-either (x ∷ xs) y (suc k) i e = ⊎_elim (λ a. inl a) (λ a. inr (ap suc a.0, a.1)) (slice_get-either xs y k i e)
+
+module _ (old new : Nodes) (owner : ℕ) (tree : IsTree old) (within : owner < length old) (c : AddsNode old owner new) where
+  -- what holds of a node of before holds of it now, unless it is the owner
+  node_else : (P : Node → Node → Type 0) (i : ℕ) → i < length old → P (node old owner) (node new owner) → ((n : Node) → P n n) → P (node old i) (node new i)
+  node_else P i w above same = by (i == owner) refl
+    where
+      by : (b : Bool) → (i == owner) ≡ b → P (node old i) (node new i)
+      by true e = subst (λ j. P (node old j) (node new j)) (sym (eqb-true i owner e)) above
+      by false e = subst (P (node old i)) (sym (c.others i (λ y. absurd (omega (arith, w, y))) (λ y. false≢true (sym e ∙ eq-eqb i owner y)))) (same (node old i))
+
+  -- past the old nodes there is the new one, and nothing
+  parent_within : (j k i : ℕ) → IsPlace new j k i → j < length old
+  parent_within j k i p = by (nat_lt j (length old)) refl (j == length old) refl
+    where
+      by : (a : Bool) → nat_lt j (length old) ≡ a → (b : Bool) → (j == length old) ≡ b → j < length old
+      by true e b g = grind (arith, nat_tests)
+      by false e true g =
+          let none : slice_get [] k ≡ Some i = subst (λ n. slice_get n.places k ≡ Some i) (ap (node new) (eqb-true j (length old) g) ∙ c.here) p in cc
+      by false e false g =
+          let far : length new ≤ j = grind (arith, nat_tests, c.len) in
+          let none : slice_get [] k ≡ Some i = subst (λ n. slice_get n.places k ≡ Some i) (get_or-eq_default new (leaf 0 0) far) p in cc
+
+  pub place_either : (j k i : ℕ) → IsPlace new j k i → IsPlace old j k i ⊎ ((j ≡ owner) × (k ≡ length (node old owner).places) × (i ≡ length old))
+  place_either j k i p = by (j == owner) refl
+    where
+      w : j < length old
+      w = parent_within j k i p
+
+      by : (b : Bool) → (j == owner) ≡ b → IsPlace old j k i ⊎ ((j ≡ owner) × (k ≡ length (node old owner).places) × (i ≡ length old))
+      by true e =
+          let is : j ≡ owner = eqb-true j owner e in
+          let q : slice_get ((node old owner).places ++ length old ∷ []) k ≡ Some i = subst (λ n. slice_get n.places k ≡ Some i) (ap (node new) is ∙ c.above) p in
+          ⊎_elim (λ a. inl (subst (λ x. IsPlace old x k i) (sym is) a)) (λ a. inr (is, a.0, a.1)) (slice_get-either (node old owner).places (length old) k i q)
+      by false e =
+          inl (subst (λ n. slice_get n.places k ≡ Some i) (c.others j (λ y. absurd (omega (arith, w, y))) (λ y. false≢true (sym e ∙ eq-eqb j owner y))) p)
+
+  place_stays : (j k i : ℕ) → IsPlace old j k i → IsPlace new j k i
+  place_stays j k i p = by (nat_lt j (length old)) refl
+    where
+      by : (b : Bool) → nat_lt j (length old) ≡ b → IsPlace new j k i
+      by true e = node_else (λ m n. slice_get m.places k ≡ Some i → slice_get n.places k ≡ Some i) j (grind (arith, nat_tests))
+          (λ q. subst (λ n. slice_get n.places k ≡ Some i) (sym c.above) (slice_get-front (node old owner).places (length old) k i q)) (λ n q. q) p
+      by false e =
+          let none : slice_get [] k ≡ Some i = subst (λ n. slice_get n.places k ≡ Some i) (get_or-eq_default old (leaf 0 0) (grind (arith, nat_tests))) p in cc
+
+  number_stays : (i : ℕ) → i < length old → (node new i).number ≡ (node old i).number
+  number_stays i w = node_else (λ m n. n.number ≡ m.number) i w (ap (λ n. n.number) c.above) (λ n. refl)
+
+  owner_stays : (i : ℕ) → i < length old → (node new i).owner ≡ (node old i).owner
+  owner_stays i w = node_else (λ m n. n.owner ≡ m.owner) i w (ap (λ n. n.owner) c.above) (λ n. refl)
+
+  add_linked : IsLinked new
+  add_linked = record {
+    root = omega (arith, tree.linked.root, c.len);
+    up = λ i b w. by i b w (i == length old) refl;
+    before = λ j k i p. ⊎_elim (λ q. tree.linked.before j k i q) (λ q. omega (arith, q.0, q.2, within)) (place_either j k i p);
+    within = λ j k i p. ⊎_elim (λ q. omega (arith, c.len, tree.linked.within j k i q)) (λ q. omega (arith, q.2, c.len)) (place_either j k i p);
+    owner = λ j k i p. ⊎_elim (λ q. owner_stays i (tree.linked.within j k i q) ∙ tree.linked.owner j k i q) (λ q. ap (λ x. (node new x).owner) q.2 ∙ ap (λ n. n.owner) c.here ∙ sym q.0) (place_either j k i p);
+    number = λ j k i p. ⊎_elim (λ q. number_stays i (tree.linked.within j k i q) ∙ tree.linked.number j k i q)
+        (λ q. ap (λ x. (node new x).number) q.2 ∙ ap (λ n. n.number) c.here ∙ ap suc (sym q.1)) (place_either j k i p);
+  }
+    where
+      by : (i : ℕ) → 0 < i → i < length new → (b : Bool) → (i == length old) ≡ b → (k : ℕ) × ((node new i).number ≡ suc k) × IsPlace new (node new i).owner k i
+      by i b w true e =
+          let is : i ≡ length old = eqb-true i (length old) e in
+          let last : IsPlace new owner (length (node old owner).places) (length old) = subst (λ n. slice_get n.places (length (node old owner).places) ≡ Some (length old)) (sym c.above) (slice_get-last (node old owner).places (length old)) in (
+            length (node old owner).places,
+            ap (λ x. (node new x).number) is ∙ ap (λ n. n.number) c.here,
+            subst (λ x. IsPlace new (node new x).owner (length (node old owner).places) x) (sym is) (subst (λ x. IsPlace new x (length (node old owner).places) (length old)) (sym (ap (λ n. n.owner) c.here)) last),
+          )
+      by i b w false e =
+          let apart : i ≢ length old = λ y. false≢true (sym e ∙ eq-eqb i (length old) y) in
+          let l : i < length old = near i w apart in
+          let up = tree.linked.up i b l in
+          (up.0, number_stays i l ∙ up.1, subst (λ x. IsPlace new x up.0 i) (sym (owner_stays i l)) (place_stays (node old i).owner up.0 i up.2))
+        where
+          near : (i : ℕ) → i < length new → i ≢ length old → i < length old
+          near i w n = near_by (nat_lt i (length old)) refl
+            where
+              near_by : (b : Bool) → nat_lt i (length old) ≡ b → i < length old
+              near_by true g = grind (arith, nat_tests)
+              near_by false g = absurd (n (grind (arith, nat_tests, c.len)))
+
+  -- a set of the node that isn't its places or its room
+  unended_stays : (j m : ℕ) → j < length old → has (node new j).unended m ≡ has (node old j).unended m
+  unended_stays j m w = node_else (λ p q. has q.unended m ≡ has p.unended m) j w (ap (λ n. has n.unended m) c.above) (λ n. refl)
+
+  live_stays : (j m : ℕ) → j < length old → has (node new j).live m ≡ has (node old j).live m
+  live_stays j m w = node_else (λ p q. has q.live m ≡ has p.live m) j w (ap (λ n. has n.live m) c.above) (λ n. refl)
+
+  pub add_tree : IsTree new
+  add_tree = record {
+    linked = add_linked;
+    children = record {
+      unended = λ j m h. counted (λ n. n.unended) j m (λ w. sym (unended_stays j m w)) (ap (λ n. n.unended) c.here) refl (tree.children.unended j m) h;
+      live = λ j m h. counted (λ n. n.live) j m (λ w. sym (live_stays j m w)) (ap (λ n. n.live) c.here) refl (tree.children.live j m) h;
+    };
+    unended = λ j k i p z. ⊎_elim
+        (λ q. let w = tree.linked.within j k i q in
+        unended_stays j (suc k) (parent_within j k i p) ∙ tree.unended j k i q z ∙ node_else (λ m n. m.pending ≡ n.pending) i w (sym (ap (λ n. n.pending) c.above)) (λ n. refl))
+        (λ q. unended_stays j (suc k) (parent_within j k i p) ∙ not_yet (has (node old j).unended (suc k)) (λ h. too_many j k (tree.children.unended j (suc k) h).1 q.0 q.1)
+        ∙ sym (ap (λ x. (node new x).pending) q.2 ∙ ap (λ n. n.pending) c.here)) (place_either j k i p);
+    live = λ j k i p z. ⊎_elim
+        (λ q. let w = tree.linked.within j k i q in
+        live_stays j (suc k) (parent_within j k i p) ∙ tree.live j k i q z ∙ node_else (λ m n. is_live m ≡ is_live n) i w (sym (ap is_live c.above)) (λ n. refl))
+        (λ q. live_stays j (suc k) (parent_within j k i p) ∙ not_yet (has (node old j).live (suc k)) (λ h. too_many j k (tree.children.live j (suc k) h).1 q.0 q.1)
+        ∙ sym (ap (λ x. is_live (node new x)) q.2 ∙ ap is_live c.here)) (place_either j k i p);
+  }
+    where
+      too_many : (j k : ℕ) → suc k ≤ length (node old j).places → j ≡ owner → k ≡ length (node old owner).places → ⊥
+      too_many j k l e f = omega (arith, l, f, ap (λ x. length (node old x).places) e)
+
+      not_yet : (b : Bool) → (b ≡ true → ⊥) → b ≡ false
+      not_yet true f = absurd (f refl)
+      not_yet false f = refl
+
+      longer : (j : ℕ) → j < length old → length (node old j).places ≤ length (node new j).places
+      longer j w = node_else (λ m n. length m.places ≤ length n.places) j w (omega (arith, ap (λ n. length n.places) c.above, length-append (node old owner).places (length old ∷ []))) (λ n. omega arith)
+
+      counted : (field : Node → List ℕ) (j m : ℕ) → (j < length old → has (field (node old j)) m ≡ has (field (node new j)) m) → field (node new (length old)) ≡ [] → field (leaf 0 0) ≡ []
+          → (has (field (node old j)) m ≡ true → (0 < m) × (m ≤ length (node old j).places)) → has (field (node new j)) m ≡ true → (0 < m) × (m ≤ length (node new j).places)
+      counted field j m same none blank was h = by (nat_lt j (length old)) refl (j == length old) refl
+        where
+          by : (a : Bool) → nat_lt j (length old) ≡ a → (b : Bool) → (j == length old) ≡ b → (0 < m) × (m ≤ length (node new j).places)
+          by true e b g =
+              let w : j < length old = grind (arith, nat_tests) in
+              let is = was (same w ∙ h) in
+              (is.0, omega (arith, is.1, longer j w))
+          by false e true g =
+              absurd (false≢true (sym (ap (λ xs. has xs m) (ap (λ x. field (node new x)) (eqb-true j (length old) g) ∙ none)) ∙ h))
+          by false e false g =
+              let far : length new ≤ j = grind (arith, nat_tests, c.len) in
+              absurd (false≢true (sym (ap (λ xs. has xs m) (ap field (get_or-eq_default new (leaf 0 0) far) ∙ blank)) ∙ h))
+
+-- ---- room
+
+pub links_room : (old new : Nodes) → SameButRoom old new → IsTree old → IsTree new
+links_room old new s tree = record {
+  linked = record {
+    root = omega (arith, tree.linked.root, s.len);
+    up = λ i b w.
+        let up = tree.linked.up i b (omega (arith, w, s.len)) in
+        (up.0, ap (λ n. n.number) (s.same i) ∙ up.1, subst (λ o. IsPlace new o up.0 i) (sym (ap (λ n. n.owner) (s.same i))) (on (node old i).owner up.0 i up.2));
+    before = λ j k i p. tree.linked.before j k i (back j k i p);
+    within = λ j k i p. omega (arith, tree.linked.within j k i (back j k i p), s.len);
+    owner = λ j k i p. ap (λ n. n.owner) (s.same i) ∙ tree.linked.owner j k i (back j k i p);
+    number = λ j k i p. ap (λ n. n.number) (s.same i) ∙ tree.linked.number j k i (back j k i p);
+  };
+  children = record {
+    unended = λ j m h. subst (λ ps. (0 < m) × (m ≤ length ps)) (sym (ap (λ n. n.places) (s.same j))) (tree.children.unended j m (sym (ap (λ n. has n.unended m) (s.same j)) ∙ h));
+    live = λ j m h. subst (λ ps. (0 < m) × (m ≤ length ps)) (sym (ap (λ n. n.places) (s.same j))) (tree.children.live j m (sym (ap (λ n. has n.live m) (s.same j)) ∙ h));
+  };
+  unended = λ j k i p z. ap (λ n. has n.unended (suc k)) (s.same j) ∙ tree.unended j k i (back j k i p) z ∙ sym (ap (λ n. n.pending) (s.same i));
+  live = λ j k i p z. ap (λ n. has n.live (suc k)) (s.same j) ∙ tree.live j k i (back j k i p) z ∙ sym (ap is_live (s.same i));
+}
+  where
+    back : (j k i : ℕ) → IsPlace new j k i → IsPlace old j k i
+    back j k i p = sym (ap (λ n. slice_get n.places k) (s.same j)) ∙ p
+
+    on : (j k i : ℕ) → IsPlace old j k i → IsPlace new j k i
+    on j k i p = ap (λ n. slice_get n.places k) (s.same j) ∙ p

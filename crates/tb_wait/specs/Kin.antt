@@ -1,5 +1,5 @@
 -- What a contract sees of the table of waits: what it keeps of each task that stands.
-use Rattle.std.specs.Prelude.{◌≡◌, ◌≢◌, ◌<◌, ◌≤◌, ℕ, suc, Bool, true, false, not, ◌&&◌, List, [], ◌∷◌, Option, Some, None, is_some, if◌then◌else◌}
+use Rattle.std.specs.Prelude.{◌≡◌, ◌≢◌, ◌<◌, ◌≤◌, ◌-◌, ◌⊎◌, ℕ, suc, Bool, true, false, not, ◌&&◌, List, [], ◌∷◌, Option, Some, None, is_some, if◌then◌else◌}
 use Rattle.std.specs.Option.{option_map}
 use Rattle.std.specs.Map.{lookup}
 use Rattle.tb_model.specs.Names.{Name, same_name, is_child}
@@ -87,15 +87,30 @@ Changes old t f new = (u : Name) → kin new u ≡ (if same_name t u then option
 abbrev pub IsSame : Tasks → Tasks → Type 0
 IsSame old new = (u : Name) → kin new u ≡ kin old u
 
--- a task more, and its parent's number
-abbrev pub Adds : Tasks → Name → ℕ → Tasks → Type 0
-Adds old p n new = (u : Name) →
-    kin new u ≡ (if same_name (n ∷ p) u then Some fresh else if same_name p u then option_map (with_children n) (kin old u) else kin old u)
+-- a child more, and one less
+abbrev pub one_more : Kin → Kin
+one_more k = with_children (suc k.children) k
 
--- the last child of p less
-abbrev pub Drops : Tasks → Name → ℕ → Tasks → Type 0
-Drops old p n new = (u : Name) →
-    kin new u ≡ (if same_name (suc n ∷ p) u then None else if same_name p u then option_map (with_children n) (kin old u) else kin old u)
+abbrev pub one_less : Kin → Kin
+one_less k = with_children (k.children - 1) k
+
+-- the child c of p comes to stand
+abbrev pub Adds : Tasks → Name → Name → Tasks → Type 0
+Adds old p c new = (u : Name) →
+    kin new u ≡ (if same_name c u then Some fresh else if same_name p u then option_map one_more (kin old u) else kin old u)
+
+-- the child c of p stands no longer
+abbrev pub Drops : Tasks → Name → Name → Tasks → Type 0
+Drops old p c new = (u : Name) →
+    kin new u ≡ (if same_name c u then None else if same_name p u then option_map one_less (kin old u) else kin old u)
+
+-- p stands, and c is the next child that it generates
+abbrev pub IsNext : Tasks → Name → Name → Type 0
+IsNext tasks p c = (k : Kin) × (kin tasks p ≡ Some k) × (c ≡ suc k.children ∷ p)
+
+-- p stands, and c is its last child, of which nothing is kept yet
+abbrev pub IsLast : Tasks → Name → Name → Type 0
+IsLast tasks p c = (k : Kin) × (n : ℕ) × (kin tasks p ≡ Some k) × (k.children ≡ suc n) × (c ≡ suc n ∷ p) × (kin tasks c ≡ Some fresh)
 
 -- a name that was once there keeps its place
 abbrev pub KeepsNames : Tasks → Tasks → Type 0
@@ -114,6 +129,14 @@ pub record KeepsRoom (old new : Table) : Type 0 where
 -- t, where it was ever generated, has room for one more group
 abbrev pub HasGroupRoom : Tasks → Name → Type 0
 HasGroupRoom tasks t = (s : Slot) → slot tasks t ≡ Some s → 0 < s.group_room
+
+-- the same for one more child
+abbrev pub HasChildRoom : Tasks → Name → Type 0
+HasChildRoom tasks t = (s : Slot) → slot tasks t ≡ Some s → 0 < s.child_room
+
+-- there is room for the child c of p: its name was once there, or there is room for one more name and for one more child of p
+abbrev pub HasRoomFor : Table → Name → Name → Type 0
+HasRoomFor w p c = (is_known w.tasks c ≡ true) ⊎ ((0 < w.room) × HasChildRoom w.tasks p)
 
 -- t stands in an open group
 abbrev pub HasOpenGroup : Tasks → Name → Type 0

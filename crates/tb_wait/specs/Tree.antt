@@ -1,6 +1,6 @@
 -- The tree of the tasks that were ever generated, by their places in a list: who hasn't ended, and below whom.
 -- No public clause cites this module.
-use Rattle.std.specs.Prelude.{◌≡◌, ◌≢◌, ◌<◌, ◌≤◌, ◌-◌, ℕ, suc, Bool, true, false, not, ◌||◌, List, [], ◌∷◌, Option, Some, length, slice_get, slice_index_or}
+use Rattle.std.specs.Prelude.{◌≡◌, ◌≢◌, ◌<◌, ◌≤◌, ◌+◌, ◌-◌, ◌++◌, ℕ, suc, Bool, true, false, not, ◌||◌, List, [], ◌∷◌, Option, Some, length, slice_get, slice_index_or}
 use Rattle.tb_wait.specs.Numbers.{has, is_empty}
 
 -- the place of the parent, the number among its children, whether the task stands and hasn't ended, the places of the
@@ -91,3 +91,16 @@ pub record SameButUnended (old new : Nodes) : Type 0 where
 pub record SameButPending (old new : Nodes) : Type 0 where
   pub len : length new ≡ length old
   pub same : (i : ℕ) → node new i ≡ record (node old i) { pending = (node new i).pending }
+
+-- one more node, as the last child of the node at `owner`
+pub record AddsNode (old : Nodes) (owner : ℕ) (new : Nodes) : Type 0 where
+  pub len : length new ≡ length old + 1
+  pub here : node new (length old) ≡ leaf owner (suc (length (node old owner).places))
+  pub above : node new owner ≡ record (node old owner) { places = (node old owner).places ++ length old ∷ []; room = (node old owner).room - 1 }
+  pub others : (i : ℕ) → i ≢ length old → i ≢ owner → node new i ≡ node old i
+
+-- nothing but room has changed, and no node has less of it
+pub record SameButRoom (old new : Nodes) : Type 0 where
+  pub len : length new ≡ length old
+  pub same : (i : ℕ) → node new i ≡ record (node old i) { room = (node new i).room }
+  pub keeps : (i : ℕ) → (node old i).room ≤ (node new i).room

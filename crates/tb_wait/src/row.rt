@@ -116,6 +116,13 @@ impl Row {
         }
     }
 
+    /// How many more children fit with no memory.
+    pub fn child_room(&self) -> usize
+        ensures { result ≡ self.now.child_room }
+    {
+        self.child_room
+    }
+
     /// Sets how many more children fit with no memory.
     pub fn set_child_room(&mut self, room: usize)
         ensures { self.new ≡ record self.old { child_room = room } }

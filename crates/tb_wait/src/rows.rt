@@ -1,13 +1,13 @@
 //! The rows of the table, by index.
 
-ghost use Rattle.std.specs.Prelude.{◌≡◌, ◌≢◌, ◌<◌, ◌≤◌, ◌-◌, [], OnOk, OnErr, IsOk, Some, None, is_some, length, vec_capacity};
+ghost use Rattle.std.specs.Prelude.{◌≡◌, ◌≢◌, ◌<◌, ◌≤◌, ◌-◌, [], ◌∷◌, ◌++◌, OnOk, OnErr, IsOk, IfOk, Some, None, is_some, length, vec_capacity};
 ghost use Rattle.std.specs.Option.{option_map};
 ghost use Rattle.tb_wait.specs.Kin.{with_over, with_children, opened_kin, unopened_kin, closed_kin, unclosed_kin, fresh};
 ghost use Rattle.tb_wait.specs.Rows as Rows;
-ghost use Rattle.tb_wait.specs.Rows.{slot_at, groups_of, ChangesSlot, SetsStanding};
+ghost use Rattle.tb_wait.specs.Rows.{blank, slot_at, groups_of, ChangesSlot, SetsStanding};
 
 use crate::row::Row;
-use std::alloc::AllocError;
+use std::alloc::{AllocError, Global};
 
 /// Whether the task stands and isn't over.
 #[tactic(auto, using(crate::proofs::RowLemmas::shown))]
@@ -138,4 +138,44 @@ pub fn leave(rows: &mut Vec<Row>, at: usize, owner: usize, number: u32)
 {
     vanish(rows, at);
     set_children(rows, owner, number.saturating_sub(1));
+}
+
+/// Sets how many more children of the task fit with no memory.
+#[tactic(auto, using(crate::proofs::RowLemmas::shown))]
+pub fn set_child_room(rows: &mut Vec<Row>, at: usize, room: usize)
+    requires { at < length rows.old.items }
+    ensures slot { ChangesSlot rows.old.items at (record (slot_at rows.old.items at) { child_room = room }) rows.new.items }
+    ensures capacity { vec_capacity rows.new ≡ vec_capacity rows.old }
+{
+    rows[at].set_child_room(room);
+}
+
+/// How many more children of the task fit with no memory.
+#[tactic(auto, using(crate::proofs::RowLemmas::shown))]
+pub fn child_room(rows: &Vec<Row>, at: usize) -> usize
+    requires { at < length rows.now.items }
+    ensures { result ≡ (slot_at rows.now.items at).child_room }
+{
+    rows[at].child_room()
+}
+
+/// One more task, which doesn't stand yet.
+pub fn push(rows: &mut Vec<Row>, alloc: Global)
+    requires { length rows.old.items < vec_capacity rows.old }
+    ensures rows { rows.new.items ≡ rows.old.items ++ blank ∷ [] }
+    ensures capacity { vec_capacity rows.new ≡ vec_capacity rows.old }
+{
+    rows.push_reserved(Row::new(alloc));
+}
+
+/// The root, which stands from the beginning.
+pub fn root_rows(alloc: Global) -> Result<Vec<Row>, AllocError>
+    ensures rows { IfOk result (λ rows. rows.items ≡ record blank { kin = Some fresh } ∷ []) }
+    ensures room { IfOk result (λ rows. 1 ≤ vec_capacity rows) }
+{
+    let mut rows = Vec::with_capacity(alloc, 1)?;
+    let mut row = Row::new(alloc);
+    row.appear();
+    rows.push_reserved(row);
+    Ok(rows)
 }

@@ -1,10 +1,11 @@
 //! The tree of tasks, and what its nodes know of their children.
 
-ghost use Rattle.std.specs.Prelude.{◌≡◌, ◌≢◌, ◌<◌, ◌≤◌, ℕ, length, vec_capacity, true, false};
-ghost use Rattle.tb_wait.specs.Tree.{node, IsTree, IsLinked, AreChildren, KnowsLiveBut, KnowsUnendedBut, SameButLive, SameButUnended, SameButPending, SetsPending};
+ghost use Rattle.std.specs.Prelude.{◌≡◌, ◌≢◌, ◌<◌, ◌≤◌, ℕ, suc, [], ◌∷◌, OnOk, IsOk, IfOk, length, vec_capacity, true, false};
+ghost use Rattle.tb_wait.specs.Tree.{node, leaf, IsTree, IsLinked, AreChildren, KnowsLiveBut, KnowsUnendedBut, SameButLive, SameButUnended, SameButPending, SameButRoom, SetsPending, AddsNode};
 ghost use Rattle.tb_wait.specs.Numbers.{IsPut};
 
 use crate::node::Node;
+use std::alloc::{AllocError, Global};
 
 /// Sets whether the task at the place stands and hasn't ended, and tells all above it. This goes
 /// up the line of owners as far as something changes.
@@ -131,4 +132,70 @@ fn set_live(nodes: &mut Vec<Node>, at: usize, number: u32, live: bool)
     ensures capacity { vec_capacity nodes.new ≡ vec_capacity nodes.old }
 {
     nodes[at].set_live(number, live);
+}
+
+/// One more task, as the last child of the one at `owner`. It doesn't stand yet.
+#[tactic(auto, using(crate::proofs::TreeLemmas::add_tree))]
+pub fn add(nodes: &mut Vec<Node>, alloc: Global, owner: usize, number: u32)
+    requires tree { IsTree nodes.old.items }
+    requires within { owner < length nodes.old.items }
+    requires room { 0 < (node nodes.old.items owner).room }
+    requires spare { length nodes.old.items < vec_capacity nodes.old }
+    requires number { number ≡ suc (length (node nodes.old.items owner).places) }
+    ensures tree { IsTree nodes.new.items }
+    ensures added { AddsNode nodes.old.items owner nodes.new.items }
+    ensures capacity { vec_capacity nodes.new ≡ vec_capacity nodes.old }
+{
+    push(nodes, alloc, owner, number)
+}
+
+#[tactic(auto, using(crate::proofs::TreeLemmas::shown))]
+fn push(nodes: &mut Vec<Node>, alloc: Global, owner: usize, number: u32)
+    requires within { owner < length nodes.old.items }
+    requires room { 0 < (node nodes.old.items owner).room }
+    requires spare { length nodes.old.items < vec_capacity nodes.old }
+    requires number { number ≡ suc (length (node nodes.old.items owner).places) }
+    ensures added { AddsNode nodes.old.items owner nodes.new.items }
+    ensures capacity { vec_capacity nodes.new ≡ vec_capacity nodes.old }
+{
+    let at = nodes.len();
+    nodes[owner].push(at);
+    nodes.push_reserved(Node::new(alloc, owner, number));
+}
+
+/// Makes room for one more child of the task at the place.
+#[tactic(auto, using(crate::proofs::TreeLemmas::links_room))]
+pub fn reserve_child(nodes: &mut Vec<Node>, at: usize) -> Result<(), AllocError>
+    requires tree { IsTree nodes.old.items }
+    requires within { at < length nodes.old.items }
+    ensures ok { OnOk result (0 < (node nodes.new.items at).room) }
+    ensures tree { IsTree nodes.new.items }
+    ensures same { SameButRoom nodes.old.items nodes.new.items }
+    ensures succeeds { 0 < (node nodes.old.items at).room → IsOk result }
+    ensures capacity { vec_capacity nodes.new ≡ vec_capacity nodes.old }
+{
+    reserve(nodes, at)
+}
+
+#[tactic(auto, using(crate::proofs::TreeLemmas::shown))]
+fn reserve(nodes: &mut Vec<Node>, at: usize) -> Result<(), AllocError>
+    requires within { at < length nodes.old.items }
+    ensures ok { OnOk result (0 < (node nodes.new.items at).room) }
+    ensures same { SameButRoom nodes.old.items nodes.new.items }
+    ensures succeeds { 0 < (node nodes.old.items at).room → IsOk result }
+    ensures capacity { vec_capacity nodes.new ≡ vec_capacity nodes.old }
+{
+    nodes[at].reserve()
+}
+
+/// The root, which stands from the beginning.
+pub fn root_nodes(alloc: Global) -> Result<Vec<Node>, AllocError>
+    ensures nodes { IfOk result (λ nodes. nodes.items ≡ record (leaf 0 0) { pending = true } ∷ []) }
+    ensures room { IfOk result (λ nodes. 1 ≤ vec_capacity nodes) }
+{
+    let mut nodes = Vec::with_capacity(alloc, 1)?;
+    let mut node = Node::new(alloc, 0, 0);
+    node.set_pending(true);
+    nodes.push_reserved(node);
+    Ok(nodes)
 }

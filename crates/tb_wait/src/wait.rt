@@ -4,14 +4,12 @@ ghost use Rattle.std.specs.Prelude.{◌≡◌, ◌≢◌, ◌<◌, ◌≤◌, �
 ghost use Rattle.std.specs.Option.{option_copied, option_map};
 ghost use Rattle.tb_model.specs.Names.{same_name, child};
 ghost use Rattle.tb_model.specs.LeastNames.{IsLeastName};
-ghost use Rattle.tb_wait.specs.Kin.{kin, fresh, with_over, opened_kin, unopened_kin, closed_kin, unclosed_kin, Changes, IsSame, KeepsNames, KeepsRoom, HasGroupRoom, HasOpenGroup, IsUnendedChild, IsUnendedMember};
-ghost use Rattle.tb_wait.specs.Rows as Rows;
-ghost use Rattle.tb_wait.specs.Rows.{slot_at, ChangesSlot};
+ghost use Rattle.tb_wait.specs.Kin.{kin, fresh, with_over, opened_kin, unopened_kin, closed_kin, unclosed_kin, Changes, IsSame, KeepsNames, KeepsRoom, HasGroupRoom, HasChildRoom, HasRoomFor, HasOpenGroup, is_known, Adds, Drops, IsNext, IsLast, IsUnendedChild, IsUnendedMember};
 
 use crate::node::Node;
 use crate::row::Row;
 use crate::rows;
-use crate::tree::set_pending;
+use crate::tree::{self, set_pending};
 use indexmap::IndexSet;
 use std::alloc::{AllocError, Global};
 use std::marker::Model;
@@ -46,6 +44,75 @@ impl Model for Wait {
 }
 
 impl Wait {
+    /// The root alone.
+    pub fn open(alloc: Global) -> Result<Wait, AllocError>
+        ensures { IfOk result (λ w. (t : List ℕ) → kin w.tasks t ≡ (if same_name [] t then Some fresh else None)) }
+    {
+        let names = root_names(alloc)?;
+        let rows = rows::root_rows(alloc)?;
+        let nodes = tree::root_nodes(alloc)?;
+        Ok(Wait {
+            alloc,
+            names,
+            rows,
+            nodes,
+            room: 0,
+        })
+    }
+
+    /// Makes the room that `spawned` needs, and changes nothing else.
+    pub fn reserve_spawned(&mut self, parent: &TaskName, child: &TaskName) -> Result<(), AllocError>
+        ensures ok { OnOk result (HasRoomFor self.new parent.now child.now) }
+        ensures tasks { IsSame self.old.tasks self.new.tasks }
+        ensures room { KeepsRoom self.old self.new }
+        ensures succeeds { HasRoomFor self.old parent.now child.now → IsOk result }
+    {
+        if self.is_known(child) {
+            return Ok(());
+        }
+        self.reserve_child(parent)?;
+        self.reserve_place()
+    }
+
+    fn is_known(&self, task: &TaskName) -> bool
+        ensures { result ≡ is_known self.now.tasks task.now }
+    {
+        self.names.contains(task)
+    }
+
+    fn reserve_child(&mut self, task: &TaskName) -> Result<(), AllocError>
+        ensures ok { OnOk result (HasChildRoom self.new.tasks task.now) }
+        ensures tasks { IsSame self.old.tasks self.new.tasks }
+        ensures room { KeepsRoom self.old self.new }
+        ensures succeeds { HasChildRoom self.old.tasks task.now → IsOk result }
+    {
+        match self.names.get_index_of(task) {
+            Some(at) => {
+                if rows::child_room(&self.rows, at) == 0 {
+                    tree::reserve_child(&mut self.nodes, at)?;
+                    rows::set_child_room(&mut self.rows, at, 1);
+                }
+                Ok(())
+            }
+            None => Ok(()),
+        }
+    }
+
+    fn reserve_place(&mut self) -> Result<(), AllocError>
+        ensures ok { OnOk result (0 < self.new.room) }
+        ensures tasks { self.new.tasks ≡ self.old.tasks }
+        ensures room { self.old.room ≤ self.new.room }
+        ensures succeeds { 0 < self.old.room → IsOk result }
+    {
+        if self.room == 0 {
+            self.names.reserve(1)?;
+            self.rows.reserve(1)?;
+            self.nodes.reserve(1)?;
+            self.room = 1;
+        }
+        Ok(())
+    }
+
     /// The task is over.
     pub fn ended(&mut self, task: &TaskName)
         ensures tasks { Changes self.old.tasks task.now (with_over true) self.new.tasks }
@@ -83,11 +150,11 @@ impl Wait {
         ensures succeeds { HasGroupRoom self.old.tasks task.now → IsOk result }
     {
         self.reserve_opened(task)?;
-        self.open(task);
+        self.open_group(task);
         Ok(())
     }
 
-    fn open(&mut self, task: &TaskName)
+    fn open_group(&mut self, task: &TaskName)
         requires { HasGroupRoom self.old.tasks task.now }
         ensures tasks { Changes self.old.tasks task.now opened_kin self.new.tasks }
         ensures names { KeepsNames self.old.tasks self.new.tasks }
@@ -138,4 +205,13 @@ impl Wait {
             set_pending(&mut self.nodes, at, pending);
         }
     }
+}
+
+fn root_names(alloc: Global) -> Result<IndexSet<TaskName>, AllocError>
+    ensures { IfOk result (λ s. s.keys ≡ [] ∷ []) }
+{
+    let mut names = IndexSet::new(alloc);
+    names.reserve(1)?;
+    names.insert(TaskName::root(alloc)).unwrap();
+    Ok(names)
 }

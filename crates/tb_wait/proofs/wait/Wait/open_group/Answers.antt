@@ -2,7 +2,7 @@ use Rattle.std.proofs.Common.{refl, arith}
 use Rattle.tb_wait.specs.Kin.{opened_kin}
 use Rattle.tb_wait.specs.Rows.{slot_at}
 use Rattle.tb_wait.proofs.WaitLemmas.{here_fits, here_changes, here_names, group_room_here, absent_changes}
-use Rattle.tb_wait.proofs.wait.Wait.open.Goals as goal
+use Rattle.tb_wait.proofs.wait.Wait.open_group.Goals as goal
 
 pub invariant_of-self : goal.invariant_of-self
 invariant_of-self c = (
