@@ -2,3 +2,4 @@ pub mod NumbersLemmas
 pub mod TreeLemmas
 pub mod RowLemmas
 pub mod WaitLemmas
+pub mod SpawnLemmas

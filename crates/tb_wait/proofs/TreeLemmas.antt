@@ -438,3 +438,6 @@ links_room old new s tree = record {
 
     on : (j k i : ℕ) → IsPlace old j k i → IsPlace new j k i
     on j k i p = ap (λ n. slice_get n.places k) (s.same j) ∙ p
+
+pub owner_under : (nodes : Nodes) (at owner : ℕ) (n : Node) → IsTree nodes → 0 < at → at < length nodes → n ≡ node nodes at → owner ≡ n.owner → owner < at
+owner_under nodes at owner n tree b w e o = owner_before nodes tree.linked at b w owner (o ∙ ap (λ x. x.owner) e)

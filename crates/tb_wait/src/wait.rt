@@ -9,6 +9,7 @@ ghost use Rattle.tb_wait.specs.Kin.{kin, fresh, with_over, opened_kin, unopened_
 use crate::node::Node;
 use crate::row::Row;
 use crate::rows;
+use crate::standing;
 use crate::tree::{self, set_pending};
 use indexmap::IndexSet;
 use std::alloc::{AllocError, Global};
@@ -113,6 +114,65 @@ impl Wait {
         Ok(())
     }
 
+    /// The parent generated its next child. With room it takes no memory.
+    pub fn spawned(&mut self, parent: &TaskName, child: TaskName) -> Result<(), AllocError>
+        requires { IsNext self.old.tasks parent.now child }
+        ensures ok { OnOk result (Adds self.old.tasks parent.now child self.new.tasks) }
+        ensures err { OnErr result (IsSame self.old.tasks self.new.tasks) }
+        ensures names { KeepsNames self.old.tasks self.new.tasks }
+        ensures succeeds { HasRoomFor self.old parent.now child → IsOk result }
+    {
+        self.reserve_spawned(parent, &child)?;
+        if self.is_known(&child) {
+            self.enter(parent, &child);
+        } else {
+            self.enter_new(parent, child);
+        }
+        Ok(())
+    }
+
+    fn enter(&mut self, parent: &TaskName, child: &TaskName)
+        requires next { IsNext self.old.tasks parent.now child.now }
+        requires known { is_known self.old.tasks child.now ≡ true }
+        ensures tasks { Adds self.old.tasks parent.now child.now self.new.tasks }
+        ensures names { KeepsNames self.old.tasks self.new.tasks }
+    {
+        if let Some(at) = self.names.get_index_of(child) {
+            standing::enter(&mut self.rows, &mut self.nodes, at);
+        }
+    }
+
+    fn enter_new(&mut self, parent: &TaskName, child: TaskName)
+        requires next { IsNext self.old.tasks parent.now child }
+        requires unknown { is_known self.old.tasks child ≡ false }
+        requires room { 0 < self.old.room }
+        requires child_room { HasChildRoom self.old.tasks parent.now }
+        ensures tasks { Adds self.old.tasks parent.now child self.new.tasks }
+        ensures names { KeepsNames self.old.tasks self.new.tasks }
+    {
+        if let Some(owner) = self.names.get_index_of(parent) {
+            let at = self.rows.len();
+            let room = rows::child_room(&self.rows, owner);
+            tree::add(&mut self.nodes, self.alloc, owner, number_of(&child));
+            rows::set_child_room(&mut self.rows, owner, room - 1);
+            rows::push(&mut self.rows, self.alloc);
+            self.names.insert(child).unwrap();
+            self.room -= 1;
+            standing::enter(&mut self.rows, &mut self.nodes, at);
+        }
+    }
+
+    /// Undoes that, for the last child of the parent, of which nothing is kept yet. Its room stays.
+    pub fn unspawned(&mut self, parent: &TaskName, child: &TaskName)
+        requires { IsLast self.old.tasks parent.now child.now }
+        ensures tasks { Drops self.old.tasks parent.now child.now self.new.tasks }
+        ensures room { KeepsRoom self.old self.new }
+    {
+        if let Some(at) = self.names.get_index_of(child) {
+            standing::leave(&mut self.rows, &mut self.nodes, at);
+        }
+    }
+
     /// The task is over.
     pub fn ended(&mut self, task: &TaskName)
         ensures tasks { Changes self.old.tasks task.now (with_over true) self.new.tasks }
@@ -204,6 +264,16 @@ impl Wait {
             let pending = rows::is_pending(&self.rows, at);
             set_pending(&mut self.nodes, at, pending);
         }
+    }
+}
+
+// The task's number among the children of its parent.
+fn number_of(task: &TaskName) -> u32
+    ensures { (n : ℕ) (t : List ℕ) → task.now ≡ n ∷ t → result ≡ n }
+{
+    match task.numbers() {
+        [] => 0,
+        [n, ..] => *n,
     }
 }
 
