@@ -1,5 +1,5 @@
 -- A child that comes to stand, or stands no longer, by name.
-use Rattle.std.proofs.Common.{◌≡◌, ◌≢◌, ℕ, zero, suc, ◌+◌, ◌-◌, ◌<◌, ◌≤◌, List, [], ◌∷◌, ◌++◌, Bool, true, false, not, cond, ◌||◌, ◌==◌, nat_lt, Option, Some, None, is_some, option_map, length, slice_get, get_or, refl, sym, ap, ap₂, ◌∙◌, subst, arith, eqb-true, eq-eqb, length-append, ⊎_elim}
+use Rattle.std.proofs.Common.{◌≡◌, ◌≢◌, ℕ, zero, suc, ◌+◌, ◌-◌, ◌<◌, ◌≤◌, List, [], ◌∷◌, ◌++◌, Bool, true, false, not, cond, ◌||◌, ◌==◌, nat_lt, Option, Some, None, is_some, option_map, length, slice_get, get_or, refl, sym, ap, ap₂, ◌∙◌, subst, arith, eqb-true, eq-eqb, length-append, ◌⊎◌, inl, inr, ⊎_elim, Result, Ok, Err, OnOk, IfOk}
 use Rattle.std.specs.List.{zip, position, list_any}
 use Rattle.std.proofs.lemmas.Bool.{false≢true}
 use Rattle.std.proofs.lemmas.Bool.Decides.{nat_tests}
@@ -7,11 +7,11 @@ use Rattle.std.proofs.lemmas.Option.{slice_get_within}
 use Rattle.std.proofs.Math.ListN.{get_or-eq_default}
 use Rattle.tb_model.specs.Names.{Name, same_name}
 use Rattle.tb_model.proofs.TestLemmas.{same_true, same_refl}
-use Rattle.tb_wait.specs.Kin.{Kin, Slot, Tasks, Table, slot, kin, kin_in, is_known, Adds, Drops, IsNext, IsLast, KeepsRoom, KeepsNames, IsRoomIn, HasChildRoom, with_children, one_more, one_less, fresh}
+use Rattle.tb_wait.specs.Kin.{Kin, Slot, Tasks, Table, slot, kin, kin_in, is_known, Adds, Drops, IsNext, IsLast, IsSame, KeepsRoom, KeepsNames, IsRoomIn, HasChildRoom, with_children, one_more, one_less, fresh}
 use Rattle.tb_wait.specs.Rows.{blank, key, slot_at, is_pending, children_of, ChangesSlot, SetsStanding, Fits}
 use Rattle.tb_wait.specs.Tree.{Nodes, node, leaf, IsPlace, IsTree, SameLinks, SetsPending, AddsNode}
 use Rattle.tb_wait.proofs.RowLemmas.{slot_of_key, key_of_slot, no_slot, two_kins, two_rooms, same_names}
-use Rattle.tb_wait.proofs.WaitLemmas.{at_key, here_slot, CountsOne, fits_standing}
+use Rattle.tb_wait.proofs.WaitLemmas.{at_key, here_slot, CountsOne, fits_standing, known_any}
 use Rattle.tb_wait.proofs.TreeLemmas.{place_either}
 
 head_is : {m n : ℕ} {s t : Name} → m ∷ s ≡ n ∷ t → m ≡ n
@@ -166,13 +166,11 @@ get_or-last [] y d i e = ap (λ j. get_or (y ∷ []) j d) e
 get_or-last (x ∷ xs) y d zero e = absurd (omega (arith, e))
 get_or-last (x ∷ xs) y d (suc i) e = get_or-last xs y d i (omega (arith, e))
 
-length-push : {A : Type 0} (xs : List A) (y : A) → length (xs ++ y ∷ []) ≡ length xs + 1
+pub length-push : {A : Type 0} (xs : List A) (y : A) → length (xs ++ y ∷ []) ≡ length xs + 1
 length-push xs y = length-append xs (y ∷ [])
 
-module _ (names : List Name) (old mid : List Slot) (nodes after : Nodes) (f : Fits names old nodes) (p c : Name) (owner room : ℕ) (within : owner < length names) (named : key names owner ≡ p)
-    (unknown : slot (zip names old) c ≡ None) (parent : Kin) (is_parent : (slot_at old owner).kin ≡ Some parent) (child : c ≡ suc parent.children ∷ p)
-    (m : ChangesSlot old owner (record (slot_at old owner) { child_room = room - 1 }) mid) (was_room : room ≡ (slot_at old owner).child_room)
-    (tree : IsTree after) (a : AddsNode nodes owner after) where
+module _ (names : List Name) (old : List Slot) (nodes : Nodes) (f : Fits names old nodes) (p c : Name) (owner : ℕ) (within : owner < length names) (named : key names owner ≡ p)
+    (unknown : slot (zip names old) c ≡ None) (parent : Kin) (is_parent : (slot_at old owner).kin ≡ Some parent) (child : c ≡ suc parent.children ∷ p) where
   -- no index has the child's name
   nowhere : (i : ℕ) → i < length names → key names i ≡ c → ⊥
   nowhere i w e = let is : Some (slot_at old i) ≡ None = sym (slot_of_key c names old i f.distinct f.slots_len w e) ∙ unknown in cc
@@ -200,3 +198,196 @@ module _ (names : List Name) (old mid : List Slot) (nodes after : Nodes) (f : Fi
 
   pub next_number : (number : ℕ) → number ≡ suc parent.children → number ≡ suc (length (node nodes owner).places)
   next_number number e = e ∙ ap suc all_stand
+
+  module _ (mid : List Slot) (after : Nodes) (room : ℕ) (m : ChangesSlot old owner (record (slot_at old owner) { child_room = room - 1 }) mid) (was_room : room ≡ (slot_at old owner).child_room)
+      (tree : IsTree after) (a : AddsNode nodes owner after) where
+    abbrev names' : List Name
+    names' = names ++ c ∷ []
+
+    abbrev new : List Slot
+    new = mid ++ blank ∷ []
+
+    mid_len : length mid ≡ length names
+    mid_len = m.len ∙ f.slots_len
+
+    key_front : (i : ℕ) → i < length names → key names' i ≡ key names i
+    key_front i w = get_or-front names c [] i w
+
+    slot_front : (i : ℕ) → i < length names → slot_at new i ≡ slot_at mid i
+    slot_front i w = get_or-front mid blank blank i (omega (arith, w, mid_len))
+
+    slot_last : slot_at new (length names) ≡ blank
+    slot_last = get_or-last mid blank blank (length names) (sym mid_len)
+
+    -- a row is as before, but for the room of the owner's
+    kin_mid : (i : ℕ) → (slot_at mid i).kin ≡ (slot_at old i).kin
+    kin_mid i = by (i == owner) refl
+      where
+        by : (b : Bool) → (i == owner) ≡ b → (slot_at mid i).kin ≡ (slot_at old i).kin
+        by true e = let is = eqb-true i owner e in ap (λ x. (slot_at mid x).kin) is ∙ ap (λ s. s.kin) m.here ∙ ap (λ x. (slot_at old x).kin) (sym is)
+        by false e = ap (λ s. s.kin) (m.others i (λ y. false≢true (sym e ∙ eq-eqb i owner y)))
+
+    kin_front : (i : ℕ) → i < length names → (slot_at new i).kin ≡ (slot_at old i).kin
+    kin_front i w = ap (λ s. s.kin) (slot_front i w) ∙ kin_mid i
+
+    -- the rows past the end are blank
+    kin_past : (i : ℕ) → length names ≤ i → (slot_at new i).kin ≡ None
+    kin_past i l = by (i == length names) refl
+      where
+        by : (b : Bool) → (i == length names) ≡ b → (slot_at new i).kin ≡ None
+        by true e = ap (λ x. (slot_at new x).kin) (eqb-true i (length names) e) ∙ ap (λ s. s.kin) slot_last
+        by false e =
+            let apart : i ≢ length names = λ y. false≢true (sym e ∙ eq-eqb i (length names) y) in
+            ap (λ s. s.kin) (get_or-eq_default new blank (far i l apart))
+          where
+            far : (i : ℕ) → length names ≤ i → i ≢ length names → length new ≤ i
+            far i l d = over (nat_lt (length names) i) refl
+              where
+                over : (b : Bool) → nat_lt (length names) i ≡ b → length new ≤ i
+                over true g = let more : length names < i = grind (arith, nat_tests) in omega (arith, more, length-push mid blank, mid_len)
+                over false g = let le : i ≤ length names = grind (arith, nat_tests) in absurd (d (omega (arith, le, l)))
+
+    within_by : (i : ℕ) → (b : Bool) → nat_lt i (length names) ≡ b → (i < length names) ⊎ (length names ≤ i)
+    within_by i true e = inl (grind (arith, nat_tests))
+    within_by i false e = inr (grind (arith, nat_tests))
+
+    owner_node : owner < length nodes
+    owner_node = omega (arith, within, f.nodes_len)
+
+    abbrev PlaceOf : ℕ → ℕ → ℕ → Type 0
+    PlaceOf j k i = IsPlace nodes j k i ⊎ ((j ≡ owner) × (k ≡ length (node nodes owner).places) × (i ≡ length nodes))
+
+    either : (j k i : ℕ) → IsPlace after j k i → PlaceOf j k i
+    either j k i q = place_either nodes after owner f.tree owner_node a j k i q
+
+    parent_in : (j k i : ℕ) → IsPlace nodes j k i → j < length names
+    parent_in j k i q = omega (arith, f.tree.linked.before j k i q, f.tree.linked.within j k i q, f.nodes_len)
+
+    child_in : (j k i : ℕ) → IsPlace nodes j k i → i < length names
+    child_in j k i q = omega (arith, f.tree.linked.within j k i q, f.nodes_len)
+
+    distinct' : (i j : ℕ) → i < length names' → j < length names' → key names' i ≡ key names' j → i ≡ j
+    distinct' i j w x e = ⊎_elim
+        (λ l. ⊎_elim (λ r. f.distinct i j l r (sym (key_front i l) ∙ e ∙ key_front j r))
+        (λ r. absurd (nowhere i l (sym (key_front i l) ∙ e ∙ get_or-last names c [] j (last j x r)))) (within_by j (nat_lt j (length names)) refl))
+        (λ l. ⊎_elim (λ r. absurd (nowhere j r (sym (key_front j r) ∙ sym e ∙ get_or-last names c [] i (last i w l))))
+        (λ r. omega (arith, last i w l, last j x r)) (within_by j (nat_lt j (length names)) refl))
+        (within_by i (nat_lt i (length names)) refl)
+      where
+        last : (i : ℕ) → i < length names' → length names ≤ i → i ≡ length names
+        last i w l = omega (arith, w, l, length-push names c)
+
+    node_kept : (P : ℕ → Type 0) → ((i : ℕ) → i < length names → i ≢ owner → P i) → P owner → P (length names) → ((i : ℕ) → length names < i → P i) → (i : ℕ) → P i
+    node_kept P front own last past i = by (i == owner) refl (i == length names) refl (nat_lt i (length names)) refl
+      where
+        by : (x : Bool) → (i == owner) ≡ x → (y : Bool) → (i == length names) ≡ y → (z : Bool) → nat_lt i (length names) ≡ z → P i
+        by true e y g z h = subst P (sym (eqb-true i owner e)) own
+        by false e true g z h = subst P (sym (eqb-true i (length names) g)) last
+        by false e false g true h = front i (grind (arith, nat_tests)) (λ y. false≢true (sym e ∙ eq-eqb i owner y))
+        by false e false g false h = past i (grind (arith, nat_tests))
+
+    node_last : node after (length names) ≡ leaf owner (suc (length (node nodes owner).places))
+    node_last = ap (node after) (sym f.nodes_len) ∙ a.here
+
+    node_past : (i : ℕ) → length names < i → node after i ≡ leaf 0 0
+    node_past i w = get_or-eq_default after (leaf 0 0) (omega (arith, w, a.len, f.nodes_len))
+
+    node_front : (i : ℕ) → i < length names → i ≢ owner → node after i ≡ node nodes i
+    node_front i w d = a.others i (λ y. absurd (omega (arith, w, y, f.nodes_len))) d
+
+    pub fits_pushed : 0 < room → Fits names' new after
+    fits_pushed some = record {
+      slots_len = length-push mid blank ∙ ap (λ x. x + 1) mid_len ∙ sym (length-push names c);
+      nodes_len = a.len ∙ ap (λ x. x + 1) f.nodes_len ∙ sym (length-push names c);
+      tree = tree;
+      root = key_front 0 (omega (arith, within)) ∙ f.root;
+      child = λ j k i q. ⊎_elim
+          (λ o. key_front i (child_in j k i o) ∙ f.child j k i o ∙ ap (λ x. suc k ∷ x) (sym (key_front j (parent_in j k i o))))
+          (λ o. get_or-last names c [] i (o.2 ∙ f.nodes_len) ∙ child ∙ ap₂ (λ x y. suc x ∷ y) (all_stand ∙ sym o.1) (sym named ∙ sym (key_front owner within) ∙ ap (key names') (sym o.0)))
+          (either j k i q);
+      distinct = distinct';
+      pending = node_kept (λ i. (node after i).pending ≡ is_pending (slot_at new i).kin)
+          (λ i w d. ap (λ n. n.pending) (node_front i w d) ∙ f.pending i ∙ ap is_pending (sym (kin_front i w)))
+          (ap (λ n. n.pending) a.above ∙ f.pending owner ∙ ap is_pending (sym (kin_front owner within)))
+          (ap (λ n. n.pending) node_last ∙ ap is_pending (sym (kin_past (length names) (omega arith))))
+          (λ i w. ap (λ n. n.pending) (node_past i w) ∙ ap is_pending (sym (kin_past i (omega (arith, w)))));
+      standing = λ j k i q. ⊎_elim
+          (λ o. ap is_some (kin_front i (child_in j k i o)) ∙ f.standing j k i o ∙ ap (λ x. nat_lt k (children_of x)) (sym (kin_front j (parent_in j k i o))))
+          (λ o. ap is_some (kin_past i (omega (arith, o.2, f.nodes_len))) ∙ not_below k (o.1 ∙ sym all_stand)
+          ∙ ap (nat_lt k) (sym (ap (λ x. children_of (slot_at new x).kin) o.0 ∙ ap children_of (kin_front owner within ∙ is_parent))))
+          (either j k i q);
+      enough = node_kept (λ j. children_of (slot_at new j).kin ≤ length (node after j).places)
+          (λ j w d. omega (arith, ap children_of (kin_front j w), f.enough j, ap (λ n. length n.places) (node_front j w d)))
+          (omega (arith, ap children_of (kin_front owner within), f.enough owner, ap (λ n. length n.places) a.above, length-push (node nodes owner).places (length nodes)))
+          (omega (arith, ap children_of (kin_past (length names) (omega arith))))
+          (λ j w. omega (arith, ap children_of (kin_past j (omega (arith, w)))));
+      rooms = node_kept (λ i. (slot_at new i).child_room ≤ (node after i).room)
+          (λ i w d. omega (arith, ap (λ s. s.child_room) (slot_front i w ∙ m.others i d), f.rooms i, ap (λ n. n.room) (node_front i w d)))
+          (omega (arith, ap (λ s. s.child_room) (slot_front owner within ∙ m.here), f.rooms owner, ap (λ n. n.room) a.above, was_room, some))
+          (omega (arith, ap (λ s. s.child_room) slot_last))
+          (λ i w. let far : length new ≤ i = omega (arith, w, length-push mid blank, mid_len) in omega (arith, ap (λ s. s.child_room) (get_or-eq_default new blank far)));
+    }
+      where
+        not_below : (k : ℕ) → k ≡ parent.children → false ≡ nat_lt k parent.children
+        not_below k e = grind (arith, nat_tests, e)
+
+    -- what is kept of each task is as before
+    pub pushed_kin : (u : Name) → kin (zip names' new) u ≡ kin (zip names old) u
+    pushed_kin u = by (slot (zip names old) u) refl
+      where
+        len' : length new ≡ length names'
+        len' = length-push mid blank ∙ ap (λ x. x + 1) mid_len ∙ sym (length-push names c)
+
+        by : (o : Option Slot) → slot (zip names old) u ≡ o → kin (zip names' new) u ≡ kin (zip names old) u
+        by (Some s) e =
+            let is = key_of_slot u names old s e in
+            ap kin_in (slot_of_key u names' new is.index distinct' len' (omega (arith, is.within, length-push names c)) (key_front is.index is.within ∙ is.named))
+            ∙ kin_front is.index is.within ∙ sym (ap kin_in (slot_of_key u names old is.index f.distinct f.slots_len is.within is.named))
+        by None e = now (slot (zip names' new) u) refl ∙ sym (ap kin_in e)
+          where
+            now : (o : Option Slot) → slot (zip names' new) u ≡ o → kin (zip names' new) u ≡ None
+            now None g = ap kin_in g
+            now (Some r) g =
+                let is = key_of_slot u names' new r g in
+                ⊎_elim
+                (λ w. let clash : Some (slot_at old is.index) ≡ None = sym (slot_of_key u names old is.index f.distinct f.slots_len w (sym (key_front is.index w) ∙ is.named)) ∙ e in absurd cc)
+                (λ l. ap kin_in g ∙ sym (ap (λ s. s.kin) is.holds) ∙ kin_past is.index l)
+                (within_by is.index (nat_lt is.index (length names)) refl)
+
+    pub pushed_names : KeepsNames (zip names old) (zip names' new)
+    pushed_names t h = by (slot (zip names old) t) refl
+      where
+        by : (o : Option Slot) → slot (zip names old) t ≡ o → is_known (zip names' new) t ≡ true
+        by None e = absurd (false≢true (sym (ap is_some e) ∙ h))
+        by (Some s) e =
+            let is = key_of_slot t names old s e in
+            ap is_some (slot_of_key t names' new is.index distinct' (length-push mid blank ∙ ap (λ x. x + 1) mid_len ∙ sym (length-push names c)) (omega (arith, is.within, length-push names c)) (key_front is.index is.within ∙ is.named))
+
+    pub pushed_key : key names' (length names) ≡ c
+    pushed_key = get_or-last names c [] (length names) refl
+
+-- a name that isn't there goes last
+pub inserted : (names after : List Name) (c : Name) → list_any (same_name c) names ≡ false → after ≡ cond (list_any (same_name c) names) names (names ++ c ∷ []) → after ≡ names ++ c ∷ []
+inserted names after c h e = e ∙ ap (λ b. cond b names (names ++ c ∷ [])) h
+
+pub none_known : (names : List Name) (slots : List Slot) (c : Name) → length slots ≡ length names → slot (zip names slots) c ≡ None → list_any (same_name c) names ≡ false
+none_known names slots c l e = known_any c names slots l ∙ ap is_some e
+
+-- a table with the same tasks comes to stand as the other
+pub adds_after : (a b d : Tasks) (p c : Name) → IsSame a b → Adds b p c d → Adds a p c d
+adds_after a b d p c s h u = h u ∙ ap (λ k. cond (same_name c u) (Some fresh) (cond (same_name p u) (option_map one_more k) k)) (s u)
+
+pub all_ok : {X E : Type 0} (P : Type 0) (r : Result X E) → IfOk r (λ _. P) → OnOk r P
+all_ok P (Ok x) h = h
+all_ok P (Err e) h = tt
+
+module _ (before : Table) (names : List Name) (old : List Slot) (nodes : Nodes) (room : ℕ) (v : record { tasks = zip names old; room = room } ≡ before) (f : Fits names old nodes) where
+  pub same_before : (after : Tasks) → IsSame (zip names old) after → IsSame before.tasks after
+  same_before after s = subst (λ b. IsSame b.tasks after) v s
+
+  pub names_before : (after : Tasks) → KeepsNames (zip names old) after → KeepsNames before.tasks after
+  names_before after s = subst (λ b. KeepsNames b.tasks after) v s
+
+  pub next_here : (p c : Name) (owner : ℕ) → Some owner ≡ position (same_name p) names → IsNext before.tasks p c → (k : Kin) × ((slot_at old owner).kin ≡ Some k) × (c ≡ suc k.children ∷ key names owner)
+  next_here p c owner e n =
+      (n.0, sym (ap kin_in (here_slot before names old nodes room v f p owner e)) ∙ n.1, n.2 ∙ ap (λ t. suc n.0.children ∷ t) (sym (at_key p names owner e).1))

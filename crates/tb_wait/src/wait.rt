@@ -1,6 +1,10 @@
 //! The table of waits.
 
 ghost use Rattle.std.specs.Prelude.{◌≡◌, ◌≢◌, ◌<◌, ◌≤◌, ◌-◌, ◌+◌, ℕ, [], ◌∷◌, true, false, OnOk, OnErr, IsOk, IfOk, Some, None, is_some, length, vec_capacity, suc, List, if◌then◌else◌};
+ghost use Rattle.std.specs.List.{zip};
+ghost use Rattle.indexmap.specs.IndexSet.{spare};
+ghost use Rattle.tb_wait.specs.Rows.{key, slot_at, Fits};
+ghost use Rattle.tb_wait.specs.Kin.{Kin, slot};
 ghost use Rattle.std.specs.Option.{option_copied, option_map};
 ghost use Rattle.tb_model.specs.Names.{same_name, child};
 ghost use Rattle.tb_model.specs.LeastNames.{IsLeastName};
@@ -8,9 +12,8 @@ ghost use Rattle.tb_wait.specs.Kin.{kin, fresh, with_over, opened_kin, unopened_
 
 use crate::node::Node;
 use crate::row::Row;
-use crate::rows;
-use crate::standing;
 use crate::tree::{self, set_pending};
+use crate::{rows, standing};
 use indexmap::IndexSet;
 use std::alloc::{AllocError, Global};
 use std::marker::Model;
@@ -152,11 +155,14 @@ impl Wait {
     {
         if let Some(owner) = self.names.get_index_of(parent) {
             let at = self.rows.len();
-            let room = rows::child_room(&self.rows, owner);
-            tree::add(&mut self.nodes, self.alloc, owner, number_of(&child));
-            rows::set_child_room(&mut self.rows, owner, room - 1);
-            rows::push(&mut self.rows, self.alloc);
-            self.names.insert(child).unwrap();
+            make_place(
+                &mut self.names,
+                &mut self.rows,
+                &mut self.nodes,
+                self.alloc,
+                owner,
+                child,
+            );
             self.room -= 1;
             standing::enter(&mut self.rows, &mut self.nodes, at);
         }
@@ -265,6 +271,39 @@ impl Wait {
             set_pending(&mut self.nodes, at, pending);
         }
     }
+}
+
+// A place for a child that was never there. It doesn't stand yet.
+fn make_place(
+    names: &mut IndexSet<TaskName>,
+    rows: &mut Vec<Row>,
+    nodes: &mut Vec<Node>,
+    alloc: Global,
+    owner: usize,
+    child: TaskName,
+)
+    requires fits { Fits names.old.keys rows.old.items nodes.old.items }
+    requires within { owner < length names.old.keys }
+    requires unknown { slot (zip names.old.keys rows.old.items) child ≡ None }
+    requires next { (k : Kin) × ((slot_at rows.old.items owner).kin ≡ Some k) × (child ≡ suc k.children ∷ key names.old.keys owner) }
+    requires child_room { 0 < (slot_at rows.old.items owner).child_room }
+    requires names_room { 0 < spare names.old }
+    requires rows_room { length rows.old.items < vec_capacity rows.old }
+    requires nodes_room { length nodes.old.items < vec_capacity nodes.old }
+    ensures fits { Fits names.new.keys rows.new.items nodes.new.items }
+    ensures same { IsSame (zip names.old.keys rows.old.items) (zip names.new.keys rows.new.items) }
+    ensures names { KeepsNames (zip names.old.keys rows.old.items) (zip names.new.keys rows.new.items) }
+    ensures named { key names.new.keys (length names.old.keys) ≡ child }
+    ensures len { length names.new.keys ≡ length names.old.keys + 1 }
+    ensures spare { spare names.old ≤ spare names.new + 1 }
+    ensures rows_capacity { vec_capacity rows.new ≡ vec_capacity rows.old }
+    ensures nodes_capacity { vec_capacity nodes.new ≡ vec_capacity nodes.old }
+{
+    let room = rows::child_room(rows, owner);
+    tree::add(nodes, alloc, owner, number_of(&child));
+    rows::set_child_room(rows, owner, room - 1);
+    rows::push(rows, alloc);
+    names.insert(child).unwrap();
 }
 
 // The task's number among the children of its parent.
