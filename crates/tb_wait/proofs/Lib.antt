@@ -3,3 +3,4 @@ pub mod TreeLemmas
 pub mod RowLemmas
 pub mod WaitLemmas
 pub mod SpawnLemmas
+pub mod SearchLemmas

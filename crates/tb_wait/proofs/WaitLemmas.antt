@@ -22,7 +22,7 @@ at_key t names i e =
     let p = position-Some (same_name t) names i [] (sym e) in
     (p.0, sym (same_true t (key names i) p.1))
 
-none_any : (t : Name) (names : List Name) → list_any (same_name t) names ≡ false → (i : ℕ) → i < length names → key names i ≡ t → ⊥
+pub none_any : (t : Name) (names : List Name) → list_any (same_name t) names ≡ false → (i : ℕ) → i < length names → key names i ≡ t → ⊥
 none_any t [] h i w e = absurd (omega (arith, w))
 none_any t (n ∷ names) h zero w e = false≢true (sym h ∙ or_left (same_name t n) _ (subst (λ x. same_name t x ≡ true) (sym e) (same_refl t)))
 none_any t (n ∷ names) h (suc i) w e = none_any t names (rest (same_name t n) _ h) i (omega (arith, w)) e

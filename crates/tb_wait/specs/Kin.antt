@@ -156,11 +156,10 @@ IsUnendedChild tasks t u = (is_child t u ≡ true) × IsUnended tasks u
 abbrev pub IsUnendedLater : Tasks → Name → ℕ → Name → Type 0
 IsUnendedLater tasks t n m = (is_later t n m ≡ true) × IsUnended tasks m
 
--- n is the first number
-abbrev pub Begins : ℕ → List ℕ → Type 0
-Begins n [] = ⊥
-Begins n (m ∷ ms) = n ≡ m
+abbrev pub first_of : List ℕ → Option ℕ
+first_of [] = None
+first_of (n ∷ ns) = Some n
 
 -- m is an unended member of t's innermost open group
 abbrev pub IsUnendedMember : Tasks → Name → Name → Type 0
-IsUnendedMember tasks t m = (k : Kin) × (n : ℕ) × (kin tasks t ≡ Some k) × Begins n k.groups × IsUnendedLater tasks t n m
+IsUnendedMember tasks t m = (k : Kin) × (n : ℕ) × (kin tasks t ≡ Some k) × (first_of k.groups ≡ Some n) × IsUnendedLater tasks t n m

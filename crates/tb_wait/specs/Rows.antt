@@ -1,6 +1,7 @@
 -- How the names, the rows of the table and the nodes of the tree fit. No public clause cites this module.
-use Rattle.std.specs.Prelude.{◌≡◌, ◌≢◌, ◌<◌, ◌≤◌, ℕ, suc, Bool, true, false, not, List, [], ◌∷◌, Option, Some, None, is_some, length, nat_lt, slice_index_or}
+use Rattle.std.specs.Prelude.{◌≡◌, ◌≢◌, ◌<◌, ◌≤◌, ◌++◌, ℕ, suc, Bool, true, false, not, List, [], ◌∷◌, Option, Some, None, is_some, length, nat_lt, slice_index_or}
 use Rattle.tb_model.specs.Names.{Name}
+use Rattle.tb_model.specs.LeastNames.{IsAtMost}
 use Rattle.std.specs.Option.{option_map}
 use Rattle.tb_wait.specs.Kin.{Kin, Slot, with_children}
 use Rattle.tb_wait.specs.Tree.{Nodes, node, IsPlace, IsTree}
@@ -56,3 +57,8 @@ pub record SetsStanding (old : List Slot) (at owner : ℕ) (k : Option Kin) (chi
   pub here : slot_at new at ≡ record (slot_at old at) { kin = k }
   pub above : slot_at new owner ≡ record (slot_at old owner) { kin = option_map (with_children children) (slot_at old owner).kin }
   pub others : (i : ℕ) → i ≢ at → i ≢ owner → slot_at new i ≡ slot_at old i
+
+-- the task at i is the least within the one at `start` that stands and hasn't ended
+pub record IsFirstWithin (names : List Name) (nodes : Nodes) (start i : ℕ) : Type 0 where
+  pub below : (x : Name) × (key names i ≡ x ++ key names start)
+  pub least : (j : ℕ) (x : Name) → j < length names → key names j ≡ x ++ key names start → (node nodes j).pending ≡ true → IsAtMost (key names i) (key names j)

@@ -104,3 +104,12 @@ pub record SameButRoom (old new : Nodes) : Type 0 where
   pub len : length new ≡ length old
   pub same : (i : ℕ) → node new i ≡ record (node old i) { room = (node new i).room }
   pub keeps : (i : ℕ) → (node old i).room ≤ (node new i).room
+
+-- o is the first child of the node at j, from the (low + 1)th on, whose node passes, and None exactly where none does
+pub record IsFirstPlace (nodes : Nodes) (j low : ℕ) (test : Node → Bool) (o : Option ℕ) : Type 0 where
+  pub found : (i : ℕ) → o ≡ Some i → (k : ℕ) × (low ≤ k) × IsPlace nodes j k i × (test (node nodes i) ≡ true)
+  pub least : (k i : ℕ) → low ≤ k → IsPlace nodes j k i → test (node nodes i) ≡ true → (m c : ℕ) × (o ≡ Some c) × IsPlace nodes j m c × (m ≤ k)
+
+-- the node's own task stands and hasn't ended
+abbrev pub is_own : Node → Bool
+is_own n = n.pending

@@ -5,6 +5,7 @@ mod node;
 mod numbers;
 mod row;
 mod rows;
+mod search;
 mod standing;
 mod tree;
 mod wait;

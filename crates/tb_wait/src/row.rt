@@ -3,7 +3,7 @@
 ghost use Rattle.std.specs.Prelude.{◌≡◌, ◌≢◌, ◌<◌, ◌≤◌, ◌-◌, ◌+◌, [], OnOk, OnErr, IsOk, Some, None, is_some, reverse};
 ghost use Rattle.tb_wait.specs.Rows.{blank, is_pending, children_of, groups_of};
 ghost use Rattle.std.specs.Option.{option_map};
-ghost use Rattle.tb_wait.specs.Kin.{fresh, with_over, with_children, opened_kin, unopened_kin, closed_kin, unclosed_kin};
+ghost use Rattle.tb_wait.specs.Kin.{fresh, with_over, with_children, opened_kin, unopened_kin, closed_kin, unclosed_kin, first_of, Kin};
 
 use std::alloc::{AllocError, Global};
 use std::marker::Model;
@@ -80,6 +80,20 @@ impl Row {
         ensures { result.now ≡ reverse (groups_of self.now.kin) }
     {
         self.groups.as_slice()
+    }
+
+    /// What that number was at the beginning of the innermost open group.
+    pub fn innermost(&self) -> Option<u32>
+        ensures { result ≡ first_of (groups_of self.now.kin) }
+    {
+        self.groups.as_slice().last().copied()
+    }
+
+    /// Whether it is over, where it stands.
+    pub fn is_over(&self) -> Option<bool>
+        ensures { result ≡ option_map (λ (k : Kin). k.over) self.now.kin }
+    {
+        self.stands.then_some(self.over)
     }
 
     /// The task stands from now on.

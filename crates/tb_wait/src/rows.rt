@@ -2,7 +2,7 @@
 
 ghost use Rattle.std.specs.Prelude.{◌≡◌, ◌≢◌, ◌<◌, ◌≤◌, ◌-◌, [], ◌∷◌, ◌++◌, OnOk, OnErr, IsOk, IfOk, Some, None, is_some, length, vec_capacity};
 ghost use Rattle.std.specs.Option.{option_map};
-ghost use Rattle.tb_wait.specs.Kin.{with_over, with_children, opened_kin, unopened_kin, closed_kin, unclosed_kin, fresh};
+ghost use Rattle.tb_wait.specs.Kin.{with_over, with_children, opened_kin, unopened_kin, closed_kin, unclosed_kin, fresh, first_of, Kin};
 ghost use Rattle.tb_wait.specs.Rows as Rows;
 ghost use Rattle.tb_wait.specs.Rows.{blank, slot_at, groups_of, ChangesSlot, SetsStanding};
 
@@ -178,4 +178,32 @@ pub fn root_rows(alloc: Global) -> Result<Vec<Row>, AllocError>
     row.appear();
     rows.push_reserved(row);
     Ok(rows)
+}
+
+/// Whether the task is over, where it stands.
+#[tactic(auto, using(crate::proofs::RowLemmas::shown))]
+pub fn is_over(rows: &Vec<Row>, at: usize) -> Option<bool>
+    requires { at < length rows.now.items }
+    ensures { result ≡ option_map (λ (k : Kin). k.over) (slot_at rows.now.items at).kin }
+{
+    rows[at].is_over()
+}
+
+/// The number of the task's last child, where it stands.
+#[tactic(auto, using(crate::proofs::RowLemmas::shown))]
+pub fn children(rows: &Vec<Row>, at: usize) -> Option<u32>
+    requires { at < length rows.now.items }
+    ensures { result ≡ option_map (λ (k : Kin). k.children) (slot_at rows.now.items at).kin }
+{
+    let row = &rows[at];
+    row.stands().then_some(row.children())
+}
+
+/// What the number of its last child was at the beginning of the innermost open group.
+#[tactic(auto, using(crate::proofs::RowLemmas::shown))]
+pub fn innermost(rows: &Vec<Row>, at: usize) -> Option<u32>
+    requires { at < length rows.now.items }
+    ensures { result ≡ first_of (groups_of (slot_at rows.now.items at).kin) }
+{
+    rows[at].innermost()
 }

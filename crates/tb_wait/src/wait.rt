@@ -13,7 +13,7 @@ ghost use Rattle.tb_wait.specs.Kin.{kin, fresh, with_over, opened_kin, unopened_
 use crate::node::Node;
 use crate::row::Row;
 use crate::tree::{self, set_pending};
-use crate::{rows, standing};
+use crate::{rows, search, standing};
 use indexmap::IndexSet;
 use std::alloc::{AllocError, Global};
 use std::marker::Model;
@@ -259,6 +259,56 @@ impl Wait {
         if let Some(at) = self.names.get_index_of(task) {
             rows::unclose(&mut self.rows, at);
         }
+    }
+
+    /// The least child of the task that stands and isn't over.
+    pub fn first_child(&self, task: &TaskName) -> Option<&TaskName>
+        ensures { IsLeastName (IsUnendedChild self.now.tasks task.now) (option_copied result) }
+    {
+        let Some(at) = self.names.get_index_of(task) else {
+            return None;
+        };
+        let Some(first) = search::first_unended(&self.nodes, at) else {
+            return None;
+        };
+        self.names.get_index(first)
+    }
+
+    /// The least member of the task's innermost open group that stands and isn't over.
+    pub fn first_member(&self, task: &TaskName) -> Option<&TaskName>
+        ensures { IsLeastName (IsUnendedMember self.now.tasks task.now) (option_copied result) }
+    {
+        let Some(at) = self.names.get_index_of(task) else {
+            return None;
+        };
+        let Some(from) = rows::innermost(&self.rows, at) else {
+            return None;
+        };
+        let Some(child) = search::first_live(&self.nodes, at, from) else {
+            return None;
+        };
+        let first = search::first_within(&self.nodes, child);
+        self.names.get_index(first)
+    }
+
+    /// What is kept of the task: whether it is over.
+    pub fn is_over(&self, task: &TaskName) -> Option<bool>
+        ensures { result ≡ option_map (λ (k : Kin). k.over) (kin self.now.tasks task.now) }
+    {
+        let Some(at) = self.names.get_index_of(task) else {
+            return None;
+        };
+        rows::is_over(&self.rows, at)
+    }
+
+    /// How many children the task generated.
+    pub fn children(&self, task: &TaskName) -> Option<u32>
+        ensures { result ≡ option_map (λ (k : Kin). k.children) (kin self.now.tasks task.now) }
+    {
+        let Some(at) = self.names.get_index_of(task) else {
+            return None;
+        };
+        rows::children(&self.rows, at)
     }
 
     fn set_over(&mut self, task: &TaskName, over: bool)
