@@ -1,12 +1,12 @@
 -- The rows, by index and by name.
-use Rattle.std.proofs.Common.{◌≡◌, ◌≢◌, ℕ, zero, suc, ◌+◌, ◌-◌, ◌<◌, ◌≤◌, List, [], ◌∷◌, Bool, true, false, not, cond, ◌&&◌, ◌||◌, ◌==◌, nat_eq, nat_lt, Option, Some, None, is_some, option_map, length, slice_get, get_or, refl, sym, ap, ap₂, ◌∙◌, subst, arith, eqb-true, eq-eqb, ne_eqb}
+use Rattle.std.proofs.Common.{◌≡◌, ◌≢◌, ℕ, zero, suc, ◌+◌, ◌-◌, ◌<◌, ◌≤◌, List, [], ◌∷◌, Bool, true, false, not, cond, ◌&&◌, ◌||◌, ◌==◌, nat_eq, nat_lt, Option, Some, None, is_some, option_map, length, slice_get, get_or, refl, sym, ap, ap₂, ◌∙◌, subst, arith, eqb-true, eq-eqb, ne_eqb, reverse, eqb}
 use Rattle.std.specs.List.{zip, position}
 use Rattle.std.specs.Map.{lookup}
-use Rattle.std.proofs.lemmas.List.{get_or_default}
+use Rattle.std.proofs.lemmas.List.{get_or_default, length-reverse}
 use Rattle.std.proofs.lemmas.Bool.{false≢true}
 use Rattle.tb_model.specs.Names.{Name, same_name}
 use Rattle.tb_model.proofs.TestLemmas.{same_true, same_refl}
-use Rattle.tb_wait.specs.Kin.{Kin, Slot, Tasks, Table, slot, kin, kin_in, is_known, Changes, KeepsRoom, KeepsNames, IsRoomIn, with_children}
+use Rattle.tb_wait.specs.Kin.{Kin, Slot, Tasks, Table, slot, kin, kin_in, is_known, Changes, KeepsRoom, KeepsNames, IsRoomIn, with_children, is_none}
 use Rattle.tb_wait.specs.Rows.{blank, key, slot_at, is_pending, children_of, ChangesSlot, SetsStanding, Fits}
 use Rattle.tb_wait.specs.Tree.{Nodes, node, IsTree, IsPlace, SameLinks}
 
@@ -230,3 +230,11 @@ same_names names old new d l m t h = by (slot (zip names old) t) refl
     by : (o : Option Slot) → slot (zip names old) t ≡ o → is_known (zip names new) t ≡ true
     by None e = absurd (false≢true (sym (ap is_some e) ∙ h))
     by (Some s) e = let is = key_of_slot t names old s e in ap is_some (slot_of_key t names new is.index d m is.within is.named)
+
+-- a list is empty just where it is so backwards
+pub is_none_reverse : (xs : List ℕ) → is_none (reverse xs) ≡ eqb (length xs) 0
+is_none_reverse xs = by (reverse xs) (length-reverse xs)
+  where
+    by : (ys : List ℕ) → length ys ≡ length xs → is_none ys ≡ eqb (length xs) 0
+    by [] e = sym (eq-eqb (length xs) 0 (sym e))
+    by (y ∷ ys) e = sym (ne_eqb (length xs) 0 (λ z. omega (arith, e, z)))

@@ -391,3 +391,16 @@ module _ (before : Table) (names : List Name) (old : List Slot) (nodes : Nodes) 
   pub next_here : (p c : Name) (owner : ℕ) → Some owner ≡ position (same_name p) names → IsNext before.tasks p c → (k : Kin) × ((slot_at old owner).kin ≡ Some k) × (c ≡ suc k.children ∷ key names owner)
   next_here p c owner e n =
       (n.0, sym (ap kin_in (here_slot before names old nodes room v f p owner e)) ∙ n.1, n.2 ∙ ap (λ t. suc n.0.children ∷ t) (sym (at_key p names owner e).1))
+
+-- ---- what a task that stands says of its children
+
+pub kin_from_children : (o : Option Kin) (n : ℕ) → Some n ≡ option_map (λ (k : Kin). k.children) o → (k : Kin) × (o ≡ Some k) × (k.children ≡ n)
+kin_from_children None n e = cc
+kin_from_children (Some k) n e = (k, refl, cc)
+
+-- the child behind the last is the next
+pub next_from_children : (tasks : Tasks) (p c : Name) (n : ℕ) → Some n ≡ option_map (λ (k : Kin). k.children) (kin tasks p) → c ≡ (n + 1) ∷ p → IsNext tasks p c
+next_from_children tasks p c n e h =
+    let k = kin_from_children (kin tasks p) n e in
+    let number : n + 1 ≡ suc k.0.children = omega (arith, k.2) in
+    (k.0, k.1, h ∙ ap (λ m. m ∷ p) number)

@@ -1,5 +1,5 @@
 -- What a contract sees of the table of waits: what it keeps of each task that stands.
-use Rattle.std.specs.Prelude.{◌≡◌, ◌≢◌, ◌<◌, ◌≤◌, ◌-◌, ◌⊎◌, ℕ, suc, Bool, true, false, not, ◌&&◌, List, [], ◌∷◌, Option, Some, None, is_some, if◌then◌else◌}
+use Rattle.std.specs.Prelude.{◌≡◌, ◌≢◌, ◌<◌, ◌≤◌, ◌-◌, ◌⊎◌, ℕ, suc, Bool, true, false, not, ◌&&◌, List, [], ◌∷◌, Option, Some, None, is_some, if◌then◌else◌, ◌==◌}
 use Rattle.std.specs.Option.{option_map}
 use Rattle.std.specs.Map.{lookup}
 use Rattle.tb_model.specs.Names.{Name, same_name, is_child}
@@ -141,6 +141,15 @@ HasRoomFor w p c = (is_known w.tasks c ≡ true) ⊎ ((0 < w.room) × HasChildRo
 -- t stands in an open group
 abbrev pub HasOpenGroup : Tasks → Name → Type 0
 HasOpenGroup tasks t = (k : Kin) × (kin tasks t ≡ Some k) × (k.groups ≢ [])
+
+abbrev pub is_none : List ℕ → Bool
+is_none [] = true
+is_none (n ∷ ns) = false
+
+-- the task stands, and nothing is kept of it yet
+abbrev pub is_fresh : Option Kin → Bool
+is_fresh None = false
+is_fresh (Some k) = (not k.over && (k.children == 0)) && (is_none k.groups && is_none k.shut)
 
 -- ---- who isn't done
 

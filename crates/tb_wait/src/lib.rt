@@ -7,6 +7,8 @@ mod row;
 mod rows;
 mod search;
 mod standing;
+#[cfg(test)]
+mod tests;
 mod tree;
 mod wait;
 

@@ -3,7 +3,7 @@
 ghost use Rattle.std.specs.Prelude.{◌≡◌, ◌≢◌, ◌<◌, ◌≤◌, ◌-◌, ◌+◌, [], OnOk, OnErr, IsOk, Some, None, is_some, reverse};
 ghost use Rattle.tb_wait.specs.Rows.{blank, is_pending, children_of, groups_of};
 ghost use Rattle.std.specs.Option.{option_map};
-ghost use Rattle.tb_wait.specs.Kin.{fresh, with_over, with_children, opened_kin, unopened_kin, closed_kin, unclosed_kin, first_of, Kin};
+ghost use Rattle.tb_wait.specs.Kin.{fresh, with_over, with_children, opened_kin, unopened_kin, closed_kin, unclosed_kin, first_of, is_fresh, Kin};
 
 use std::alloc::{AllocError, Global};
 use std::marker::Model;
@@ -87,6 +87,15 @@ impl Row {
         ensures { result ≡ first_of (groups_of self.now.kin) }
     {
         self.groups.as_slice().last().copied()
+    }
+
+    /// Whether it stands, and nothing is kept of it yet.
+    #[tactic(auto, using(crate::proofs::RowLemmas::is_none_reverse))]
+    pub fn is_fresh(&self) -> bool
+        ensures { result ≡ is_fresh self.now.kin }
+    {
+        let no_group = self.groups.is_empty() && self.shut.is_empty();
+        self.stands && !self.over && self.children == 0 && no_group
     }
 
     /// Whether it is over, where it stands.

@@ -1,8 +1,8 @@
 //! The rows of the table, by index.
 
-ghost use Rattle.std.specs.Prelude.{◌≡◌, ◌≢◌, ◌<◌, ◌≤◌, ◌-◌, [], ◌∷◌, ◌++◌, OnOk, OnErr, IsOk, IfOk, Some, None, is_some, length, vec_capacity};
+ghost use Rattle.std.specs.Prelude.{◌≡◌, ◌≢◌, ◌<◌, ◌≤◌, ◌-◌, [], ◌∷◌, ◌++◌, OnOk, OnErr, IsOk, IfOk, Some, None, is_some, length, vec_capacity, reverse};
 ghost use Rattle.std.specs.Option.{option_map};
-ghost use Rattle.tb_wait.specs.Kin.{with_over, with_children, opened_kin, unopened_kin, closed_kin, unclosed_kin, fresh, first_of, Kin};
+ghost use Rattle.tb_wait.specs.Kin.{with_over, with_children, opened_kin, unopened_kin, closed_kin, unclosed_kin, fresh, first_of, is_fresh, Kin};
 ghost use Rattle.tb_wait.specs.Rows as Rows;
 ghost use Rattle.tb_wait.specs.Rows.{blank, slot_at, groups_of, ChangesSlot, SetsStanding};
 
@@ -206,4 +206,22 @@ pub fn innermost(rows: &Vec<Row>, at: usize) -> Option<u32>
     ensures { result ≡ first_of (groups_of (slot_at rows.now.items at).kin) }
 {
     rows[at].innermost()
+}
+
+/// Whether the task stands, and nothing is kept of it yet.
+#[tactic(auto, using(crate::proofs::RowLemmas::shown))]
+pub fn is_fresh(rows: &Vec<Row>, at: usize) -> bool
+    requires { at < length rows.now.items }
+    ensures { result ≡ is_fresh (slot_at rows.now.items at).kin }
+{
+    rows[at].is_fresh()
+}
+
+/// What the number of its last child was at the beginning of each open group, the outermost first.
+#[tactic(auto, using(crate::proofs::RowLemmas::shown))]
+pub fn groups(rows: &Vec<Row>, at: usize) -> &[u32]
+    requires { at < length rows.now.items }
+    ensures { result.now ≡ reverse (groups_of (slot_at rows.now.items at).kin) }
+{
+    rows[at].groups()
 }

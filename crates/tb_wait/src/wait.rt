@@ -1,14 +1,14 @@
 //! The table of waits.
 
-ghost use Rattle.std.specs.Prelude.{◌≡◌, ◌≢◌, ◌<◌, ◌≤◌, ◌-◌, ◌+◌, ℕ, [], ◌∷◌, true, false, OnOk, OnErr, IsOk, IfOk, Some, None, is_some, length, vec_capacity, suc, List, if◌then◌else◌};
+ghost use Rattle.std.specs.Prelude.{◌≡◌, ◌≢◌, ◌<◌, ◌≤◌, ◌-◌, ◌+◌, ℕ, [], ◌∷◌, true, false, OnOk, OnErr, IsOk, IfOk, Some, None, is_some, length, vec_capacity, suc, List, if◌then◌else◌, reverse};
 ghost use Rattle.std.specs.List.{zip};
 ghost use Rattle.indexmap.specs.IndexSet.{spare};
-ghost use Rattle.tb_wait.specs.Rows.{key, slot_at, Fits};
+ghost use Rattle.tb_wait.specs.Rows.{key, slot_at, groups_of, Fits};
 ghost use Rattle.tb_wait.specs.Kin.{Kin, slot};
 ghost use Rattle.std.specs.Option.{option_copied, option_map};
 ghost use Rattle.tb_model.specs.Names.{same_name, child};
 ghost use Rattle.tb_model.specs.LeastNames.{IsLeastName};
-ghost use Rattle.tb_wait.specs.Kin.{kin, fresh, with_over, opened_kin, unopened_kin, closed_kin, unclosed_kin, Changes, IsSame, KeepsNames, KeepsRoom, HasGroupRoom, HasChildRoom, HasRoomFor, HasOpenGroup, is_known, Adds, Drops, IsNext, IsLast, IsUnendedChild, IsUnendedMember};
+ghost use Rattle.tb_wait.specs.Kin.{kin, fresh, with_over, opened_kin, unopened_kin, closed_kin, unclosed_kin, Changes, IsSame, KeepsNames, KeepsRoom, HasGroupRoom, HasChildRoom, HasRoomFor, HasOpenGroup, is_known, Adds, Drops, IsNext, IsLast, is_fresh, IsUnendedChild, IsUnendedMember};
 
 use crate::node::Node;
 use crate::row::Row;
@@ -309,6 +309,27 @@ impl Wait {
             return None;
         };
         rows::children(&self.rows, at)
+    }
+
+    /// Whether the task stands and nothing is kept of it yet, so that its spawn can be undone.
+    pub fn is_fresh(&self, task: &TaskName) -> bool
+        ensures { result ≡ is_fresh (kin self.now.tasks task.now) }
+    {
+        let Some(at) = self.names.get_index_of(task) else {
+            return false;
+        };
+        rows::is_fresh(&self.rows, at)
+    }
+
+    /// For each open group of the task, the outermost first, how many children it had generated at
+    /// the group's beginning. A task that doesn't stand has none.
+    pub fn groups(&self, task: &TaskName) -> &[u32]
+        ensures { result.now ≡ reverse (groups_of (kin self.now.tasks task.now)) }
+    {
+        let Some(at) = self.names.get_index_of(task) else {
+            return &[];
+        };
+        rows::groups(&self.rows, at)
     }
 
     fn set_over(&mut self, task: &TaskName, over: bool)

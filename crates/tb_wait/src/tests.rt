@@ -1,0 +1,272 @@
+//! The table beside a plain list of the tasks with what each did.
+
+use crate::Wait;
+use std::alloc::AllocError;
+use std::test::Fail;
+use tb_model::TaskName;
+
+#[derive(Clone, Copy, Drop, PartialEq, Eq)]
+enum Act {
+    Spawn(u32),
+    Open,
+    Close,
+    End,
+}
+
+/// A task that stands, and what it did, the newest last.
+#[derive(Drop)]
+struct Task {
+    name: TaskName,
+    acts: Vec<Act>,
+}
+
+// The next number of a fixed row without a pattern.
+fn next(seed: u64) -> u64 {
+    seed.wrapping_mul(6364136223846793005)
+        .wrapping_add(1442695040888963407)
+}
+
+fn is_over(task: &Task) -> bool {
+    matches!(task.acts.as_slice(), [.., Act::End])
+}
+
+// How many acts stand behind the beginning of the innermost open group.
+fn acts_inside(acts: &[Act]) -> Option<usize> {
+    let mut closed = 0usize;
+    let mut count = 0usize;
+    for act in acts.iter().rev() {
+        match *act {
+            Act::Close => closed = closed.wrapping_add(1),
+            Act::Open => {
+                if closed == 0 {
+                    return Some(count);
+                }
+                closed = closed.wrapping_sub(1);
+            }
+            _ => {}
+        }
+        count = count.wrapping_add(1);
+    }
+    None
+}
+
+// Whether the name is within a child that the task generated in its innermost open group.
+fn is_member(task: &Task, name: &TaskName) -> Result<bool, AllocError> {
+    let acts = task.acts.as_slice();
+    let Some(count) = acts_inside(acts) else {
+        return Ok(false);
+    };
+    for act in acts.iter().rev().take(count) {
+        if let Act::Spawn(n) = *act {
+            if n > 0 && name.is_within(&task.name.child(n)?) {
+                return Ok(true);
+            }
+        }
+    }
+    Ok(false)
+}
+
+fn plain_child(tasks: &[Task], task: &Task) -> Option<usize> {
+    let mut best: Option<usize> = None;
+    for (i, other) in tasks.iter().enumerate() {
+        if task.name.is_parent_of(&other.name) && !is_over(other) {
+            best = lesser(tasks, i, best);
+        }
+    }
+    best
+}
+
+fn plain_member(tasks: &[Task], task: &Task) -> Result<Option<usize>, AllocError> {
+    let mut best: Option<usize> = None;
+    for (i, other) in tasks.iter().enumerate() {
+        if is_member(task, &other.name)? && !is_over(other) {
+            best = lesser(tasks, i, best);
+        }
+    }
+    Ok(best)
+}
+
+// The place of the lesser name.
+fn lesser(tasks: &[Task], i: usize, best: Option<usize>) -> Option<usize> {
+    let Some(b) = best else {
+        return Some(i);
+    };
+    match (tasks.get(i), tasks.get(b)) {
+        (Some(new), Some(old)) if new.name < old.name => Some(i),
+        _ => best,
+    }
+}
+
+fn is_name(found: Option<&TaskName>, tasks: &[Task], plain: Option<usize>) -> bool {
+    match (found, plain) {
+        (None, None) => true,
+        (Some(name), Some(i)) => matches!(tasks.get(i), Some(task) if task.name == *name),
+        _ => false,
+    }
+}
+
+// The parent generates its next child, up to its fourth.
+fn spawn(table: &mut Wait, parent: &TaskName) -> Result<Option<TaskName>, AllocError> {
+    let Some(n) = table.children(parent) else {
+        return Ok(None);
+    };
+    if n > 3 {
+        return Ok(None);
+    }
+    let child = parent.child(n + 1)?;
+    let name = child.clone()?;
+    table.reserve_spawned(parent, &child)?;
+    table.spawned(parent, child)?;
+    Ok(Some(name))
+}
+
+// The parent's last spawn is undone, where its child has done nothing.
+fn unspawn(table: &mut Wait, parent: &TaskName) -> Result<bool, AllocError> {
+    let Some(n) = table.children(parent) else {
+        return Ok(false);
+    };
+    if n == 0 {
+        return Ok(false);
+    }
+    let child = parent.child(n)?;
+    if !table.is_fresh(&child) {
+        return Ok(false);
+    }
+    table.unspawned(parent, &child);
+    Ok(true)
+}
+
+// The task takes its next act, or undoes its newest.
+fn change(table: &mut Wait, tasks: &mut Vec<Task>, seed: u64) -> Result<(), AllocError> {
+    let len = tasks.len() as u64;
+    if len == 0 {
+        return Ok(());
+    }
+    let which = ((seed >> 20) % len) as usize;
+    let Some(task) = tasks.get_mut(which) else {
+        return Ok(());
+    };
+    let name = task.name.clone()?;
+    if (seed >> 40) % 4 == 0 {
+        return undo(table, tasks, which, &name);
+    }
+    if is_over(task) {
+        return Ok(());
+    }
+    match (seed >> 50) % 8 {
+        0 => {
+            table.ended(&name);
+            task.acts.push(Act::End)?;
+        }
+        1 => {
+            table.reserve_opened(&name)?;
+            table.opened(&name)?;
+            task.acts.push(Act::Open)?;
+        }
+        2 => {
+            if acts_inside(task.acts.as_slice()).is_some() {
+                table.closed(&name);
+                task.acts.push(Act::Close)?;
+            }
+        }
+        _ => {
+            if let Some(child) = spawn(table, &name)? {
+                let n = match child.numbers() {
+                    [n, ..] => *n,
+                    [] => 0,
+                };
+                task.acts.push(Act::Spawn(n))?;
+                let acts = Vec::new(*task.acts.allocator());
+                tasks.push(Task { name: child, acts })?;
+            }
+        }
+    }
+    Ok(())
+}
+
+fn undo(
+    table: &mut Wait,
+    tasks: &mut Vec<Task>,
+    which: usize,
+    name: &TaskName,
+) -> Result<(), AllocError> {
+    let Some(task) = tasks.get_mut(which) else {
+        return Ok(());
+    };
+    match task.acts.as_slice() {
+        [.., Act::End] => table.unended(name),
+        [.., Act::Open] => table.unopened(name),
+        [.., Act::Close] => table.unclosed(name),
+        [.., Act::Spawn(n)] => {
+            let n = *n;
+            if n == 0 || !unspawn(table, name)? {
+                return Ok(());
+            }
+            let _spawn = task.acts.pop();
+            let child = name.child(n)?;
+            tasks.retain(|other| other.name != child);
+            return Ok(());
+        }
+        [] => return Ok(()),
+    }
+    let _act = task.acts.pop();
+    Ok(())
+}
+
+#[test]
+fn the_least_unended_child_and_member_are_named(rt: HostRuntime) -> Result<(), Fail> {
+    let alloc = rt.alloc();
+    for round in 0..200u64 {
+        let mut seed = next(round);
+        let mut table = Wait::open(alloc)?;
+        let mut tasks = Vec::new(alloc);
+        let acts = Vec::new(alloc);
+        tasks.push(Task {
+            name: TaskName::root(alloc),
+            acts,
+        })?;
+        for _ in 0..60 {
+            seed = next(seed);
+            change(&mut table, &mut tasks, seed)?;
+            let all = tasks.as_slice();
+            for task in all {
+                let child = plain_child(all, task);
+                assert!(rt; is_name(table.first_child(&task.name), all, child));
+                let member = plain_member(all, task)?;
+                assert!(rt; is_name(table.first_member(&task.name), all, member));
+                assert_eq!(rt; table.is_over(&task.name), Some(is_over(task)));
+            }
+        }
+    }
+    Ok(())
+}
+
+/// A call that was refused changes nothing, and made again it answers as it would have at first.
+#[test]
+fn a_refused_growth_changes_nothing(rt: HostRuntime) -> Result<(), Fail> {
+    let alloc = rt.alloc();
+    let mut table = match Wait::open(alloc) {
+        Ok(table) => table,
+        Err(_) => Wait::open(alloc)?,
+    };
+    let mut task = TaskName::root(alloc);
+    for _ in 0..5 {
+        for n in 0..4u32 {
+            if spawn(&mut table, &task).is_err() {
+                assert_eq!(rt; table.children(&task), Some(n));
+                assert!(rt; spawn(&mut table, &task)?.is_some());
+            }
+            assert_eq!(rt; table.children(&task), Some(n.wrapping_add(1)));
+            let groups = table.groups(&task).len();
+            if table.opened(&task).is_err() {
+                assert_eq!(rt; table.groups(&task).len(), groups);
+                table.opened(&task)?;
+            }
+            assert_eq!(rt; table.groups(&task).len(), groups.wrapping_add(1));
+        }
+        let child = task.child(4)?;
+        assert!(rt; table.first_child(&task) == Some(&task.child(1)?));
+        task = child;
+    }
+    Ok(())
+}
