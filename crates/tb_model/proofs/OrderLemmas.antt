@@ -40,6 +40,6 @@ at_most_later t x y m n h e =
     let ends = λ (z : Name) (k : ℕ). reverse-append z (k ∷ []) in
     let less : slice_cmp nat_cmp (m ∷ reverse x) (n ∷ reverse y) ≡ Less = rw (lesser_number m n h) refl in
     let is : name_cmp (x ++ m ∷ t) (y ++ n ∷ t) ≡ Less =
-        sym (ap₂ name_cmp (split x m) (split y n)) ∙ name_cmp-below t (x ++ m ∷ []) (y ++ n ∷ [])
-        ∙ ap₂ (slice_cmp nat_cmp) (ends x m) (ends y n) ∙ less in
+    sym (ap₂ name_cmp (split x m) (split y n)) ∙ name_cmp-below t (x ++ m ∷ []) (y ++ n ∷ [])
+    ∙ ap₂ (slice_cmp nat_cmp) (ends x m) (ends y n) ∙ less in
     cc
