@@ -5,9 +5,9 @@
 
 Each text comes with 6,553 and with 65,536 lines, the most that a program can have. It is read whole, and
 its program is written out, or it has a fault in its last line alone: so the first also pays for the
-instructions and for printing them. A run reads ten copies of the longer text, or a hundred of the
-shorter, and the best of seven runs counts, by the processor's time. Memory is that of a run on one
-copy; a run can't show less than the 10 MB of this script, from which it begins.
+instructions and for printing them. A run reads ten copies of a text, and the best of seven runs
+counts, by the processor's time, the program's start included. Memory is that of a run on one copy; a
+run can't show less than the 10 MB of this script, from which it begins.
 """
 import os
 import sys
@@ -31,11 +31,11 @@ def nested(lines):
 
 
 def bodies(lines):
-    """A thousand bodies, as far as there are lines for them."""
-    count = min(1000, lines // 16)
-    parts = [of_lines(STATEMENTS, lines - (count - 1) * (lines // count))]
+    """About a thousand bodies, or a hundred, of 66 lines each."""
+    count = lines // 66
+    parts = [of_lines(STATEMENTS, lines - (count - 1) * 66)]
     for n in range(1, count):
-        parts.append(b'body b%d 0\n' % n + b'  print 1\n' * (lines // count - 2) + END)
+        parts.append(b'body b%d 0\n' % n + b'  print 1\n' * 64 + END)
     return b''.join(parts)
 
 
@@ -43,7 +43,7 @@ TEXTS = [
     ('statements', lambda lines: of_lines(STATEMENTS, lines)),
     ('tasks and waits', lambda lines: of_lines(TASKS, lines)),
     ('nested ifs', nested),
-    ('a thousand bodies', bodies),
+    ('many bodies', bodies),
     ('comments', lambda lines: of_lines([b'# ' + b'y' * 60 + b'\n'], lines)),
 ]
 
@@ -82,13 +82,13 @@ def run(program, path):
 
 
 def report(program, name, how, text_of, folder):
-    sizes = [(6553, 100), (65536, 10)]
-    paths = [os.path.join(folder, str(lines)) for lines, _ in sizes]
-    for path, (lines, copies) in zip(paths, sizes):
-        prepare(path, text_of, lines, copies)
+    sizes = [6553, 65536]
+    paths = [os.path.join(folder, str(lines)) for lines in sizes]
+    for path, lines in zip(paths, sizes):
+        prepare(path, text_of, lines, 10)
     rounds = [[run(program, path)[0] for path in paths] for _ in range(7)]
-    times = [min(round[at] for round in rounds) / copies for at, (_, copies) in enumerate(sizes)]
-    for path, (lines, _), taken in zip(paths, sizes, times):
+    times = [min(column) / 10 for column in zip(*rounds)]
+    for path, lines, taken in zip(paths, sizes, times):
         prepare(path, text_of, lines, 1)
         print('%-18s %-8s %6d lines, %4.1f MB of text: %6.2f ms, %8.0f lines a second, %5.1f MB'
               % (name, how, lines, os.path.getsize(path) / 1e6, 1000 * taken, lines / taken, run(program, path)[1]))
