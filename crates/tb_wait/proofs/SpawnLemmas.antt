@@ -1,5 +1,5 @@
 -- A child that comes to stand, or stands no longer, by name.
-use Rattle.std.proofs.Common.{◌≡◌, ◌≢◌, ℕ, zero, suc, ◌+◌, ◌-◌, ◌<◌, ◌≤◌, List, [], ◌∷◌, ◌++◌, Bool, true, false, not, cond, ◌||◌, ◌==◌, nat_lt, Option, Some, None, is_some, option_map, length, slice_get, get_or, refl, sym, ap, ap₂, ◌∙◌, subst, arith, eqb-true, eq-eqb, length-append, ◌⊎◌, inl, inr, ⊎_elim, Result, Ok, Err, OnOk, IfOk}
+use Rattle.std.proofs.Common.{◌≡◌, ◌≢◌, ℕ, zero, suc, ◌+◌, ◌-◌, ◌<◌, ◌≤◌, List, [], ◌∷◌, ◌++◌, Bool, true, false, not, cond, ◌||◌, ◌&&◌, ◌==◌, nat_lt, Option, Some, None, is_some, option_map, length, slice_get, get_or, refl, sym, ap, ap₂, ◌∙◌, subst, arith, eqb-true, eq-eqb, length-append, ◌⊎◌, inl, inr, ⊎_elim, Result, Ok, Err, OnOk, IfOk}
 use Rattle.std.specs.List.{zip, position, list_any}
 use Rattle.std.proofs.lemmas.Bool.{false≢true}
 use Rattle.std.proofs.lemmas.Bool.Decides.{nat_tests}
@@ -7,7 +7,7 @@ use Rattle.std.proofs.lemmas.Option.{slice_get_within}
 use Rattle.std.proofs.Math.ListN.{get_or-eq_default}
 use Rattle.tb_model.specs.Names.{Name, same_name}
 use Rattle.tb_model.proofs.TestLemmas.{same_true, same_refl}
-use Rattle.tb_wait.specs.Kin.{Kin, Slot, Tasks, Table, slot, kin, kin_in, is_known, Adds, Drops, IsNext, IsLast, IsSame, KeepsRoom, KeepsNames, IsRoomIn, HasChildRoom, with_children, one_more, one_less, fresh}
+use Rattle.tb_wait.specs.Kin.{Kin, Slot, Tasks, Table, slot, kin, kin_in, is_known, Adds, Drops, IsNext, IsLast, IsSame, KeepsRoom, KeepsNames, IsRoomIn, HasChildRoom, with_children, one_more, one_less, fresh, is_fresh, is_none}
 use Rattle.tb_wait.specs.Rows.{blank, key, slot_at, is_pending, children_of, ChangesSlot, SetsStanding, Fits}
 use Rattle.tb_wait.specs.Tree.{Nodes, node, leaf, IsPlace, IsTree, SameLinks, SetsPending, AddsNode}
 use Rattle.tb_wait.proofs.RowLemmas.{slot_of_key, key_of_slot, no_slot, two_kins, two_rooms, same_names}
@@ -404,3 +404,27 @@ next_from_children tasks p c n e h =
     let k = kin_from_children (kin tasks p) n e in
     let number : n + 1 ≡ suc k.0.children = omega (arith, k.2) in
     (k.0, k.1, h ∙ ap (λ m. m ∷ p) number)
+
+-- a task of which nothing is kept is a fresh one
+pub fresh_is : (o : Option Kin) → is_fresh o ≡ true → o ≡ Some fresh
+fresh_is None e = cc
+fresh_is (Some k) e = by k.over (k.children == 0) refl k.groups k.shut e
+  where
+    by : (a b : Bool) → (k.children == 0) ≡ b → (gs ss : List ℕ) → ((not a && b) && (is_none gs && is_none ss)) ≡ true
+        → Some (record { over = a; children = k.children; groups = gs; shut = ss }) ≡ Some fresh
+    by false true z [] [] g = ap (λ n. Some (record { over = false; children = n; groups = []; shut = [] })) (eqb-true k.children 0 z)
+    by true b z gs ss g = cc
+    by false false z gs ss g = cc
+    by false true z (x ∷ gs) ss g = cc
+    by false true z [] (x ∷ ss) g = cc
+
+pub last_from_children : (tasks : Tasks) (p c : Name) (n : ℕ) → Some n ≡ option_map (λ (k : Kin). k.children) (kin tasks p) → n ≢ 0 → c ≡ n ∷ p → is_fresh (kin tasks c) ≡ true → IsLast tasks p c
+last_from_children tasks p c n e z h g =
+    let k = kin_from_children (kin tasks p) n e in
+    let pos : 0 < n = by n refl z in
+    let number : suc (n - 1) ≡ n = omega (arith, pos) in
+    (k.0, n - 1, k.1, omega (arith, k.2, number), h ∙ ap (λ m. m ∷ p) (sym number), fresh_is (kin tasks c) g)
+  where
+    by : (m : ℕ) → n ≡ m → (n ≢ 0) → 0 < n
+    by zero e z = absurd (z e)
+    by (suc m) e z = omega (arith, e)
