@@ -1,10 +1,10 @@
 -- A rising list of numbers as a set.
-use Rattle.std.proofs.Common.{◌≡◌, ◌≢◌, ℕ, zero, suc, ◌+◌, ◌-◌, ◌<◌, ◌≤◌, List, [], ◌∷◌, ◌++◌, Bool, true, false, cond, ◌||◌, ◌&&◌, ◌==◌, nat_lt, Option, Some, None, length, take, drop, get_or, refl, sym, ap, ◌∙◌, subst, arith, ◌⊎◌, ⊎_elim, eqb-true, eq-eqb, nat_eq, Result, Ok, Err, OnErr, OnOk, IsOk, IsSome, OnSome}
+use Rattle.std.proofs.Common.{◌≡◌, ℕ, zero, suc, ◌+◌, ◌<◌, ◌≤◌, List, [], ◌∷◌, Bool, true, false, cond, ◌||◌, ◌==◌, nat_lt, Option, Some, None, length, get_or, refl, sym, ap, ◌∙◌, subst, arith, ⊎_elim, eqb-true, eq-eqb, nat_eq, Result, Ok, Err, OnErr, OnOk, IsOk, IsSome, OnSome}
 use Rattle.std.specs.List.{insert, remove}
 use Rattle.std.proofs.lemmas.Bool.{false≢true, or_cases, or_left, or_right}
 use Rattle.std.specs.Cmp.{both_ways}
 use Rattle.std.proofs.lemmas.Bool.Decides.{nat_tests}
-use Rattle.tb_wait.specs.Numbers.{has, is_empty, Rises, IsPut, IsNextAbove, below}
+use Rattle.tb_wait.specs.Numbers.{has, Rises, IsPut, IsNextAbove, below}
 
 -- ---- the search
 

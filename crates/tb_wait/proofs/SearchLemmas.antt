@@ -1,5 +1,5 @@
 -- The search in the tree finds the least name.
-use Rattle.std.proofs.Common.{◌≡◌, ◌≢◌, ℕ, zero, suc, ◌+◌, ◌-◌, ◌<◌, ◌≤◌, List, [], ◌∷◌, ◌++◌, Bool, true, false, not, cond, ◌&&◌, ◌||◌, ◌==◌, nat_lt, Option, Some, None, is_some, length, slice_get, get_or, refl, sym, ap, ap₂, ◌∙◌, subst, arith, eqb-true, eq-eqb, append_assoc, ◌⊎◌, inl, inr, ⊎_elim}
+use Rattle.std.proofs.Common.{◌≡◌, ◌≢◌, ℕ, zero, suc, ◌-◌, ◌<◌, ◌≤◌, List, [], ◌∷◌, ◌++◌, Bool, true, false, not, ◌&&◌, ◌||◌, ◌==◌, nat_lt, Option, Some, None, length, slice_get, refl, sym, ap, ap₂, ◌∙◌, subst, arith, eq-eqb, append_assoc, ◌⊎◌, inl, inr, ⊎_elim}
 use Rattle.std.specs.List.{zip, position, list_any}
 use Rattle.std.proofs.lemmas.Bool.{false≢true, or_cases, or_left, or_right, and_parts, and_from}
 use Rattle.std.proofs.lemmas.Bool.Decides.{nat_tests}
@@ -9,9 +9,9 @@ use Rattle.tb_model.specs.LeastNames.{IsAtMost, IsLeastName}
 use Rattle.tb_model.proofs.TestLemmas.{same_true, same_refl}
 use Rattle.tb_model.proofs.OrderLemmas.{at_most_below, at_most_later}
 use Rattle.tb_wait.specs.Numbers.{has, is_empty, IsNextAbove}
-use Rattle.tb_wait.specs.Kin.{Kin, Slot, Tasks, Table, slot, kin, kin_in, IsUnended, IsUnendedChild, IsUnendedLater, IsUnendedMember, first_of}
-use Rattle.tb_wait.specs.Rows.{blank, key, slot_at, is_pending, groups_of, Fits, IsFirstWithin}
-use Rattle.tb_wait.specs.Tree.{Node, Nodes, node, leaf, is_live, is_own, IsPlace, IsTree, IsFirstPlace}
+use Rattle.tb_wait.specs.Kin.{Kin, Slot, Table, slot, kin, kin_in, IsUnended, IsUnendedChild, IsUnendedMember, first_of}
+use Rattle.tb_wait.specs.Rows.{key, slot_at, is_pending, groups_of, Fits, IsFirstWithin}
+use Rattle.tb_wait.specs.Tree.{Node, Nodes, node, is_live, is_own, IsPlace, IsTree, IsFirstPlace}
 use Rattle.tb_wait.proofs.RowLemmas.{slot_of_key, key_of_slot, no_slot}
 use Rattle.tb_wait.proofs.WaitLemmas.{at_key, none_any}
 

@@ -1,17 +1,17 @@
 -- A child that comes to stand, or stands no longer, by name.
-use Rattle.std.proofs.Common.{◌≡◌, ◌≢◌, ℕ, zero, suc, ◌+◌, ◌-◌, ◌<◌, ◌≤◌, List, [], ◌∷◌, ◌++◌, Bool, true, false, not, cond, ◌||◌, ◌&&◌, ◌==◌, nat_lt, Option, Some, None, is_some, option_map, length, slice_get, get_or, refl, sym, ap, ap₂, ◌∙◌, subst, arith, eqb-true, eq-eqb, length-append, ◌⊎◌, inl, inr, ⊎_elim, Result, Ok, Err, OnOk, IfOk}
+use Rattle.std.proofs.Common.{◌≡◌, ◌≢◌, ℕ, zero, suc, ◌+◌, ◌-◌, ◌<◌, ◌≤◌, List, [], ◌∷◌, ◌++◌, Bool, true, false, not, cond, ◌&&◌, ◌==◌, nat_lt, Option, Some, None, is_some, option_map, length, slice_get, get_or, refl, sym, ap, ap₂, ◌∙◌, subst, arith, eqb-true, eq-eqb, length-append, ◌⊎◌, inl, inr, ⊎_elim, Result, Ok, Err, OnOk, IfOk}
 use Rattle.std.specs.List.{zip, position, list_any}
 use Rattle.std.proofs.lemmas.Bool.{false≢true}
 use Rattle.std.proofs.lemmas.Bool.Decides.{nat_tests}
 use Rattle.std.proofs.lemmas.Option.{slice_get_within}
 use Rattle.std.proofs.Math.ListN.{get_or-eq_default}
 use Rattle.tb_model.specs.Names.{Name, same_name}
-use Rattle.tb_model.proofs.TestLemmas.{same_true, same_refl}
-use Rattle.tb_wait.specs.Kin.{Kin, Slot, Tasks, Table, slot, kin, kin_in, is_known, Adds, Drops, IsNext, IsLast, IsSame, KeepsRoom, KeepsNames, IsRoomIn, HasChildRoom, with_children, one_more, one_less, fresh, is_fresh, is_none}
+use Rattle.tb_model.proofs.TestLemmas.{same_true}
+use Rattle.tb_wait.specs.Kin.{Kin, Slot, Tasks, Table, slot, kin, kin_in, is_known, Adds, Drops, IsNext, IsLast, IsSame, KeepsRoom, KeepsNames, with_children, one_more, one_less, fresh, is_fresh, is_none}
 use Rattle.tb_wait.specs.Rows.{blank, key, slot_at, is_pending, children_of, ChangesSlot, SetsStanding, Fits}
-use Rattle.tb_wait.specs.Tree.{Nodes, node, leaf, IsPlace, IsTree, SameLinks, SetsPending, AddsNode}
-use Rattle.tb_wait.proofs.RowLemmas.{slot_of_key, key_of_slot, no_slot, two_kins, two_rooms, same_names}
-use Rattle.tb_wait.proofs.WaitLemmas.{at_key, here_slot, CountsOne, fits_standing, known_any}
+use Rattle.tb_wait.specs.Tree.{Nodes, node, leaf, IsPlace, IsTree, SetsPending, AddsNode}
+use Rattle.tb_wait.proofs.RowLemmas.{slot_of_key, key_of_slot, two_kins, two_rooms, same_names}
+use Rattle.tb_wait.proofs.WaitLemmas.{at_key, here_slot, fits_standing, known_any}
 use Rattle.tb_wait.proofs.TreeLemmas.{place_either}
 
 head_is : {m n : ℕ} {s t : Name} → m ∷ s ≡ n ∷ t → m ≡ n

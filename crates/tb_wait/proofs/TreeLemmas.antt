@@ -1,12 +1,12 @@
 -- What the nodes of the tree know of their children stays right.
-use Rattle.std.proofs.Common.{◌≡◌, ◌≢◌, ℕ, zero, suc, ◌+◌, ◌-◌, ◌<◌, ◌≤◌, List, [], ◌∷◌, Bool, true, false, not, cond, ◌||◌, ◌==◌, nat_eq, Some, None, length, slice_get, get_or, refl, sym, ap, ◌∙◌, subst, arith, eqb-true, eq-eqb, ne_eqb, ap₂, ◌++◌, ◌⊎◌, inl, inr, ⊎_elim, nat_lt, length-append}
+use Rattle.std.proofs.Common.{◌≡◌, ◌≢◌, ℕ, zero, suc, ◌<◌, ◌≤◌, List, [], ◌∷◌, Bool, true, false, not, cond, ◌||◌, ◌==◌, Some, length, slice_get, get_or, refl, sym, ap, ◌∙◌, subst, arith, eqb-true, eq-eqb, ap₂, ◌++◌, ◌⊎◌, inl, inr, ⊎_elim, nat_lt, length-append}
 use Rattle.std.proofs.Math.ListN.{get_or-eq_default}
 use Rattle.std.proofs.lemmas.Bool.Decides.{nat_tests}
 use Rattle.std.proofs.lemmas.List.{get_or_default}
 use Rattle.std.proofs.lemmas.Option.{slice_get_within}
 use Rattle.std.proofs.lemmas.Bool.{false≢true}
 use Rattle.tb_wait.specs.Numbers.{has, is_empty, IsPut}
-use Rattle.tb_wait.specs.Tree.{Node, Nodes, leaf, node, is_live, IsPlace, IsLinked, AreChildren, KnowsUnendedBut, KnowsLiveBut, IsTree, SameLinks, SameButLive, SameButUnended, SameButPending, SetsPending, AddsNode, SameButRoom}
+use Rattle.tb_wait.specs.Tree.{Node, Nodes, leaf, node, is_live, IsPlace, IsLinked, AreChildren, KnowsUnendedBut, KnowsLiveBut, IsTree, SameLinks, SameButLive, SameButUnended, SameButPending, AddsNode, SameButRoom}
 
 pub shown : (nodes : Nodes) (i : ℕ) (n : Node) → i < length nodes → n ≡ get_or nodes i n → n ≡ node nodes i
 shown nodes i n l e = e ∙ get_or_default nodes i n (leaf 0 0) l

@@ -1,15 +1,15 @@
 -- What a change of one task leaves of the table.
-use Rattle.std.proofs.Common.{◌≡◌, ◌≢◌, ℕ, zero, suc, ◌<◌, ◌≤◌, List, [], ◌∷◌, Bool, true, false, not, cond, ◌||◌, ◌==◌, Option, Some, None, is_some, option_map, length, get_or, refl, sym, ap, ◌∙◌, subst, arith, eqb-true, eq-eqb, OnOk, IsOk, Ok, Err, Result, nat_lt, slice_get, ap₂}
+use Rattle.std.proofs.Common.{◌≡◌, ◌≢◌, ℕ, zero, suc, ◌<◌, ◌≤◌, List, [], ◌∷◌, Bool, true, false, not, cond, ◌||◌, ◌==◌, Option, Some, None, is_some, option_map, length, refl, sym, ap, ◌∙◌, subst, arith, eqb-true, eq-eqb, OnOk, Ok, Err, Result, nat_lt, slice_get, ap₂}
 use Rattle.std.specs.List.{zip, position, list_any}
 use Rattle.std.proofs.lemmas.List.Quantifiers.{position-Some}
-use Rattle.std.proofs.lemmas.Bool.{false≢true, or_left, or_right}
+use Rattle.std.proofs.lemmas.Bool.{false≢true, or_left}
 use Rattle.tb_model.specs.Names.{Name, same_name}
 use Rattle.tb_model.proofs.TestLemmas.{same_true, same_refl}
-use Rattle.tb_wait.specs.Kin.{Kin, Slot, Tasks, Table, slot, kin, kin_in, is_known, Changes, IsSame, KeepsRoom, KeepsNames, IsRoomIn, HasGroupRoom, HasOpenGroup, HasChildRoom, with_over, with_children, fresh}
+use Rattle.tb_wait.specs.Kin.{Kin, Slot, Table, slot, kin, kin_in, is_known, Changes, IsSame, KeepsRoom, KeepsNames, HasGroupRoom, HasOpenGroup, HasChildRoom, with_over, with_children, fresh}
 use Rattle.tb_wait.specs.Numbers.{has}
 use Rattle.tb_wait.specs.Rows.{blank, key, slot_at, is_pending, children_of, groups_of, ChangesSlot, SetsStanding, Fits}
 use Rattle.tb_wait.specs.Tree.{Nodes, node, leaf, IsPlace, IsTree, SameLinks, SetsPending}
-use Rattle.tb_wait.proofs.RowLemmas.{slot_of_key, key_of_slot, no_slot, kin_changes, room_changes, no_changes, IsLike, fits_change, slot_changes}
+use Rattle.tb_wait.proofs.RowLemmas.{slot_of_key, no_slot, kin_changes, room_changes, no_changes, IsLike, fits_change, slot_changes}
 pub use Rattle.tb_wait.proofs.RowLemmas.{here_slot_of}
 
 -- ---- a name is looked up

@@ -1,5 +1,5 @@
 -- A set of numbers that is kept as a rising list.
-use Rattle.std.specs.Prelude.{◌≡◌, ◌<◌, ◌≤◌, ℕ, Bool, true, false, ◌||◌, ◌==◌, List, [], ◌∷◌, Option, Some, None, if◌then◌else◌, nat_lt, suc}
+use Rattle.std.specs.Prelude.{◌≡◌, ◌<◌, ◌≤◌, ℕ, Bool, true, false, ◌||◌, ◌==◌, List, [], ◌∷◌, Option, Some, if◌then◌else◌, nat_lt, suc}
 
 -- the numbers, and up to which number each has room
 pub record Numbers : Type 0 where

@@ -1,7 +1,7 @@
-use Rattle.std.proofs.Common.{◌≡◌, ◌+◌, ◌++◌, [], ◌∷◌, length, refl, sym, ap, ◌∙◌, subst, arith}
+use Rattle.std.proofs.Common.{◌≡◌, ◌++◌, [], ◌∷◌, length, refl, sym, ap, ◌∙◌, subst, arith}
 use Rattle.std.specs.List.{zip}
 use Rattle.tb_wait.specs.Kin.{IsSame, KeepsNames}
-use Rattle.tb_wait.specs.Rows.{blank, key, Fits}
+use Rattle.tb_wait.specs.Rows.{key, Fits}
 use Rattle.tb_wait.proofs.NumbersLemmas.{at_ok}
 use Rattle.tb_wait.proofs.SpawnLemmas.{next_number, fits_pushed, pushed_kin, pushed_names, pushed_key, inserted, none_known, length-push, all_ok}
 use Rattle.tb_wait.proofs.wait.make_place.Goals as goal

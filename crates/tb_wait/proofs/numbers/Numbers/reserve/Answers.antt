@@ -1,6 +1,6 @@
 use Rattle.std.proofs.Common.{arith, subst, sym}
 use Rattle.tb_wait.specs.Numbers.{Rises}
-use Rattle.tb_wait.proofs.NumbersLemmas.{raised, rises_len}
+use Rattle.tb_wait.proofs.NumbersLemmas.{raised}
 use Rattle.tb_wait.proofs.numbers.Numbers.reserve.Goals as goal
 
 pub invariant_of-self-then-bound-self : goal.invariant_of-self-then-bound-self

@@ -1,5 +1,4 @@
-use Rattle.std.proofs.Common.{refl, sym, ap, ◌∙◌, arith, Some}
-use Rattle.std.proofs.lemmas.Bool.{false≢true}
+use Rattle.std.proofs.Common.{refl, arith, Some}
 use Rattle.tb_wait.specs.Kin.{fresh}
 use Rattle.tb_wait.specs.Tree.{node}
 use Rattle.tb_wait.proofs.WaitLemmas.{at_key, absent_slot}

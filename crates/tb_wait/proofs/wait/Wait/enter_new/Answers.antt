@@ -1,9 +1,9 @@
-use Rattle.std.proofs.Common.{◌≡◌, refl, sym, ap, ◌∙◌, arith, length, Some}
+use Rattle.std.proofs.Common.{◌≡◌, refl, ap, ◌∙◌, arith, length, Some}
 use Rattle.std.specs.List.{zip}
 use Rattle.tb_wait.specs.Kin.{fresh, kin_in}
 use Rattle.tb_wait.specs.Rows.{key}
 use Rattle.tb_wait.specs.Tree.{node}
-use Rattle.tb_wait.proofs.WaitLemmas.{at_key, absent_slot, child_room_here, here_slot}
+use Rattle.tb_wait.proofs.WaitLemmas.{absent_slot, child_room_here}
 use Rattle.tb_wait.proofs.SpawnLemmas.{number_is, next_is_absent, adds_child, adds_names, adds_fits, adds_after, same_before, names_before, next_here}
 use Rattle.tb_wait.proofs.wait.Wait.enter_new.Goals as goal
 

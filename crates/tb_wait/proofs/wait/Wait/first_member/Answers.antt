@@ -1,4 +1,4 @@
-use Rattle.std.proofs.Common.{refl, sym, ◌∙◌, subst, arith}
+use Rattle.std.proofs.Common.{sym, ◌∙◌, subst, arith}
 use Rattle.tb_model.specs.LeastNames.{IsLeastName}
 use Rattle.tb_wait.specs.Kin.{IsUnendedMember}
 use Rattle.tb_wait.proofs.WaitLemmas.{at_key}

@@ -1,5 +1,4 @@
 use Rattle.std.proofs.Common.{ap, arith}
-use Rattle.tb_wait.specs.Kin.{Slot}
 use Rattle.tb_wait.specs.Rows.{slot_at}
 use Rattle.tb_wait.proofs.WaitLemmas.{here_same, here_room, here_group_room, group_room_here, absent_slot, here_slot_of, on_ok_from}
 use Rattle.tb_wait.proofs.wait.Wait.reserve_opened.Goals as goal

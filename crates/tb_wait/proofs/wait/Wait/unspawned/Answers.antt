@@ -1,4 +1,4 @@
-use Rattle.std.proofs.Common.{refl, sym, ap, ◌∙◌, ◌-◌, arith, None}
+use Rattle.std.proofs.Common.{refl, ap, ◌∙◌, ◌-◌, arith, None}
 use Rattle.tb_wait.specs.Kin.{kin_in}
 use Rattle.tb_wait.specs.Tree.{node}
 use Rattle.tb_wait.proofs.WaitLemmas.{at_key, absent_slot}
