@@ -1,8 +1,9 @@
 //! Evaluates one statement for one task.
 
-ghost use Rattle.std.specs.Prelude.{◌≡◌, ℤ, List, length, map, IfOk, IfSome, IsTrue, ◌<◌, ◌≤◌};
+ghost use Rattle.std.specs.Prelude.{◌≡◌, ℕ, ℤ, List, length, map, IfOk, IfSome, IsTrue, ◌<◌, ◌≤◌};
 ghost use Rattle.std.specs.List.{list_all};
 ghost use Rattle.tb_model.specs.Program.{value, computed, compared, is_met, is_deferred, cell_at, place_at, items_at, action_of, zero_ℤ};
+ghost use Rattle.tb_model.specs.declared.statement.Statement.TheVariants.{Load as AsLoad, Store as AsStore, Taskwait as AsTaskwait};
 ghost use Rattle.tb_read.specs.Statements.{is_sound};
 ghost use Rattle.tb_read.specs.Plans.{is_place, is_placed, names_allowed};
 
@@ -33,6 +34,12 @@ fn computed(operator: Operator, left: i64, right: i64) -> i64
         Operator::Minus => left.wrapping_sub(right),
         Operator::Times => left.wrapping_mul(right),
     }
+}
+
+fn computed_by(regs: &[i64; 16], operator: Operator, left: Operand, right: Operand) -> i64
+    ensures { result ≡ computed operator (value regs.now left) (value regs.now right) }
+{
+    computed(operator, value(regs, left), value(regs, right))
 }
 
 fn compared(comparison: Comparison, left: i64, right: i64) -> bool
@@ -124,6 +131,56 @@ fn args_at(alloc: Global, regs: &[i64; 16], operands: &[Operand]) -> Result<Args
     Ok(args)
 }
 
+fn let_action(reg: u8, value: i64) -> Action
+    ensures { result ≡ Action.Let reg value }
+{
+    Action::Let { reg, value }
+}
+
+/// A load of the cell at an address. The number is read when the step is taken.
+fn load_action(cells: u32, regs: &[i64; 16], reg: u8, address: Operand) -> Action
+    requires { reg < 16 }
+    ensures evaluated { (all : List ℤ) (t : List ℕ) → length all ≡ cells → result ≡ action_of all t 1 regs.now zero_ℤ (AsLoad reg address) }
+    ensures allowed { IsTrue (names_allowed cells result) }
+{
+    match cell_at(cells, value(regs, address)) {
+        Some(cell) => Action::Load {
+            reg,
+            cell,
+            value: 0,
+        },
+        None => Action::Fault,
+    }
+}
+
+fn store_action(cells: u32, regs: &[i64; 16], address: Operand, operand: Operand) -> Action
+    ensures evaluated { (all : List ℤ) (t : List ℕ) → length all ≡ cells → result ≡ action_of all t 1 regs.now zero_ℤ (AsStore address operand) }
+    ensures allowed { IsTrue (names_allowed cells result) }
+{
+    match cell_at(cells, value(regs, address)) {
+        Some(cell) => Action::Store {
+            cell,
+            value: value(regs, operand),
+        },
+        None => Action::Fault,
+    }
+}
+
+fn wait_action(
+    alloc: Global,
+    cells: u32,
+    regs: &[i64; 16],
+    depends: &[Clause],
+) -> Result<Action, AllocError>
+    ensures evaluated { (all : List ℤ) (t : List ℕ) → length all ≡ cells → IfOk result (λ a. a ≡ action_of all t 1 regs.now zero_ℤ (AsTaskwait depends.now)) }
+    ensures allowed { IfOk result (λ a. IsTrue (names_allowed cells a)) }
+{
+    Ok(match items_at(alloc, cells, regs, depends)? {
+        Some(items) => Action::Wait { items },
+        None => Action::Fault,
+    })
+}
+
 /// The action that a statement makes for a task with these registers.
 fn action(
     alloc: Global,
@@ -136,73 +193,46 @@ fn action(
     ensures evaluated { (all : List ℤ) → length all ≡ cells → IfOk result (λ a. a ≡ action_of all task.now 1 regs.now zero_ℤ statement.now) }
     ensures allowed { IfOk result (λ a. IsTrue (names_allowed cells a)) }
 {
-    Ok(match statement {
-        Statement::Start => Action::Start,
+    match statement {
+        Statement::Start => Ok(Action::Start),
         Statement::Let {
             reg,
             value: operand,
-        } => Action::Let {
-            reg: *reg,
-            value: value(regs, *operand),
-        },
+        } => Ok(let_action(*reg, value(regs, *operand))),
         Statement::Compute {
             reg,
             left,
             operator,
             right,
-        } => {
-            Action::Let {
-                reg: *reg,
-                value: computed(*operator, value(regs, *left), value(regs, *right)),
-            }
-        }
-        Statement::Load { reg, address } => match cell_at(cells, value(regs, *address)) {
-            Some(cell) => Action::Load {
-                reg: *reg,
-                cell,
-                value: 0,
-            },
-            None => Action::Fault,
-        },
-        Statement::Store {
-            address,
-            value: operand,
-        } => match cell_at(cells, value(regs, *address)) {
-            Some(cell) => Action::Store {
-                cell,
-                value: value(regs, *operand),
-            },
-            None => Action::Fault,
-        },
-        Statement::Print { value: operand } => Action::Print {
+        } => Ok(let_action(*reg, computed_by(regs, *operator, *left, *right))),
+        Statement::Load { reg, address } => Ok(load_action(cells, regs, *reg, *address)),
+        Statement::Store { address, value } => Ok(store_action(cells, regs, *address, *value)),
+        Statement::Print { value: operand } => Ok(Action::Print {
             value: value(regs, *operand),
-        },
+        }),
         Statement::Task {
             body,
             args,
             depends,
             condition,
         } => match items_at(alloc, cells, regs, depends.as_slice())? {
-            Some(items) => Action::Spawn {
+            Some(items) => Ok(Action::Spawn {
                 child: task.child(1)?,
                 body: *body,
                 args: args_at(alloc, regs, args.as_slice())?,
                 items,
                 deferred: is_deferred(regs, *condition),
-            },
-            None => Action::Fault,
+            }),
+            None => Ok(Action::Fault),
         },
-        Statement::Taskwait { depends } => match items_at(alloc, cells, regs, depends.as_slice())? {
-            Some(items) => Action::Wait { items },
-            None => Action::Fault,
-        },
-        Statement::Taskgroup => Action::Open,
-        Statement::EndTaskgroup => Action::Close,
-        Statement::Test { condition } => Action::Test {
+        Statement::Taskwait { depends } => wait_action(alloc, cells, regs, depends.as_slice()),
+        Statement::Taskgroup => Ok(Action::Open),
+        Statement::EndTaskgroup => Ok(Action::Close),
+        Statement::Test { condition } => Ok(Action::Test {
             yes: is_met(regs, *condition),
-        },
-        Statement::End => Action::End,
-    })
+        }),
+        Statement::End => Ok(Action::End),
+    }
 }
 
 /// Evaluates the statement of an instruction for the task that stands at its line.
