@@ -123,6 +123,7 @@ impl Wait {
         ensures ok { OnOk result (Adds self.old.tasks parent.now child self.new.tasks) }
         ensures err { OnErr result (IsSame self.old.tasks self.new.tasks) }
         ensures names { KeepsNames self.old.tasks self.new.tasks }
+        ensures room { self.old.room ≤ self.new.room + 1 }
         ensures succeeds { HasRoomFor self.old parent.now child → IsOk result }
     {
         self.reserve_spawned(parent, &child)?;
@@ -139,6 +140,7 @@ impl Wait {
         requires known { is_known self.old.tasks child.now ≡ true }
         ensures tasks { Adds self.old.tasks parent.now child.now self.new.tasks }
         ensures names { KeepsNames self.old.tasks self.new.tasks }
+        ensures room { self.new.room ≡ self.old.room }
     {
         if let Some(at) = self.names.get_index_of(child) {
             standing::enter(&mut self.rows, &mut self.nodes, at);
@@ -152,6 +154,7 @@ impl Wait {
         requires child_room { HasChildRoom self.old.tasks parent.now }
         ensures tasks { Adds self.old.tasks parent.now child self.new.tasks }
         ensures names { KeepsNames self.old.tasks self.new.tasks }
+        ensures room { self.old.room ≤ self.new.room + 1 }
     {
         if let Some(owner) = self.names.get_index_of(parent) {
             let at = self.rows.len();
@@ -213,6 +216,7 @@ impl Wait {
         ensures ok { OnOk result (Changes self.old.tasks task.now opened_kin self.new.tasks) }
         ensures err { OnErr result (IsSame self.old.tasks self.new.tasks) }
         ensures names { KeepsNames self.old.tasks self.new.tasks }
+        ensures room { self.old.room ≤ self.new.room }
         ensures succeeds { HasGroupRoom self.old.tasks task.now → IsOk result }
     {
         self.reserve_opened(task)?;
@@ -224,6 +228,7 @@ impl Wait {
         requires { HasGroupRoom self.old.tasks task.now }
         ensures tasks { Changes self.old.tasks task.now opened_kin self.new.tasks }
         ensures names { KeepsNames self.old.tasks self.new.tasks }
+        ensures room { self.new.room ≡ self.old.room }
     {
         if let Some(at) = self.names.get_index_of(task) {
             rows::open(&mut self.rows, at);
