@@ -82,7 +82,7 @@ depth_bound [] H s = omega arith
 depth_bound (n ∷ t) H s = any_bound (n ∷ t) H s
 
 -- who has items was spawned
-items_spawned : (p : Item → Bool) (t : Name) (H : History) → list_any p (items_of t H) ≡ true → list_any (spawns t) H ≡ true
+pub items_spawned : (p : Item → Bool) (t : Name) (H : History) → list_any p (items_of t H) ≡ true → list_any (spawns t) H ≡ true
 items_spawned p t [] h = absurd (false≢true h)
 items_spawned p t (v ∷ H) h =
     ⊎_elim (λ a. or_left (spawns t v) _ a)

@@ -33,7 +33,11 @@ pub mod SameStateLemmas
 pub mod LinesLemmas
 pub mod ReorderingLemmas
 mod ExampleLemmas
+mod HindranceExampleLemmas
 pub mod NeedersLemmas
 pub mod MembersLemmas
 pub mod CausesLemmas
 pub mod OrderLemmas
+pub mod LeastNameLemmas
+pub mod HindranceLemmas
+pub mod NextStepLemmas

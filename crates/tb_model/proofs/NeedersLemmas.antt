@@ -1,5 +1,5 @@
 -- A step goes alone exactly where no step needs it.
-use Rattle.std.proofs.Common.{◌≡◌, ◌<◌, [], ◌∷◌, ◌++◌, Bool, true, false, ◌&&◌, ◌||◌, not, ⊎_elim, ◌↔◌, refl, sym, ap, ap₂, ◌∙◌, subst, length, arith, Option, Some, None}
+use Rattle.std.proofs.Common.{◌≡◌, ◌<◌, [], ◌∷◌, ◌++◌, Bool, true, false, ◌&&◌, ◌||◌, not, ⊎_elim, ◌↔◌, refl, sym, ap, ap₂, ◌∙◌, subst, length, arith, Option, Some, None, if◌then◌else◌}
 use Rattle.std.specs.List.{list_any}
 use Rattle.std.proofs.lemmas.Bool.{or_cases, or_parts}
 use Rattle.tb_model.specs.declared.event.Event.{Event}
@@ -51,7 +51,8 @@ none_absent e (v ∷ H) h =
     (ap₂ (λ s R. not s && list_any (needs H v) R) (not_step e H v h) (removed_none e H l))
 
 module _ (v : Event) (front : History) where
-  none_here : first_needer (step_of front v) (v ∷ front) ≡ None
+  -- a step doesn't need itself
+  pub none_here : first_needer (step_of front v) (v ∷ front) ≡ None
   none_here =
       none_first (first_needer (step_of front v) front) (is_needer (step_of front v) front v) (step_of front v) (none_absent (step_of front v) front (omega arith))
       (ap (λ s. not s && list_any (needs front v) (removed (step_of front v) front)) (its_step front v))
@@ -83,3 +84,24 @@ unneeded e H s =
     subst (λ K. IsUnneeded e K ↔ (first_needer e K ≡ None)) (sym r.split)
     (subst (λ i. IsUnneeded i (r.later ++ r.event ∷ r.front) ↔ (first_needer i (r.later ++ r.event ∷ r.front) ≡ None)) r.step
     (λ h. none_of_single r.event r.front r.later (single r.event r.front r.later h), λ h. ap length (single_of_none r.event r.front r.later h).gone))
+
+-- ---- the earliest that needs a step needs it directly
+
+module _ (v : Event) (front : History) where
+  -- behind a history in which none needs v
+  pub next_needer : (b : History) (w : Event) → first_needer (step_of front v) (b ++ v ∷ front) ≡ None
+      → first_needer (step_of front v) (w ∷ (b ++ v ∷ front)) ≡ (if needs (b ++ v ∷ front) w v then Some (step_of (b ++ v ∷ front) w) else None)
+  next_needer b w h =
+      let H = b ++ v ∷ front in
+      ap₂ (λ o c. first_or o c (step_of H w)) h
+      (needer_behind v front b w ∙ ap (list_any (needs H w)) (single_of_none v front b h).gone ∙ or_false (needs H w v))
+    where
+      or_false : (c : Bool) → (c || false) ≡ c
+      or_false true = refl
+      or_false false = refl
+
+-- a later event isn't the earliest
+pub needer_stays : (e : StepId) (later H : History) (i : StepId) → first_needer e H ≡ Some i → first_needer e (later ++ H) ≡ Some i
+needer_stays e [] H i h = h
+needer_stays e (w ∷ later) H i h =
+    ap (λ o. first_or o (is_needer e (later ++ H) w) (step_of (later ++ H) w)) (needer_stays e later H i h)

@@ -52,7 +52,7 @@ no_ordinal digits h = none_unless (is_ordinal digits) _ (λ e. h (ordinal_parts 
 head_ascii : (d : ℕ) (t : Bool) → (is_ascii_digit d && t) ≡ true → d < 128
 head_ascii d t h = grind (arith, nat_tests)
 
-digits_ascii : (bytes : List ℕ) → list_all is_ascii_digit bytes ≡ true → IsAscii bytes
+pub digits_ascii : (bytes : List ℕ) → list_all is_ascii_digit bytes ≡ true → IsAscii bytes
 digits_ascii [] h i = omega arith
 digits_ascii (d ∷ digits) h zero = head_ascii d (list_all is_ascii_digit digits) h
 digits_ascii (d ∷ digits) h (suc i) = digits_ascii digits (and_parts (is_ascii_digit d) _ h).1 i

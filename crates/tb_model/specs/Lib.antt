@@ -23,4 +23,5 @@ pub mod Rules
 pub mod WellFormed
 pub mod Ordered
 pub mod LeastNames
+pub mod Hindrances
 pub mod Needers

@@ -1,5 +1,9 @@
 //! What a step did.
 
+ghost use Rattle.std.specs.Prelude.{◌≡◌};
+ghost use Rattle.tb_model.specs.Facts;
+ghost use Rattle.tb_model.specs.Needs;
+
 use crate::args::Args;
 use crate::items::Items;
 use crate::name::TaskName;
@@ -53,4 +57,67 @@ pub enum Action {
     End,
     /// An address was none of the cells': the task is over, and did nothing else.
     Fault,
+}
+
+impl Action {
+    /// Whether the task is over with this: a fault is an end.
+    pub fn is_end(&self) -> bool
+        ensures { result ≡ Facts.is_end self.now }
+    {
+        matches!(self, Action::End | Action::Fault)
+    }
+
+    /// Whether the task begins with this.
+    pub fn is_start(&self) -> bool
+        ensures { result ≡ Facts.is_start self.now }
+    {
+        matches!(self, Action::Start)
+    }
+
+    /// Whether this generates the task.
+    pub fn is_spawn_of(&self, t: &TaskName) -> bool
+        ensures { result ≡ Facts.is_spawn_of t.now self.now }
+    {
+        match self {
+            Action::Spawn { child, .. } => child == t,
+            _ => false,
+        }
+    }
+
+    /// Whether this prints.
+    pub fn is_print(&self) -> bool
+        ensures { result ≡ Facts.is_print self.now }
+    {
+        matches!(self, Action::Print { .. })
+    }
+
+    /// Whether both touch one cell, and at least one of them stores.
+    pub fn conflicts_with(&self, other: &Action) -> bool
+        ensures { result ≡ Needs.conflicts self.now other.now }
+    {
+        match self {
+            Action::Store { cell, .. } => other.touches(*cell),
+            Action::Load { cell, .. } => other.is_store_to(*cell),
+            _ => false,
+        }
+    }
+
+    fn is_store_to(&self, cell: u32) -> bool
+        ensures { result ≡ Facts.is_store_to cell self.now }
+    {
+        match self {
+            Action::Store { cell: stored, .. } => cell == *stored,
+            _ => false,
+        }
+    }
+
+    fn touches(&self, cell: u32) -> bool
+        ensures { result ≡ Facts.touches cell self.now }
+    {
+        match self {
+            Action::Load { cell: loaded, .. } => cell == *loaded,
+            Action::Store { cell: stored, .. } => cell == *stored,
+            _ => false,
+        }
+    }
 }

@@ -1,7 +1,7 @@
 //! Laws of the definitions. Each is a sentence over the definitions alone, and a function's
 //! contract, since what no contract says stays unproved. A history is listed from its newest event.
 
-ghost use Rattle.std.specs.Prelude.{◌≡◌, ◌≤◌, ◌<◌, ◌∷◌, ◌++◌, ◌↔◌, ◌⊎◌, ℕ, ℤ, List, [], None, IsTrue, IsFalse, not, map, slice_index_or};
+ghost use Rattle.std.specs.Prelude.{◌≡◌, ◌≤◌, ◌<◌, ◌∷◌, ◌++◌, ◌↔◌, ◌⊎◌, ℕ, ℤ, List, [], Some, None, if◌then◌else◌, IsTrue, IsFalse, not, map, slice_index_or};
 ghost use Rattle.std.specs.List.{list_any};
 ghost use Rattle.tb_model.specs.declared.action.Action.{Action};
 ghost use Rattle.tb_model.specs.declared.event.Event.{Event};
@@ -225,6 +225,19 @@ pub fn record_stays()
 pub fn unneeded()
     ensures { (e : StepId) (H : History) → IsTrue (stands e H) →
         IsUnneeded e H ↔ (first_needer e H ≡ None) }
+{}
+
+/// The earliest step that needs a step needs it directly: behind a history in which none needs it,
+/// an event is the first exactly where it directly needs it, and stays the first.
+#[tactic(auto, using(crate::proofs::NeedersLemmas::none_here, crate::proofs::NeedersLemmas::next_needer, crate::proofs::NeedersLemmas::needer_stays))]
+pub fn first_needs_directly()
+    ensures itself { (front : History) (u : Event) → first_needer (step_of front u) (u ∷ front) ≡ None }
+    ensures next { (later front : History) (u v : Event) →
+        first_needer (step_of front u) (later ++ u ∷ front) ≡ None →
+        first_needer (step_of front u) (v ∷ (later ++ u ∷ front))
+        ≡ (if needs (later ++ u ∷ front) v u then Some (step_of (later ++ u ∷ front) v) else None) }
+    ensures stays { (e : StepId) (later H : History) (i : StepId) →
+        first_needer e H ≡ Some i → first_needer e (later ++ H) ≡ Some i }
 {}
 
 /// A rollback may go one undo after another, from the newest event that goes: once all later ones
