@@ -2,7 +2,6 @@
 //! each other, and which a `taskwait` covers.
 #![tactic(auto)]
 
-mod item_table;
 pub mod laws;
 mod layout;
 mod preds;

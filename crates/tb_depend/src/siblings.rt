@@ -5,13 +5,12 @@ ghost use Rattle.tb_depend.specs.Numbers.{numbers_where};
 ghost use Rattle.tb_depend.specs.Relations.{items_at, depends, excludes, is_covered, preds_of, apart_of, covered_by};
 ghost use Rattle.tb_depend.specs.Table.{HasRoomFor, KeepsRoom, FreesRoom};
 
-use crate::item_table::{some_apart, some_before};
 use crate::layout::{pop_row, push_row, row};
 use crate::preds::Preds;
 use std::alloc::{AllocError, Global};
 use std::marker::Model;
 use std::mem;
-use tb_model::Item;
+use tb_model::{Item, some_apart, some_before};
 
 /// The children of one task by their depend items, in the order of spawning. Children that have
 /// ended stay.

@@ -4,10 +4,8 @@ ghost use Rattle.std.specs.Prelude.{◌≡◌, IfOk, reverse};
 ghost use Rattle.std.specs.List.{list_any};
 ghost use Rattle.tb_model.specs.Facts;
 
-use crate::action_tests::{ends, is_of, is_spawn_of, spawns, starts};
-use crate::item_table::{some_apart, some_before};
 use std::alloc::{AllocError, Global};
-use tb_model::{Action, Event, Item, TaskName};
+use tb_model::{Action, Event, Item, TaskName, some_apart, some_before};
 
 /// The events of a history that is listed from the oldest, from the newest.
 pub fn newest_first(alloc: Global, events: &[Event]) -> Result<Vec<Event>, AllocError>
@@ -24,20 +22,20 @@ pub fn newest_first(alloc: Global, events: &[Event]) -> Result<Vec<Event>, Alloc
 pub fn has_started(history: &[Event], t: &TaskName) -> bool
     ensures { result ≡ list_any (Facts.starts t.now) history.now }
 {
-    history.iter().any(|event| starts(t, event))
+    history.iter().any(|event| event.starts(t))
 }
 
 /// Whether the task has ended or faulted.
 pub fn has_ended(history: &[Event], t: &TaskName) -> bool
     ensures { result ≡ list_any (Facts.ends t.now) history.now }
 {
-    history.iter().any(|event| ends(t, event))
+    history.iter().any(|event| event.ends(t))
 }
 
 fn is_generated(history: &[Event], t: &TaskName) -> bool
     ensures { result ≡ list_any (Facts.spawns t.now) history.now }
 {
-    history.iter().any(|event| spawns(t, event))
+    history.iter().any(|event| event.spawns(t))
 }
 
 /// Whether the task was generated, as the root was at the beginning.
@@ -55,7 +53,7 @@ pub fn own(alloc: Global, history: &[Event], t: &TaskName) -> Result<Vec<Action>
         [] => Ok(Vec::new(alloc)),
         [newest, front @ ..] => {
             let mut acts = own(alloc, front, t)?;
-            if is_of(t, newest) {
+            if newest.is_of(t) {
                 acts.insert(0, newest.action.clone()?)?;
             }
             Ok(acts)

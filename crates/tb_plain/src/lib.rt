@@ -3,9 +3,7 @@
 //! are the actions of a task.
 #![tactic(auto)]
 
-mod action_tests;
 mod facts;
-mod item_table;
 mod legality;
 mod names;
 mod needing;

@@ -4,22 +4,10 @@ ghost use Rattle.std.specs.Prelude.{◌≡◌, ◌||◌, IfOk};
 ghost use Rattle.std.specs.List.{list_any};
 ghost use Rattle.tb_model.specs.Needs;
 
-use crate::action_tests::{is_end, is_of, is_print, is_store_to, spawns, touches};
 use crate::facts::{apart, before, covers, own};
 use crate::own_actions::{holds, is_member};
 use std::alloc::{AllocError, Global};
 use tb_model::{Action, Event, StepId, TaskName};
-
-/// Whether both touch one cell, and at least one stores.
-fn conflicts(a: &Action, b: &Action) -> bool
-    ensures { result ≡ Needs.conflicts a.now b.now }
-{
-    match a {
-        Action::Store { cell, .. } => touches(*cell, b),
-        Action::Load { cell, .. } => is_store_to(*cell, b),
-        _ => false,
-    }
-}
 
 /// Whether the action of `t` behind the history waits for the end of `u`.
 fn waits_for(
@@ -62,11 +50,11 @@ pub fn needs(alloc: Global, history: &[Event], v: &Event, u: &Event) -> Result<b
 {
     let for_end = needs_end_of(alloc, history, &v.task, &v.action, &u.task)?;
     Ok(
-        is_of(&v.task, u)
-            || (spawns(&v.task, u)
-                || (conflicts(&v.action, &u.action)
-                    || ((is_end(&u.action) && for_end)
-                        || (is_print(&v.action) && is_print(&u.action))))),
+        u.is_of(&v.task)
+            || (u.spawns(&v.task)
+                || (v.action.conflicts_with(&u.action)
+                    || ((u.action.is_end() && for_end)
+                        || (v.action.is_print() && u.action.is_print())))),
     )
 }
 
@@ -97,7 +85,7 @@ pub fn is_step(
     ensures { IfOk result (λ yes. yes ≡ Needs.is_step step.now history.now v.now) }
 {
     let acts = own(alloc, history, &step.task)?;
-    Ok(is_of(&step.task, v) && step.k as usize == acts.as_slice().len() + 1)
+    Ok(v.is_of(&step.task) && step.k as usize == acts.as_slice().len() + 1)
 }
 
 /// Whether `v` is the step or directly needs one of these events.

@@ -5,7 +5,6 @@ ghost use Rattle.tb_model.specs.Legal.{spawn_count};
 ghost use Rattle.tb_model.specs.Names.{is_child};
 ghost use Rattle.tb_plain.specs.Decided;
 
-use crate::action_tests::is_end;
 use crate::own_actions::{groups, spawn_count};
 use std::alloc::{AllocError, Global};
 use tb_model::{Action, Item, Place, TaskName};
@@ -15,7 +14,7 @@ fn is_running(acts: &[Action]) -> bool
 {
     match acts {
         [] => false,
-        [newest, ..] => !is_end(newest),
+        [newest, ..] => !newest.is_end(),
     }
 }
 

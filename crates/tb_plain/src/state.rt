@@ -4,7 +4,6 @@ ghost use Rattle.std.specs.Prelude.{◌≡◌, IfOk, option_copied};
 ghost use Rattle.tb_model.specs.State;
 ghost use Rattle.tb_plain.specs.Statuses.{named};
 
-use crate::action_tests::is_spawn_of;
 use crate::facts::{covers, has_ended, is_spawned, own};
 use crate::own_actions::{holds, is_member, is_member_of};
 use crate::status::Status;
@@ -49,7 +48,7 @@ pub fn spawn_of<'a>(history: &'a [Event], t: &TaskName) -> Option<&'a Action>
     match history {
         [] => None,
         [newest, front @ ..] => {
-            if is_spawn_of(t, &newest.action) {
+            if newest.action.is_spawn_of(t) {
                 Some(&newest.action)
             } else {
                 spawn_of(front, t)
