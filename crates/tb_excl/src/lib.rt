@@ -2,6 +2,7 @@
 #![tactic(auto)]
 
 mod holders;
+pub mod laws;
 #[cfg(test)]
 mod tests;
 
