@@ -4,3 +4,5 @@ pub mod RowLemmas
 pub mod WaitLemmas
 pub mod SpawnLemmas
 pub mod SearchLemmas
+pub mod HistoryLemmas
+pub mod UnendedLemmas

@@ -9,7 +9,7 @@ use Rattle.tb_model.specs.LeastNames.{IsAtMost, IsLeastName}
 use Rattle.tb_model.proofs.TestLemmas.{same_true, same_refl}
 use Rattle.tb_model.proofs.OrderLemmas.{at_most_below, at_most_later}
 use Rattle.tb_wait.specs.Numbers.{has, is_empty, IsNextAbove}
-use Rattle.tb_wait.specs.Kin.{Kin, Slot, Table, slot, kin, kin_in, IsUnended, IsUnendedChild, IsUnendedMember, first_of}
+use Rattle.tb_wait.specs.Kin.{Kin, Slot, Table, slot, kin, kin_in, IsUnended, IsUnendedChild, IsNextUnended, IsUnendedMember, first_of}
 use Rattle.tb_wait.specs.Rows.{key, slot_at, is_pending, groups_of, Fits, IsFirstWithin}
 use Rattle.tb_wait.specs.Tree.{Node, Nodes, node, is_live, is_own, IsPlace, IsTree, IsFirstPlace}
 use Rattle.tb_wait.proofs.RowLemmas.{slot_of_key, key_of_slot, no_slot}
@@ -339,6 +339,21 @@ module _ (table : Table) (names : List Name) (slots : List Slot) (nodes : Nodes)
           let l = first.least s.0 s.1 (omega arith) s.3 s.4 in cc;
     }
 
+    pub next_child : (low : ℕ) (o : Option ℕ) → IsNextAbove (node nodes at).unended low o → IsNextUnended table.tasks t low o
+    next_child low o a = record {
+      found = λ n e. let it = a.found n e in (it.0, (same_refl t, stands_at n it.1));
+      least = λ n l h. let s = child_at (n ∷ t) n refl h.1 in
+          a.least n l (ap (has (node nodes at).unended) (sym s.2) ∙ f.tree.unended at s.0 s.1 s.3 (no_root nodes at f.tree s.0 s.1 s.3) ∙ s.4);
+    }
+      where
+        stands_at : (n : ℕ) → has (node nodes at).unended n ≡ true → IsUnended table.tasks (n ∷ t)
+        stands_at n h =
+            let range = f.tree.children.unended at n h in
+            let there = slice_get-within (node nodes at).places (n - 1) (omega (arith, range.0, range.1)) in
+            let number : suc (n - 1) ≡ n = omega (arith, range.0) in
+            let own = sym (f.tree.unended at (n - 1) there.0 there.1 (no_root nodes at f.tree (n - 1) there.0 there.1)) ∙ ap (has (node nodes at).unended) number ∙ h in
+            subst (IsUnended table.tasks) (place_name (n - 1) there.0 there.1 ∙ ap (λ k. k ∷ t) number) (unended there.0 (place_in (n - 1) there.0 there.1) own)
+
     -- ---- members of the innermost open group
 
     kin_here : kin table.tasks t ≡ (slot_at slots at).kin
@@ -436,6 +451,12 @@ module _ (table : Table) (names : List Name) (slots : List Slot) (nodes : Nodes)
         let s = stands u h.1 in
         let a = above names slots nodes f s.index t c.0 s.within (s.named ∙ c.1) in
         let clash : Some (slot_at slots a.parent) ≡ None = sym (slot_of_key t names slots a.parent f.distinct f.slots_len a.within a.named) ∙ e in cc;
+  }
+
+  pub next_absent : (t : Name) (low : ℕ) → slot (zip names slots) t ≡ None → IsNextUnended table.tasks t low None
+  next_absent t low e = record {
+    found = λ n s. cc;
+    least = λ n l h. let c = (child_absent t e).least (n ∷ t) h in let clash : None ≡ Some c.0 = c.1 in cc;
   }
 
   pub member_absent : (t : Name) → slot (zip names slots) t ≡ None → IsLeastName (IsUnendedMember table.tasks t) None

@@ -2,7 +2,7 @@
 use Rattle.std.specs.Prelude.{◌≡◌, ◌≢◌, ◌<◌, ◌≤◌, ◌-◌, ◌⊎◌, ℕ, suc, Bool, true, false, not, ◌&&◌, List, [], ◌∷◌, Option, Some, None, is_some, if◌then◌else◌, ◌==◌}
 use Rattle.std.specs.Option.{option_map}
 use Rattle.std.specs.Map.{lookup}
-use Rattle.tb_model.specs.Names.{Name, same_name, is_child}
+use Rattle.tb_model.specs.Names.{Name, child, same_name, is_child}
 use Rattle.tb_model.specs.Siblings.{is_later}
 
 -- what is kept of a task: whether it is over, the number of its last child, and what that number was at the beginning of each
@@ -160,6 +160,11 @@ IsUnended tasks t = (k : Kin) × (kin tasks t ≡ Some k) × (k.over ≡ false)
 -- u is an unended child of t
 abbrev pub IsUnendedChild : Tasks → Name → Name → Type 0
 IsUnendedChild tasks t u = (is_child t u ≡ true) × IsUnended tasks u
+
+-- the least number above `low` of an unended child of t, and None exactly where there is none
+pub record IsNextUnended (tasks : Tasks) (t : Name) (low : ℕ) (o : Option ℕ) : Type 0 where
+  pub found : (n : ℕ) → o ≡ Some n → (low < n) × IsUnendedChild tasks t (child t n)
+  pub least : (n : ℕ) → low < n → IsUnendedChild tasks t (child t n) → (m : ℕ) × (o ≡ Some m) × (m ≤ n)
 
 -- m is an unended child of t with a number above n, or an unended descendant of such a child
 abbrev pub IsUnendedLater : Tasks → Name → ℕ → Name → Type 0

@@ -1,6 +1,7 @@
 //! Which children of a task, and which members of its open groups, haven't ended.
 #![tactic(auto)]
 
+pub mod laws;
 mod node;
 mod numbers;
 mod row;

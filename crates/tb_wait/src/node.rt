@@ -159,11 +159,11 @@ impl Node {
         self.live.has(number)
     }
 
-    /// The least number of a child that hasn't ended.
-    pub fn first_unended(&self) -> Option<u32>
-        ensures { IsNextAbove self.now.unended 0 result }
+    /// The least number above `low` of a child that hasn't ended.
+    pub fn first_unended(&self, low: u32) -> Option<u32>
+        ensures { IsNextAbove self.now.unended low result }
     {
-        self.unended.next_above(0)
+        self.unended.next_above(low)
     }
 
     /// The least number above `low` of a child within which some task hasn't ended.

@@ -3,6 +3,7 @@
 ghost use Rattle.std.specs.Prelude.{◌≡◌, ◌<◌, List, ℕ, true, length};
 ghost use Rattle.tb_model.specs.Names.{Name};
 ghost use Rattle.tb_wait.specs.Kin.{Slot};
+ghost use Rattle.tb_wait.specs.Numbers.{IsNextAbove};
 ghost use Rattle.tb_wait.specs.Rows.{Fits, IsFirstWithin};
 ghost use Rattle.tb_wait.specs.Tree.{node, is_live, is_own, IsTree, IsFirstPlace};
 
@@ -16,10 +17,18 @@ pub fn first_unended(nodes: &Vec<Node>, at: usize) -> Option<usize>
     ensures { IsFirstPlace nodes.now.items at 0 is_own result }
 {
     let node = shown(nodes, at);
-    match node.first_unended() {
+    match node.first_unended(0) {
         Some(number) => node.place(number),
         None => None,
     }
+}
+
+/// The least number above `low` of a child that hasn't ended.
+pub fn next_unended(nodes: &Vec<Node>, at: usize, low: u32) -> Option<u32>
+    requires { at < length nodes.now.items }
+    ensures { IsNextAbove (node nodes.now.items at).unended low result }
+{
+    shown(nodes, at).first_unended(low)
 }
 
 /// The place of the first child above the number within which some task hasn't ended.

@@ -270,3 +270,24 @@ fn a_refused_growth_changes_nothing(rt: HostRuntime) -> Result<(), Fail> {
     }
     Ok(())
 }
+
+#[test]
+fn the_unended_children_are_walked_by_number(rt: HostRuntime) -> Result<(), Fail> {
+    let alloc = rt.alloc();
+    let mut table = Wait::open(alloc)?;
+    let root = TaskName::root(alloc);
+    assert_eq!(rt; table.next_unended(&root, 0), None);
+    for _ in 0..4 {
+        assert!(rt; spawn(&mut table, &root)?.is_some());
+    }
+    table.ended(&root.child(2)?);
+    let found: [Option<u32>; 5] = [Some(1), Some(3), Some(3), Some(4), None];
+    let mut low = 0u32;
+    for next in &found {
+        assert_eq!(rt; table.next_unended(&root, low), *next);
+        low = low.wrapping_add(1);
+    }
+    assert_eq!(rt; table.next_unended(&root.child(2)?, 0), None);
+    assert_eq!(rt; table.next_unended(&root.child(5)?, 0), None);
+    Ok(())
+}

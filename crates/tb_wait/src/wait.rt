@@ -8,7 +8,7 @@ ghost use Rattle.tb_wait.specs.Kin.{Kin, slot};
 ghost use Rattle.std.specs.Option.{option_copied, option_map};
 ghost use Rattle.tb_model.specs.Names.{same_name, child};
 ghost use Rattle.tb_model.specs.LeastNames.{IsLeastName};
-ghost use Rattle.tb_wait.specs.Kin.{kin, fresh, with_over, opened_kin, unopened_kin, closed_kin, unclosed_kin, Changes, IsSame, KeepsNames, KeepsRoom, HasGroupRoom, HasChildRoom, HasRoomFor, HasOpenGroup, is_known, Adds, Drops, IsNext, IsLast, is_fresh, IsUnendedChild, IsUnendedMember};
+ghost use Rattle.tb_wait.specs.Kin.{kin, fresh, with_over, opened_kin, unopened_kin, closed_kin, unclosed_kin, Changes, IsSame, KeepsNames, KeepsRoom, HasGroupRoom, HasChildRoom, HasRoomFor, HasOpenGroup, is_known, Adds, Drops, IsNext, IsLast, is_fresh, IsUnendedChild, IsNextUnended, IsUnendedMember};
 
 use crate::node::Node;
 use crate::row::Row;
@@ -277,6 +277,17 @@ impl Wait {
             return None;
         };
         self.names.get_index(first)
+    }
+
+    /// The least number above `low` of a child of the task that stands and isn't over. Takes no
+    /// memory.
+    pub fn next_unended(&self, task: &TaskName, low: u32) -> Option<u32>
+        ensures { IsNextUnended self.now.tasks task.now low result }
+    {
+        let Some(at) = self.names.get_index_of(task) else {
+            return None;
+        };
+        search::next_unended(&self.nodes, at, low)
     }
 
     /// The least member of the task's innermost open group that stands and isn't over.
