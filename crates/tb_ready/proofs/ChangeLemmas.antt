@@ -1,9 +1,7 @@
 -- What a change of the table leaves of each name's mark.
-use Rattle.std.proofs.Common.{◌≡◌, ℕ, Bool, true, false, cond, List, [], ◌∷◌, ◌++◌, Option, Some, None, refl, ap, sym, ◌∙◌}
+use Rattle.std.proofs.Common.{◌≡◌, ℕ, Bool, true, false, not, cond, List, [], ◌∷◌, ◌++◌, Option, Some, None, refl, ap, sym, ◌∙◌}
 use Rattle.std.specs.Prelude.{option_map, is_some, unwrap_or}
-use Rattle.std.specs.List.{IsDistinct, AllByRecursion}
 use Rattle.std.specs.Map.{keys_of}
-use Rattle.std.proofs.lemmas.Map.Keys.{IsDistinct-head, IsDistinct-tail}
 use Rattle.tb_model.specs.Names.{Name, same_name}
 use Rattle.tb_model.proofs.TestLemmas.{same_true, same_refl}
 use Rattle.tb_ready.specs.Tasks.{mark_of, with_name, with_mark, without_name}
@@ -82,36 +80,30 @@ marked_back (t ∷ ts) name was mark h = at (same_name name t.0) refl h (λ r. m
 
 -- ---- one name less
 
-none_of : (ts : Table) (name k : Name) → same_name name k ≡ true → AllByRecursion (λ m. same_name k m ≡ false) (keys_of ts) → mark_of ts name ≡ None
-none_of [] name k e all = refl
-none_of (t ∷ ts) name k e all =
-    ap (λ b. cond b (Some t.1) (mark_of ts name)) (ap (λ n. same_name n t.0) (same_true name k e) ∙ all.0) ∙ none_of ts name k e all.1
-
-pub removed : (ts : Table) (name : Name) → IsDistinct same_name (keys_of ts) → mark_of (without_name ts name) name ≡ None
-removed [] name d = refl
-removed (t ∷ ts) name d =
-    at (same_name name t.0) refl (removed ts name (IsDistinct-tail same_name t.0 (keys_of ts) d)) (IsDistinct-head same_name t.0 (keys_of ts) d)
+pub removed : (ts : Table) (name : Name) → mark_of (without_name ts name) name ≡ None
+removed [] name = refl
+removed (t ∷ ts) name = at (same_name name t.0) refl (removed ts name)
   where
-    at : (b : Bool) → same_name name t.0 ≡ b → mark_of (without_name ts name) name ≡ None → AllByRecursion (λ m. same_name t.0 m ≡ false) (keys_of ts)
-        → mark_of (cond b ts (t ∷ without_name ts name)) name ≡ None
-    at true e rest all = none_of ts name t.0 e all
-    at false e rest all = ap (λ b. cond b (Some t.1) (mark_of (without_name ts name) name)) e ∙ rest
+    at : (b : Bool) → same_name name t.0 ≡ b → mark_of (without_name ts name) name ≡ None
+        → mark_of (cond (not b) (t ∷ without_name ts name) (without_name ts name)) name ≡ None
+    at true e rest = rest
+    at false e rest = ap (λ b. cond b (Some t.1) (mark_of (without_name ts name) name)) e ∙ rest
 
 pub removed_others : (ts : Table) (name other : Name) → same_name other name ≡ false → mark_of (without_name ts name) other ≡ mark_of ts other
 removed_others [] name other d = refl
 removed_others (t ∷ ts) name other d = at (same_name name t.0) refl (removed_others ts name other d)
   where
     at : (b : Bool) → same_name name t.0 ≡ b → mark_of (without_name ts name) other ≡ mark_of ts other
-        → mark_of (cond b ts (t ∷ without_name ts name)) other ≡ mark_of (t ∷ ts) other
-    at true e rest = sym (ap (λ b. cond b (Some t.1) (mark_of ts other)) (entry_other t.0 name other e d))
+        → mark_of (cond (not b) (t ∷ without_name ts name) (without_name ts name)) other ≡ mark_of (t ∷ ts) other
+    at true e rest = rest ∙ sym (ap (λ b. cond b (Some t.1) (mark_of ts other)) (entry_other t.0 name other e d))
     at false e rest = ap (λ m. cond (same_name other t.0) (Some t.1) m) rest
 
 push_removed : (ts : Table) (name : Name) → mark_of ts name ≡ None → without_name (ts ++ (name, false) ∷ []) name ≡ ts
-push_removed [] name h = ap (λ b. cond b [] ((name, false) ∷ [])) (same_refl name)
+push_removed [] name h = ap (λ b. cond (not b) ((name, false) ∷ []) []) (same_refl name)
 push_removed (t ∷ ts) name h = at (same_name name t.0) h (λ r. push_removed ts name r)
   where
     at : (b : Bool) → cond b (Some t.1) (mark_of ts name) ≡ None → (mark_of ts name ≡ None → without_name (ts ++ (name, false) ∷ []) name ≡ ts)
-        → cond b (ts ++ (name, false) ∷ []) (t ∷ without_name (ts ++ (name, false) ∷ []) name) ≡ t ∷ ts
+        → cond (not b) (t ∷ without_name (ts ++ (name, false) ∷ []) name) (without_name (ts ++ (name, false) ∷ []) name) ≡ t ∷ ts
     at true g rest = absurd (cc)
     at false g rest = ap (λ r. t ∷ r) (rest g)
 

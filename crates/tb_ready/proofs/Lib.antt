@@ -2,3 +2,5 @@ pub mod LayoutLemmas
 pub mod TasksLemmas
 pub mod OrderLemmas
 pub mod ChangeLemmas
+pub mod HistoryLemmas
+pub mod NextLemmas

@@ -22,14 +22,14 @@ Table = List (Name × Bool)
 
 -- ---- names in order
 
-not_less_itself : (n : Name) → name_cmp n n ≡ Less → false ≡ true
+pub not_less_itself : (n : Name) → name_cmp n n ≡ Less → false ≡ true
 not_less_itself n h = ap is_lt (sym (tied_itself name_cmp_total n)) ∙ ap is_lt h
 
 not_less_less : (m n : Name) → is_lt (name_cmp m n) ≡ false → name_cmp m n ≡ Less → false ≡ true
 not_less_less m n h e = sym h ∙ ap is_lt e
 
 -- who isn't less and isn't the same is greater
-less_behind : (m n : Name) → is_lt (name_cmp m n) ≡ false → m ≢ n → name_cmp n m ≡ Less
+pub less_behind : (m n : Name) → is_lt (name_cmp m n) ≡ false → m ≢ n → name_cmp n m ≡ Less
 less_behind m n h d = at (name_cmp m n) refl h
   where
     at : (o : Ordering) → name_cmp m n ≡ o → is_lt o ≡ false → name_cmp n m ≡ Less
@@ -312,7 +312,7 @@ module _ (ts : Table) (o : List ℕ) (ord : IsOrder ts o) where
     skipped name = list_any (λ s. same_name s name) skip
 
     -- a candidate stands in the order
-    candidate_at : (name : Name) → IsTrue (is_candidate ts skip name) → (a : ℕ) × (a < length o) × (name_at ts (get_or o a 0) ≡ name) × (skipped name ≡ false)
+    pub candidate_at : (name : Name) → IsTrue (is_candidate ts skip name) → (a : ℕ) × (a < length o) × (name_at ts (get_or o a 0) ≡ name) × (skipped name ≡ false)
     candidate_at name h = at (mark_of ts name) refl
       where
         parts : (unwrap_or (mark_of ts name) false ≡ true) × (not (skipped name) ≡ true)

@@ -1,5 +1,5 @@
 -- Names and marks by place, and by name.
-use Rattle.std.proofs.Common.{◌≡◌, ◌≢◌, ◌<◌, ◌≤◌, ◌+◌, ℕ, zero, suc, Bool, true, false, cond, List, [], ◌∷◌, ◌++◌, length, Option, Some, None, arith, refl, ap, sym, ◌∙◌, subst, slice_get}
+use Rattle.std.proofs.Common.{◌≡◌, ◌≢◌, ◌<◌, ◌≤◌, ◌+◌, ℕ, zero, suc, Bool, true, false, not, cond, List, [], ◌∷◌, ◌++◌, length, Option, Some, None, arith, refl, ap, sym, ◌∙◌, subst, slice_get}
 use Rattle.std.specs.Prelude.{remove, unwrap_or, is_some, IfSome}
 use Rattle.std.specs.Map.{keys_of}
 use Rattle.std.proofs.Math.Bool.{beq}
@@ -42,21 +42,36 @@ with_mark_at (t ∷ ts) (suc i) mark u h =
     ap (λ b. cond b ((t.0, mark) ∷ ts) (t ∷ with_mark ts (name_at ts i) mark)) (unique_head t ts i u (omega arith))
     ∙ ap (λ r. t ∷ r) (with_mark_at ts i mark (unique_tail t ts u) (omega arith))
 
+-- a name at no place isn't there
+absent_where : (ts : Table) (name : Name) → ((i : ℕ) → i < length ts → name_at ts i ≡ name → ⊥) → mark_of ts name ≡ None
+absent_where [] name h = refl
+absent_where (t ∷ ts) name h =
+    ap (λ b. cond b (Some t.1) (mark_of ts name)) (false_from_ne_true (same_name name t.0) (λ e. h zero (omega arith) (sym (same_true name t.0 e))))
+    ∙ absent_where ts name (λ i w e. h (suc i) (omega arith) e)
+
+-- without a name that isn't there the table is the same
+pub without_absent : (ts : Table) (name : Name) → mark_of ts name ≡ None → without_name ts name ≡ ts
+without_absent [] name h = refl
+without_absent (t ∷ ts) name h = at (same_name name t.0) h (without_absent ts name)
+  where
+    at : (b : Bool) → cond b (Some t.1) (mark_of ts name) ≡ None → (mark_of ts name ≡ None → without_name ts name ≡ ts)
+        → cond (not b) (t ∷ without_name ts name) (without_name ts name) ≡ t ∷ ts
+    at true g rest = absurd (cc)
+    at false g rest = ap (λ r. t ∷ r) (rest g)
+
 pub without_name_at : (ts : Table) (i : ℕ) → AreUnique ts → i < length ts → without_name ts (name_at ts i) ≡ remove ts i
 without_name_at [] i u h = absurd (omega arith)
-without_name_at (t ∷ ts) zero u h = ap (λ b. cond b ts (t ∷ without_name ts t.0)) (same_refl t.0)
+without_name_at (t ∷ ts) zero u h =
+    ap (λ b. cond (not b) (t ∷ without_name ts t.0) (without_name ts t.0)) (same_refl t.0)
+    ∙ without_absent ts t.0 (absent_where ts t.0 (λ i w e. let same = u (suc i) zero (omega arith) (omega arith) e in absurd (omega (arith, same))))
 without_name_at (t ∷ ts) (suc i) u h =
-    ap (λ b. cond b ts (t ∷ without_name ts (name_at ts i))) (unique_head t ts i u (omega arith))
+    ap (λ b. cond (not b) (t ∷ without_name ts (name_at ts i)) (without_name ts (name_at ts i))) (unique_head t ts i u (omega arith))
     ∙ ap (λ r. t ∷ r) (without_name_at ts i (unique_tail t ts u) (omega arith))
 
 -- a name that isn't there
 pub with_mark_absent : (ts : Table) (name : Name) (mark : Bool) → mark_of ts name ≡ None → with_mark ts name mark ≡ ts
 with_mark_absent [] name mark h = refl
 with_mark_absent (t ∷ ts) name mark h = grind (arith, with_mark_absent ts name mark)
-
-pub without_absent : (ts : Table) (name : Name) → mark_of ts name ≡ None → without_name ts name ≡ ts
-without_absent [] name h = refl
-without_absent (t ∷ ts) name h = grind (arith, without_absent ts name)
 
 -- where a name that is there stands
 pub stands : (ts : Table) (name : Name) (mark : Bool) → mark_of ts name ≡ Some mark → (i : ℕ) × (i < length ts) × (name_at ts i ≡ name) × (mark_at ts i ≡ mark)

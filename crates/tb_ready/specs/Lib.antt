@@ -1,3 +1,5 @@
 pub mod Tasks
 pub mod Layout
 pub mod Order
+pub mod Histories
+pub use Rattle.tb_model.specs.LeastNames

@@ -1,9 +1,10 @@
 -- The order of the marked names, as a list of their places. No public clause cites this module.
-use Rattle.std.specs.Prelude.{◌≡◌, ℕ, suc, ◌-◌, ◌<◌, ◌≤◌, Bool, true, false, List, [], ◌∷◌, length, nat_lt, slice_index, if◌then◌else◌}
+use Rattle.std.specs.Prelude.{◌≡◌, ℕ, suc, ◌-◌, ◌<◌, ◌≤◌, Bool, true, false, List, [], ◌∷◌, Option, length, nat_lt, slice_index, if◌then◌else◌}
 use Rattle.std.specs.declared.cmp.Ordering.TheVariants.{Less}
 use Rattle.std.specs.Ordering.{is_lt}
 use Rattle.tb_model.specs.Names.{Name, name_cmp}
 use Rattle.tb_ready.specs.Layout.{name_at, mark_at}
+use Rattle.tb_ready.specs.Tasks.{IsBehind}
 
 abbrev pub count_marked : List (Name × Bool) → ℕ
 count_marked [] = 0
@@ -21,6 +22,11 @@ pub record IsPlace (tasks : List (Name × Bool)) (order : List ℕ) (name : Name
   pub within : place ≤ length order
   pub below : (a : ℕ) → a < place → name_cmp (name_at tasks (slice_index order a)) name ≡ Less
   pub above : (a : ℕ) → place ≤ a → a < length order → is_lt (name_cmp (name_at tasks (slice_index order a)) name) ≡ false
+
+-- the place of the first name behind this one: none comes behind it in front of the place, and all do from there on
+pub record IsFirstBehind (tasks : List (Name × Bool)) (order : List ℕ) (after : Option Name) (place : ℕ) : Type 0 where
+  pub passed : (a : ℕ) → a < place → IsBehind after (name_at tasks (slice_index order a)) → ⊥
+  pub behind : (a : ℕ) → place ≤ a → a < length order → IsBehind after (name_at tasks (slice_index order a))
 
 -- the place that a name has once the one at this place is gone
 abbrev pub moved_up : ℕ → ℕ → ℕ

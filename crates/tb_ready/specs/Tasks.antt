@@ -1,7 +1,8 @@
 -- What a contract sees of the table of tasks.
-use Rattle.std.specs.Prelude.{◌≡◌, ℕ, Bool, false, not, ◌&&◌, List, [], ◌∷◌, ◌++◌, Option, Some, None, is_some, unwrap_or, IsTrue, if◌then◌else◌}
-use Rattle.std.specs.List.{list_any}
-use Rattle.std.specs.Map.{lookup, set_value, remove_entry}
+use Rattle.std.specs.Prelude.{◌≡◌, ℕ, Bool, false, not, ◌&&◌, List, [], ◌∷◌, ◌++◌, Option, Some, None, is_some, unwrap_or, IsTrue, if◌then◌else◌, ⊤}
+use Rattle.std.specs.declared.cmp.Ordering.TheVariants.{Less}
+use Rattle.std.specs.List.{list_any, filter}
+use Rattle.std.specs.Map.{lookup, set_value}
 use Rattle.std.specs.Ordering.{is_le}
 use Rattle.tb_model.specs.Names.{Name, same_name, name_cmp}
 
@@ -20,7 +21,7 @@ with_name tasks name = if is_some (mark_of tasks name) then tasks else tasks ++ 
 
 -- without the name
 abbrev pub without_name : List (Name × Bool) → Name → List (Name × Bool)
-without_name tasks name = remove_entry (same_name name) tasks
+without_name tasks name = filter (λ (e : Name × Bool). not (same_name name e.0)) tasks
 
 -- with this mark of the name, where it is there
 abbrev pub with_mark : List (Name × Bool) → Name → Bool → List (Name × Bool)
@@ -36,3 +37,13 @@ IsLeast tasks skip None = (name : Name) → is_candidate tasks skip name ≡ fal
 IsLeast tasks skip (Some least) =
     IsTrue (is_candidate tasks skip least)
     × ((name : Name) → IsTrue (is_candidate tasks skip name) → IsTrue (is_le (name_cmp least name)))
+
+-- the name comes behind the other, where there is one
+abbrev pub IsBehind : Option Name → Name → Type 0
+IsBehind None name = ⊤
+IsBehind (Some after) name = name_cmp after name ≡ Less
+
+-- the name is marked, and comes behind the other
+pub record IsMarkedBehind (tasks : List (Name × Bool)) (after : Option Name) (name : Name) : Type 0 where
+  pub marked : IsTrue (unwrap_or (mark_of tasks name) false)
+  pub behind : IsBehind after name

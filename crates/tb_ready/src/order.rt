@@ -3,9 +3,10 @@
 ghost use Rattle.std.specs.Prelude.{◌≡◌, ◌<◌, ◌≤◌, false, true, length, remove, slice_index};
 ghost use Rattle.std.specs.VecDeque.{deque_capacity};
 ghost use Rattle.std.specs.Option.{option_copied};
-ghost use Rattle.tb_ready.specs.Tasks.{IsLeast};
+ghost use Rattle.tb_model.specs.LeastNames.{IsLeastName};
+ghost use Rattle.tb_ready.specs.Tasks.{IsLeast, IsMarkedBehind};
 ghost use Rattle.tb_ready.specs.Layout.{name_at, mark_at, set_at, AreUnique};
-ghost use Rattle.tb_ready.specs.Order.{IsOrder, IsPlace};
+ghost use Rattle.tb_ready.specs.Order.{IsOrder, IsPlace, IsFirstBehind};
 
 use crate::names::Names;
 use std::collections::VecDeque;
@@ -141,4 +142,37 @@ pub(crate) fn least<'a>(
         }
     }
     None
+}
+
+/// The place of the first marked name behind this one, or of the first of all.
+fn place_behind(names: &Names, order: &VecDeque<usize>, after: Option<&TaskName>) -> usize
+    requires { IsOrder names.now.tasks order.now.items }
+    ensures { IsFirstBehind names.now.tasks order.now.items (option_copied after.entry) result }
+{
+    let Some(name) = after else {
+        return 0;
+    };
+    let place = place_of(names, order, name);
+    if place < order.len() && marked(names, order, place) == name {
+        place + 1
+    } else {
+        place
+    }
+}
+
+/// The least marked name behind this one, or the least of all.
+pub(crate) fn next_marked<'a>(
+    names: &'a Names,
+    order: &VecDeque<usize>,
+    after: Option<&TaskName>,
+) -> Option<&'a TaskName>
+    requires { IsOrder names.now.tasks order.now.items }
+    ensures { IsLeastName (IsMarkedBehind names.now.tasks (option_copied after.entry)) (option_copied result) }
+{
+    let place = place_behind(names, order, after);
+    if place < order.len() {
+        Some(marked(names, order, place))
+    } else {
+        None
+    }
 }

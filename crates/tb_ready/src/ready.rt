@@ -5,10 +5,11 @@ ghost use Rattle.std.specs.Option.{option_copied};
 ghost use Rattle.std.specs.List.{IsDistinct};
 ghost use Rattle.std.specs.Map.{keys_of};
 ghost use Rattle.tb_model.specs.Names.{same_name};
-ghost use Rattle.tb_ready.specs.Tasks.{mark_of, with_name, without_name, with_mark, IsLeast};
+ghost use Rattle.tb_model.specs.LeastNames.{IsLeastName};
+ghost use Rattle.tb_ready.specs.Tasks.{mark_of, with_name, without_name, with_mark, IsLeast, IsMarkedBehind};
 
 use crate::names::Names;
-use crate::order::{forget, least, set_mark};
+use crate::order::{forget, least, next_marked, set_mark};
 use std::alloc::{AllocError, Global};
 use std::collections::VecDeque;
 use std::marker::Model;
@@ -89,6 +90,14 @@ impl Ready {
         ensures { IsLeast self.now.tasks skip.now (option_copied result) }
     {
         least(&self.names, &self.order, skip)
+    }
+
+    /// The least marked name behind this one, or the least of all where none is given. So the marked
+    /// names can be listed in order, each found by a binary search.
+    pub fn next_marked(&self, after: Option<&TaskName>) -> Option<&TaskName>
+        ensures { IsLeastName (IsMarkedBehind self.now.tasks (option_copied after.entry)) (option_copied result) }
+    {
+        next_marked(&self.names, &self.order, after)
     }
 
     /// Makes the room that `add` needs, whatever the name, and changes nothing else.

@@ -54,6 +54,37 @@ fn the_least_marked_name_comes_first(rt: HostRuntime) -> Result<(), Fail> {
 }
 
 #[test]
+fn the_marked_names_follow_in_order(rt: HostRuntime) -> Result<(), Fail> {
+    let alloc = rt.alloc();
+    let mut ready = Ready::new(alloc);
+    assert!(rt; ready.next_marked(None).is_none());
+    let rows: [&[u32]; 4] = [
+        [2].as_slice(),
+        [1, 3].as_slice(),
+        [].as_slice(),
+        [1].as_slice(),
+    ];
+    for numbers in rows {
+        ready.add(name(alloc, numbers)?)?;
+        ready.mark(&name(alloc, numbers)?, true);
+    }
+    let root = name(alloc, [].as_slice())?;
+    let first = name(alloc, [1].as_slice())?;
+    let grandchild = name(alloc, [1, 3].as_slice())?;
+    let second = name(alloc, [2].as_slice())?;
+    assert!(rt; ready.next_marked(None) == Some(&root));
+    assert!(rt; ready.next_marked(Some(&root)) == Some(&first));
+    assert!(rt; ready.next_marked(Some(&first)) == Some(&grandchild));
+    assert!(rt; ready.next_marked(Some(&grandchild)) == Some(&second));
+    assert!(rt; ready.next_marked(Some(&second)).is_none());
+    ready.mark(&first, false);
+    assert!(rt; ready.next_marked(Some(&root)) == Some(&grandchild));
+    assert!(rt; ready.next_marked(Some(&first)) == Some(&grandchild));
+    assert!(rt; ready.next_marked(Some(&name(alloc, [1, 4].as_slice())?)) == Some(&second));
+    Ok(())
+}
+
+#[test]
 fn an_end_and_its_undo_take_no_memory(rt: HostRuntime) -> Result<(), Fail> {
     let alloc = rt.alloc();
     let mut ready = Ready::new(alloc);
