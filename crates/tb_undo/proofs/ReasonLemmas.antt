@@ -1,0 +1,76 @@
+-- What keeps a task from an action, from the least of each kind.
+use Rattle.std.proofs.Common.{◌≡◌, List, Bool, Option, Some, None, option_map, refl, subst, IsTrue}
+use Rattle.tb_model.specs.declared.item.Item.{Item}
+use Rattle.tb_model.specs.declared.action.Action.{Action}
+use Rattle.tb_model.specs.declared.action.Action.TheVariants.{Start, Wait, Close}
+use Rattle.tb_model.specs.Names.{Name}
+use Rattle.tb_model.specs.Facts.{History}
+use Rattle.tb_model.specs.State.{is_unended_covered, is_unended_member, is_unended_undeferred}
+use Rattle.tb_model.specs.Hindrances.{IsLeast, IsFree, is_waited_for, is_excluding, in_the_way, Hindrance, Hinders, Undeferred, Waiting, Excluded, Children, Group}
+use Rattle.tb_model.proofs.HindranceLemmas.{in_the_way_hinders}
+use Rattle.tb_model.proofs.LeastNameLemmas.{one_least}
+
+not_both : (p : Name → Bool) (u : Name) → IsLeast p None → IsLeast p (Some u) → ⊥
+not_both p u none some = let same = one_least (λ w. IsTrue (p w)) None (Some u) none some in cc
+
+kept_by_none : (H : History) (t : Name) (a : Action) → ((h : Hindrance) → Hinders H t a h → ⊥) → in_the_way H t a ≡ None
+kept_by_none H t a f = at (in_the_way H t a) refl
+  where
+    at : (o : Option Hindrance) → in_the_way H t a ≡ o → o ≡ None
+    at None e = refl
+    at (Some h) e = absurd (f h ((in_the_way_hinders H t a h).0 e))
+
+module _ (H : History) (t : Name) where
+  pub stands : (a : Action) (u : Name) → IsLeast (is_unended_undeferred H t) (Some u) → in_the_way H t a ≡ Some (Undeferred u)
+  stands a u l = (in_the_way_hinders H t a (Undeferred u)).1 l
+
+  module _ (free : IsFree H t) where
+    pub waits : (u : Name) → IsLeast (is_waited_for H t) (Some u) → in_the_way H t Start ≡ Some (Waiting u)
+    waits u l = (in_the_way_hinders H t Start (Waiting u)).1 (free, refl, l)
+
+    pub starts_when : (o : Option Name) → IsLeast (is_waited_for H t) None → IsLeast (is_excluding H t) o → in_the_way H t Start ≡ option_map Excluded o
+    starts_when (Some u) none l = (in_the_way_hinders H t Start (Excluded u)).1 (free, refl, none, l)
+    starts_when None none l = kept_by_none H t Start at
+      where
+        at : (h : Hindrance) → Hinders H t Start h → ⊥
+        at (Undeferred u) k = not_both (is_unended_undeferred H t) u free k
+        at (Waiting u) k = not_both (is_waited_for H t) u none k.2
+        at (Excluded u) k = not_both (is_excluding H t) u l k.3
+        at (Children u) k = let other = k.2 in cc
+        at (Group u) k = let other = k.1 in cc
+
+    pub waits_for : (items : List Item) (o : Option Name) → IsLeast (is_unended_covered H t items) o → in_the_way H t (Wait items) ≡ option_map Children o
+    waits_for items (Some u) l = (in_the_way_hinders H t (Wait items) (Children u)).1 (free, items, refl, l)
+    waits_for items None l = kept_by_none H t (Wait items) at
+      where
+        at : (h : Hindrance) → Hinders H t (Wait items) h → ⊥
+        at (Undeferred u) k = not_both (is_unended_undeferred H t) u free k
+        at (Waiting u) k = let other = k.1 in cc
+        at (Excluded u) k = let other = k.1 in cc
+        at (Children u) k =
+            let same : Wait items ≡ Wait k.1 = k.2 in
+            let is : items ≡ k.1 = cc in
+            not_both (is_unended_covered H t k.1) u (subst (λ is. IsLeast (is_unended_covered H t is) None) is l) k.3
+        at (Group u) k = let other = k.1 in cc
+
+    pub closes_when : (o : Option Name) → IsLeast (is_unended_member H t) o → in_the_way H t Close ≡ option_map Group o
+    closes_when (Some u) l = (in_the_way_hinders H t Close (Group u)).1 (free, refl, l)
+    closes_when None l = kept_by_none H t Close at
+      where
+        at : (h : Hindrance) → Hinders H t Close h → ⊥
+        at (Undeferred u) k = not_both (is_unended_undeferred H t) u free k
+        at (Waiting u) k = let other = k.1 in cc
+        at (Excluded u) k = let other = k.1 in cc
+        at (Children u) k = let other = k.2 in cc
+        at (Group u) k = not_both (is_unended_member H t) u l k.2
+
+    -- nothing else keeps a task
+    pub goes_on : (a : Action) → (a ≡ Start → ⊥) → ((items : List Item) → a ≡ Wait items → ⊥) → (a ≡ Close → ⊥) → in_the_way H t a ≡ None
+    goes_on a not_start not_wait not_close = kept_by_none H t a at
+      where
+        at : (h : Hindrance) → Hinders H t a h → ⊥
+        at (Undeferred u) k = not_both (is_unended_undeferred H t) u free k
+        at (Waiting u) k = not_start k.1
+        at (Excluded u) k = not_start k.1
+        at (Children u) k = not_wait k.1 k.2
+        at (Group u) k = not_close k.1

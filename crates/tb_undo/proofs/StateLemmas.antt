@@ -1,0 +1,127 @@
+-- The state at the beginning, and where only room has changed.
+use Rattle.std.proofs.Common.{◌≡◌, ◌<◌, ◌↔◌, ℕ, List, [], ◌∷◌, ◌++◌, IsTrue, Bool, true, cond, length, refl, sym, ap, ◌∙◌, subst, ℤ, Option, Some, None, unwrap_or}
+use Rattle.std.proofs.lemmas.Option.{unwrap_or-slice_get}
+use Rattle.tb_model.specs.Names.{Name, same_name}
+use Rattle.tb_model.specs.declared.event.Event.{Event}
+use Rattle.tb_model.proofs.TestLemmas.{same_true, same_refl}
+use Rattle.tb_model.specs.Facts.{History}
+use Rattle.tb_model.specs.Legal.{Cells}
+use Rattle.tb_model.specs.Lines.{Departure, events_of}
+use Rattle.tb_store.specs.Contents.{number_at}
+use Rattle.tb_store.specs.declared.replaced.Replaced.{Replaced}
+use Rattle.tb_excl.specs.Holders.{Holders, KeepsRoom, IsSame}
+use Rattle.tb_excl.specs.Histories.{AreHolders, is_held}
+use Rattle.tb_excl.proofs.HistoriesLemmas as sets
+use Rattle.tb_ready.proofs.HistoryLemmas as marks
+use Rattle.tb_model.specs.declared.item.Item.{Item}
+use Rattle.tb_ready.specs.Tasks.{Tasks as Marks}
+use Rattle.tb_wait.specs.Kin.{Table as WaitTable, kin, fresh, HasRoomFor as HasRoomForChild}
+use Rattle.tb_wait.proofs.HistoryLemmas as waits
+use Rattle.tb_undo.specs.Tasks.{Task, Rows, task, holders_of, fresh_task, register_by, HasChildRoomIn}
+use Rattle.tb_undo.specs.Sets.{Become, Comes}
+use Rattle.tb_undo.specs.State.{Seen, AreLast, known_task, task_of, IsState}
+use Rattle.tb_undo.specs.Changes.{HasSpawnRoom, AreSame, replaced_in, Changed, ChangedBack, CanChange, CanChangeBack}
+use Rattle.tb_undo.specs.Steps.{Follows, IsAhead, IsBehind, IsRecord, Stands, IsWithout}
+use Rattle.tb_undo.proofs.StoreLemmas.{number_right}
+use Rattle.tb_undo.proofs.TieLemmas.{acting, applied, can_change, can_change_back, at_end, reverted_newest}
+use Rattle.tb_undo.proofs.RecordLemmas.{record_kept}
+
+first_holders : (h : Holders) (new : Rows) (line : ℕ) → Comes [] [] (fresh_task [] line []) new → (p : Name) → holders_of new p ≡ Some h → AreHolders [] p h
+first_holders h new line comes [] e = sets.first [] [] h (comes.founds.parent h e) (λ place. comes.founds.free h place e) (λ n. refl)
+first_holders h new line comes (n ∷ p) e = absurd (none h (sym (comes.founds.others (n ∷ p) refl) ∙ e))
+  where
+    none : {A : Type 0} (x : A) → ◌≡◌ {A = Option A} None (Some x) → ⊥
+    none x z = cc
+
+pub first_state : (first : Cells) (root_line : ℕ) (s : Seen) → s.store.cells ≡ first → s.store.output ≡ [] → ((t : Name) → kin s.waits.tasks t ≡ cond (same_name [] t) (Some fresh) None)
+    → s.marks.tasks ≡ ([], true) ∷ [] → Comes [] [] (fresh_task [] root_line []) s.rows → IsState first root_line [] s
+first_state first root_line s cells output kins tasks comes = record {
+  cells = record { count = ap length cells; number = λ c h. ap (λ xs. number_at xs c) cells ∙ sym (unwrap_or-slice_get first c (ℤ.pos 0)) };
+  output = output;
+  waiting = waits.at_first s.waits.tasks kins;
+  marked = subst (λ ts. Rattle.tb_ready.specs.Histories.AreMarks [] ts) (sym tasks) marks.at_first;
+  tasks = λ t. comes.tasks t ∙ at t;
+  holders = λ p h e. first_holders h s.rows root_line comes p e;
+}
+  where
+    at : (t : Name) → cond (same_name [] t) (Some (fresh_task [] root_line [])) (task [] t) ≡ task_of root_line [] t
+    at [] = refl
+    at (n ∷ t) = refl
+
+-- ---- where only room has changed
+
+same_holders : (H : History) (p : Name) (g h : Holders) → IsSame g h → KeepsRoom g h → AreHolders H p g → AreHolders H p h
+same_holders H p g h same keeps a = record {
+  parent = keeps.parent ∙ a.parent;
+  held = λ place n. subst (λ o. (o ≡ Some n) ↔ IsTrue (is_held H p place n)) (sym (same place)) (a.held place n);
+  room = λ n s place t. keeps.room place (a.room n s place t);
+}
+
+became : (o : Option Holders) (P : Holders → Type 0) (Q : Type 0) → ((g : Holders) → o ≡ Some g → P g → Q) → Become o P → Q
+became None P Q f b = absurd b
+became (Some g) P Q f b = f g refl b
+
+pub state_same : (first : Cells) (root_line : ℕ) (D : List Departure) (old new : Seen) → AreSame old new → IsState first root_line D old → IsState first root_line D new
+state_same first root_line D old new a s = record {
+  cells = subst (AreLast first (events_of D)) (sym a.cells) s.cells;
+  output = a.output ∙ s.output;
+  waiting = λ t. a.waits t ∙ s.waiting t;
+  marked = subst (Rattle.tb_ready.specs.Histories.AreMarks (events_of D)) (sym a.marks) s.marked;
+  tasks = λ t. a.rows.tasks t ∙ s.tasks t;
+  holders = λ p h e. became (holders_of old.rows p) _ (AreHolders (events_of D) p h) (λ g o k. same_holders (events_of D) p g h k.0 k.1 (s.holders p g o)) (a.rows.holders p h e);
+}
+
+pub follows_same : (first : Cells) (root_line : ℕ) (D : List Departure) (v : Event) (old new : Seen) → AreSame old new → Follows first root_line D v old → Follows first root_line D v new
+follows_same first root_line D v old new a f = record { legal = f.legal; state = state_same first root_line D old new a f.state; few = f.few }
+
+-- ---- the calls
+
+pub ahead_can : (s : Seen) (v : Event) → IsAhead s v → CanChange s v
+ahead_can s v h = can_change h.0 h.1 h.2 v s h.3
+
+pub ahead_same : (old new : Seen) (v : Event) → AreSame old new → IsAhead old v → CanChange new v
+ahead_same old new v a h = can_change h.0 h.1 h.2 v new (follows_same h.0 h.1 h.2 v old new a h.3)
+
+pub behind : (old mid new : Seen) (v : Event) (to : ℕ) → AreSame old mid → Changed v to mid new → IsBehind old v to new
+behind old mid new v to a k first root_line D f =
+    applied first root_line D (record { event = v; to = to }) mid new f.legal (state_same first root_line D old mid a f.state) k
+
+pub stands_can : (s : Seen) (v : Event) (r : Replaced) → Stands s v r → CanChangeBack s v
+stands_can s v r h =
+    let there = at_end h.0 h.1 h.2 h.3 (record { event = v; to = h.4 }) r s h.5 in
+    can_change_back h.0 h.1 (h.2 ++ h.3) (record { event = v; to = h.4 }) s there.legal there.state
+
+pub is_without : (old new : Seen) (v : Event) (r : Replaced) → ChangedBack v r old new → IsWithout old v r new
+is_without old new v r k first root_line later front to p =
+    let d : Departure = record { event = v; to = to } in
+    let there = at_end first root_line later front d r old p in
+    reverted_newest first root_line (later ++ front) d r old new there.legal (record_kept first root_line later front d r old p) there.state k
+
+-- what the change tells is what the event replaces
+pub is_record : (old mid : Seen) (v : Event) (r : Replaced) → AreSame old mid → ((k : Task) → task mid.rows v.task ≡ Some k → r ≡ replaced_in v.action mid.store.cells k) → IsRecord old v r
+is_record old mid v r a told first root_line D f =
+    let H = events_of D in
+    let s = state_same first root_line D old mid a f.state in
+    let known = s.tasks v.task ∙ ap (λ b. cond b (Some (known_task root_line D v.task)) None) (acting first H v f.legal) in
+    told (known_task root_line D v.task) known
+    ∙ ap (λ x. made x) (number_right first H v.task v.action mid.store.cells f.legal.1.own s.cells)
+  where
+    made : Option ℤ → Replaced
+    made x = record { number = x; reg = register_by v.action; at = (known_task root_line D v.task).at }
+
+-- ---- room, and the copies of names
+
+pub copied_test : (copied : Option Name) (key child : Name) (b : Bool) → Some key ≡ copied → b ≡ same_name key child → IsTrue b ↔ (copied ≡ Some child)
+copied_test copied key child b e t = (
+  λ h. sym e ∙ ap Some (same_true key child (sym t ∙ h)),
+  λ h. t ∙ ap (same_name key) (sym (ap (λ o. unwrap_or o key) (e ∙ h))) ∙ same_refl key,
+)
+
+abbrev pub with_room : Seen → WaitTable → Marks → Seen
+with_room s waits marks = record { store = s.store; waits = waits; marks = marks; rows = s.rows; row_room = s.row_room; copied = s.copied }
+
+pub spawn_room : (copied grown : Seen) (waits : WaitTable) (marks : Marks) (p u : Name) (items : List Item) (deferred : Bool) (s : Seen)
+    → s ≡ with_room grown waits marks → copied.copied ≡ Some u → grown.copied ≡ copied.copied → 0 < grown.row_room → HasChildRoomIn grown.rows p items deferred
+    → HasRoomForChild waits p u → 0 < marks.room → HasSpawnRoom s p u items deferred
+spawn_room copied grown waits marks p u items deferred s e name same row child room mark =
+    subst (λ (x : Seen). HasSpawnRoom x p u items deferred) (sym e) (record { waits = room; marks = mark; row = row; child = child; copied = same ∙ name })

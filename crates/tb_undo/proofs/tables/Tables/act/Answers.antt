@@ -1,0 +1,14 @@
+use Rattle.std.proofs.Common.{subst}
+use Rattle.tb_undo.specs.Tasks.{fresh_task}
+use Rattle.tb_undo.specs.Sets.{Comes}
+use Rattle.tb_undo.proofs.ActLemmas.{acted_start, acted_spawn}
+use Rattle.tb_undo.proofs.tables.Tables.act.Goals as goal
+
+pub returns-in-Start : goal.returns-in-Start
+returns-in-Start c =
+    acted_start c.args.event.now c.args.self.now c.hold.new.self c.in-Start.is c.hold.ensures.store c.hold.ensures.waits c.hold.ensures.marks c.hold.ensures.rows
+
+pub returns-in-Spawn : goal.returns-in-Spawn
+returns-in-Spawn c =
+    acted_spawn c.args.event.now c.args.self.now c.spawn.new.self _ _ _ _ _ c.in-Spawn.is c.requires.can c.requires.room
+    c.spawn.ensures.store c.spawn.ensures.waits c.spawn.ensures.marks (subst (λ xs. Comes c.args.self.now.rows c.in-Spawn.child (fresh_task c.args.event.now.task c.in-Spawn.body xs) c.spawn.new.self.rows) c.as_slice.ensures c.spawn.ensures.rows)

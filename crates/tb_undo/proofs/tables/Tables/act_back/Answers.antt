@@ -1,0 +1,6 @@
+use Rattle.tb_undo.proofs.ActLemmas.{acted_back_start}
+use Rattle.tb_undo.proofs.tables.Tables.act_back.Goals as goal
+
+pub returns-in-Start : goal.returns-in-Start
+returns-in-Start c =
+    acted_back_start c.args.event.now c.args.self.now c.hold.new.self c.in-Start.is c.hold.ensures.store c.hold.ensures.waits c.hold.ensures.marks c.hold.ensures.rows

@@ -1,0 +1,12 @@
+use Rattle.std.proofs.Common.{sym, ◌∙◌}
+use Rattle.tb_model.specs.Lines.{events_of}
+use Rattle.tb_undo.proofs.ReadingLemmas.{before_told, none_before}
+use Rattle.tb_undo.proofs.tables.Tables.is_before.Goals as goal
+
+pub returns-in-Some : goal.returns-in-Some
+returns-in-Some c first root_line D legal state =
+    c.is_before.ensures ∙ before_told first (events_of D) c.args.name.now legal c.in-Some.n c.in-Some.parent.now.children.siblings (c.in-Some.ensures.some first root_line D legal state) c.args.number
+
+pub returns-in-None : goal.returns-in-None
+returns-in-None c first root_line D legal state =
+    sym (none_before first (events_of D) c.args.name.now legal (c.family.ensures.none c.in-None.is first root_line D legal state) c.args.number)

@@ -1,0 +1,41 @@
+-- What keeps a task from an action, with numbers in place of the names of its children and siblings.
+use Rattle.std.specs.Prelude.{◌≡◌, ◌<◌, ◌==◌, ℕ, Bool, false, IsTrue, List, [], ◌∷◌, drop, length}
+use Rattle.tb_model.specs.declared.action.Action.{Action}
+use Rattle.tb_model.specs.Names.{Name, child}
+use Rattle.tb_model.specs.Hindrances.{Hindrance}
+use Rattle.tb_model.specs.Hindrances as hindrance
+use Rattle.tb_depend.specs.Relations.{spawned_items}
+use Rattle.tb_wait.specs.Kin.{Tasks as Waits, IsUnendedChild}
+use Rattle.tb_undo.specs.declared.obstacle.Obstacle.{Obstacle}
+use Rattle.tb_undo.specs.declared.obstacle.Obstacle.TheVariants as obstacle
+use Rattle.tb_undo.specs.Tasks.{Task}
+use Rattle.tb_undo.specs.State.{undeferred_at}
+
+-- the child of t's parent with this number
+abbrev pub sibling : Name → ℕ → Name
+sibling t m = child (drop 1 t) m
+
+-- the same by names
+abbrev pub hindrance_by : Name → Obstacle → Hindrance
+hindrance_by t (obstacle.Undeferred n) = hindrance.Undeferred (child t n)
+hindrance_by t (obstacle.Waiting m) = hindrance.Waiting (sibling t m)
+hindrance_by t (obstacle.Excluded m) = hindrance.Excluded (sibling t m)
+hindrance_by t (obstacle.Children n) = hindrance.Children (child t n)
+hindrance_by t (obstacle.Group m) = hindrance.Group m.now
+
+-- the nth child of t isn't over, and passes the test
+pub record IsUnendedWhere (tasks : Waits) (t : Name) (test : ℕ → Bool) (n : ℕ) : Type 0 where
+  pub from_one : 0 < n
+  pub unended : IsUnendedChild tasks t (child t n)
+  pub passes : IsTrue (test n)
+
+-- the number comes first
+abbrev pub is_first : ℕ → List ℕ → Bool
+is_first n [] = false
+is_first n (m ∷ ms) = m == n
+
+-- what is kept of a task with these actions, as far as it tells who is in the way
+pub record IsKnown (acts : List Action) (k : Task) : Type 0 where
+  pub steps : k.steps ≡ length acts
+  pub undeferred : k.undeferred ≡ undeferred_at acts
+  pub children : k.children ≡ spawned_items acts

@@ -1,0 +1,23 @@
+-- What the tables tell of a task: where it stands, and which parent and siblings it has.
+use Rattle.std.specs.Prelude.{◌≡◌, ℕ, List, ◌∷◌, Option, IsTrue, drop}
+use Rattle.tb_model.specs.declared.item.Item.{Item}
+use Rattle.tb_model.specs.Names.{Name}
+use Rattle.tb_model.specs.Facts.{History, own}
+use Rattle.tb_model.specs.State.{is_unended}
+use Rattle.tb_depend.specs.Relations.{spawned_items}
+use Rattle.tb_ready.specs.Tasks.{IsBehind}
+use Rattle.tb_undo.specs.declared.standing.Standing.{Standing}
+use Rattle.tb_undo.specs.Tasks.{Task}
+
+abbrev pub standing_of : Task → Standing
+standing_of k = record { body = k.body; at = k.at; steps = k.steps; regs = k.regs }
+
+-- t is the nth child of its parent, whose children have these items
+pub record IsNthOf (H : History) (t : Name) (n : ℕ) (children : List (List Item)) : Type 0 where
+  pub name : t ≡ n ∷ drop 1 t
+  pub named : children ≡ spawned_items (own (drop 1 t) H)
+
+-- t was generated and hasn't ended, and its name comes behind the other, where there is one
+pub record IsUnendedBehind (H : History) (after : Option Name) (t : Name) : Type 0 where
+  pub unended : IsTrue (is_unended H t)
+  pub behind : IsBehind after t

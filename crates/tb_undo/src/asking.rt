@@ -1,0 +1,80 @@
+//! What keeps a task from an action.
+
+ghost use Rattle.std.specs.Prelude.{◌≡◌, ℕ, List, Some, IsTrue, option_map};
+ghost use Rattle.tb_model.specs.declared.action.Action.TheVariants.{Start};
+ghost use Rattle.tb_model.specs.Names.{child};
+ghost use Rattle.tb_model.specs.Facts.{History, own, IsSpawned};
+ghost use Rattle.tb_model.specs.State.{is_unended, is_unended_undeferred};
+ghost use Rattle.tb_model.specs.Legal.{Cells, Legal};
+ghost use Rattle.tb_model.specs.Lines.{Departure, events_of};
+ghost use Rattle.tb_model.specs.Hindrances.{in_the_way, IsLeast, IsFree};
+ghost use Rattle.tb_wait.specs.Histories.{AreKin};
+ghost use Rattle.tb_undo.specs.Tasks.{row, seen_row};
+ghost use Rattle.tb_undo.specs.State.{IsState};
+ghost use Rattle.tb_undo.specs.Obstacles.{hindrance_by, IsKnown};
+
+use crate::obstacle::Obstacle;
+use crate::row::Row;
+use crate::tables::Tables;
+use crate::walks::{is_held, next_before, next_covered};
+use tb_model::{Action, TaskName};
+use tb_wait::Wait;
+
+impl Tables {
+    /// What keeps the task from the action: the undeferred child at which it stands, else what the
+    /// action waits for. Takes no memory.
+    pub fn in_the_way(&self, name: &TaskName, action: &Action) -> Option<Obstacle<'_>>
+        ensures { (first : Cells) (root_line : ℕ) (D : List Departure) → Legal first (events_of D) → IsState first root_line D self.now →
+            IsTrue (is_unended (events_of D) name.now) → in_the_way (events_of D) name.now action.now ≡ option_map (hindrance_by name.now) result }
+    {
+        let row = self.rows.get(name)?;
+        if let Some(child) = undeferred(&self.waits, name, row) {
+            return Some(Obstacle::Undeferred { child });
+        }
+        match action {
+            Action::Start => self.before_start(name, row),
+            Action::Wait { items } => {
+                let child = next_covered(&self.waits, &row.children, name, items.as_slice())?;
+                Some(Obstacle::Children { child })
+            }
+            Action::Close => {
+                let member = self.waits.first_member(name)?;
+                Some(Obstacle::Group { member })
+            }
+            _ => None,
+        }
+    }
+
+    /// What keeps the task from its start: a sibling on which it depends, else one that excludes
+    /// it. One that has started excludes those itself.
+    fn before_start(&self, name: &TaskName, own: &Row) -> Option<Obstacle<'_>>
+        requires { row self.now.rows name.now ≡ Some own.now }
+        ensures { (first : Cells) (root_line : ℕ) (D : List Departure) → Legal first (events_of D) → IsState first root_line D self.now →
+            IsTrue (is_unended (events_of D) name.now) → IsFree (events_of D) name.now → in_the_way (events_of D) name.now Start ≡ option_map (hindrance_by name.now) result }
+    {
+        let n = *name.numbers().first()?;
+        let parent = self.rows.get(&own.parent)?;
+        if let Some(sibling) = next_before(&self.waits, &parent.children, &own.parent, n) {
+            return Some(Obstacle::Waiting { sibling });
+        }
+        if own.steps > 0 {
+            return None;
+        }
+        let sibling = parent
+            .holders
+            .busy_number(parent.children.items(n as usize))?;
+        Some(Obstacle::Excluded { sibling })
+    }
+}
+
+/// The undeferred child at which the task stands, where it isn't over: its last one.
+fn undeferred(waits: &Wait, name: &TaskName, row: &Row) -> Option<u32>
+    ensures { (cells : Cells) (H : History) → Legal cells H → AreKin H waits.now.tasks → IsSpawned H name.now → IsKnown (own name.now H) (seen_row row.now) →
+        IsLeast (is_unended_undeferred H name.now) (option_map (child name.now) result) }
+{
+    if !is_held(row) {
+        return None;
+    }
+    let last = waits.children(name)?;
+    waits.next_unended(name, last.saturating_sub(1))
+}

@@ -1,0 +1,39 @@
+//! Copies of a name, one for each table that keeps it.
+
+ghost use Rattle.std.specs.Prelude.{◌≡◌, ◌≤◌, IfOk, IsOk, length, drop};
+ghost use Rattle.tb_model.specs.Names.{same_name};
+
+use std::alloc::AllocError;
+use tb_model::TaskName;
+
+/// The copies of a child's name, and of its parent's, that the child's spawn hands to the tables.
+/// Those of deep names take memory, so they are made in advance.
+#[derive(Drop)]
+pub struct Copies {
+    pub key: TaskName,
+    pub of_holders: TaskName,
+    pub of_waits: TaskName,
+    pub of_marks: TaskName,
+    pub parent: TaskName,
+    pub ghost holders_same: { of_holders ≡ key },
+    pub ghost waits_same: { of_waits ≡ key },
+    pub ghost marks_same: { of_marks ≡ key },
+    pub ghost family: { parent ≡ drop 1 key },
+}
+
+impl Copies {
+    /// The copies for the spawn of the child.
+    pub fn of(parent: &TaskName, child: &TaskName) -> Result<Copies, AllocError>
+        requires { parent.now ≡ drop 1 child.now }
+        ensures copies { IfOk result (λ copies. copies.key ≡ child.now) }
+        ensures short { length child.now ≤ 6 → IsOk result }
+    {
+        Ok(Copies {
+            key: child.clone()?,
+            of_holders: child.clone()?,
+            of_waits: child.clone()?,
+            of_marks: child.clone()?,
+            parent: parent.clone()?,
+        })
+    }
+}

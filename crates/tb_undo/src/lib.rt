@@ -1,0 +1,19 @@
+//! The state that a history leaves, in five tables: a step on all of them, and back.
+#![tactic(auto)]
+
+mod asking;
+mod copies;
+pub mod laws;
+mod obstacle;
+mod reading;
+mod row;
+mod rows;
+mod standing;
+mod tables;
+#[cfg(test)]
+mod tests;
+mod walks;
+
+pub use obstacle::Obstacle;
+pub use standing::Standing;
+pub use tables::Tables;

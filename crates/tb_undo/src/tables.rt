@@ -1,0 +1,427 @@
+//! The joined tables of a history. They hold no program and no events.
+
+ghost use Rattle.std.specs.Prelude.{◌≡◌, ◌<◌, ◌≤◌, ◌-◌, ◌↔◌, IsTrue, ℕ, ℤ, List, [], ◌∷◌, OnOk, OnErr, IfOk, IsOk, Some, None, drop, length, true, false, if◌then◌else◌, option_map};
+ghost use Rattle.tb_model.specs.Names.{Name};
+ghost use Rattle.tb_model.specs.Facts.{is_of, is_print};
+ghost use Rattle.tb_undo.specs.declared.row.Row.{Row as ARow};
+ghost use Rattle.tb_wait.specs.Kin.{HasRoomFor as HasRoomForChild, IsNext, IsLast, Adds, Drops, Changes, with_over};
+ghost use Rattle.tb_ready.specs.Tasks.{with_name, without_name, with_mark};
+ghost use Rattle.tb_undo.specs.Tasks.{Task, row, task, holders_of, advanced, retreated, HasRowRoom, HasChildRoomIn, fresh_task, register_by, register_over, IsRegister};
+ghost use Rattle.tb_undo.specs.Sets.{Reserves, IsLinked, HasSetRoom, Sets, Comes, Goes, number_of};
+ghost use Rattle.tb_undo.specs.State.{IsState};
+ghost use Rattle.tb_undo.specs.Steps.{IsAhead, IsBehind, IsRecord, Stands, IsWithout};
+ghost use Rattle.tb_undo.specs.Changes.{IsRest, Changed, ChangedBack, Acted, ActedBack, AreSame, HasRoomFor, HasSpawnRoom, CanChange, CanChangeBack, replaced_in, cell_over, IsCell, cells_by, output_by, cells_back, output_back};
+
+use crate::copies::Copies;
+use crate::row::Row;
+use crate::rows;
+use indexmap::IndexMap;
+use std::alloc::{AllocError, Global};
+use std::marker::Model;
+use tb_model::{Action, Event, Item, TaskName};
+use tb_ready::Ready;
+use tb_store::{Replaced, Store};
+use tb_wait::Wait;
+
+/// The state that a history leaves: the cells and the output, who waits for whom, which tasks
+/// haven't ended, and of each task where it stands and its children by their items.
+#[derive(Drop)]
+pub struct Tables {
+    pub(crate) alloc: Global,
+    pub(crate) store: Store,
+    pub(crate) waits: Wait,
+    pub(crate) marks: Ready,
+    pub(crate) rows: IndexMap<TaskName, Row>,
+    pub(crate) copies: Option<Copies>,
+}
+
+impl Model for Tables {
+    ghost use Rattle.std.specs.Prelude.{option_map};
+    ghost use Rattle.indexmap.specs.IndexMap.{spare};
+    ghost use Rattle.tb_undo.specs.declared.copies.Copies.{Copies as TheCopies};
+    ghost use Rattle.tb_undo.specs.State.{Seen};
+
+    ghost Value = { Seen };
+
+    ghost view = { λ t. record { store = t.store; waits = t.waits; marks = t.marks; rows = t.rows.entries; row_room = spare t.rows; copied = option_map (λ (c : TheCopies). c.key) t.copies } };
+}
+
+impl Tables {
+    /// The tables of a history without events: a program with these first numbers of its cells, and
+    /// with the body of the root at this line.
+    pub fn open(alloc: Global, cells: &[i64], root_line: u32) -> Result<Tables, AllocError>
+        ensures { IfOk result (IsState cells.now root_line []) }
+    {
+        Ok(Tables {
+            alloc,
+            store: Store::open(alloc, cells)?,
+            waits: Wait::open(alloc)?,
+            marks: root_mark(alloc)?,
+            rows: rows::root_row(alloc, root_line)?,
+            copies: None,
+        })
+    }
+
+    /// Makes the room that `apply` needs for this event, and changes nothing else.
+    pub fn reserve_apply(&mut self, event: &Event) -> Result<(), AllocError>
+        requires { IsAhead self.old event.now }
+        ensures same { AreSame self.old self.new }
+        ensures ok { OnOk result (HasRoomFor self.new event.now) }
+        ensures succeeds { HasRoomFor self.old event.now → IsOk result }
+    {
+        let name = &event.task;
+        match &event.action {
+            Action::Start => self.reserve_start(name),
+            Action::Print { .. } => self.store.reserve_say(),
+            Action::Spawn {
+                child,
+                items,
+                deferred,
+                ..
+            } => self.reserve_spawn(name, child, items.as_slice(), *deferred),
+            Action::Open => self.waits.reserve_opened(name),
+            _ => Ok(()),
+        }
+    }
+
+    /// Takes the event, which leaves its task at this line, and tells what it replaced. The history
+    /// of the tables with this event behind it is legal.
+    pub fn apply(&mut self, event: &Event, to: u32) -> Result<Replaced, AllocError>
+        requires { IsAhead self.old event.now }
+        ensures applied { OnOk result (IsBehind self.old event.now to self.new) }
+        ensures replaced { IfOk result (IsRecord self.old event.now) }
+        ensures err { OnErr result (AreSame self.old self.new) }
+        ensures succeeds { HasRoomFor self.old event.now → IsOk result }
+    {
+        self.reserve_apply(event)?;
+        Ok(self.change(event, to))
+    }
+
+    /// Takes the event back by what it replaced, wherever it stands in the history: nothing there
+    /// needs it. Takes no memory.
+    pub fn revert(&mut self, event: &Event, replaced: Replaced)
+        requires { Stands self.old event.now replaced }
+        ensures { IsWithout self.old event.now replaced self.new }
+    {
+        self.change_back(event, replaced)
+    }
+
+    /// Makes the room for the spawn of a child.
+    fn reserve_spawn(
+        &mut self,
+        parent: &TaskName,
+        child: &TaskName,
+        items: &[Item],
+        deferred: bool,
+    ) -> Result<(), AllocError>
+        requires { parent.now ≡ drop 1 child.now }
+        ensures same { AreSame self.old self.new }
+        ensures ok { OnOk result (HasSpawnRoom self.new parent.now child.now items.now deferred) }
+        ensures succeeds { HasSpawnRoom self.old parent.now child.now items.now deferred → IsOk result }
+    {
+        self.reserve_copies(parent, child)?;
+        self.reserve_row(parent, items, deferred)?;
+        self.waits.reserve_spawned(parent, child)?;
+        self.marks.reserve_add(child)
+    }
+
+    /// Makes the room for the child's row, and for the step of its parent.
+    fn reserve_row(
+        &mut self,
+        parent: &TaskName,
+        items: &[Item],
+        deferred: bool,
+    ) -> Result<(), AllocError>
+        ensures rest { IsRest self.old self.new }
+        ensures copied { self.new.copied ≡ self.old.copied }
+        ensures rows { Reserves self.old.rows self.new.rows }
+        ensures row { OnOk result (0 < self.new.row_room) }
+        ensures child { OnOk result (HasChildRoomIn self.new.rows parent.now items.now deferred) }
+        ensures succeeds { 0 < self.old.row_room →
+            HasChildRoomIn self.old.rows parent.now items.now deferred → IsOk result }
+    {
+        rows::reserve_row(&mut self.rows, parent, items, deferred)
+    }
+
+    /// Makes the room for what a start takes.
+    fn reserve_start(&mut self, name: &TaskName) -> Result<(), AllocError>
+        requires { IsLinked self.old.rows name.now }
+        ensures same { AreSame self.old self.new }
+        ensures ok { OnOk result (HasSetRoom self.new.rows name.now) }
+        ensures succeeds { HasSetRoom self.old.rows name.now → IsOk result }
+    {
+        rows::reserve_hold(&mut self.rows, name)
+    }
+
+    /// Whether this child's names were copied.
+    fn has_copies(&self, child: &TaskName) -> bool
+        ensures { IsTrue result ↔ (self.now.copied ≡ Some child.now) }
+    {
+        match &self.copies {
+            Some(copies) => copies.key == *child,
+            None => false,
+        }
+    }
+
+    /// Copies this child's names, in place of those of another.
+    fn reserve_copies(&mut self, parent: &TaskName, child: &TaskName) -> Result<(), AllocError>
+        requires { parent.now ≡ drop 1 child.now }
+        ensures rest { self.new ≡ record self.old { copied = self.new.copied } }
+        ensures ok { OnOk result (self.new.copied ≡ Some child.now) }
+        ensures succeeds { self.old.copied ≡ Some child.now → IsOk result }
+    {
+        if self.has_copies(child) {
+            return Ok(());
+        }
+        self.copies = Some(Copies::of(parent, child)?);
+        Ok(())
+    }
+
+    /// Takes the event on all tables, in the room that is there.
+    fn change(&mut self, event: &Event, to: u32) -> Replaced
+        requires can { CanChange self.old event.now }
+        requires room { HasRoomFor self.old event.now }
+        ensures changed { Changed event.now to self.old self.new }
+        ensures replaced { (k : Task) → task self.old.rows event.now.task ≡ Some k →
+            result ≡ replaced_in event.now.action self.old.store.cells k }
+    {
+        let name = &event.task;
+        let (over, at) = self.stood(name, &event.action);
+        self.act(event);
+        let number = self.write(&event.action);
+        self.advance(event, to);
+        Replaced {
+            number: number.or(over),
+            reg: register(&event.action),
+            at,
+        }
+    }
+
+    /// What the event changes for other tasks.
+    fn act(&mut self, event: &Event)
+        requires can { CanChange self.old event.now }
+        requires room { HasRoomFor self.old event.now }
+        ensures { Acted event.now self.old self.new }
+    {
+        let name = &event.task;
+        match &event.action {
+            Action::Start => self.hold(name, true),
+            Action::Spawn {
+                child,
+                body,
+                args,
+                ..
+            } => self.spawn(name, child, *body, args.as_slice()),
+            Action::Open => self.waits.opened(name).unwrap(),
+            Action::Close => self.waits.closed(name),
+            Action::End | Action::Fault => self.end(name),
+            _ => {}
+        }
+    }
+
+    /// The register's number that the action writes over, and where the task stands.
+    fn stood(&self, name: &TaskName, action: &Action) -> (Option<i64>, u32)
+        requires { IsRegister action.now }
+        ensures { (k : Task) → task self.now.rows name.now ≡ Some k →
+            (result.0 ≡ register_over action.now k.regs) × (result.1 ≡ k.at) }
+    {
+        match self.rows.get(name) {
+            Some(row) => (row.over(action), row.at),
+            None => (None, 0),
+        }
+    }
+
+    /// What the action stores or prints. Tells the number that it writes over in the cells.
+    fn write(&mut self, action: &Action) -> Option<i64>
+        requires cell { IsCell (length self.old.store.cells) action.now }
+        requires room { is_print action.now ≡ true → 0 < self.old.store.room }
+        ensures cells { self.new.store.cells ≡ cells_by action.now self.old.store.cells }
+        ensures output { self.new.store.output ≡ output_by action.now self.old.store.output }
+        ensures rest { self.new ≡ record self.old { store = self.new.store } }
+        ensures over { result ≡ cell_over action.now self.old.store.cells }
+    {
+        match action {
+            Action::Store { cell, value } => self.store.put(*cell, *value).number,
+            Action::Print { value } => {
+                self.store.say(*value).unwrap();
+                None
+            }
+            _ => None,
+        }
+    }
+
+    /// A child comes to stand, with its name's copies that were made for it.
+    fn spawn(&mut self, parent: &TaskName, child: &TaskName, body: u32, args: &[i64])
+        requires next { IsNext self.old.waits.tasks parent.now child.now }
+        requires family { parent.now ≡ drop 1 child.now }
+        requires few { length args.now ≤ 16 }
+        requires waits { HasRoomForChild self.old.waits parent.now child.now }
+        requires marks { 0 < self.old.marks.room }
+        requires row { 0 < self.old.row_room }
+        requires copied { self.old.copied ≡ Some child.now }
+        ensures store { self.new.store ≡ self.old.store }
+        ensures waits { Adds self.old.waits.tasks parent.now child.now self.new.waits.tasks }
+        ensures marks { self.new.marks.tasks ≡ with_mark (with_name self.old.marks.tasks child.now) child.now true }
+        ensures rows { Comes self.old.rows child.now (fresh_task parent.now body args.now) self.new.rows }
+    {
+        let Copies {
+            key,
+            of_holders,
+            of_waits,
+            of_marks,
+            parent: its_parent,
+            ..
+        } = self.copies.take().unwrap();
+        self.waits.spawned(parent, of_waits).unwrap();
+        self.marks.add(of_marks).unwrap();
+        self.marks.mark(child, true);
+        let row = Row::new(self.alloc, of_holders, its_parent, body, args);
+        rows::add(&mut self.rows, key, row);
+    }
+
+    /// A task holds what its items take, or holds it no longer.
+    fn hold(&mut self, name: &TaskName, held: bool)
+        requires linked { IsLinked self.old.rows name.now }
+        requires room { held ≡ true → HasSetRoom self.old.rows name.now }
+        ensures store { self.new.store ≡ self.old.store }
+        ensures waits { self.new.waits ≡ self.old.waits }
+        ensures marks { self.new.marks ≡ self.old.marks }
+        ensures rows { Sets self.old.rows name.now (if held then number_of name.now else None) self.new.rows }
+    {
+        rows::hold(&mut self.rows, name, held);
+    }
+
+    /// A task is over.
+    fn end(&mut self, name: &TaskName)
+        requires { IsLinked self.old.rows name.now }
+        ensures store { self.new.store ≡ self.old.store }
+        ensures waits { Changes self.old.waits.tasks name.now (with_over true) self.new.waits.tasks }
+        ensures marks { self.new.marks.tasks ≡ with_mark self.old.marks.tasks name.now false }
+        ensures rows { Sets self.old.rows name.now None self.new.rows }
+    {
+        self.waits.ended(name);
+        self.marks.mark(name, false);
+        rows::hold(&mut self.rows, name, false);
+    }
+
+    /// Takes the event back on all tables, by what it replaced.
+    fn change_back(&mut self, event: &Event, replaced: Replaced)
+        requires { CanChangeBack self.old event.now }
+        ensures { ChangedBack event.now replaced self.old self.new }
+    {
+        self.act_back(event);
+        self.write_back(&event.action, replaced);
+        self.retreat(event, replaced);
+    }
+
+    /// The task itself takes the step.
+    fn advance(&mut self, event: &Event, to: u32)
+        requires register { IsRegister event.now.action }
+        requires few { (k : Task) → task self.old.rows event.now.task ≡ Some k → k.steps < 4294967295 }
+        requires room { (r : ARow) → row self.old.rows event.now.task ≡ Some r → HasRowRoom r event.now.action }
+        ensures rest { IsRest self.old self.new }
+        ensures tasks { (u : Name) → task self.new.rows u ≡
+            (if is_of u event.now
+            then option_map (advanced event.now.action to) (task self.old.rows u)
+            else task self.old.rows u) }
+        ensures holders { (u : Name) → holders_of self.new.rows u ≡ holders_of self.old.rows u }
+    {
+        rows::advance(&mut self.rows, &event.task, &event.action, to);
+    }
+
+    /// The task itself stands where it stood.
+    fn retreat(&mut self, event: &Event, replaced: Replaced)
+        requires { IsRegister event.now.action }
+        ensures rest { IsRest self.old self.new }
+        ensures tasks { (u : Name) → task self.new.rows u ≡
+            (if is_of u event.now
+            then option_map (retreated event.now.action replaced.number replaced.at) (task self.old.rows u)
+            else task self.old.rows u) }
+        ensures holders { (u : Name) → holders_of self.new.rows u ≡ holders_of self.old.rows u }
+    {
+        rows::retreat(
+            &mut self.rows,
+            &event.task,
+            &event.action,
+            replaced.number,
+            replaced.at,
+        );
+    }
+
+    /// What was stored or printed is taken back.
+    fn write_back(&mut self, action: &Action, replaced: Replaced)
+        requires { IsCell (length self.old.store.cells) action.now }
+        ensures cells { self.new.store.cells ≡ cells_back action.now replaced.number self.old.store.cells }
+        ensures output { self.new.store.output ≡ output_back action.now self.old.store.output }
+        ensures rest { self.new ≡ record self.old { store = self.new.store } }
+    {
+        match action {
+            Action::Store { cell, .. } => self.store.put_back(*cell, replaced),
+            Action::Print { .. } => self.store.unsay(),
+            _ => {}
+        }
+    }
+
+    /// What the event changed for other tasks is taken back.
+    fn act_back(&mut self, event: &Event)
+        requires { CanChangeBack self.old event.now }
+        ensures { ActedBack event.now self.old self.new }
+    {
+        let name = &event.task;
+        match &event.action {
+            Action::Start => self.hold(name, false),
+            Action::Spawn { child, .. } => self.unspawn(name, child),
+            Action::Open => self.waits.unopened(name),
+            Action::Close => self.waits.unclosed(name),
+            Action::End | Action::Fault => self.unend(name),
+            _ => {}
+        }
+    }
+
+    /// The task's last child stands no longer.
+    fn unspawn(&mut self, parent: &TaskName, child: &TaskName)
+        requires { IsLast self.old.waits.tasks parent.now child.now }
+        ensures store { self.new.store ≡ self.old.store }
+        ensures waits { Drops self.old.waits.tasks parent.now child.now self.new.waits.tasks }
+        ensures marks { self.new.marks.tasks ≡ without_name self.old.marks.tasks child.now }
+        ensures rows { Goes self.old.rows child.now self.new.rows }
+    {
+        self.waits.unspawned(parent, child);
+        self.marks.remove(child);
+        rows::remove(&mut self.rows, child);
+    }
+
+    /// The task isn't over any longer, and holds again what its items take.
+    fn unend(&mut self, name: &TaskName)
+        requires linked { IsLinked self.old.rows name.now }
+        requires room { HasSetRoom self.old.rows name.now }
+        ensures store { self.new.store ≡ self.old.store }
+        ensures waits { Changes self.old.waits.tasks name.now (with_over false) self.new.waits.tasks }
+        ensures marks { self.new.marks.tasks ≡ with_mark self.old.marks.tasks name.now true }
+        ensures rows { Sets self.old.rows name.now (number_of name.now) self.new.rows }
+    {
+        self.waits.unended(name);
+        self.marks.mark(name, true);
+        rows::hold(&mut self.rows, name, true);
+    }
+}
+
+/// The register that the action writes.
+fn register(action: &Action) -> Option<u8>
+    ensures { result ≡ register_by action.now }
+{
+    match action {
+        Action::Let { reg, .. } | Action::Load { reg, .. } => Some(*reg),
+        _ => None,
+    }
+}
+
+/// The root, marked.
+fn root_mark(alloc: Global) -> Result<Ready, AllocError>
+    ensures { IfOk result (λ marks. marks.tasks ≡ ([], true) ∷ []) }
+{
+    let mut marks = Ready::new(alloc);
+    marks.add(TaskName::root(alloc))?;
+    marks.mark(&TaskName::root(alloc), true);
+    Ok(marks)
+}

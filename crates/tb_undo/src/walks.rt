@@ -1,0 +1,59 @@
+//! The least child of a task that isn't over and passes a test, by a walk over those that aren't.
+
+ghost use Rattle.std.specs.Prelude.{◌≡◌};
+ghost use Rattle.tb_depend.specs.Relations.{depends, is_covered};
+ghost use Rattle.tb_excl.specs.Holders.{IsLeastNumber};
+ghost use Rattle.tb_undo.specs.Tasks.{seen_row};
+ghost use Rattle.tb_undo.specs.Obstacles.{IsUnendedWhere, is_first};
+
+use crate::row::Row;
+use tb_depend::Siblings;
+use tb_model::{Item, TaskName};
+use tb_wait::Wait;
+
+/// Whether the newest of the task's steps generated an undeferred child.
+pub fn is_held(row: &Row) -> bool
+    ensures { result ≡ is_first row.now.steps (seen_row row.now).undeferred }
+{
+    match row.undeferred.last() {
+        Some(step) => *step == row.steps,
+        None => false,
+    }
+}
+
+/// The least of the parent's children that isn't over and on which the nth depends.
+pub fn next_before(waits: &Wait, siblings: &Siblings, parent: &TaskName, n: u32) -> Option<u32>
+    ensures { IsLeastNumber (IsUnendedWhere waits.now.tasks parent.now (depends siblings.now.siblings n)) result }
+{
+    let mut low = 0;
+    'walk: while let Some(m) = waits.next_unended(parent, low) {
+        if m >= n {
+            return None;
+        }
+        if siblings.is_before(m as usize, n as usize) {
+            return Some(m);
+        }
+        low = m;
+    }
+    None
+}
+
+/// The least of the task's children that isn't over and for which a `taskwait` with these items
+/// waits.
+pub fn next_covered(
+    waits: &Wait,
+    children: &Siblings,
+    task: &TaskName,
+    items: &[Item],
+) -> Option<u32>
+    ensures { IsLeastNumber (IsUnendedWhere waits.now.tasks task.now (is_covered children.now.siblings items.now)) result }
+{
+    let mut low = 0;
+    'walk: while let Some(m) = waits.next_unended(task, low) {
+        if children.covers(items, m as usize) {
+            return Some(m);
+        }
+        low = m;
+    }
+    None
+}
