@@ -5,3 +5,4 @@ pub mod Changes
 pub mod Plain
 pub mod Outcomes
 pub mod Soundness
+pub mod Scans

@@ -2,12 +2,19 @@
 #![tactic(auto)]
 
 mod entry;
+mod needing;
+#[cfg(test)]
+mod needing_tests;
+mod places;
 mod removed;
 mod run;
+mod scans;
 mod step_refusal;
 mod tables;
 mod undo_refusal;
 
+pub use needing::{first_needer, needs};
+pub use places::{ordinal_of, place_of, step_at};
 pub use removed::Removed;
 pub use run::Core;
 pub use step_refusal::StepRefusal;

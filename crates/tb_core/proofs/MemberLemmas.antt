@@ -1,0 +1,110 @@
+-- A scan of a task's actions from the newest, for the members of its innermost open group.
+use Rattle.std.proofs.Common.{◌≡◌, ◌≢◌, ◌-◌, arith, ℕ, zero, suc, List, [], ◌∷◌, Bool, true, false, ◌&&◌, ◌||◌, refl, sym, ap, ◌∙◌, drop, map, ℤ, ◌≤◌, length, take, get_or}
+use Rattle.std.specs.List.{list_any}
+use Rattle.tb_model.specs.declared.item.Item.{Item}
+use Rattle.tb_model.specs.declared.action.Action.{Action}
+use Rattle.tb_model.specs.declared.action.Action.TheVariants.{Spawn, Open, Close}
+use Rattle.tb_model.specs.Names.{Name, is_within}
+use Rattle.tb_model.specs.Facts.{groups, innermost, is_member, is_of, own}
+use Rattle.tb_core.specs.declared.entry.Entry.{Entry}
+use Rattle.tb_core.specs.Scans.{history_of}
+use Rattle.tb_core.proofs.ScanLemmas.{own_newest}
+
+-- one of these groups is open
+abbrev pub some_open : List (List Name) → Bool
+some_open [] = false
+some_open (us ∷ uss) = true
+
+-- m is a member of the innermost of these groups, where found says that a later child makes it one
+abbrev pub member_of_first : Bool → List (List Name) → Name → Bool
+member_of_first found gs m = (some_open gs && found) || list_any (λ c. is_within c m) (innermost gs)
+
+-- m is a member of the innermost group that stays open where so many more are closed behind these actions
+abbrev pub member_behind : ℕ → Bool → List Action → Name → Bool
+member_behind closed found acts m = member_of_first found (drop closed (groups acts)) m
+
+none_found : (gs : List (List Name)) (m : Name) → member_of_first false gs m ≡ list_any (λ c. is_within c m) (innermost gs)
+none_found [] m = refl
+none_found (us ∷ uss) m = refl
+
+pub at_first : (acts : List Action) (m : Name) → member_behind 0 false acts m ≡ is_member acts m
+at_first acts m = none_found (groups acts) m
+
+-- nothing is open behind no actions
+pub at_last : (closed : ℕ) (found : Bool) (m : Name) → member_behind closed found [] m ≡ false
+at_last zero found m = refl
+at_last (suc k) found m = refl
+
+-- ---- one action more
+
+pub at_close : (closed : ℕ) (found : Bool) (acts : List Action) (m : Name) → member_behind closed found (Close ∷ acts) m ≡ member_behind (suc closed) found acts m
+at_close closed found acts m = ap (λ gs. member_of_first found gs m) (drop_one closed (groups acts))
+  where
+    drop_one : (k : ℕ) (gs : List (List Name)) → drop k (drop 1 gs) ≡ drop (suc k) gs
+    drop_one zero [] = refl
+    drop_one (suc k) [] = refl
+    drop_one k (us ∷ gs) = refl
+
+or_true : (b : Bool) → (b || true) ≡ true
+or_true true = refl
+or_true false = refl
+
+or_false : (b : Bool) → (b || false) ≡ b
+or_false true = refl
+or_false false = refl
+
+pub at_open : (found : Bool) (acts : List Action) (m : Name) → member_behind 0 found (Open ∷ acts) m ≡ found
+at_open found acts m = or_false found
+
+at_spawn : (closed : ℕ) (found : Bool) (u : Name) (body : ℕ) (args : List ℤ) (items : List Item) (deferred : Bool) (acts : List Action) (m : Name)
+    → member_behind closed found (Spawn u body args items deferred ∷ acts) m ≡ member_behind closed (found || is_within u m) acts m
+at_spawn closed found u body args items deferred acts m =
+    ap (λ gs. member_of_first found gs m) (drop-map closed (groups acts)) ∙ more (drop closed (groups acts))
+  where
+    drop-map : (k : ℕ) (gs : List (List Name)) → drop k (map (λ us. u ∷ us) gs) ≡ map (λ us. u ∷ us) (drop k gs)
+    drop-map zero gs = refl
+    drop-map (suc k) [] = refl
+    drop-map (suc k) (us ∷ gs) = drop-map k gs
+
+    regroup : (a b c : Bool) → (a || (b || c)) ≡ ((a || b) || c)
+    regroup true b c = refl
+    regroup false b c = refl
+
+    more : (gs : List (List Name)) → member_of_first found (map (λ us. u ∷ us) gs) m ≡ member_of_first (found || is_within u m) gs m
+    more [] = refl
+    more (us ∷ gs) = regroup found (is_within u m) (list_any (λ c. is_within c m) us)
+
+-- one open more
+at_open_inside : (closed : ℕ) (found : Bool) (acts : List Action) (m : Name) → closed ≢ 0 → member_behind closed found (Open ∷ acts) m ≡ member_behind (closed - 1) found acts m
+at_open_inside zero found acts m h = absurd (h refl)
+at_open_inside (suc k) found acts m h = ap (λ n. member_behind n found acts m) (omega arith)
+
+-- ---- the newest entry, where it is one of the task's
+
+module _ (t m : Name) (rest : List Entry) (e : Entry) (some : 1 ≤ length rest) (here : e ≡ get_or rest (length rest - 1) e) (mine : is_of t e.event ≡ true) where
+  -- the actions in front of it
+  abbrev older : List Action
+  older = own t (history_of (take (length rest - 1) rest))
+
+  -- it opened a group that is closed
+  pub behind_open : (closed : ℕ) (found : Bool) → e.event.action ≡ Open → closed ≢ 0 → member_behind (closed - 1) found older m ≡ member_behind closed found (own t (history_of rest)) m
+  behind_open closed found is inside =
+      sym (ap (λ acts. member_behind closed found acts m) (own_newest t rest e Open some here mine is) ∙ at_open_inside closed found older m inside)
+
+  -- it generated one that m is within
+  pub behind_member : (closed : ℕ) (found : Bool) (u : Name) (body : ℕ) (args : List ℤ) (items : List Item) (deferred : Bool) → e.event.action ≡ Spawn u body args items deferred
+      → is_within u m ≡ true → member_behind closed true older m ≡ member_behind closed found (own t (history_of rest)) m
+  behind_member closed found u body args items deferred is within =
+      sym
+      (ap (λ acts. member_behind closed found acts m) (own_newest t rest e (Spawn u body args items deferred) some here mine is)
+      ∙ at_spawn closed found u body args items deferred older m
+      ∙ ap (λ b. member_behind closed b older m) (ap (λ b. found || b) within ∙ or_true found))
+
+  -- or another
+  pub behind_other : (closed : ℕ) (found : Bool) (u : Name) (body : ℕ) (args : List ℤ) (items : List Item) (deferred : Bool) → e.event.action ≡ Spawn u body args items deferred
+      → is_within u m ≡ false → member_behind closed found older m ≡ member_behind closed found (own t (history_of rest)) m
+  behind_other closed found u body args items deferred is within =
+      sym
+      (ap (λ acts. member_behind closed found acts m) (own_newest t rest e (Spawn u body args items deferred) some here mine is)
+      ∙ at_spawn closed found u body args items deferred older m
+      ∙ ap (λ b. member_behind closed b older m) (ap (λ b. found || b) within ∙ or_false found))

@@ -1,0 +1,73 @@
+-- The history of entries, cut at one of them, and the places of steps.
+use Rattle.std.proofs.Common.{◌≡◌, ◌<◌, ◌+◌, ℕ, suc, List, [], ◌∷◌, ◌++◌, true, refl, sym, ap, ◌∙◌, length, map, take, drop, reverse, Some, arith, get_or, eq-eqb, append_assoc, ◌≤◌, ◌-◌}
+use Rattle.std.proofs.Math.Seq.{split_at}
+use Rattle.std.proofs.lemmas.List.{reverse-append, map-append}
+use Rattle.std.proofs.lemmas.Option.{slice_get_read}
+use Rattle.std.proofs.lemmas.Bool.{or_left, or_right, and_from}
+use Rattle.std.proofs.lemmas.Grind.{common_steps}
+use Rattle.tb_model.specs.Names.{Name}
+use Rattle.tb_model.specs.declared.action.Action.{Action}
+use Rattle.tb_model.specs.declared.step_id.StepId.{StepId}
+use Rattle.tb_model.specs.Facts.{History, is_of, own}
+use Rattle.tb_model.specs.Lines.{Departure}
+use Rattle.tb_model.specs.Needs.{is_step}
+use Rattle.tb_model.specs.Equivalent.{stands}
+use Rattle.tb_model.proofs.OrderedLemmas.{the_step}
+use Rattle.tb_model.proofs.FactsLemmas.{own_mine}
+use Rattle.tb_core.specs.declared.entry.Entry.{Entry}
+use Rattle.tb_core.specs.Soundness.{departure}
+use Rattle.tb_core.specs.Scans.{history_of, step_behind, step_at}
+
+-- ---- the history of entries
+
+-- later entries give later events
+pub history_of-append : (xs ys : List Entry) → history_of (xs ++ ys) ≡ history_of ys ++ history_of xs
+history_of-append xs ys =
+    ap (λ es. map (λ (d : Departure). d.event) (map departure es)) (reverse-append xs ys)
+    ∙ ap (map (λ (d : Departure). d.event)) (map-append departure (reverse ys) (reverse xs))
+    ∙ map-append (λ (d : Departure). d.event) (map departure (reverse ys)) (map departure (reverse xs))
+
+-- what stands behind an entry, itself, and what stands in front of it
+pub history_cut : (entries : List Entry) (at : ℕ) (e : Entry) → at < length entries → e ≡ get_or entries at e → history_of entries ≡ history_of (drop (suc at) entries) ++ e.event ∷ history_of (take at entries)
+history_cut entries at e within here =
+    ap history_of (split_at entries at e within ∙ ap (λ x. take at entries ++ x ∷ drop (suc at) entries) (sym here))
+    ∙ history_of-append (take at entries) (e ∷ drop (suc at) entries)
+    ∙ ap (λ H. H ++ history_of (take at entries)) (history_of-append (e ∷ []) (drop (suc at) entries))
+    ∙ append_assoc (history_of (drop (suc at) entries)) (e.event ∷ []) (history_of (take at entries))
+
+-- the events up to the next entry
+pub history_more : (entries : List Entry) (at : ℕ) (e : Entry) → at < length entries → e ≡ get_or entries at e → history_of (take (at + 1) entries) ≡ e.event ∷ history_of (take at entries)
+history_more entries at e within here = grind (arith, common_steps)
+
+-- the newest event, and what stands in front of it
+pub history_newest : (rest : List Entry) (e : Entry) → 1 ≤ length rest → e ≡ get_or rest (length rest - 1) e → history_of rest ≡ e.event ∷ history_of (take (length rest - 1) rest)
+history_newest rest e some here = grind (arith, common_steps, history_cut)
+
+-- the newest action of its task
+pub own_newest : (t : Name) (rest : List Entry) (e : Entry) (a : Action) → 1 ≤ length rest → e ≡ get_or rest (length rest - 1) e → is_of t e.event ≡ true → e.event.action ≡ a → own t (history_of rest) ≡ a ∷ own t (history_of (take (length rest - 1) rest))
+own_newest t rest e a some here mine is =
+    ap (own t) (history_newest rest e some here) ∙ own_mine t e.event (history_of (take (length rest - 1) rest)) mine ∙ ap (λ b. b ∷ own t (history_of (take (length rest - 1) rest))) is
+
+-- ---- where a step stands
+
+stands_later : (i : StepId) (later front : History) → stands i front ≡ true → stands i (later ++ front) ≡ true
+stands_later i [] front h = h
+stands_later i (v ∷ later) front h = or_right (is_step i (later ++ front) v) _ (stands_later i later front h)
+
+-- an entry is the step whose number is one more than how many of its task stand in front of it
+module _ (entries : List Entry) (at : ℕ) (e : Entry) (i : StepId) (count : ℕ) (within : at < length entries) (here : e ≡ get_or entries at e) (mine : is_of i.task e.event ≡ true) (counted : count ≡ length (own i.task (history_of (take at entries)))) (last : count + 1 ≡ i.k) where
+  abbrev front : History
+  front = history_of (take at entries)
+
+  step : is_step i front e.event ≡ true
+  step = and_from (is_of i.task e.event) _ mine (eq-eqb i.k (suc (length (own i.task front))) (omega arith))
+
+  -- it stands
+  pub found_stands : stands i (history_of entries) ≡ true
+  found_stands =
+      ap (stands i) (history_cut entries at e within here) ∙ stands_later i (history_of (drop (suc at) entries)) (e.event ∷ front) (or_left (is_step i front e.event) _ step)
+
+  -- at its place
+  pub found_step_at : step_at entries at ≡ Some i
+  found_step_at =
+      ap (step_behind (take at entries)) (slice_get_read entries (length entries) at e refl within here) ∙ ap Some (the_step i front e.event step)

@@ -1,0 +1,64 @@
+//! Where the steps of a history stand among its entries, which come from the oldest.
+
+ghost use Rattle.std.specs.Prelude.{◌≡◌, ◌<◌, ◌≤◌, ◌↔◌, IfOk, IfSome, IsSome, IsTrue, Some, length};
+ghost use Rattle.tb_model.specs.declared.step_id.StepId.{StepId};
+ghost use Rattle.tb_model.specs.Facts.{own};
+ghost use Rattle.tb_model.specs.Equivalent.{stands};
+ghost use Rattle.tb_core.specs.Scans.{history_of, step_at};
+
+use crate::entry::Entry;
+use std::alloc::AllocError;
+use tb_model::{StepId, TaskName};
+
+/// The place of a step: where the kth event of its task stands.
+#[tactic(auto, using(crate::proofs::ScanLemmas::found_stands, crate::proofs::ScanLemmas::found_step_at))]
+pub fn place_of(entries: &[Entry], id: &StepId) -> Option<usize>
+    ensures there { IsSome result ↔ IsTrue (stands id.now (history_of entries.now)) }
+    ensures step { IfSome result (λ at. step_at entries.now at ≡ Some id.now) }
+    ensures within { IfSome result (λ at. at < length entries.now) }
+{
+    let mut count = 0;
+    for (at, entry) in entries.iter().enumerate() {
+        if entry.event.task == id.task {
+            count += 1;
+            if count == id.k as usize {
+                return Some(at);
+            }
+        }
+    }
+    None
+}
+
+/// The step at this place. It takes memory where its task's name does, beyond six numbers.
+pub fn step_at(entries: &[Entry], at: usize) -> Result<StepId, AllocError>
+    requires within { at < length entries.now }
+    requires bound { length entries.now ≤ 1000000 }
+    ensures { IfOk result (λ id. step_at entries.now at ≡ Some id) }
+{
+    let task = entries[at].event.task.clone()?;
+    let k = ordinal_of(entries, at);
+    Ok(StepId { task, k })
+}
+
+/// The number of the step at this place among the steps of its task, from 1.
+pub fn ordinal_of(entries: &[Entry], at: usize) -> u32
+    requires within { at < length entries.now }
+    requires bound { length entries.now ≤ 1000000 }
+    ensures { (id : StepId) → step_at entries.now at ≡ Some id → result ≡ id.k }
+{
+    steps_of(&entries[..at], &entries[at].event.task) as u32 + 1
+}
+
+/// How many of the entries are the task's.
+fn steps_of(entries: &[Entry], t: &TaskName) -> usize
+    ensures count { result ≡ length (own t.now (history_of entries.now)) }
+    ensures within { result ≤ length entries.now }
+{
+    let mut count = 0;
+    for entry in entries {
+        if entry.event.task == *t {
+            count += 1;
+        }
+    }
+    count
+}

@@ -1,0 +1,108 @@
+//! What the events in front of a step say of a task, found by a scan from the newest entry.
+
+ghost use Rattle.std.specs.Prelude.{◌≡◌, ◌∷◌, List};
+ghost use Rattle.tb_model.specs.declared.action.Action.{Action};
+ghost use Rattle.tb_model.specs.Facts;
+ghost use Rattle.tb_model.specs.State.{items_in, spawn_of};
+ghost use Rattle.tb_core.specs.Scans.{AreLegal, history_of};
+
+use crate::entry::Entry;
+use tb_model::{Action, Item, TaskName};
+
+/// The depend items of the task.
+#[tactic(auto, using(crate::proofs::NeedsLemmas::items_named))]
+pub(crate) fn items_of<'a>(front: &'a [Entry], t: &TaskName) -> &'a [Item]
+    ensures { AreLegal front.now → result.now ≡ Facts.items_of t.now (history_of front.now) }
+{
+    named_items(front, t)
+}
+
+/// The items that the spawn of the task names.
+fn named_items<'a>(front: &'a [Entry], t: &TaskName) -> &'a [Item]
+    ensures { result.now ≡ items_in (spawn_of t.now (history_of front.now)) }
+{
+    let mut rest = front;
+    'back: while let [older @ .., newest] = rest {
+        match &newest.event.action {
+            Action::Spawn { child, items, .. } if child == t => return items.as_slice(),
+            _ => {}
+        }
+        rest = older;
+    }
+    &[]
+}
+
+/// Whether the newest action of `t` generated the undeferred child `u`.
+#[tactic(auto, using(crate::proofs::NeedsLemmas::held_within))]
+pub(crate) fn holds(front: &[Entry], t: &TaskName, u: &TaskName) -> bool
+    ensures { AreLegal front.now →
+        result ≡ Facts.holds (Facts.own t.now (history_of front.now)) u.now }
+{
+    // Comparing the names is cheap.
+    t.is_parent_of(u) && newest_generated(front, t, u)
+}
+
+fn newest_generated(front: &[Entry], t: &TaskName, u: &TaskName) -> bool
+    ensures { result ≡ Facts.holds (Facts.own t.now (history_of front.now)) u.now }
+{
+    let mut rest = front;
+    'back: while let [older @ .., newest] = rest {
+        if newest.event.task == *t {
+            return is_undeferred(&newest.event.action, u);
+        }
+        rest = older;
+    }
+    false
+}
+
+fn is_undeferred(action: &Action, u: &TaskName) -> bool
+    ensures { (acts : List Action) → result ≡ Facts.holds (action.now ∷ acts) u.now }
+{
+    match action {
+        Action::Spawn {
+            child,
+            deferred,
+            ..
+        } => !*deferred && child == u,
+        _ => false,
+    }
+}
+
+/// Whether the task is a member of the innermost group that `t` has open.
+#[tactic(auto, using(crate::proofs::NeedsLemmas::member_within))]
+pub(crate) fn is_member(front: &[Entry], t: &TaskName, m: &TaskName) -> bool
+    ensures { AreLegal front.now →
+        result ≡ Facts.is_member (Facts.own t.now (history_of front.now)) m.now }
+{
+    // Comparing the names is cheap.
+    m.is_within(t) && is_in_innermost(front, t, m)
+}
+
+fn is_in_innermost(front: &[Entry], t: &TaskName, m: &TaskName) -> bool
+    ensures { result ≡ Facts.is_member (Facts.own t.now (history_of front.now)) m.now }
+{
+    let mut rest = front;
+    let mut closed = 0_usize;
+    let mut found = false;
+    'back: while let [older @ .., newest] = rest {
+        if newest.event.task == *t {
+            match &newest.event.action {
+                Action::Open => {
+                    if closed == 0 {
+                        return found;
+                    }
+                    closed -= 1;
+                }
+                Action::Close => closed += 1,
+                Action::Spawn { child, .. } => {
+                    if m.is_within(child) {
+                        found = true;
+                    }
+                }
+                _ => {}
+            }
+        }
+        rest = older;
+    }
+    false
+}
