@@ -13,6 +13,7 @@ mod step_refusal;
 mod tables;
 mod undo_refusal;
 
+pub use entry::Entry;
 pub use needing::{first_needer, needs};
 pub use places::{ordinal_of, place_of, step_at};
 pub use removed::Removed;

@@ -1,0 +1,146 @@
+-- What a step and an undo answer, and what they leave.
+use Rattle.std.specs.Prelude.{◌≡◌, ◌≢◌, ◌<◌, ◌≤◌, ◌↔◌, ◌⊎◌, ◌++◌, ℕ, List, [], Option, ◌∷◌, length, Bool, Some, None, Result, Ok, Err, IsTrue, IsFalse}
+use Rattle.std.specs.List.{list_any}
+use Rattle.tb_model.specs.declared.action.Action.TheVariants.{Close}
+use Rattle.tb_model.specs.Hindrances.{Hindrance, in_the_way}
+use Rattle.tb_model.specs.Hindrances.{Undeferred as TheUndeferred, Waiting as IsWaiting, Excluded as IsExcluded, Children as TheChildren, Group as TheGroup}
+use Rattle.tb_read.specs.declared.config.Config.{Config}
+use Rattle.tb_model.specs.declared.event.Event.{Event}
+use Rattle.tb_model.specs.declared.step_id.StepId.{StepId}
+use Rattle.tb_model.specs.Names.{Name, child}
+use Rattle.tb_model.specs.Facts.{own, is_spawned, is_start, ends, groups}
+use Rattle.tb_model.specs.Legal.{MayFollow}
+use Rattle.tb_model.specs.Alike.{Alike}
+use Rattle.tb_model.specs.Needs.{step_of, without}
+use Rattle.tb_model.specs.Needers.{first_needer}
+use Rattle.tb_model.specs.Equivalent.{stands}
+use Rattle.tb_read.specs.declared.planned.Plan.{Plan}
+use Rattle.tb_read.specs.Plans.{line_behind}
+use Rattle.tb_run.specs.declared.removed.Removed.{Removed}
+use Rattle.tb_run.specs.declared.step_refusal.StepRefusal.{StepRefusal}
+use Rattle.tb_run.specs.declared.step_refusal.StepRefusal.TheVariants.{Memory, NoSuchTask, Ended, Waiting, Excluded, Children, Group, Full, Stale, Undeferred}
+use Rattle.tb_run.specs.declared.undo_refusal.UndoRefusal.{UndoRefusal}
+use Rattle.tb_run.specs.declared.undo_refusal.UndoRefusal.TheVariants.{Memory as NoMemory, NoSuchStep, Needed, Full as JournalFull}
+use Rattle.tb_model.specs.Lines.{Departure, events_of, without_lines}
+use Rattle.tb_run.specs.Seen.{Seen, history}
+use Rattle.tb_run.specs.Situation.{config_of}
+use Rattle.tb_run.specs.Filling.{completed}
+
+-- the event of a plan, and the same with the line at which it leaves its task
+abbrev pub event_of : Seen → Plan → Event
+event_of s p = record { task = p.config.task; action = completed s.cells (history s) p.config.task p.action }
+
+abbrev pub departure_of : Seen → Plan → Departure
+departure_of s p = record { event = event_of s p; to = line_behind p.instr p.config p.action }
+
+abbrev pub has_ended : Seen → Name → Bool
+has_ended s t = list_any (ends t) (history s)
+
+-- the plan is for this many cells; where it is of its task's situation, it starts exactly a pending task, and it closes a
+-- group only where one is open
+pub record Fits (s : Seen) (p : Plan) : Type 0 where
+  pub cells : p.instr.cells ≡ length s.cells
+  pub starts : p.config ≡ config_of s p.config.task → IsTrue (is_start p.action) ↔ (own p.config.task (history s) ≡ [])
+  pub closes : p.config ≡ config_of s p.config.task → p.action ≡ Close → groups (own p.config.task (history s)) ≢ []
+
+-- the task is there, isn't over, and stands where the plan takes it to stand
+pub record IsCurrent (s : Seen) (p : Plan) : Type 0 where
+  pub spawned : IsTrue (is_spawned (history s) p.config.task)
+  pub going : IsFalse (has_ended s p.config.task)
+  pub here : p.config ≡ config_of s p.config.task
+
+-- the event stands behind the others, which it may follow, and its undo leaves them as they were
+pub record Steps (s : Seen) (p : Plan) (new : Seen) (i : StepId) : Type 0 where
+  pub current : IsCurrent s p
+  pub room : length s.steps < s.limit
+  pub may : MayFollow s.cells (history s) (event_of s p)
+  pub now : new ≡ record s { steps = departure_of s p ∷ s.steps }
+  pub id : i ≡ step_of (history s) (event_of s p)
+  pub back : without i (history new) ≡ history s
+
+-- what keeps the plan's task from its action, where the plan is of its situation
+abbrev pub hindrance_of : Seen → Plan → Option Hindrance
+hindrance_of s p = in_the_way (history s) p.config.task p.action
+
+-- nothing keeps the task from its action, and the history has a place
+pub record IsOpen (s : Seen) (p : Plan) : Type 0 where
+  pub current : IsCurrent s p
+  pub clear : hindrance_of s p ≡ None
+  pub room : length s.steps < s.limit
+
+-- the task is there and going, but stands elsewhere than the plan takes it to stand, now so
+pub record IsStale (s : Seen) (p : Plan) (now : Config) : Type 0 where
+  pub spawned : IsTrue (is_spawned (history s) p.config.task)
+  pub going : IsFalse (has_ended s p.config.task)
+  pub now_is : now ≡ config_of s p.config.task
+  pub elsewhere : p.config ≢ now
+
+-- the task is kept from its action by this
+pub record IsHindered (s : Seen) (p : Plan) (h : Hindrance) : Type 0 where
+  pub current : IsCurrent s p
+  pub hindrance : hindrance_of s p ≡ Some h
+
+-- memory is wanted for the step, or for what a refusal would name
+abbrev pub WantsMemory : Seen → Plan → Type 0
+WantsMemory s p = IsOpen s p ⊎ (((now : Config) × IsStale s p now) ⊎ ((h : Hindrance) × IsHindered s p h))
+
+-- when a plan isn't taken; want of memory comes last
+abbrev pub Refuses : Seen → Plan → StepRefusal → Type 0
+Refuses s p NoSuchTask = IsFalse (is_spawned (history s) p.config.task)
+Refuses s p Ended = IsTrue (is_spawned (history s) p.config.task) × IsTrue (has_ended s p.config.task)
+Refuses s p (Stale now) = IsStale s p now
+Refuses s p (Undeferred child) = IsHindered s p (TheUndeferred child)
+Refuses s p (Waiting pred) = IsHindered s p (IsWaiting pred)
+Refuses s p (Excluded by) = IsHindered s p (IsExcluded by)
+Refuses s p (Children first) = IsHindered s p (TheChildren first)
+Refuses s p (Group first) = IsHindered s p (TheGroup first)
+Refuses s p Full = IsCurrent s p × (hindrance_of s p ≡ None) × (s.limit ≤ length s.steps)
+Refuses s p Memory = WantsMemory s p
+
+-- why a plan isn't taken, where memory may be wanted for what the refusal names, but not for the step
+abbrev pub IsKept : Seen → Plan → StepRefusal → Type 0
+IsKept s p Memory = ((now : Config) × IsStale s p now) ⊎ ((h : Hindrance) × IsHindered s p h)
+IsKept s p r = Refuses s p r
+
+-- a step by its answer; a refusal leaves the core as it was
+abbrev pub Stepped : Seen → Plan → Seen → Result StepId StepRefusal → Type 0
+Stepped s p new (Ok i) = Steps s p new i
+Stepped s p new (Err e) = (new ≡ s) × Refuses s p e
+
+-- the step stands, and nothing needs it
+pub record IsFree (s : Seen) (i : StepId) : Type 0 where
+  pub stands : IsTrue (stands i (history s))
+  pub unneeded : first_needer i (history s) ≡ None
+
+-- so many steps stand in front of the step
+pub record IsPlaceOf (s : Seen) (i : StepId) (at : ℕ) : Type 0 where
+  pub later : List Departure
+  pub step : Departure
+  pub front : List Departure
+  pub parts : s.steps ≡ later ++ step ∷ front
+  pub place : at ≡ length front
+  pub id : step_of (events_of front) step.event ≡ i
+
+-- the step is gone, and nothing else; it may be taken again, and then all is as it was
+pub record TakesBack (s : Seen) (i : StepId) (new : Seen) (removed : Removed) : Type 0 where
+  pub free : IsFree s i
+  pub cells : new.cells ≡ s.cells
+  pub root_line : new.root_line ≡ s.root_line
+  pub limit : new.limit ≡ s.limit
+  pub steps : new.steps ≡ without_lines i s.steps
+  pub rest : history new ≡ without i (history s)
+  pub id : removed.id ≡ i
+  pub again : MayFollow s.cells (history new) (record { task = i.task; action = removed.action })
+  pub alike : Alike (history s) (record { task = i.task; action = removed.action } ∷ history new)
+
+-- when a step stays: memory is wanted for the name of what needs it alone
+abbrev pub Keeps : Seen → StepId → UndoRefusal → Type 0
+Keeps s i NoSuchStep = IsFalse (stands i (history s))
+Keeps s i (Needed by) = IsTrue (stands i (history s)) × (first_needer i (history s) ≡ Some by)
+Keeps s i NoMemory = IsTrue (stands i (history s)) × ((by : StepId) × (first_needer i (history s) ≡ Some by))
+Keeps s i JournalFull = ⊥
+
+-- an undo by its answer; a refusal leaves the core as it was
+abbrev pub Undone : Seen → StepId → Seen → Result Removed UndoRefusal → Type 0
+Undone s i new (Ok removed) = TakesBack s i new removed
+Undone s i new (Err e) = (new ≡ s) × Keeps s i e

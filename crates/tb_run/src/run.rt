@@ -1,0 +1,323 @@
+//! The history, step by step.
+
+ghost use Rattle.std.specs.Prelude.{◌≡◌, ◌≢◌, ◌<◌, ◌≤◌, ◌+◌, ◌↔◌, [], ◌∷◌, OnOk, IfOk, IfErr, OnErr, IfSome, IfNone, IsOk, IsSome, IsErrOf, IsTrue, length, reverse, slice_get, Some, None, if◌then◌else◌, map};
+ghost use Rattle.std.specs.Option.{option_copied, option_map};
+ghost use Rattle.tb_model.specs.Facts.{is_spawned, own, items_of, before, apart};
+ghost use Rattle.tb_model.specs.State.{printed, open_groups};
+ghost use Rattle.tb_model.specs.LeastNames.{IsLeastName};
+ghost use Rattle.tb_core.specs.Soundness.{departure};
+ghost use Rattle.tb_undo.specs.Obstacles.{sibling};
+ghost use Rattle.tb_undo.specs.Readings.{IsUnendedBehind};
+ghost use Rattle.tb_undo.specs.State.{AreLast};
+ghost use Rattle.tb_run.specs.Seen.{history};
+ghost use Rattle.tb_run.specs.Situation.{config_of};
+ghost use Rattle.tb_run.specs.Outcomes.{event_of, has_ended, Fits, IsCurrent, IsOpen, IsKept, Refuses, Steps, Stepped, IsFree, IsPlaceOf, TakesBack, Keeps, Undone};
+ghost use Rattle.tb_run.specs.Soundness.{seen};
+
+use crate::answers::{config, named, stale, stands_so};
+use crate::filling::{copy_event, copy_of, fill_in, planned, spare_names};
+use crate::removed::Removed;
+use crate::step_refusal::StepRefusal;
+use crate::undo_refusal::UndoRefusal;
+use std::alloc::{AllocError, Global};
+use std::marker::Model;
+use tb_core::{Entry, first_needer, place_of, step_at};
+use tb_model::{Event, Item, StepId, TaskName};
+use tb_read::{Config, Plan};
+use tb_undo::Tables;
+
+/// The history of a run, with what each step replaced, and the state that it leaves. It holds no
+/// program.
+#[derive(Drop)]
+pub struct Core {
+    alloc: Global,
+    first: Vec<i64>,
+    root_line: u32,
+    limit: u32,
+    entries: Vec<Entry>,
+    tables: Tables,
+    // the event for which all room is made
+    reserved: Option<Event>,
+}
+
+impl Model for Core {
+    ghost use Rattle.std.specs.Prelude.{◌-◌, reverse, vec_len, vec_capacity};
+    ghost use Rattle.tb_run.specs.Seen.{Held};
+    ghost use Rattle.tb_run.specs.Soundness.{seen, IsSound, HasReserved};
+
+    ghost Value = { Held };
+
+    ghost view = { λ c. record { run = seen c.first.items c.root_line c.limit (reverse c.entries.items); reserved = c.reserved } };
+
+    ghost invariant = { λ c. IsSound c.first.items c.root_line c.limit (reverse c.entries.items) c.tables × HasReserved c.reserved (vec_capacity c.entries - vec_len c.entries) c.tables };
+}
+
+impl Core {
+    /// A core with no events, for a history of at most `limit` of them.
+    pub fn open(
+        alloc: Global,
+        cells: &[i64],
+        root_line: u32,
+        limit: u32,
+    ) -> Result<Core, AllocError>
+        requires { limit ≤ 1000000 }
+        ensures { IfOk result (λ c. c.run ≡ record { cells = cells.now; root_line = root_line; limit = limit; steps = [] }) }
+    {
+        Ok(Core {
+            alloc,
+            first: Vec::from_slice(alloc, cells)?,
+            root_line,
+            limit,
+            entries: Vec::new(alloc),
+            tables: Tables::open(alloc, cells, root_line)?,
+            reserved: None,
+        })
+    }
+
+    /// How many events the history has.
+    pub fn count(&self) -> u32
+        ensures count { result ≡ length self.now.run.steps }
+        ensures bound { result ≤ 1000000 }
+    {
+        self.entries.as_slice().len() as u32
+    }
+
+    /// Whether the task is there: the root is, and what was spawned.
+    pub fn is_there(&self, task: &TaskName) -> bool
+        ensures { result ≡ is_spawned (history self.now.run) task.now }
+    {
+        self.tables.is_there(task)
+    }
+
+    /// Whether the task has ended or faulted.
+    pub fn has_ended(&self, task: &TaskName) -> bool
+        ensures { result ≡ has_ended self.now.run task.now }
+    {
+        self.tables.has_ended(task)
+    }
+
+    /// The situation of a task that is there.
+    pub fn config(&self, task: &TaskName) -> Result<Option<Config>, AllocError>
+        ensures { IfOk result (λ o. o ≡ (if is_spawned (history self.now.run) task.now then Some (config_of self.now.run task.now) else None)) }
+    {
+        match self.tables.standing(task) {
+            Some(standing) => Ok(Some(config(task.clone()?, standing))),
+            None => Ok(None),
+        }
+    }
+
+    /// The cells' numbers, in order.
+    pub fn cells(&self) -> &[i64]
+        ensures { AreLast self.now.run.cells (history self.now.run) result.now }
+    {
+        self.tables.cells()
+    }
+
+    /// The printed numbers, in order.
+    pub fn output(&self) -> &[i64]
+        ensures { result.now ≡ reverse (printed (history self.now.run)) }
+    {
+        self.tables.output()
+    }
+
+    /// The least unended task behind this one by the order of names, or of all.
+    pub fn next_unended(&self, after: Option<&TaskName>) -> Option<&TaskName>
+        ensures { IsLeastName (IsUnendedBehind (history self.now.run) (option_copied after.entry)) (option_copied result) }
+    {
+        self.tables.next_unended(after)
+    }
+
+    /// How many groups of the task are open.
+    pub fn groups(&self, task: &TaskName) -> usize
+        ensures { result ≡ length (open_groups (own task.now (history self.now.run))) }
+    {
+        self.tables.groups(task)
+    }
+
+    /// The depend items of the task.
+    pub fn items(&self, task: &TaskName) -> &[Item]
+        ensures { result.now ≡ items_of task.now (history self.now.run) }
+    {
+        self.tables.items(task)
+    }
+
+    /// Whether the task depends on its sibling with this number.
+    pub fn is_before(&self, number: u32, task: &TaskName) -> bool
+        ensures { result ≡ before (history self.now.run) (sibling task.now number) task.now }
+    {
+        self.tables.is_before(number, task)
+    }
+
+    /// Whether the task and its sibling with this number exclude each other.
+    pub fn is_apart(&self, number: u32, task: &TaskName) -> bool
+        ensures { result ≡ apart (history self.now.run) (sibling task.now number) task.now }
+    {
+        self.tables.is_apart(number, task)
+    }
+
+    /// The steps that stand, from the oldest to the newest, each with the line at which it left its
+    /// task and what it replaced.
+    pub fn entries(&self) -> &[Entry]
+        ensures { map departure (reverse result.now) ≡ self.now.run.steps }
+    {
+        self.entries.as_slice()
+    }
+
+    /// Why a step of this plan would be refused now.
+    pub fn refusal(&self, plan: &Plan) -> Option<StepRefusal>
+        requires { Fits self.now.run plan.now }
+        ensures some { IfSome result (IsKept self.now.run plan.now) }
+        ensures none { IfNone result (IsOpen self.now.run plan.now) }
+    {
+        let name = &plan.config.task;
+        let Some(standing) = self.tables.standing(name) else {
+            return Some(StepRefusal::NoSuchTask);
+        };
+        if self.has_ended(name) {
+            return Some(StepRefusal::Ended);
+        }
+        if !stands_so(&plan.config, &standing) {
+            return Some(stale(name, standing));
+        }
+        if let Some(obstacle) = self.tables.in_the_way(name, &plan.action) {
+            return Some(named(name, obstacle));
+        }
+        if self.limit <= self.count() {
+            return Some(StepRefusal::Full);
+        }
+        None
+    }
+
+    /// Makes the room that `step` needs for this plan, and tells the event to come.
+    pub fn reserve_step(&mut self, plan: &Plan) -> Result<Event, StepRefusal>
+        requires { Fits self.old.run plan.now }
+        ensures run { self.new.run ≡ self.old.run }
+        ensures event { IfOk result (λ v. v ≡ event_of self.old.run plan.now) }
+        ensures reserved { OnOk result (self.new.reserved ≡ Some (event_of self.old.run plan.now)) }
+        ensures ready { OnOk result (IsOpen self.old.run plan.now) }
+        ensures refused { IfErr result (Refuses self.old.run plan.now) }
+    {
+        if let Some(refusal) = self.refusal(plan) {
+            return Err(refusal);
+        }
+        match self.prepare(plan) {
+            Ok(event) => Ok(event),
+            Err(_) => Err(StepRefusal::Memory),
+        }
+    }
+
+    /// Takes the step that was planned. What can fail comes first, and a refusal changes nothing.
+    /// Right behind a `reserve_step` of the same plan that answered Ok it takes no memory.
+    pub fn step(&mut self, plan: Plan) -> Result<StepId, StepRefusal>
+        requires { Fits self.old.run plan }
+        ensures stepped { Stepped self.old.run plan self.new.run result }
+        ensures room { IsOpen self.old.run plan → self.old.reserved ≡ Some (event_of self.old.run plan) → IsOk result }
+    {
+        if let Some(refusal) = self.refusal(&plan) {
+            return Err(refusal);
+        }
+        match self.take(plan) {
+            Ok(id) => Ok(id),
+            Err(_) => Err(StepRefusal::Memory),
+        }
+    }
+
+    /// The event of the plan, for which all room is made.
+    fn prepare(&mut self, plan: &Plan) -> Result<Event, AllocError>
+        requires fits { Fits self.old.run plan.now }
+        requires ready { IsOpen self.old.run plan.now }
+        ensures run { self.new.run ≡ self.old.run }
+        ensures event { IfOk result (λ v. v ≡ event_of self.old.run plan.now) }
+        ensures reserved { OnOk result (self.new.reserved ≡ Some (event_of self.old.run plan.now)) }
+    {
+        let event = planned(&self.tables, plan)?;
+        let copy = copy_event(&event)?;
+        self.entries.reserve(1)?;
+        self.reserved = None;
+        self.tables.reserve_apply(&event)?;
+        self.reserved = Some(copy);
+        Ok(event)
+    }
+
+    /// Takes the step of a plan that isn't refused.
+    fn take(&mut self, plan: Plan) -> Result<StepId, AllocError>
+        requires fits { Fits self.old.run plan }
+        requires ready { IsOpen self.old.run plan }
+        ensures ok { IfOk result (Steps self.old.run plan self.new.run) }
+        ensures err { OnErr result (self.new.run ≡ self.old.run) }
+        ensures room { self.old.reserved ≡ Some (event_of self.old.run plan) → IsOk result }
+    {
+        let to = plan.to();
+        let Plan {
+            instr: _,
+            config,
+            action,
+        } = plan;
+        let (its_name, its_child) = spare_names(self.reserved.take());
+        let task = copy_of(&config.task, its_name)?;
+        let event = fill_in(&self.tables, config.task, action, its_child)?;
+        self.entries.reserve(1)?;
+        let replaced = self.tables.apply(&event, to)?;
+        self.entries.push_reserved(Entry {
+            event,
+            to,
+            replaced,
+        });
+        Ok(StepId {
+            task,
+            k: config.steps + 1,
+        })
+    }
+
+    /// Takes the entry at this place out, of a step that nothing needs.
+    fn take_out(&mut self, at: usize, id: &StepId) -> Removed
+        requires free { IsFree self.old.run id.now }
+        requires here { IsPlaceOf self.old.run id.now at }
+        ensures { TakesBack self.old.run id.now self.new.run result }
+    {
+        self.reserved = None;
+        let Entry {
+            event,
+            to: _,
+            replaced,
+        } = self.entries.remove(at);
+        self.tables.revert(&event, replaced);
+        Removed {
+            id: StepId {
+                task: event.task,
+                k: id.k,
+            },
+            action: event.action,
+        }
+    }
+
+    /// Why the step stays, if it does: it isn't there, or something needs it.
+    pub fn keeps(&self, id: &StepId) -> Option<UndoRefusal>
+        ensures some { IfSome result (Keeps self.now.run id.now) }
+        ensures none { IfNone result (IsFree self.now.run id.now) }
+    {
+        let Some(at) = place_of(&self.entries, id) else {
+            return Some(UndoRefusal::NoSuchStep);
+        };
+        let by = first_needer(&self.entries, at)?;
+        match step_at(&self.entries, by) {
+            Ok(by) => Some(UndoRefusal::Needed { by }),
+            Err(_) => Some(UndoRefusal::Memory),
+        }
+    }
+
+    /// Takes a step back that nothing needs, wherever it stands. It takes no memory where that is
+    /// done.
+    pub fn undo(&mut self, id: &StepId) -> Result<Removed, UndoRefusal>
+        ensures undone { Undone self.old.run id.now self.new.run result }
+        ensures succeeds { IsFree self.old.run id.now → IsOk result }
+    {
+        if let Some(refusal) = self.keeps(id) {
+            return Err(refusal);
+        }
+        match place_of(&self.entries, id) {
+            Some(at) => Ok(self.take_out(at, id)),
+            None => Err(UndoRefusal::NoSuchStep),
+        }
+    }
+}
