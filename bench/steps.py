@@ -1,10 +1,12 @@
 #!/usr/bin/env python3
-"""Measures the built program on a long session of steps and undos in turn.
+"""Measures the built program on long sessions.
 
     bench/steps.py [PROGRAM]
 
-The commands `step 0` and `undo 0#2` come in turn, 100,000 and 1,000,000 of them, from a file and into
-a file, with a journal of 1,000,000 entries. Each size is run three times, and the best time counts.
+Two kinds of session, of 100,000 and of 1,000,000 steps and undos each: `step 0` and `undo 0#2` in
+turn, and one `run` of a loop that counts. Each is read from a file and written into a file, with a
+journal of 1,000,000 entries, and run three times; the best time counts. The journal's first entry
+is none of a step, so a run that fills it has 999,999.
 """
 import os
 import sys
@@ -12,13 +14,18 @@ import tempfile
 import time
 
 TOP = os.path.join(os.path.dirname(os.path.abspath(__file__)), '..')
-PROGRAM = b'cells 1\nbody main 0\n  store 0 7\nend\n---\nstep 0\n'
+STORE = b'cells 1\nbody main 0\n  store 0 7\nend\n---\nstep 0\n'
+LOOP = b'cells 0\nbody main 0\n  let r0 0\n  while r0 < 1000000\n    let r0 r0 + 1\n  end\nend\n---\n'
+KINDS = [
+    ('steps and undos in turn', lambda count: STORE + b'step 0\nundo 0#2\n' * (count // 2)),
+    ('one run of a loop', lambda count: LOOP + b'run %d\n' % count),
+]
 
 
-def measure(program, commands, folder):
+def measure(program, text, folder):
     session = os.path.join(folder, 'session')
-    with open(session, 'wb') as text:
-        text.write(PROGRAM + b'step 0\nundo 0#2\n' * (commands // 2))
+    with open(session, 'wb') as kept:
+        kept.write(text)
     best, most = None, 0
     for _ in range(3):
         start = time.perf_counter()
@@ -38,13 +45,15 @@ def measure(program, commands, folder):
 
 def main():
     program = os.path.abspath(sys.argv[1] if len(sys.argv) > 1 else os.path.join(TOP, 'crates/taskback/out/taskback'))
-    times = []
     with tempfile.TemporaryDirectory() as folder:
-        for commands in (100000, 1000000):
-            taken, memory = measure(program, commands, folder)
-            times.append(taken)
-            print('%9d commands: %6.3f s, %7.0f commands a second, %6.1f MB' % (commands, taken, commands / taken, memory / 1024))
-    print('ten times the commands take %.1f times the time' % (times[1] / times[0]))
+        for name, text_of in KINDS:
+            print(name)
+            times = []
+            for count in (100000, 1000000):
+                taken, memory = measure(program, text_of(count), folder)
+                times.append(taken)
+                print('%9d: %6.3f s, %7.0f a second, %6.1f MB' % (count, taken, count / taken, memory / 1024))
+            print('ten times as many take %.1f times the time' % (times[1] / times[0]))
 
 
 if __name__ == '__main__':

@@ -5,12 +5,16 @@
 
 COMMAND gets a session on standard input, with `--limit L` behind its words, and has to write what
 the program has to write: output, standard error and exit status are compared. A session that
-differs is kept in DIR. The sessions use root tasks alone: cells, bodies, let, load, store, print,
-with faulty programs and malformed commands among them.
+differs is kept in DIR. The programs are of the whole language, and some have faults. The commands
+are `step`, `run`, `undo`, `roll`, `rolltask`, `rollcell`, `rollprint`, `cells` and `out`, malformed
+ones among them. Most name tasks and steps that were there when the program was run on the session
+so far, so that undos and rollbacks meet the middle of a history.
 """
 import argparse
+import collections
 import os
 import random
+import re
 import shlex
 import subprocess
 import sys
@@ -20,122 +24,215 @@ NUMBERS = ['0', '1', '2', '3', '-1', '-0', '007', '9', '16', '65535', '65536', '
            '9223372036854775807', '-9223372036854775808', '9223372036854775808', '4x', '+1', '-', '--1']
 REGISTERS = ['r%d' % k for k in range(18)] + ['r01', 'r', 'R1', 'rr1']
 NAMES = ['main', 'a', 'b', '_x1', '9x', 'x' * 32, 'x' * 33, 'é', 'body', 'end', 'task', 'if']
+STRANGERS = ['fly', 'cells', 'cell', 'body', 'end', 'else', 'lett', '---', '--', 'END', 'depend', 'all', 'in']
 BLANKS = [' ', '  ', '\t', ' \r', ' \t ']
+TYPES = ['in', 'in', 'out', 'inout', 'mutexinoutset', 'mutexinoutset', 'inoutset']
+COMPARISONS = ['==', '!=', '<', '<=']
+MALFORMED = ['fly', 'step', 'step 00', 'step 0 0', 'step 0.', 'step 0.0', 'step 0.01', 'step .0', 'step 1', 'step 0.1000000',
+             'step 0.1000001', 'step -0', 'undo', 'undo 0', 'undo 0#', 'undo 0#0', 'undo 0#01', 'undo 0#1000000', 'undo 0#1000001',
+             'undo 0#1#1', 'undo #1', 'undo 0 #1', 'cells 1', 'out x', '---', '# step 0', 'Step 0', 'step 0.1.2.3.4.5.6.7.8.9',
+             'undo 0.4.4#99999999999999999999', 'run', 'run x', 'run -1', 'run +1', 'run 1000001', 'run 1 1', 'run 0x1', 'run #1',
+             'run 4294967297', 'run 18446744073709551617', 'run 0', 'run 000000000000000000000000000003', 'roll', 'roll 0', 'roll 0#0',
+             'roll 0#1 2', 'rolltask', 'rolltask 0#1', 'rolltask 00', 'rollcell', 'rollcell x', 'rollcell -0', 'rollcell 65536',
+             'rollcell 65535', 'rollcell 000', 'rollcell 0 1', 'rollprint 0', 'rollprint #', 'rolls 0#1']
+STEP = re.compile(rb'^(0(?:\.\d+)*)#(\d+) (.*)$', re.MULTILINE)
 
 
-def pick_number(r, wild):
-    if r.random() < wild:
-        return r.choice(NUMBERS)
-    return str(r.choice([0, 1, 2, 3, 5, -1, -7, 1 << 62, 12]))
+class Program:
+    """A random program: lists of words. A body generates tasks of the bodies behind it, and seldom of others."""
 
+    def __init__(self, r):
+        self.r = r
+        self.cells = r.choice([0, 1, 1, 2, 2, 3, 5])
+        names = ['main'] + r.sample(['a', 'b', '_x1', 'longer_name'], r.choice([0, 1, 1, 2, 2, 3, 4]))
+        self.params = {name: r.choice([0, 0, 0, 1, 2, 3]) for name in names}
+        self.params['main'] = 0
+        self.names = names
+        self.lines = [['cells', str(self.cells)]]
+        for cell in r.sample(range(self.cells), min(self.cells, r.choice([0, 0, 1, 2]))):
+            self.lines.append(['cell', str(cell), self.number()])
+        for at in r.sample(range(len(names)), len(names)):
+            self.lines.append(['body', names[at], str(self.params[names[at]])])
+            self.block(at, 0, r.choice([1, 2, 3, 4, 6]))
+            self.lines.append(['end'])
 
-def pick_register(r, wild):
-    return r.choice(REGISTERS) if r.random() < wild else 'r%d' % r.randrange(16)
+    def number(self):
+        return str(self.r.choice([0, 1, 2, 3, 5, -1, -7, 1 << 62, 12]))
 
+    def register(self):
+        return 'r%d' % self.r.choice([0, 0, 1, 1, 2, 3, 4, 15])
 
-def pick_operand(r, wild):
-    return pick_register(r, wild) if r.random() < 0.5 else pick_number(r, wild)
+    def operand(self):
+        return self.register() if self.r.random() < 0.5 else self.number()
 
+    def address(self):
+        if self.r.random() < 0.95 and self.cells:
+            return str(self.r.randrange(self.cells))
+        return self.operand()
 
-def pick_statement(r, cells, wild):
-    address = str(r.randrange(max(1, cells))) if r.random() < 0.8 else pick_operand(r, wild)
-    kind = r.randrange(6)
-    if kind == 0:
-        words = ['let', pick_register(r, wild), pick_operand(r, wild)]
-    elif kind == 1:
-        operator = r.choice(['+', '-', '*']) if r.random() >= wild else r.choice(['/', '~', '+', '=='])
-        words = ['let', pick_register(r, wild), pick_operand(r, wild), operator, pick_operand(r, wild)]
-    elif kind == 2:
-        words = ['load', pick_register(r, wild), address]
-    elif kind == 3:
-        words = ['store', address, pick_operand(r, wild)]
-    else:
-        words = ['print', pick_operand(r, wild)]
-    if r.random() < wild:
-        change = r.randrange(4)
-        if change == 0:
-            words.pop()
-        elif change == 1:
-            words.append(r.choice(NUMBERS + REGISTERS + NAMES))
-        elif change == 2:
-            words[r.randrange(len(words))] = r.choice(NUMBERS + REGISTERS + NAMES)
-        else:
-            words = [r.choice(['fly', 'cells', 'cell', 'body', 'end', 'lett', '---', '--', 'END'])] + words[1:]
-    return words
+    def items(self, types, most):
+        words = []
+        for _ in range(self.r.choice([0, 1, 1, 2, most])):
+            kind = self.r.choice(types)
+            everywhere = kind in ('out', 'inout') and self.r.random() < 0.15
+            words += ['depend', kind, 'all' if everywhere else self.address()]
+        return words
+
+    def task(self, at):
+        later = self.names[at + 1:]
+        name = self.r.choice(later if later and self.r.random() < 0.95 else self.names)
+        words = ['task', name] + [self.operand() for _ in range(self.params[name])] + self.items(TYPES, 3)
+        if self.r.random() < 0.2:
+            words += ['if', self.operand(), self.r.choice(COMPARISONS), self.operand()]
+        return words
+
+    def statement(self, at):
+        kind = self.r.randrange(9)
+        if kind < 4:
+            return self.task(at)
+        return [['let', self.register(), self.operand(), self.r.choice('+-*'), self.operand()],
+                ['load', self.register(), self.address()],
+                ['store', self.address(), self.operand()],
+                ['print', self.operand()],
+                ['taskwait'] + self.items([kind for kind in TYPES if kind != 'mutexinoutset'], 2)][kind - 4]
+
+    def loop(self, at, depth):
+        """A loop that ends after a few rounds, but for the one in ten that nothing counts for."""
+        register = 'r%d' % (5 + depth)
+        self.lines += [['let', register, '0'], ['while', register, '<', str(self.r.choice([1, 2, 3]))]]
+        if self.r.random() < 0.9:
+            self.lines.append(['let', register, register, '+', '1'])
+        self.block(at, depth + 1, 2)
+
+    def block(self, at, depth, most):
+        for _ in range(self.r.choice([0, 1, most, most])):
+            kind = self.r.random()
+            if kind < 0.7 or depth > 2:
+                self.lines.append(self.statement(at))
+                continue
+            if kind < 0.8:
+                self.lines.append(['taskgroup'])
+                self.block(at, depth + 1, 3)
+            elif kind < 0.88:
+                self.loop(at, depth)
+            else:
+                self.lines.append(['if', self.operand(), self.r.choice(COMPARISONS), self.operand()])
+                self.block(at, depth + 1, 2)
+                if self.r.random() < 0.5:
+                    self.lines.append(['else'])
+                    self.block(at, depth + 1, 2)
+            self.lines.append(['end'])
+
+    def spoil(self, wild):
+        """Faults in about as many lines of a hundred as `wild` says."""
+        for words in self.lines:
+            if self.r.random() >= wild:
+                continue
+            change = self.r.randrange(4)
+            if change == 0:
+                words.pop()
+            elif change == 1:
+                words.append(self.r.choice(NUMBERS + REGISTERS + NAMES + STRANGERS))
+            elif change == 2:
+                words[self.r.randrange(len(words))] = self.r.choice(NUMBERS + REGISTERS + NAMES + STRANGERS)
+            else:
+                words[0] = self.r.choice(STRANGERS)
+        if self.r.random() < wild:
+            self.r.shuffle(self.lines)
 
 
 def spell(r, words, wild):
+    """A line of these words."""
     text = r.choice(['', '', '  ', '\t']) + (' ' if r.random() >= wild else r.choice(BLANKS)).join(words)
     if r.random() < 0.1:
-        text += r.choice([' # note', ' #', '#joined', '  # \x01 any byte \xff'])
+        text += r.choice([' # note', ' #', '  # \x01 any byte \xff'])
     if r.random() < wild / 4:
-        text += r.choice(['\x01', '\x7f', '\xe9', ' ' * 1100, ' #' + 'y' * 1100, 'z' * 1100])
+        text += r.choice(['\x01', '\x7f', '\xe9', ' ' * 1100, ' #' + 'y' * 1100, 'z' * 1100, '#joined'])
     return text
 
 
-def pick_program(r, wild):
-    cells = r.choice([0, 1, 1, 2, 3, 5, 65536]) if r.random() >= wild else r.choice(NUMBERS)
-    lines = []
-    if r.random() < 0.1:
-        lines.append(r.choice(['', '# heading', '   ']))
-    if r.random() >= wild / 3:
-        lines.append(spell(r, ['cells', str(cells)], wild))
-    count = cells if isinstance(cells, int) else 2
-    for _ in range(r.choice([0, 0, 1, 2])):
-        at = str(r.randrange(max(1, min(count, 5)))) if r.random() >= wild else r.choice(NUMBERS)
-        lines.append(spell(r, ['cell', at, pick_number(r, wild)], wild))
-    bodies = ['main'] + r.sample(['a', 'b', '_x1', 'longer_name'], r.choice([0, 0, 1, 2]))
-    r.shuffle(bodies)
-    for name in bodies:
-        name = name if r.random() >= wild else r.choice(NAMES)
-        parameters = '0' if name == 'main' or r.random() < 0.5 else str(r.randrange(4))
-        parameters = parameters if r.random() >= wild else r.choice(NUMBERS)
-        lines.append(spell(r, ['body', name, parameters], wild))
-        for _ in range(r.choice([0, 1, 3, 6, 12])):
-            lines.append(spell(r, pick_statement(r, count, wild), wild))
-            if r.random() < 0.05:
-                lines.append(r.choice(['', '  # between', '\t']))
-        if r.random() >= wild / 3:
-            lines.append(spell(r, ['end'], wild))
+def pick_command(r, steps, newest, scattered, wild):
+    """A command on a session that wrote these steps, each with its task, its number and its text."""
     if r.random() < wild:
-        r.shuffle(lines)
-    return lines
+        return r.choice(MALFORMED)
+    kind = r.random()
+    if kind < (0.7 if scattered else 0.4):
+        return 'step ' + pick_task(r, steps)
+    if kind < (0.8 if scattered else 0.65) and steps:
+        last = {task: number for task, number, _ in steps}
+        task, number, _ = r.choice(newest)
+        return 'undo %s#%s' % (task, last[task] if r.random() < 0.75 else number)
+    if kind < (0.87 if scattered else 0.8) and steps:
+        return pick_rollback(r, steps, newest)
+    if kind < 0.93:
+        return 'run %d' % r.choice([0, 1, 1, 2, 3, 5, 8, 20])
+    return r.choice(['cells', 'out', 'undo 0.1#1', 'undo 0#%d' % r.randrange(1, 30)])
 
 
-def pick_command(r, wild):
-    last = r.choice([1, 1, 2, 3, 4, 5, 6, 7, 8, 9, 12, 20])
-    words = r.choice([['step', '0'], ['step', '0'], ['step', '0'], ['step', '0'], ['undo', '0#%d' % last],
-                      ['undo', '0#%d' % last], ['cells'], ['out'], ['step', '0.1'], ['undo', '0.1#1']])
-    if r.random() < wild:
-        words = r.choice([
-            ['fly'], ['step'], ['step', '00'], ['step', '0', '0'], ['step', '0.'], ['step', '0.0'], ['step', '0.01'],
-            ['step', '.0'], ['step', '1'], ['step', '0.1000000'], ['step', '0.1000001'], ['step', '-0'], ['undo'],
-            ['undo', '0'], ['undo', '0#'], ['undo', '0#0'], ['undo', '0#01'], ['undo', '0#1000000'],
-            ['undo', '0#1000001'], ['undo', '0#1#1'], ['undo', '#1'], ['undo', '0', '#1'], ['cells', '1'], ['out', 'x'],
-            ['---'], ['#', 'step', '0'], ['Step', '0'], ['step', '0.1.2.3.4.5.6.7.8.9'], ['undo', '0.4.4#99999999999999999999']])
-    text = spell(r, words, wild)
-    return text
+def pick_rollback(r, steps, newest):
+    """Mostly of a late step, so that much stays."""
+    task, number, _ = r.choice(newest if r.random() < 0.8 else steps)
+    kind = r.random()
+    if kind < 0.6:
+        return 'roll %s#%s' % (task, number)
+    if kind < 0.75:
+        return 'rolltask ' + task
+    return 'rollcell %d' % r.randrange(4) if kind < 0.9 else 'rollprint'
 
 
-def pick_session(seed):
-    r = random.Random(seed)
-    wild = r.choice([0, 0, 0, 0.02, 0.1, 0.3])
-    parts = pick_program(r, r.choice([0, 0, wild]))
-    if r.random() >= 0.03:
-        parts.append(r.choice(['---', '---', ' ---', '--- # commands', '---' + ' ' * 1100]))
-    steady = r.random() < 0.5
-    for _ in range(r.choice([0, 3, 10, 25, 60])):
-        parts.append('step 0' if steady and r.random() < 0.5 else pick_command(r, wild))
-    text = '\n'.join(parts)
-    if r.random() < 0.8:
-        text += '\n'
-    limit = r.choice([1, 2, 3, 5, 10, 30, 1000]) if r.random() < 0.3 else 100000
-    return text.encode('latin-1', 'replace'), limit
+def pick_task(r, steps):
+    """A task that the steps name: mostly one that hasn't ended, seldom another name."""
+    if r.random() < 0.05:
+        return r.choice(['0', '0.1', '0.2', '0.1.1', '0.9', '0.1.2'])
+    tasks = ['0'] + [task for task, _, _ in steps] + [text.split()[1] for _, _, text in steps if text.startswith('spawn ')]
+    over = {task for task, _, text in steps if text in ('end', 'fault')}
+    going = sorted(set(tasks) - over)
+    return r.choice(going if going and r.random() < 0.8 else tasks)
 
 
 def answer(command, text, limit):
-    done = subprocess.run(command + ['--limit', str(limit)], input=text, capture_output=True, timeout=120)
+    done = subprocess.run(command + ['--limit', str(limit)], input=text, capture_output=True, timeout=300)
     return done.stdout, done.stderr, done.returncode
+
+
+def steps_of(program, text, limit):
+    """The steps that the program wrote, the newest last."""
+    return [tuple(part.decode('latin-1') for part in step) for step in STEP.findall(answer(program, text, limit)[0])]
+
+
+def pick_session(seed, program):
+    r = random.Random(seed)
+    wild = r.choice([0, 0, 0, 0.02, 0.1, 0.3])
+    faults = r.choice([0, 0, 0, 0, wild])
+    limit = r.choice([1, 2, 3, 5, 10, 30, 100]) if r.random() < 0.2 else 100000
+    made = Program(r)
+    made.spoil(faults)
+    lines = [spell(r, words, faults) for words in made.lines]
+    for _ in range(r.choice([0, 0, 1, 3])):
+        lines.insert(r.randrange(len(lines)), r.choice(['', '# between', '   ', '\t']))
+    lines.append(r.choice(['---', '---', ' ---', '--- # commands', '---' + ' ' * 1100]))
+    scattered = r.random() < 0.4
+    lines.append('run %d' % r.choice([3, 5, 8, 10, 15] if scattered else [0, 1, 3, 5, 8, 10, 20, 40, 80, 300]))
+    for _ in range(r.choice([4, 6, 8] if scattered else [0, 1, 2, 3, 4])):
+        steps = steps_of(program, '\n'.join(lines).encode('latin-1', 'replace') + b'\n', limit)
+        newest = steps[-r.choice([3, 10, 30, 300]):]
+        lines += [spell(r, [pick_command(r, steps, newest, scattered, wild)], wild) for _ in range(r.choice([1, 5, 15]))]
+    text = '\n'.join(lines) + ('\n' if r.random() < 0.8 else '')
+    return text.encode('latin-1', 'replace'), limit
+
+
+def kinds_of(text):
+    """The first two words of each line that answers a command, or the kind of a step."""
+    for line in text.decode('latin-1').split('\n'):
+        words = line.split()
+        if not words or words[0].lstrip('-').isdigit():
+            continue
+        if words[0] == 'ran':
+            yield 'ran .. ' + words[2]
+        elif words[0] == 'refused':
+            yield 'refused %s %s' % (words[1], words[2])
+        else:
+            yield words[0] + ' ' + words[1] if words[0] == 'error' else (words[1] if '#' in words[0] else words[0])
 
 
 def main():
@@ -147,17 +244,18 @@ def main():
     args.add_argument('--seed', type=int, default=1)
     args.add_argument('--keep', default='differing')
     given = args.parse_args()
-    other = shlex.split(given.other)
+    other, program = shlex.split(given.other), [given.program]
 
     def compare(seed):
-        text, limit = pick_session(seed)
-        mine, theirs = answer([given.program], text, limit), answer(other, text, limit)
-        return seed, text, limit, mine, theirs
+        text, limit = pick_session(seed, program)
+        return seed, text, limit, answer(program, text, limit), answer(other, text, limit)
 
-    differing = refused = 0
+    kinds, differing, refused, longest = collections.Counter(), 0, 0, 0
     with ThreadPoolExecutor(max_workers=os.cpu_count()) as pool:
         for seed, text, limit, mine, theirs in pool.map(compare, range(given.seed, given.seed + given.count)):
             refused += mine[2] == 1
+            longest = max(longest, len(STEP.findall(mine[0])))
+            kinds.update(kinds_of(theirs[0]))
             if mine != theirs:
                 differing += 1
                 os.makedirs(given.keep, exist_ok=True)
@@ -165,7 +263,9 @@ def main():
                     kept.write(text)
                 if differing <= 5:
                     print('seed %d (--limit %d) differs:\n  program %r\n  other   %r' % (seed, limit, mine, theirs))
-    print('%d sessions, %d of them with a refused program: %d differences' % (given.count, refused, differing))
+    for kind, count in sorted(kinds.items()):
+        print('%8d %s' % (count, kind))
+    print('%d sessions, %d of them with a refused program, up to %d steps: %d differences' % (given.count, refused, longest, differing))
     sys.exit(1 if differing else 0)
 
 

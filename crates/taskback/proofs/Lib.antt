@@ -9,3 +9,6 @@ pub mod BeginLemmas
 pub mod EndLemmas
 pub mod TotalLemmas
 pub mod NameLemmas
+pub mod NumberLemmas
+pub mod CourseLemmas
+pub mod RolledLemmas

@@ -1,32 +1,67 @@
--- Each line has a reply, where each task that isn't refused its step has a next event.
-use Rattle.std.proofs.Common.{◌≡◌, ℕ, List, [], refl, sym, subst, Option, Some, None, Bool, true, false, not, cond, IsTrue}
-use Rattle.tb_model.specs.declared.event.Event.{Event}
+-- Each line has one reply, and leaves a sound journal sound.
+use Rattle.std.proofs.Common.{◌≡◌, ℕ, zero, suc, List, [], refl, sym, ◌∙◌, subst, Option, Some, None, Bool, true, false, not, cond, IsTrue}
+use Rattle.std.specs.Prelude.{option_map}
+use Rattle.std.specs.Option.{option_or}
 use Rattle.tb_model.specs.declared.step_id.StepId.{StepId}
 use Rattle.tb_model.specs.Names.{Name}
 use Rattle.tb_model.specs.Equivalent.{stands}
-use Rattle.tb_model.specs.declared.entry.Entry.TheVariants.{Stepped, Rolled}
-use Rattle.tb_model.specs.Journal.{Sound}
+use Rattle.tb_model.specs.declared.entry.Entry.TheVariants.{Rolled}
+use Rattle.tb_model.specs.Hindrances.{Refusal}
 use Rattle.tb_model.specs.Program.{Program, IsNext}
-use Rattle.tb_live.specs.Session.{Session, opened, history, with_entry}
+use Rattle.tb_model.proofs.JournalLemmas.{journal_legal}
+use Rattle.tb_model.proofs.NextStepLemmas.{refused_next, least_next}
+use Rattle.tb_read.specs.Text.{numbered}
+use Rattle.tb_read.proofs.WellFormedLemmas.{accepted_well_formed}
+use Rattle.tb_live.specs.Session.{Session, opened, history, is_full, with_entry}
+use Rattle.tb_live.specs.Moves.{refusal_for, least_task, coming}
 use Rattle.taskback.specs.Commands.{asked}
-use Rattle.taskback.specs.Replies.{Answers, ReplyTo, Reply, StepReply, UndoReply, step_refusal, undo_refusal, step_line}
+use Rattle.taskback.specs.Texts.{told_step, stepped}
+use Rattle.taskback.specs.Refusals.{refusal_line, step_refusal, undo_refusal, roll_refusal}
+use Rattle.taskback.specs.Rolled.{step_named, rolled_text}
+use Rattle.taskback.specs.Course.{stopped, behind, next_step, course, course_text}
+use Rattle.taskback.specs.Replies.{Answers, ReplyTo, Reply, StepReply, UndoReply, RollReply, RolledReply}
+use Rattle.taskback.specs.Reading.{IsProgram}
+use Rattle.taskback.specs.Laws.{IsSound}
 use Rattle.taskback.specs.declared.command.Command.{Command}
-use Rattle.taskback.specs.declared.command.Command.TheVariants.{Step, Undo, Cells, Out}
+use Rattle.taskback.specs.declared.command.Command.TheVariants.{Step, Undo, Roll, Run, Cells, Out}
+use Rattle.taskback.specs.declared.stop.Stop.TheVariants.{Full}
 use Rattle.taskback.specs.declared.asked.Asked.{Asked}
 use Rattle.taskback.specs.declared.asked.Asked.TheVariants.{Nothing, Command as Asks, Fault}
 
--- the journal is sound for the program
-abbrev pub IsSound : Session → Type 0
-IsSound s = Sound s.program s.journal
-
-pub opened_sound : (P : Program) (limit : ℕ) → IsSound (opened P limit)
-opened_sound P limit = refl
-
 -- ---- each reply leaves a sound journal
 
-step_sound : (s new : Session) (t : Name) (out : List ℕ) (refusal : Option (List ℕ)) → IsSound s → StepReply refusal s t out new → IsSound new
-step_sound s new t out (Some r) h reply = subst IsSound (sym reply.1) h
-step_sound s new t out None h reply = subst IsSound (sym reply.now) (h, reply.next)
+pub opened_sound : (text : List ℕ) (P : Program) (limit : ℕ) → IsProgram text P → IsSound (opened P limit)
+opened_sound text P limit h = record { well_formed = accepted_well_formed (numbered text) P h.0 h.1; sound = refl }
+
+-- behind the next event of a task
+stepped_sound : (s : Session) (t : Name) → IsSound s → IsNext s.program (history s) (coming s t) → IsSound (stepped s t)
+stepped_sound s t h next = record { well_formed = h.well_formed; sound = (h.sound, next) }
+
+-- what isn't refused has no reason
+no_reason : (o : Option Refusal) (other : Option (List ℕ)) → option_or (option_map refusal_line o) other ≡ None → o ≡ None
+no_reason None other e = refl
+no_reason (Some r) other e = cc
+
+step_sound : (s new : Session) (t : Name) (out : List ℕ) (refusal : Option (List ℕ)) → step_refusal s t ≡ refusal → IsSound s → StepReply refusal s t out new → IsSound new
+step_sound s new t out (Some r) e h reply = subst IsSound (sym reply.1) h
+step_sound s new t out None e h reply =
+    let legal = journal_legal s.program s.journal h.sound in
+    let next = (refused_next s.program (history s) t h.well_formed legal).0 (no_reason (refusal_for s t) _ e) in
+    subst IsSound (sym reply.1) (stepped_sound s t h next)
+
+next_sound : (s : Session) (o : Option Name) (most : ℕ) → ((u : Session) → IsSound u → IsSound (course most u).session) → least_task s ≡ o → IsSound s → IsSound (next_step o s (course most)).session
+next_sound s None most rest e h = h
+next_sound s (Some t) most rest e h = by_room (is_full s)
+  where
+    by_room : (full : Bool) → IsSound (cond full (stopped Full s) (behind (told_step s t) 1 (course most (stepped s t)))).session
+    by_room true = h
+    by_room false =
+        let legal = journal_legal s.program s.journal h.sound in
+        rest (stepped s t) (stepped_sound s t h ((least_next s.program (history s) h.well_formed legal).found t e))
+
+course_sound : (most : ℕ) (s : Session) → IsSound s → IsSound (course most s).session
+course_sound zero s h = h
+course_sound (suc most) s h = next_sound s (least_task s) most (course_sound most) refl h
 
 -- what isn't refused stands
 stands_unless : (b : Bool) (first other : Option (List ℕ)) (r : List ℕ) → first ≡ Some r → cond (not b) first other ≡ None → IsTrue b
@@ -35,11 +70,23 @@ stands_unless false first other r e h = cc
 
 undo_sound : (s new : Session) (id : StepId) (out : List ℕ) (refusal : Option (List ℕ)) → undo_refusal s id ≡ refusal → IsSound s → UndoReply refusal s id out new → IsSound new
 undo_sound s new id out (Some r) e h reply = subst IsSound (sym reply.1) h
-undo_sound s new id out None e h reply = subst IsSound (sym reply.1) (h, stands_unless (stands id (history s)) _ _ _ refl e)
+undo_sound s new id out None e h reply =
+    subst IsSound (sym reply.1) (record { well_formed = h.well_formed; sound = (h.sound, stands_unless (stands id (history s)) _ _ _ refl e) })
+
+rolled_sound : (s new : Session) (id : StepId) (out : List ℕ) (refusal : Option (List ℕ)) → roll_refusal s id ≡ refusal → IsSound s → RolledReply refusal s id out new → IsSound new
+rolled_sound s new id out (Some r) e h reply = subst IsSound (sym reply.1) h
+rolled_sound s new id out None e h reply =
+    subst IsSound (sym reply.1) (record { well_formed = h.well_formed; sound = (h.sound, stands_unless (stands id (history s)) _ _ _ refl e) })
+
+roll_sound : (s new : Session) (found : Option StepId) (out : List ℕ) → IsSound s → RollReply s found out new → IsSound new
+roll_sound s new None out h reply = subst IsSound (sym reply.1) h
+roll_sound s new (Some id) out h reply = rolled_sound s new id out (roll_refusal s id) refl h reply
 
 reply_sound : (s new : Session) (command : Command) (out : List ℕ) → IsSound s → Reply s command out new → IsSound new
-reply_sound s new (Step t) out h reply = step_sound s new t out (step_refusal s t) h reply
+reply_sound s new (Step t) out h reply = step_sound s new t out (step_refusal s t) refl h reply
 reply_sound s new (Undo id) out h reply = undo_sound s new id out (undo_refusal s id) refl h reply
+reply_sound s new (Roll target) out h reply = roll_sound s new (step_named (history s) target) out h reply
+reply_sound s new (Run most) out h reply = subst IsSound (sym reply.1) (course_sound most s h)
 reply_sound s new Cells out h reply = subst IsSound (sym reply.1) h
 reply_sound s new Out out h reply = subst IsSound (sym reply.1) h
 
@@ -53,30 +100,68 @@ answer_sound s new bytes out h reply = reply_to_sound s new (asked bytes) out h 
 
 -- ---- each line has a reply
 
--- each task that isn't refused its step has a next event
-abbrev pub HasNexts : Session → Type 0
-HasNexts s = (t : Name) → step_refusal s t ≡ None → (v : Event) × (v.task ≡ t) × IsNext s.program (history s) v
-
-some_step : (s : Session) (t : Name) (refusal : Option (List ℕ)) → step_refusal s t ≡ refusal → HasNexts s → (out : List ℕ) × (new : Session) × StepReply refusal s t out new
-some_step s t (Some r) e next = (r, s, (refl, refl))
-some_step s t None e next =
-    let v = next t e in
-    (step_line s.program (history s) v.0, with_entry s (Stepped 0 v.0), record { event = v.0; of_task = v.1; next = v.2; told = refl; now = refl })
+some_step : (s : Session) (t : Name) (refusal : Option (List ℕ)) → (out : List ℕ) × (new : Session) × StepReply refusal s t out new
+some_step s t (Some r) = (r, s, (refl, refl))
+some_step s t None = (told_step s t, stepped s t, (refl, refl))
 
 some_undo : (s : Session) (id : StepId) (refusal : Option (List ℕ)) → (out : List ℕ) × (new : Session) × UndoReply refusal s id out new
 some_undo s id (Some r) = (r, s, (refl, refl))
 some_undo s id None = (_, with_entry s (Rolled 0 id), (refl, refl))
 
-some_reply : (s : Session) (command : Command) → HasNexts s → (out : List ℕ) × (new : Session) × Reply s command out new
-some_reply s (Step t) next = some_step s t (step_refusal s t) refl next
-some_reply s (Undo id) next = some_undo s id (undo_refusal s id)
-some_reply s Cells next = (_, s, (refl, refl))
-some_reply s Out next = (_, s, (refl, refl))
+some_rolled : (s : Session) (id : StepId) (refusal : Option (List ℕ)) → (out : List ℕ) × (new : Session) × RolledReply refusal s id out new
+some_rolled s id (Some r) = (r, s, (refl, refl))
+some_rolled s id None = (rolled_text s id, with_entry s (Rolled 0 id), (refl, refl))
 
-some_reply_to : (s : Session) (asks : Asked) → HasNexts s → (out : List ℕ) × (new : Session) × ReplyTo s asks out new
-some_reply_to s Nothing next = ([], s, (refl, refl))
-some_reply_to s (Asks command) next = some_reply s command next
-some_reply_to s (Fault fault) next = (_, s, (refl, refl))
+some_roll : (s : Session) (found : Option StepId) → (out : List ℕ) × (new : Session) × RollReply s found out new
+some_roll s None = (_, s, (refl, refl))
+some_roll s (Some id) = some_rolled s id (roll_refusal s id)
 
-pub some_answer : (s : Session) (bytes : List ℕ) → HasNexts s → (out : List ℕ) × (new : Session) × Answers s bytes out new
-some_answer s bytes next = some_reply_to s (asked bytes) next
+some_reply : (s : Session) (command : Command) → (out : List ℕ) × (new : Session) × Reply s command out new
+some_reply s (Step t) = some_step s t (step_refusal s t)
+some_reply s (Undo id) = some_undo s id (undo_refusal s id)
+some_reply s (Roll target) = some_roll s (step_named (history s) target)
+some_reply s (Run most) = (course_text (course most s), (course most s).session, (refl, refl))
+some_reply s Cells = (_, s, (refl, refl))
+some_reply s Out = (_, s, (refl, refl))
+
+some_reply_to : (s : Session) (asks : Asked) → (out : List ℕ) × (new : Session) × ReplyTo s asks out new
+some_reply_to s Nothing = ([], s, (refl, refl))
+some_reply_to s (Asks command) = some_reply s command
+some_reply_to s (Fault fault) = (_, s, (refl, refl))
+
+pub some_answer : (s : Session) (bytes : List ℕ) → (out : List ℕ) × (new : Session) × Answers s bytes out new
+some_answer s bytes = some_reply_to s (asked bytes)
+
+-- ---- and one alone
+
+one_step : (s new other : Session) (t : Name) (out more : List ℕ) (refusal : Option (List ℕ)) → StepReply refusal s t out new → StepReply refusal s t more other → (out ≡ more) × (new ≡ other)
+one_step s new other t out more (Some r) a b = (a.0 ∙ sym b.0, a.1 ∙ sym b.1)
+one_step s new other t out more None a b = (a.0 ∙ sym b.0, a.1 ∙ sym b.1)
+
+one_undo : (s new other : Session) (id : StepId) (out more : List ℕ) (refusal : Option (List ℕ)) → UndoReply refusal s id out new → UndoReply refusal s id more other → (out ≡ more) × (new ≡ other)
+one_undo s new other id out more (Some r) a b = (a.0 ∙ sym b.0, a.1 ∙ sym b.1)
+one_undo s new other id out more None a b = (a.0 ∙ sym b.0, a.1 ∙ sym b.1)
+
+one_rolled : (s new other : Session) (id : StepId) (out more : List ℕ) (refusal : Option (List ℕ)) → RolledReply refusal s id out new → RolledReply refusal s id more other → (out ≡ more) × (new ≡ other)
+one_rolled s new other id out more (Some r) a b = (a.0 ∙ sym b.0, a.1 ∙ sym b.1)
+one_rolled s new other id out more None a b = (a.0 ∙ sym b.0, a.1 ∙ sym b.1)
+
+one_roll : (s new other : Session) (found : Option StepId) (out more : List ℕ) → RollReply s found out new → RollReply s found more other → (out ≡ more) × (new ≡ other)
+one_roll s new other None out more a b = (a.0 ∙ sym b.0, a.1 ∙ sym b.1)
+one_roll s new other (Some id) out more a b = one_rolled s new other id out more (roll_refusal s id) a b
+
+one_reply : (s new other : Session) (command : Command) (out more : List ℕ) → Reply s command out new → Reply s command more other → (out ≡ more) × (new ≡ other)
+one_reply s new other (Step t) out more a b = one_step s new other t out more (step_refusal s t) a b
+one_reply s new other (Undo id) out more a b = one_undo s new other id out more (undo_refusal s id) a b
+one_reply s new other (Roll target) out more a b = one_roll s new other (step_named (history s) target) out more a b
+one_reply s new other (Run most) out more a b = (a.0 ∙ sym b.0, a.1 ∙ sym b.1)
+one_reply s new other Cells out more a b = (a.0 ∙ sym b.0, a.1 ∙ sym b.1)
+one_reply s new other Out out more a b = (a.0 ∙ sym b.0, a.1 ∙ sym b.1)
+
+one_reply_to : (s new other : Session) (asks : Asked) (out more : List ℕ) → ReplyTo s asks out new → ReplyTo s asks more other → (out ≡ more) × (new ≡ other)
+one_reply_to s new other Nothing out more a b = (a.0 ∙ sym b.0, a.1 ∙ sym b.1)
+one_reply_to s new other (Asks command) out more a b = one_reply s new other command out more a b
+one_reply_to s new other (Fault fault) out more a b = (a.0 ∙ sym b.0, a.1 ∙ sym b.1)
+
+pub one_answer : (s new other : Session) (bytes out more : List ℕ) → Answers s bytes out new → Answers s bytes more other → (out ≡ more) × (new ≡ other)
+one_answer s new other bytes out more a b = one_reply_to s new other (asked bytes) out more a b

@@ -1,15 +1,19 @@
 -- The commands, and what a line asks for.
-use Rattle.std.specs.Prelude.{ℕ, Bool, List, [], ◌∷◌, ◌||◌, not, nat_lt, length, codes, if◌then◌else◌, Option, Some, None}
+use Rattle.std.specs.Prelude.{ℕ, Bool, List, [], ◌∷◌, ◌||◌, ◌&&◌, not, nat_le, nat_lt, length, codes, if◌then◌else◌, Option, Some, None}
+use Rattle.std.specs.List.{list_all}
+use Rattle.std.specs.Char.{is_ascii_digit}
+use Rattle.std.specs.Str.Parse.{digits_value}
 use Rattle.tb_model.specs.declared.step_id.StepId.{StepId}
 use Rattle.tb_model.specs.Names.{Name}
 use Rattle.tb_model.specs.Spelling.{spells_name, spelled_name, spells_step_id, spelled_step_id}
 use Rattle.tb_read.specs.Text.{line_words, before_comment, is_text}
 use Rattle.tb_read.specs.Word.{same_word}
 use Rattle.taskback.specs.declared.command.Verb.{Verb}
-use Rattle.taskback.specs.declared.command.Verb.TheVariants.{Step as ToStep, Undo as ToUndo, Cells as ToCells, Out as ToOut}
+use Rattle.taskback.specs.declared.command.Verb.TheVariants.{Step as ToStep, Undo as ToUndo, Roll as ToRoll, RollTask as ToRollTask, RollCell as ToRollCell, RollPrint as ToRollPrint, Run as ToRun, Cells as ToCells, Out as ToOut}
 use Rattle.taskback.specs.declared.command.Command.{Command}
-use Rattle.taskback.specs.declared.command.Command.TheVariants.{Step, Undo, Cells, Out}
-use Rattle.taskback.specs.declared.asked.CommandFault.TheVariants.{Line, Word, Count, Name as BadName}
+use Rattle.taskback.specs.declared.command.Command.TheVariants.{Step, Undo, Roll, Run, Cells, Out}
+use Rattle.taskback.specs.declared.target.Target.TheVariants.{Step as TheStep, LastStore, LastPrint}
+use Rattle.taskback.specs.declared.asked.CommandFault.TheVariants.{Line, Word, Count, Name as BadName, Number as BadNumber}
 use Rattle.taskback.specs.declared.asked.Asked.{Asked}
 use Rattle.taskback.specs.declared.asked.Asked.TheVariants.{Nothing, Command as Asks, Fault}
 
@@ -35,10 +39,26 @@ task_of word = if spells_name word then Some (spelled_name word) else None
 abbrev pub step_of : List ℕ → Option StepId
 step_of word = if spells_step_id word then Some (spelled_step_id word) else None
 
+-- the first step of a task
+abbrev pub start_of : Name → StepId
+start_of t = record { task = t; k = 1 }
+
 -- a word that names nothing is a bad name
 abbrev pub named : {A : Type 0} → Option A → (A → Command) → Asked
 named (Some x) command = Asks (command x)
 named None command = Fault BadName
+
+-- the word spells a number up to `most`: one or more digits, of which the first may be zeros
+abbrev pub is_number : ℕ → List ℕ → Bool
+is_number most word = nat_lt 0 (length word) && (list_all is_ascii_digit word && nat_le (digits_value 10 word) most)
+
+abbrev pub number_within : ℕ → List ℕ → Option ℕ
+number_within most word = if is_number most word then Some (digits_value 10 word) else None
+
+-- a word that spells no number of the range is a bad number
+abbrev pub numbered : Option ℕ → (ℕ → Command) → Asked
+numbered (Some n) command = Asks (command n)
+numbered None command = Fault BadNumber
 
 -- ---- the table: a row a command
 
@@ -46,13 +66,23 @@ abbrev pub verb_of : List ℕ → Option Verb
 verb_of word =
     if same_word word (codes "step") then Some ToStep
     else (if same_word word (codes "undo") then Some ToUndo
+    else (if same_word word (codes "roll") then Some ToRoll
+    else (if same_word word (codes "rolltask") then Some ToRollTask
+    else (if same_word word (codes "rollcell") then Some ToRollCell
+    else (if same_word word (codes "rollprint") then Some ToRollPrint
+    else (if same_word word (codes "run") then Some ToRun
     else (if same_word word (codes "cells") then Some ToCells
     else (if same_word word (codes "out") then Some ToOut
-    else None)))
+    else None))))))))
 
 abbrev pub asked_of : Verb → Words → Asked
 asked_of ToStep words = with_one words (λ word. named (task_of word) Step)
 asked_of ToUndo words = with_one words (λ word. named (step_of word) Undo)
+asked_of ToRoll words = with_one words (λ word. named (step_of word) (λ id. Roll (TheStep id)))
+asked_of ToRollTask words = with_one words (λ word. named (task_of word) (λ t. Roll (TheStep (start_of t))))
+asked_of ToRollCell words = with_one words (λ word. numbered (number_within 65535 word) (λ c. Roll (LastStore c)))
+asked_of ToRollPrint words = with_none words (Roll LastPrint)
+asked_of ToRun words = with_one words (λ word. numbered (number_within 1000000 word) Run)
 asked_of ToCells words = with_none words Cells
 asked_of ToOut words = with_none words Out
 

@@ -1,17 +1,27 @@
 //! Reads what a line asks for.
 
 ghost use Rattle.std.specs.Prelude.{◌≡◌, ◌∷◌, [], IfOk, map};
-ghost use Rattle.taskback.specs.Commands.{verb_of, asked_of, asked, named, task_of, step_of, is_bad_line};
+ghost use Rattle.taskback.specs.Commands.{verb_of, asked_of, asked, named, numbered, number_within, task_of, step_of, start_of, is_bad_line};
 ghost use Rattle.taskback.specs.declared.command.Command.TheVariants as command;
+ghost use Rattle.taskback.specs.declared.target.Target.TheVariants as target;
 
 use crate::asked::{Asked, CommandFault};
 use crate::command::{Command, Verb};
+use crate::number::read_number;
 use crate::spelling::{read_name, read_step_id};
+use crate::target::Target;
 use std::alloc::{AllocError, Global};
+use tb_model::StepId;
 use tb_read::{before_comment, is_text, line_words, same_word};
 
 /// The most bytes of a line, without its line feed.
 const LINE_LIMIT: usize = 1024;
+
+/// The most steps that one `run` may ask for.
+const MOST_STEPS: u32 = 1_000_000;
+
+/// The greatest number of a cell.
+const LAST_CELL: u32 = 65_535;
 
 /// The command that a word begins.
 fn verb_of(word: &[u8]) -> Option<Verb>
@@ -21,6 +31,16 @@ fn verb_of(word: &[u8]) -> Option<Verb>
         Some(Verb::Step)
     } else if same_word(word, b"undo") {
         Some(Verb::Undo)
+    } else if same_word(word, b"roll") {
+        Some(Verb::Roll)
+    } else if same_word(word, b"rolltask") {
+        Some(Verb::RollTask)
+    } else if same_word(word, b"rollcell") {
+        Some(Verb::RollCell)
+    } else if same_word(word, b"rollprint") {
+        Some(Verb::RollPrint)
+    } else if same_word(word, b"run") {
+        Some(Verb::Run)
     } else if same_word(word, b"cells") {
         Some(Verb::Cells)
     } else if same_word(word, b"out") {
@@ -48,6 +68,52 @@ fn asked_undo(alloc: Global, word: &[u8]) -> Result<Asked, AllocError>
     }
 }
 
+fn asked_roll(alloc: Global, word: &[u8]) -> Result<Asked, AllocError>
+    ensures { IfOk result (λ a. a ≡ named (step_of word.now) (λ id. command.Roll (target.Step id))) }
+{
+    match read_step_id(alloc, word)? {
+        Some(id) => Ok(Asked::Command(Command::Roll {
+            target: Target::Step { id },
+        })),
+        None => Ok(Asked::Fault(CommandFault::Name)),
+    }
+}
+
+fn asked_roll_task(alloc: Global, word: &[u8]) -> Result<Asked, AllocError>
+    ensures { IfOk result (λ a. a ≡ named (task_of word.now)
+        (λ t. command.Roll (target.Step (start_of t)))) }
+{
+    match read_name(alloc, word)? {
+        Some(task) => Ok(Asked::Command(Command::Roll {
+            target: Target::Step {
+                id: StepId { task, k: 1 },
+            },
+        })),
+        None => Ok(Asked::Fault(CommandFault::Name)),
+    }
+}
+
+fn asked_roll_cell(word: &[u8]) -> Asked
+    ensures { result ≡ numbered (number_within 65535 word.now)
+        (λ c. command.Roll (target.LastStore c)) }
+{
+    match read_number(word, LAST_CELL) {
+        Some(cell) => Asked::Command(Command::Roll {
+            target: Target::LastStore { cell },
+        }),
+        None => Asked::Fault(CommandFault::Number),
+    }
+}
+
+fn asked_run(word: &[u8]) -> Asked
+    ensures { result ≡ numbered (number_within 1000000 word.now) command.Run }
+{
+    match read_number(word, MOST_STEPS) {
+        Some(most) => Asked::Command(Command::Run { most }),
+        None => Asked::Fault(CommandFault::Number),
+    }
+}
+
 /// What a command with these words behind it asks for.
 fn asked_of(alloc: Global, verb: Verb, words: &[&[u8]]) -> Result<Asked, AllocError>
     ensures { IfOk result (λ a. a ≡ asked_of verb (map (λ word. word.now) words.now)) }
@@ -55,6 +121,13 @@ fn asked_of(alloc: Global, verb: Verb, words: &[&[u8]]) -> Result<Asked, AllocEr
     match (verb, words) {
         (Verb::Step, [word]) => asked_step(alloc, word),
         (Verb::Undo, [word]) => asked_undo(alloc, word),
+        (Verb::Roll, [word]) => asked_roll(alloc, word),
+        (Verb::RollTask, [word]) => asked_roll_task(alloc, word),
+        (Verb::RollCell, [word]) => Ok(asked_roll_cell(word)),
+        (Verb::RollPrint, []) => Ok(Asked::Command(Command::Roll {
+            target: Target::LastPrint,
+        })),
+        (Verb::Run, [word]) => Ok(asked_run(word)),
         (Verb::Cells, []) => Ok(Asked::Command(Command::Cells)),
         (Verb::Out, []) => Ok(Asked::Command(Command::Out)),
         _ => Ok(Asked::Fault(CommandFault::Count)),

@@ -1,5 +1,6 @@
 //! The commands of a session.
 
+use crate::target::Target;
 use tb_model::{StepId, TaskName};
 
 /// The first word of a command.
@@ -7,6 +8,11 @@ use tb_model::{StepId, TaskName};
 pub enum Verb {
     Step,
     Undo,
+    Roll,
+    RollTask,
+    RollCell,
+    RollPrint,
+    Run,
     Cells,
     Out,
 }
@@ -18,6 +24,10 @@ pub enum Command {
     Step { task: TaskName },
     /// Takes back a step that nothing needs.
     Undo { id: StepId },
+    /// Takes back a step with all that need it.
+    Roll { target: Target },
+    /// Steps, each of the least task that can step, and no more than so many.
+    Run { most: u32 },
     /// Shows the cells that aren't 0.
     Cells,
     /// Shows what was printed.

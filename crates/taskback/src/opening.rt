@@ -1,8 +1,7 @@
 //! Reads the program of a session.
 
-ghost use Rattle.std.specs.Prelude.{◌≡◌, ◌+◌, ◌-◌, ◌<◌, ◌≤◌, ◌^◌, ◌↔◌, [], IfOk, IfSome, IfNone, OnOk, IsErrOf};
+ghost use Rattle.std.specs.Prelude.{◌≡◌, ◌+◌, ◌-◌, ◌<◌, ◌≤◌, ◌^◌, [], IfOk, OnOk, IsErrOf};
 ghost use Rattle.std.specs.Io.KnownBytes.{prepend_known};
-ghost use Rattle.tb_live.specs.Plain.{AllTaken, IsFirstUntaken};
 ghost use Rattle.taskback.specs.Stages.{Gathered, Kept, Opens};
 
 use crate::divider::is_divider;
@@ -11,8 +10,8 @@ use crate::line_reader::{LineEnd, LineFault, LineReader};
 use crate::ports::Source;
 use std::alloc::{AllocError, Global};
 use std::sync::Wait;
-use tb_live::{Live, first_untaken};
-use tb_read::{FaultKind, Program, ReadFault, read};
+use tb_live::Live;
+use tb_read::{FaultKind, read};
 
 /// Adds a line to the program text, but for the divider, and tells whether it is that. An empty
 /// piece adds nothing.
@@ -66,20 +65,6 @@ pub fn gather<R: Wait, S: Source>(
     unreachable!()
 }
 
-/// The fault of a program with a statement whose steps can't be taken yet.
-fn fault_of(program: &Program) -> Option<ReadFault>
-    ensures none { IfNone result (AllTaken program.now) }
-    ensures some { IfSome result (λ fault. (fault.kind ≡ FaultKind.UnknownWord) × IsFirstUntaken program.now fault.line) }
-{
-    match first_untaken(program) {
-        Some(line) => Some(ReadFault {
-            line,
-            kind: FaultKind::UnknownWord,
-        }),
-        None => None,
-    }
-}
-
 /// Reads the text, and opens a session of its program.
 pub fn open(alloc: Global, text: &[u8], limit: u32) -> Result<Live, Halt>
     requires some { 1 ≤ limit }
@@ -87,12 +72,9 @@ pub fn open(alloc: Global, text: &[u8], limit: u32) -> Result<Live, Halt>
     ensures { Opens limit text.now result }
 {
     match read(alloc, text) {
-        Ok(program) => match fault_of(&program) {
-            Some(fault) => Err(Halt::Refused(fault)),
-            None => match Live::open(alloc, program, limit) {
-                Ok(live) => Ok(live),
-                Err(_) => Err(Halt::Memory),
-            },
+        Ok(program) => match Live::open(alloc, program, limit) {
+            Ok(live) => Ok(live),
+            Err(_) => Err(Halt::Memory),
         },
         Err(fault) if fault.kind == FaultKind::Memory => Err(Halt::Memory),
         Err(fault) => Err(Halt::Refused(fault)),

@@ -1,14 +1,18 @@
 //! The reply to a line of a session.
 
 ghost use Rattle.std.specs.Prelude.{◌≡◌, ◌++◌, IfOk, codes, string_bytes};
-ghost use Rattle.taskback.specs.Replies.{Answers, ReplyTo, Reply, StepReply, UndoReply, step_refusal, undo_refusal, refused, line, fault_word};
+ghost use Rattle.taskback.specs.Texts.{line, fault_word, newest_line};
+ghost use Rattle.taskback.specs.Refusals.{step_refusal, undo_refusal};
+ghost use Rattle.taskback.specs.Replies.{Answers, Reply, StepReply, UndoReply};
 ghost use Rattle.tb_model.specs.Spelling.{step_id_text};
-ghost use Rattle.taskback.specs.declared.command.Command.TheVariants as command;
 
 use crate::asked::{Asked, CommandFault};
 use crate::asking::read_line;
 use crate::command::Command;
-use crate::step_line::newest_line;
+use crate::refusing::{refused, refused_for, refused_with};
+use crate::rolling::roll_reply;
+use crate::running::run_reply;
+use crate::step_line::append_newest;
 use crate::views::{cells_text, out_text};
 use std::alloc::{AllocError, Global};
 use tb_live::{Live, StepRefusal, UndoRefusal};
@@ -33,24 +37,6 @@ fn fault_reply(alloc: Global, fault: CommandFault) -> Result<String, AllocError>
     format!(in alloc; "error {word}\n")
 }
 
-/// The line of a refusal that carries nothing.
-fn refused(alloc: Global, number: u8, name: &str) -> Result<String, AllocError>
-    ensures { IfOk result (λ text. string_bytes text ≡ refused number name.now) }
-{
-    format!(in alloc; "refused {number} {name}\n")
-}
-
-/// The line of a refusal that carries a step.
-fn refused_with(alloc: Global, number: u8, name: &str, id: &StepId) -> Result<String, AllocError>
-    ensures { IfOk result (λ text. string_bytes text
-        ≡ refused number (name.now ++ codes " " ++ step_id_text id.now)) }
-{
-    let mut text = format!(in alloc; "refused {number} {name} ")?;
-    id.print(&mut text)?;
-    text.push('\n')?;
-    Ok(text)
-}
-
 fn undone(alloc: Global, id: &StepId) -> Result<String, AllocError>
     ensures { IfOk result (λ text. string_bytes text
         ≡ line (codes "undone " ++ step_id_text id.now)) }
@@ -58,6 +44,15 @@ fn undone(alloc: Global, id: &StepId) -> Result<String, AllocError>
     let mut text = String::from_str(alloc, "undone ")?;
     id.print(&mut text)?;
     text.push('\n')?;
+    Ok(text)
+}
+
+/// The line of the newest event that stands, of which this is the step.
+fn newest_line(alloc: Global, live: &Live, id: &StepId) -> Result<String, AllocError>
+    ensures { IfOk result (λ text. string_bytes text ≡ newest_line live.now id.now) }
+{
+    let mut text = String::new(alloc);
+    append_newest(&mut text, live, id)?;
     Ok(text)
 }
 
@@ -69,6 +64,11 @@ fn step_reply(alloc: Global, live: &mut Live, task: &TaskName) -> Result<String,
         Ok(id) => newest_line(alloc, live, &id),
         Err(StepRefusal::NoSuchTask) => refused(alloc, 1, "NoSuchTask"),
         Err(StepRefusal::Ended) => refused(alloc, 2, "Ended"),
+        Err(StepRefusal::Waiting { pred }) => refused_for(alloc, 3, "Waiting", &pred),
+        Err(StepRefusal::Excluded { by }) => refused_for(alloc, 4, "Excluded", &by),
+        Err(StepRefusal::Children { first }) => refused_for(alloc, 5, "Children", &first),
+        Err(StepRefusal::Group { first }) => refused_for(alloc, 6, "Group", &first),
+        Err(StepRefusal::Undeferred { child }) => refused_for(alloc, 13, "Undeferred", &child),
         Err(StepRefusal::Full) => refused(alloc, 7, "Full"),
         Err(StepRefusal::Memory) => Err(AllocError),
         Err(StepRefusal::Stale { .. }) => unreachable!(),
@@ -95,6 +95,8 @@ fn reply(alloc: Global, live: &mut Live, command: &Command) -> Result<String, Al
     match command {
         Command::Step { task } => step_reply(alloc, live, task),
         Command::Undo { id } => undo_reply(alloc, live, id),
+        Command::Roll { target } => roll_reply(alloc, live, target),
+        Command::Run { most } => run_reply(alloc, live, *most),
         Command::Cells => cells_text(alloc, live.cells()),
         Command::Out => out_text(alloc, live.output()),
     }

@@ -1,13 +1,12 @@
 //! The line of a step.
 
-ghost use Rattle.std.specs.Prelude.{◌≡◌, IfOk, string_bytes, slice_get};
+ghost use Rattle.std.specs.Prelude.{◌≡◌, ◌++◌, OnOk, string_bytes};
 ghost use Rattle.tb_view.specs.Step.{spawned_name};
-ghost use Rattle.tb_live.specs.Session.{history};
-ghost use Rattle.taskback.specs.Replies.{as_text, Tells};
+ghost use Rattle.taskback.specs.Texts.{as_text, event_line, newest_line};
 
-use std::alloc::{AllocError, Global};
+use std::alloc::AllocError;
 use tb_live::Live;
-use tb_model::{Action, StepId};
+use tb_model::{Action, StepId, TaskName};
 use tb_read::Program;
 use tb_view::write_step;
 
@@ -33,16 +32,30 @@ fn spawned_name<'a>(program: &'a Program, action: &Action) -> &'a str
     }
 }
 
-/// The line of the newest event that stands, of which this is the step.
-pub fn newest_line(alloc: Global, live: &Live, id: &StepId) -> Result<String, AllocError>
-    ensures { IfOk result (λ text. Tells live.now.program id.now
-        (slice_get (history live.now) 0) (string_bytes text)) }
+/// Appends the line of the kth step of a task.
+pub fn append_line(
+    text: &mut String,
+    program: &Program,
+    task: &TaskName,
+    k: u32,
+    action: &Action,
+) -> Result<(), AllocError>
+    ensures { OnOk result (string_bytes text.new ≡ string_bytes text.old
+        ++ event_line program.now (record { task = task.now; k = k })
+        (record { task = task.now; action = action.now })) }
 {
-    let mut text = String::new(alloc);
+    let body = spawned_name(program, action);
+    write_step(text, body, task, k, action)?;
+    text.push('\n')
+}
+
+/// Appends the line of the newest event that stands, of which this is the step.
+pub fn append_newest(text: &mut String, live: &Live, id: &StepId) -> Result<(), AllocError>
+    ensures { OnOk result (string_bytes text.new
+        ≡ string_bytes text.old ++ newest_line live.now id.now) }
+{
     if let Some(event) = live.newest() {
-        let body = spawned_name(live.program(), &event.action);
-        write_step(&mut text, body, &event.task, id.k, &event.action)?;
-        text.push('\n')?;
+        append_line(text, live.program(), &event.task, id.k, &event.action)?;
     }
-    Ok(text)
+    Ok(())
 }

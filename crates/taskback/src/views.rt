@@ -1,7 +1,7 @@
 //! The texts of the cells and of what was printed.
 
 ghost use Rattle.std.specs.Prelude.{◌≡◌, ◌++◌, IfOk, OnOk, string_bytes, length};
-ghost use Rattle.taskback.specs.Replies.{cell_line, cell_lines, cells_text, number_lines, out_text, line};
+ghost use Rattle.taskback.specs.Texts.{cell_line, cell_lines, cells_text, number_lines, out_text, line};
 ghost use Rattle.std.specs.Fmt.{signed_decimal};
 
 use std::alloc::{AllocError, Global};

@@ -1,7 +1,11 @@
-pub mod RootLemmas
-pub mod StepLemmas
-pub mod BackLemmas
 pub mod ScanLemmas
 pub mod MemberLemmas
 pub mod NeedsLemmas
 pub mod FirstLemmas
+pub mod FillingLemmas
+pub mod ShownLemmas
+pub mod MiddleLemmas
+pub mod TakenLemmas
+pub mod RefusedLemmas
+pub mod UndoneLemmas
+pub mod RolledLemmas

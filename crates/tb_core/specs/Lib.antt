@@ -1,8 +1,10 @@
 pub mod Refusals
 pub mod Seen
 pub mod Situation
-pub mod Changes
-pub mod Plain
+pub mod Filling
+pub mod Naming
 pub mod Outcomes
 pub mod Soundness
 pub mod Scans
+pub mod Rolled
+pub mod Unwinding

@@ -1,13 +1,15 @@
 -- What a step and an undo answer, and what they leave.
-use Rattle.std.specs.Prelude.{◌≡◌, ◌≢◌, ◌<◌, ◌≤◌, ◌↔◌, suc, [], ◌∷◌, length, Bool, Some, None, Result, Ok, Err, IsTrue, IsFalse}
+use Rattle.std.specs.Prelude.{◌≡◌, ◌≢◌, ◌<◌, ◌≤◌, ◌↔◌, ◌⊎◌, ◌++◌, ℕ, List, [], Option, ◌∷◌, length, Bool, Some, None, Result, Ok, Err, IsTrue, IsFalse}
 use Rattle.std.specs.List.{list_any}
-use Rattle.tb_model.specs.declared.action.Action.{Action}
-use Rattle.tb_model.specs.declared.action.Action.TheVariants.{Load, Spawn}
+use Rattle.tb_model.specs.declared.action.Action.TheVariants.{Close}
+use Rattle.tb_model.specs.Hindrances.{Hindrance, in_the_way}
+use Rattle.tb_model.specs.Hindrances.{Undeferred as TheUndeferred, Waiting as IsWaiting, Excluded as IsExcluded, Children as TheChildren, Group as TheGroup}
+use Rattle.tb_read.specs.declared.config.Config.{Config}
 use Rattle.tb_model.specs.declared.event.Event.{Event}
 use Rattle.tb_model.specs.declared.step_id.StepId.{StepId}
 use Rattle.tb_model.specs.Names.{Name, child}
-use Rattle.tb_model.specs.Facts.{History, own, last, is_spawned, is_start, is_print, ends}
-use Rattle.tb_model.specs.Legal.{Cells, first_number, spawn_count, MayFollow}
+use Rattle.tb_model.specs.Facts.{own, is_spawned, is_start, ends, groups}
+use Rattle.tb_model.specs.Legal.{MayFollow}
 use Rattle.tb_model.specs.Alike.{Alike}
 use Rattle.tb_model.specs.Needs.{step_of, without}
 use Rattle.tb_model.specs.Needers.{first_needer}
@@ -16,19 +18,13 @@ use Rattle.tb_read.specs.declared.planned.Plan.{Plan}
 use Rattle.tb_read.specs.Plans.{line_behind}
 use Rattle.tb_core.specs.declared.removed.Removed.{Removed}
 use Rattle.tb_core.specs.declared.step_refusal.StepRefusal.{StepRefusal}
-use Rattle.tb_core.specs.declared.step_refusal.StepRefusal.TheVariants.{Memory, NoSuchTask, Ended, Full, Stale}
+use Rattle.tb_core.specs.declared.step_refusal.StepRefusal.TheVariants.{Memory, NoSuchTask, Ended, Waiting, Excluded, Children, Group, Full, Stale, Undeferred}
 use Rattle.tb_core.specs.declared.undo_refusal.UndoRefusal.{UndoRefusal}
 use Rattle.tb_core.specs.declared.undo_refusal.UndoRefusal.TheVariants.{Memory as NoMemory, NoSuchStep, Needed, Full as JournalFull}
-use Rattle.tb_model.specs.Lines.{Departure, without_lines}
-use Rattle.tb_core.specs.Seen.{Seen, Held, history}
-use Rattle.tb_core.specs.Plain.{is_plain}
+use Rattle.tb_model.specs.Lines.{Departure, events_of, without_lines}
+use Rattle.tb_core.specs.Seen.{Seen, history}
 use Rattle.tb_core.specs.Situation.{config_of}
-
--- the action, with the number that a load reads and the number of a spawned child
-abbrev pub completed : Cells → History → Name → Action → Action
-completed cells H t (Load r c x) = Load r c (last (first_number cells c) c H)
-completed cells H t (Spawn u line args items deferred) = Spawn (child t (suc (spawn_count (own t H)))) line args items deferred
-completed cells H t a = a
+use Rattle.tb_core.specs.Filling.{completed}
 
 -- the event of a plan, and the same with the line at which it leaves its task
 abbrev pub event_of : Seen → Plan → Event
@@ -40,12 +36,12 @@ departure_of s p = record { event = event_of s p; to = line_behind p.instr p.con
 abbrev pub has_ended : Seen → Name → Bool
 has_ended s t = list_any (ends t) (history s)
 
--- the plan is for this many cells, and of an action that the core takes so far; where it is of its task's situation, it
--- starts exactly a pending task
+-- the plan is for this many cells; where it is of its task's situation, it starts exactly a pending task, and it closes a
+-- group only where one is open
 pub record Fits (s : Seen) (p : Plan) : Type 0 where
   pub cells : p.instr.cells ≡ length s.cells
-  pub plain : IsTrue (is_plain p.action)
   pub starts : p.config ≡ config_of s p.config.task → IsTrue (is_start p.action) ↔ (own p.config.task (history s) ≡ [])
+  pub closes : p.config ≡ config_of s p.config.task → p.action ≡ Close → groups (own p.config.task (history s)) ≢ []
 
 -- the task is there, isn't over, and stands where the plan takes it to stand
 pub record IsCurrent (s : Seen) (p : Plan) : Type 0 where
@@ -62,20 +58,49 @@ pub record Steps (s : Seen) (p : Plan) (new : Seen) (i : StepId) : Type 0 where
   pub id : i ≡ step_of (history s) (event_of s p)
   pub back : without i (history new) ≡ history s
 
--- with this room the plan's step takes no memory
-pub record HasRoom (h : Held) (p : Plan) : Type 0 where
-  pub entry : 0 < h.room
-  pub print : IsTrue (is_print p.action) → 0 < h.print_room
+-- what keeps the plan's task from its action, where the plan is of its situation
+abbrev pub hindrance_of : Seen → Plan → Option Hindrance
+hindrance_of s p = in_the_way (history s) p.config.task p.action
+
+-- nothing keeps the task from its action, and the history has a place
+pub record IsOpen (s : Seen) (p : Plan) : Type 0 where
+  pub current : IsCurrent s p
+  pub clear : hindrance_of s p ≡ None
+  pub room : length s.steps < s.limit
+
+-- the task is there and going, but stands elsewhere than the plan takes it to stand, now so
+pub record IsStale (s : Seen) (p : Plan) (now : Config) : Type 0 where
+  pub spawned : IsTrue (is_spawned (history s) p.config.task)
+  pub going : IsFalse (has_ended s p.config.task)
+  pub now_is : now ≡ config_of s p.config.task
+  pub elsewhere : p.config ≢ now
+
+-- the task is kept from its action by this
+pub record IsHindered (s : Seen) (p : Plan) (h : Hindrance) : Type 0 where
+  pub current : IsCurrent s p
+  pub hindrance : hindrance_of s p ≡ Some h
+
+-- memory is wanted for the step, or for what a refusal would name
+abbrev pub WantsMemory : Seen → Plan → Type 0
+WantsMemory s p = IsOpen s p ⊎ (((now : Config) × IsStale s p now) ⊎ ((h : Hindrance) × IsHindered s p h))
 
 -- when a plan isn't taken; want of memory comes last
 abbrev pub Refuses : Seen → Plan → StepRefusal → Type 0
 Refuses s p NoSuchTask = IsFalse (is_spawned (history s) p.config.task)
 Refuses s p Ended = IsTrue (is_spawned (history s) p.config.task) × IsTrue (has_ended s p.config.task)
-Refuses s p (Stale now) =
-    IsTrue (is_spawned (history s) p.config.task) × IsFalse (has_ended s p.config.task)
-    × (now ≡ config_of s p.config.task) × (p.config ≢ now)
-Refuses s p Full = IsCurrent s p × (s.limit ≤ length s.steps)
-Refuses s p Memory = IsCurrent s p × (length s.steps < s.limit)
+Refuses s p (Stale now) = IsStale s p now
+Refuses s p (Undeferred child) = IsHindered s p (TheUndeferred child)
+Refuses s p (Waiting pred) = IsHindered s p (IsWaiting pred)
+Refuses s p (Excluded by) = IsHindered s p (IsExcluded by)
+Refuses s p (Children first) = IsHindered s p (TheChildren first)
+Refuses s p (Group first) = IsHindered s p (TheGroup first)
+Refuses s p Full = IsCurrent s p × (hindrance_of s p ≡ None) × (s.limit ≤ length s.steps)
+Refuses s p Memory = WantsMemory s p
+
+-- why a plan isn't taken, where memory may be wanted for what the refusal names, but not for the step
+abbrev pub IsKept : Seen → Plan → StepRefusal → Type 0
+IsKept s p Memory = ((now : Config) × IsStale s p now) ⊎ ((h : Hindrance) × IsHindered s p h)
+IsKept s p r = Refuses s p r
 
 -- a step by its answer; a refusal leaves the core as it was
 abbrev pub Stepped : Seen → Plan → Seen → Result StepId StepRefusal → Type 0
@@ -86,6 +111,15 @@ Stepped s p new (Err e) = (new ≡ s) × Refuses s p e
 pub record IsFree (s : Seen) (i : StepId) : Type 0 where
   pub stands : IsTrue (stands i (history s))
   pub unneeded : first_needer i (history s) ≡ None
+
+-- so many steps stand in front of the step
+pub record IsPlaceOf (s : Seen) (i : StepId) (at : ℕ) : Type 0 where
+  pub later : List Departure
+  pub step : Departure
+  pub front : List Departure
+  pub parts : s.steps ≡ later ++ step ∷ front
+  pub place : at ≡ length front
+  pub id : step_of (events_of front) step.event ≡ i
 
 -- the step is gone, and nothing else; it may be taken again, and then all is as it was
 pub record TakesBack (s : Seen) (i : StepId) (new : Seen) (removed : Removed) : Type 0 where

@@ -1,5 +1,6 @@
 -- What a contract sees of a core: its history with the lines, and what it was opened with.
-use Rattle.std.specs.Prelude.{ℕ, List}
+use Rattle.std.specs.Prelude.{ℕ, List, Option}
+use Rattle.tb_model.specs.declared.event.Event.{Event}
 use Rattle.tb_model.specs.Facts.{History}
 use Rattle.tb_model.specs.Legal.{Cells}
 use Rattle.tb_model.specs.Lines.{Departure, events_of}
@@ -14,8 +15,7 @@ pub record Seen : Type 0 where
 abbrev pub history : Seen → History
 history s = events_of s.steps
 
--- a core: its run, and how many more steps and how many more prints it takes with no memory
+-- a core: its run, and the event for which all room is made: its step takes no memory
 pub record Held : Type 0 where
   pub run : Seen
-  pub room : ℕ
-  pub print_room : ℕ
+  pub reserved : Option Event

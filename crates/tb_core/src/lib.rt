@@ -1,22 +1,26 @@
-//! The history of a run: its next step, and the undo of a step by what it replaced.
+//! The history of a run: every step, and the undo of any step that nothing needs.
 #![tactic(auto)]
 
+mod answers;
 mod entry;
+mod filling;
 mod needing;
 #[cfg(test)]
 mod needing_tests;
 mod places;
 mod removed;
+mod rollback;
 mod run;
 mod scans;
 mod step_refusal;
-mod tables;
 mod undo_refusal;
+mod unwinding;
 
 pub use entry::Entry;
 pub use needing::{first_needer, needs};
 pub use places::{ordinal_of, place_of, step_at};
 pub use removed::Removed;
+pub use rollback::Rollback;
 pub use run::Core;
 pub use step_refusal::StepRefusal;
 pub use undo_refusal::UndoRefusal;

@@ -1,30 +1,42 @@
-//! The core: a legal history, with what its state is.
+//! The history, step by step.
 
-ghost use Rattle.std.specs.Prelude.{◌≡◌, ◌≢◌, ◌≤◌, ◌<◌, [], IfOk, IfErr, IfSome, IfNone, IsOk, IsSome, IsErrOf, OnOk, length, slice_get, IsTrue, ◌↔◌};
-ghost use Rattle.std.specs.Option.{option_copied};
-ghost use Rattle.tb_model.specs.State.{printed};
-ghost use Rattle.tb_read.specs.Plans.{names_allowed};
-ghost use Rattle.tb_core.specs.Changes.{loads};
-ghost use Rattle.std.specs.Prelude.{reverse};
-ghost use Rattle.tb_model.specs.Facts.{is_spawned, is_end};
-ghost use Rattle.tb_model.specs.Equivalent.{stands};
+#[cfg(test)]
+mod tests;
+
+ghost use Rattle.std.specs.Prelude.{◌≡◌, ◌≢◌, ◌<◌, ◌≤◌, ◌+◌, ◌↔◌, [], ◌∷◌, OnOk, IfOk, IfErr, OnErr, IfSome, IfNone, IsOk, IsSome, IsErrOf, IsTrue, length, reverse, slice_get, Some, None, if◌then◌else◌, map};
+ghost use Rattle.std.specs.Option.{option_copied, option_map};
+ghost use Rattle.tb_model.specs.Facts.{is_spawned, own, items_of, before, apart};
+ghost use Rattle.tb_model.specs.State.{printed, open_groups};
+ghost use Rattle.tb_model.specs.LeastNames.{IsLeastName};
+ghost use Rattle.tb_core.specs.Soundness.{departure};
+ghost use Rattle.tb_undo.specs.Obstacles.{sibling};
+ghost use Rattle.tb_undo.specs.Readings.{IsUnendedBehind};
+ghost use Rattle.tb_undo.specs.State.{AreLast};
 ghost use Rattle.tb_core.specs.Seen.{history};
-ghost use Rattle.tb_core.specs.Soundness.{AreLast, newest_over};
 ghost use Rattle.tb_core.specs.Situation.{config_of};
-ghost use Rattle.tb_core.specs.Outcomes.{Fits, HasRoom, IsCurrent, IsFree, Keeps, Refuses, Stepped, Undone, event_of, has_ended};
+ghost use Rattle.tb_core.specs.Outcomes.{event_of, has_ended, hindrance_of, Fits, IsCurrent, IsOpen, IsKept, Refuses, Steps, Stepped, IsFree, IsPlaceOf, TakesBack, Keeps, Undone};
+ghost use Rattle.tb_core.specs.Soundness.{seen};
+ghost use Rattle.tb_core.specs.Rolled.{IsReady, RollsBack};
+ghost use Rattle.tb_core.specs.Scans.{AreLegal};
 
+use crate::answers::{config, named, stale, stands_so};
 use crate::entry::Entry;
+use crate::filling::{copy_event, copy_of, fill_in, planned, spare_names};
+use crate::needing::first_needer;
+use crate::places::{place_of, step_at};
 use crate::removed::Removed;
+use crate::rollback::Rollback;
 use crate::step_refusal::StepRefusal;
-use crate::tables::Tables;
 use crate::undo_refusal::UndoRefusal;
+use crate::unwinding::{put_back, unwind};
 use std::alloc::{AllocError, Global};
 use std::marker::Model;
-use tb_model::{Action, Event, StepId, TaskName};
+use tb_model::{Event, Item, StepId, TaskName};
 use tb_read::{Config, Plan};
-use tb_store::Store;
+use tb_undo::Tables;
 
-/// The history of a run, and the state that it leaves. It holds no program.
+/// The history of a run, with what each step replaced, and the state that it leaves. It holds no
+/// program.
 #[derive(Drop)]
 pub struct Core {
     alloc: Global,
@@ -33,19 +45,20 @@ pub struct Core {
     limit: u32,
     entries: Vec<Entry>,
     tables: Tables,
+    // the event for which all room is made
+    reserved: Option<Event>,
 }
 
 impl Model for Core {
     ghost use Rattle.std.specs.Prelude.{◌-◌, reverse, vec_len, vec_capacity};
     ghost use Rattle.tb_core.specs.Seen.{Held};
+    ghost use Rattle.tb_core.specs.Soundness.{seen, IsSound, HasReserved};
 
     ghost Value = { Held };
 
-    ghost use Rattle.tb_core.specs.Soundness.{seen, IsSound};
+    ghost view = { λ c. record { run = seen c.first.items c.root_line c.limit (reverse c.entries.items); reserved = c.reserved } };
 
-    ghost view = { λ c. record { run = seen c.first.items c.root_line c.limit (reverse c.entries.items); room = vec_capacity c.entries - vec_len c.entries; print_room = c.tables.store.room } };
-
-    ghost invariant = { λ c. IsSound c.first.items c.root_line c.limit (reverse c.entries.items) c.tables };
+    ghost invariant = { λ c. IsSound c.first.items c.root_line c.limit (reverse c.entries.items) c.tables × HasReserved c.reserved (vec_capacity c.entries - vec_len c.entries) c.tables };
 }
 
 impl Core {
@@ -65,126 +78,9 @@ impl Core {
             root_line,
             limit,
             entries: Vec::new(alloc),
-            tables: Tables {
-                store: Store::open(alloc, cells)?,
-                at: root_line,
-                regs: [0; 16],
-            },
+            tables: Tables::open(alloc, cells, root_line)?,
+            reserved: None,
         })
-    }
-
-    /// Makes the room that `step` needs for this plan, and tells the event to come.
-    pub fn reserve_step(&mut self, plan: &Plan) -> Result<Event, StepRefusal>
-        requires { Fits self.old.run plan.now }
-        ensures run { self.new.run ≡ self.old.run }
-        ensures event { IfOk result (λ v. v ≡ event_of self.old.run plan.now) }
-        ensures room { OnOk result (HasRoom self.new plan.now) }
-        ensures current { OnOk result (IsCurrent self.old.run plan.now × (length self.old.run.steps < self.old.run.limit)) }
-        ensures refused { IfErr result (Refuses self.old.run plan.now) }
-    {
-        if let Some(refusal) = self.refusal(plan) {
-            return Err(refusal);
-        }
-        if self.entries.reserve(1).is_err() {
-            return Err(StepRefusal::Memory);
-        }
-        if self.tables.reserve(&plan.action).is_err() {
-            return Err(StepRefusal::Memory);
-        }
-        match copy(&self.tables, plan) {
-            Ok(event) => Ok(event),
-            Err(_) => Err(StepRefusal::Memory),
-        }
-    }
-
-    /// Takes the step that was planned. What can fail comes first, and a refusal changes nothing.
-    pub fn step(&mut self, plan: Plan) -> Result<StepId, StepRefusal>
-        requires { Fits self.old.run plan }
-        ensures stepped { Stepped self.old.run plan self.new.run result }
-        ensures room { HasRoom self.old plan → IsErrOf result StepRefusal.Memory → ⊥ }
-    {
-        if let Some(refusal) = self.refusal(&plan) {
-            return Err(refusal);
-        }
-        let id = StepId {
-            task: TaskName::root(self.alloc),
-            k: self.count() + 1,
-        };
-        let to = plan.to();
-        let Plan {
-            instr: _,
-            config,
-            action,
-        } = plan;
-        if self.entries.reserve(1).is_err() {
-            return Err(StepRefusal::Memory);
-        }
-        if self.tables.reserve(&action).is_err() {
-            return Err(StepRefusal::Memory);
-        }
-        let action = self.tables.complete(action);
-        let replaced = self.tables.apply(&action, to);
-        let event = Event {
-            task: config.task,
-            action,
-        };
-        self.entries.push_reserved(Entry {
-            event,
-            to,
-            replaced,
-        });
-        Ok(id)
-    }
-
-    /// Why the step stays, if it does: it isn't there, or something needs it.
-    pub fn keeps(&self, id: &StepId) -> Option<UndoRefusal>
-        ensures some { IfSome result (Keeps self.now.run id.now) }
-        ensures none { IfNone result (IsFree self.now.run id.now) }
-    {
-        // Reading a field brings in what always holds of a core.
-        let _entries = &self.entries;
-        if !self.is_standing(id) {
-            return Some(UndoRefusal::NoSuchStep);
-        }
-        if id.k < self.count() {
-            return Some(UndoRefusal::Needed {
-                by: StepId {
-                    task: TaskName::root(self.alloc),
-                    k: id.k + 1,
-                },
-            });
-        }
-        None
-    }
-
-    /// Takes a step back that nothing needs. It takes no memory where that is done, and keeps the
-    /// room for the step.
-    pub fn undo(&mut self, id: &StepId) -> Result<Removed, UndoRefusal>
-        ensures undone { Undone self.old.run id.now self.new.run result }
-        ensures succeeds { IsFree self.old.run id.now → IsOk result }
-        ensures room { OnOk result (self.old.room < self.new.room) }
-    {
-        if let Some(refusal) = self.keeps(id) {
-            return Err(refusal);
-        }
-        match self.entries.pop() {
-            Some(entry) => {
-                let Entry {
-                    event,
-                    to: _,
-                    replaced,
-                } = entry;
-                self.tables.revert(&event.action, replaced);
-                Ok(Removed {
-                    id: StepId {
-                        task: event.task,
-                        k: id.k,
-                    },
-                    action: event.action,
-                })
-            }
-            None => Err(UndoRefusal::NoSuchStep),
-        }
     }
 
     /// How many events the history has.
@@ -193,6 +89,79 @@ impl Core {
         ensures bound { result ≤ 1000000 }
     {
         self.entries.as_slice().len() as u32
+    }
+
+    /// Whether the task is there: the root is, and what was spawned.
+    pub fn is_there(&self, task: &TaskName) -> bool
+        ensures { result ≡ is_spawned (history self.now.run) task.now }
+    {
+        self.tables.is_there(task)
+    }
+
+    /// Whether the task has ended or faulted.
+    pub fn has_ended(&self, task: &TaskName) -> bool
+        ensures { result ≡ has_ended self.now.run task.now }
+    {
+        self.tables.has_ended(task)
+    }
+
+    /// The situation of a task that is there.
+    pub fn config(&self, task: &TaskName) -> Result<Option<Config>, AllocError>
+        ensures { IfOk result (λ o. o ≡ (if is_spawned (history self.now.run) task.now then Some (config_of self.now.run task.now) else None)) }
+    {
+        match self.tables.standing(task) {
+            Some(standing) => Ok(Some(config(task.clone()?, standing))),
+            None => Ok(None),
+        }
+    }
+
+    /// The cells' numbers, in order.
+    pub fn cells(&self) -> &[i64]
+        ensures { AreLast self.now.run.cells (history self.now.run) result.now }
+    {
+        self.tables.cells()
+    }
+
+    /// The printed numbers, in order.
+    pub fn output(&self) -> &[i64]
+        ensures { result.now ≡ reverse (printed (history self.now.run)) }
+    {
+        self.tables.output()
+    }
+
+    /// The least unended task behind this one by the order of names, or of all.
+    pub fn next_unended(&self, after: Option<&TaskName>) -> Option<&TaskName>
+        ensures { IsLeastName (IsUnendedBehind (history self.now.run) (option_copied after.entry)) (option_copied result) }
+    {
+        self.tables.next_unended(after)
+    }
+
+    /// How many groups of the task are open.
+    pub fn groups(&self, task: &TaskName) -> usize
+        ensures { result ≡ length (open_groups (own task.now (history self.now.run))) }
+    {
+        self.tables.groups(task)
+    }
+
+    /// The depend items of the task.
+    pub fn items(&self, task: &TaskName) -> &[Item]
+        ensures { result.now ≡ items_of task.now (history self.now.run) }
+    {
+        self.tables.items(task)
+    }
+
+    /// Whether the task depends on its sibling with this number.
+    pub fn is_before(&self, number: u32, task: &TaskName) -> bool
+        ensures { result ≡ before (history self.now.run) (sibling task.now number) task.now }
+    {
+        self.tables.is_before(number, task)
+    }
+
+    /// Whether the task and its sibling with this number exclude each other.
+    pub fn is_apart(&self, number: u32, task: &TaskName) -> bool
+        ensures { result ≡ apart (history self.now.run) (sibling task.now number) task.now }
+    {
+        self.tables.is_apart(number, task)
     }
 
     /// The newest event.
@@ -205,134 +174,202 @@ impl Core {
         }
     }
 
-    /// The situation of a task that is there.
-    pub fn config(&self, task: &TaskName) -> Option<Config>
-        ensures there { IsSome result ↔ IsTrue (is_spawned (history self.now.run) task.now) }
-        ensures config { IfSome result (λ c. c ≡ config_of self.now.run task.now) }
+    /// The steps that stand, from the oldest to the newest, each with the line at which it left its
+    /// task and what it replaced.
+    pub fn entries(&self) -> &[Entry]
+        ensures { map departure (reverse result.now) ≡ self.now.run.steps }
     {
-        // Reading a field brings in what always holds of a core.
-        let _entries = &self.entries;
-        if task.numbers().is_empty() {
-            Some(self.root())
-        } else {
-            None
-        }
+        self.entries.as_slice()
     }
 
-    /// Whether the task has ended or faulted.
-    pub fn has_ended(&self, task: &TaskName) -> bool
-        ensures { result ≡ has_ended self.now.run task.now }
+    /// Whether nothing keeps the task of a plan from its action. It takes no memory.
+    pub fn is_clear(&self, plan: &Plan) -> bool
+        requires fits { Fits self.now.run plan.now }
+        requires current { IsCurrent self.now.run plan.now }
+        ensures { IsTrue result ↔ (hindrance_of self.now.run plan.now ≡ None) }
     {
-        // Reading a field brings in what always holds of a core.
-        let _entries = &self.entries;
-        task.numbers().is_empty() && self.is_over()
+        self.tables
+            .in_the_way(&plan.config.task, &plan.action)
+            .is_none()
     }
 
-    /// The cells' numbers, in order.
-    pub fn cells(&self) -> &[i64]
-        ensures { AreLast self.now.run.cells (history self.now.run) result.now }
+    /// Why a step of this plan would be refused now.
+    pub fn refusal(&self, plan: &Plan) -> Option<StepRefusal>
+        requires { Fits self.now.run plan.now }
+        ensures some { IfSome result (IsKept self.now.run plan.now) }
+        ensures none { IfNone result (IsOpen self.now.run plan.now) }
     {
-        self.tables.store.cells()
-    }
-
-    /// The printed numbers, in order.
-    pub fn output(&self) -> &[i64]
-        ensures { result.now ≡ reverse (printed (history self.now.run)) }
-    {
-        self.tables.store.output()
-    }
-
-    /// Where the root stands.
-    fn root(&self) -> Config
-        ensures { result ≡ config_of self.now.run [] }
-    {
-        Config {
-            task: TaskName::root(self.alloc),
-            steps: self.count(),
-            at: self.tables.at,
-            regs: self.tables.regs,
-        }
-    }
-
-    /// Why the plan isn't taken, memory aside.
-    fn refusal(&self, plan: &Plan) -> Option<StepRefusal>
-        ensures some { IfSome result (Refuses self.now.run plan.now) }
-        ensures none { IfNone result (IsCurrent self.now.run plan.now × (length self.now.run.steps < self.now.run.limit)) }
-        ensures known { IfSome result (λ e. e ≢ StepRefusal.Memory) }
-    {
-        let limit = self.limit;
-        if !plan.config.task.numbers().is_empty() {
+        let name = &plan.config.task;
+        let Some(standing) = self.tables.standing(name) else {
             return Some(StepRefusal::NoSuchTask);
-        }
-        if self.is_over() {
+        };
+        if self.has_ended(name) {
             return Some(StepRefusal::Ended);
         }
-        let now = self.root();
-        if !is_same(&plan.config, &now) {
-            return Some(StepRefusal::Stale { now });
+        if !stands_so(&plan.config, &standing) {
+            return Some(stale(name, standing));
         }
-        if limit <= self.count() {
+        if let Some(obstacle) = self.tables.in_the_way(name, &plan.action) {
+            return Some(named(name, obstacle));
+        }
+        if self.limit <= self.count() {
             return Some(StepRefusal::Full);
         }
         None
     }
 
-    fn is_over(&self) -> bool
-        ensures { result ≡ has_ended self.now.run [] }
+    /// Makes the room that `step` needs for this plan, and tells the event to come.
+    pub fn reserve_step(&mut self, plan: &Plan) -> Result<Event, StepRefusal>
+        requires { Fits self.old.run plan.now }
+        ensures run { self.new.run ≡ self.old.run }
+        ensures event { IfOk result (λ v. v ≡ event_of self.old.run plan.now) }
+        ensures reserved { OnOk result (self.new.reserved ≡ Some (event_of self.old.run plan.now)) }
+        ensures ready { OnOk result (IsOpen self.old.run plan.now) }
+        ensures refused { IfErr result (Refuses self.old.run plan.now) }
     {
-        is_over(&self.entries)
+        if let Some(refusal) = self.refusal(plan) {
+            return Err(refusal);
+        }
+        match self.prepare(plan) {
+            Ok(event) => Ok(event),
+            Err(_) => Err(StepRefusal::Memory),
+        }
     }
 
-    fn is_standing(&self, id: &StepId) -> bool
-        ensures { result ≡ stands id.now (history self.now.run) }
+    /// Takes the step that was planned. What can fail comes first, and a refusal changes nothing.
+    /// Right behind a `reserve_step` of the same plan that answered Ok it takes no memory.
+    pub fn step(&mut self, plan: Plan) -> Result<StepId, StepRefusal>
+        requires { Fits self.old.run plan }
+        ensures stepped { Stepped self.old.run plan self.new.run result }
+        ensures room { IsOpen self.old.run plan → self.old.reserved ≡ Some (event_of self.old.run plan) → IsOk result }
     {
-        let count = self.entries.as_slice().len();
-        if !id.task.numbers().is_empty() {
-            return false;
+        if let Some(refusal) = self.refusal(&plan) {
+            return Err(refusal);
         }
-        if id.k == 0 {
-            return false;
+        match self.take(plan) {
+            Ok(id) => Ok(id),
+            Err(_) => Err(StepRefusal::Memory),
         }
-        id.k as usize <= count
     }
-}
 
-/// Whether the newest of the entries, which come from the oldest, ends its task.
-fn is_over(entries: &[Entry]) -> bool
-    ensures { result ≡ newest_over (reverse entries.now) }
-{
-    match entries.last() {
-        Some(entry) => ends(&entry.event.action),
-        None => false,
+    /// The event of the plan, for which all room is made.
+    fn prepare(&mut self, plan: &Plan) -> Result<Event, AllocError>
+        requires fits { Fits self.old.run plan.now }
+        requires ready { IsOpen self.old.run plan.now }
+        ensures run { self.new.run ≡ self.old.run }
+        ensures event { IfOk result (λ v. v ≡ event_of self.old.run plan.now) }
+        ensures reserved { OnOk result (self.new.reserved ≡ Some (event_of self.old.run plan.now)) }
+    {
+        let event = planned(&self.tables, plan)?;
+        let copy = copy_event(&event)?;
+        self.entries.reserve(1)?;
+        self.reserved = None;
+        self.tables.reserve_apply(&event)?;
+        self.reserved = Some(copy);
+        Ok(event)
     }
-}
 
-fn ends(action: &Action) -> bool
-    ensures { result ≡ is_end action.now }
-{
-    matches!(action, Action::End | Action::Fault)
-}
+    /// Takes the step of a plan that isn't refused.
+    fn take(&mut self, plan: Plan) -> Result<StepId, AllocError>
+        requires fits { Fits self.old.run plan }
+        requires ready { IsOpen self.old.run plan }
+        ensures ok { IfOk result (Steps self.old.run plan self.new.run) }
+        ensures err { OnErr result (self.new.run ≡ self.old.run) }
+        ensures room { self.old.reserved ≡ Some (event_of self.old.run plan) → IsOk result }
+    {
+        let to = plan.to();
+        let Plan {
+            instr: _,
+            config,
+            action,
+        } = plan;
+        let (its_name, its_child) = spare_names(self.reserved.take());
+        let task = copy_of(&config.task, its_name)?;
+        let event = fill_in(&self.tables, config.task, action, its_child)?;
+        self.entries.reserve(1)?;
+        let replaced = self.tables.apply(&event, to)?;
+        self.entries.push_reserved(Entry {
+            event,
+            to,
+            replaced,
+        });
+        Ok(StepId {
+            task,
+            k: config.steps + 1,
+        })
+    }
 
-/// Whether two situations of one task are the same.
-fn is_same(a: &Config, b: &Config) -> bool
-    requires { a.now.task ≡ b.now.task }
-    ensures { IsTrue result ↔ (a.now ≡ b.now) }
-{
-    a.steps == b.steps && a.at == b.at && are_same(&a.regs, &b.regs)
-}
+    /// Takes the entry at this place out, of a step that nothing needs.
+    fn take_out(&mut self, at: usize, id: &StepId) -> Removed
+        requires free { IsFree self.old.run id.now }
+        requires here { IsPlaceOf self.old.run id.now at }
+        ensures { TakesBack self.old.run id.now self.new.run result }
+    {
+        self.reserved = None;
+        let Entry {
+            event,
+            to: _,
+            replaced,
+        } = self.entries.remove(at);
+        self.tables.revert(&event, replaced);
+        Removed {
+            id: StepId {
+                task: event.task,
+                k: id.k,
+            },
+            action: event.action,
+        }
+    }
 
-fn are_same(a: &[i64; 16], b: &[i64; 16]) -> bool
-    ensures { IsTrue result ↔ (a.now ≡ b.now) }
-{
-    a == b
-}
+    /// Why the step stays, if it does: it isn't there, or something needs it.
+    pub fn keeps(&self, id: &StepId) -> Option<UndoRefusal>
+        ensures some { IfSome result (Keeps self.now.run id.now) }
+        ensures none { IfNone result (IsFree self.now.run id.now) }
+    {
+        let Some(at) = place_of(&self.entries, id) else {
+            return Some(UndoRefusal::NoSuchStep);
+        };
+        let by = first_needer(&self.entries, at)?;
+        match step_at(&self.entries, by) {
+            Ok(by) => Some(UndoRefusal::Needed { by }),
+            Err(_) => Some(UndoRefusal::Memory),
+        }
+    }
 
-/// The event of a plan that is of the tables' situation.
-fn copy(tables: &Tables, plan: &Plan) -> Result<Event, AllocError>
-    requires { IsTrue (names_allowed (length tables.now.store.cells) plan.now.action) }
-    ensures { IfOk result (λ v. v ≡ record { task = plan.now.config.task; action = loads tables.now.store.cells plan.now.action }) }
-{
-    let task = plan.config.task.clone()?;
-    let action = tables.complete(plan.action.clone()?);
-    Ok(Event { task, action })
+    /// Takes a step back that nothing needs, wherever it stands. It takes no memory where that is
+    /// done.
+    pub fn undo(&mut self, id: &StepId) -> Result<Removed, UndoRefusal>
+        ensures undone { Undone self.old.run id.now self.new.run result }
+        ensures succeeds { IsFree self.old.run id.now → IsOk result }
+    {
+        if let Some(refusal) = self.keeps(id) {
+            return Err(refusal);
+        }
+        match place_of(&self.entries, id) {
+            Some(at) => Ok(self.take_out(at, id)),
+            None => Err(UndoRefusal::NoSuchStep),
+        }
+    }
+
+    /// Takes a step back with all that need it, each by its own record, from the newest on. It
+    /// takes no memory, and what stands behind the first of them is moved once.
+    pub fn take_out_all(&mut self, rollback: Rollback) -> Vec<Removed>
+        requires { IsReady (history self.old.run) rollback }
+        ensures { RollsBack self.old.run rollback.step self.new.run result.items }
+    {
+        self.reserved = None;
+        let (kept, mut removed) = unwind(&mut self.entries, &mut self.tables, rollback);
+        put_back(&mut self.entries, kept);
+        removed.reverse();
+        removed
+    }
+
+    /// The steps that stand, as `entries` has them: they are a legal history.
+    pub fn legal_entries(&self) -> &[Entry]
+        ensures steps { map departure (reverse result.now) ≡ self.now.run.steps }
+        ensures legal { AreLegal result.now }
+        ensures bound { length result.now ≤ 1000000 }
+    {
+        self.entries.as_slice()
+    }
 }

@@ -3,6 +3,7 @@
 ghost use Rattle.std.specs.Prelude.{◌≡◌};
 ghost use Rattle.tb_core.specs.Refusals.{step_number};
 
+use tb_model::TaskName;
 use tb_read::Config;
 
 /// Why a task doesn't take the step that was planned for it.
@@ -14,10 +15,20 @@ pub enum StepRefusal {
     NoSuchTask,
     /// The task has ended or faulted.
     Ended,
+    /// The least task that is before it and hasn't ended.
+    Waiting { pred: TaskName },
+    /// The least task that is apart from it, has started and hasn't ended.
+    Excluded { by: TaskName },
+    /// The least child that its `taskwait` waits for and that hasn't ended.
+    Children { first: TaskName },
+    /// The least member of its innermost open group that hasn't ended.
+    Group { first: TaskName },
     /// The history has as many events as it may have.
     Full,
     /// The task stands elsewhere now than the plan took for granted.
     Stale { now: Config },
+    /// The undeferred child at which it stands hasn't ended.
+    Undeferred { child: TaskName },
 }
 
 impl StepRefusal {
@@ -29,8 +40,13 @@ impl StepRefusal {
             StepRefusal::Memory => 0,
             StepRefusal::NoSuchTask => 1,
             StepRefusal::Ended => 2,
+            StepRefusal::Waiting { .. } => 3,
+            StepRefusal::Excluded { .. } => 4,
+            StepRefusal::Children { .. } => 5,
+            StepRefusal::Group { .. } => 6,
             StepRefusal::Full => 7,
             StepRefusal::Stale { .. } => 8,
+            StepRefusal::Undeferred { .. } => 13,
         }
     }
 }

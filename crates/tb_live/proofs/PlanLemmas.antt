@@ -1,5 +1,5 @@
 -- What a task would do next, by its program.
-use Rattle.std.proofs.Common.{◌≡◌, ◌≢◌, ◌↔◌, cond, ℕ, suc, List, [], ◌∷◌, Bool, true, false, map, length, refl, sym, ap, ap₂, ◌∙◌, subst, ℤ, Option, Some, None, ◌⊎◌, ⊎_elim}
+use Rattle.std.proofs.Common.{◌≡◌, ◌≢◌, ◌↔◌, cond, ℕ, suc, List, [], ◌∷◌, Bool, true, false, map, length, refl, sym, ap, ap₂, ◌∙◌, subst, ℤ, Option, Some, None, option_map, not, ◌⊎◌, ⊎_elim, set}
 use Rattle.std.specs.List.{list_any}
 use Rattle.std.proofs.lemmas.Bool.{false≢true, or_parts, both_ways, and_from, false_from_ne_true}
 use Rattle.tb_model.specs.declared.item.Item.{Item}
@@ -8,7 +8,9 @@ use Rattle.tb_model.specs.declared.action.Action.TheVariants.{Start, Let, Load, 
 use Rattle.tb_model.specs.declared.statement.Statement.{Statement}
 use Rattle.tb_model.specs.declared.statement.Statement.TheVariants.{Start as DoStart, Let as DoLet, Compute as DoCompute, Load as DoLoad, Store as DoStore, Print as DoPrint, Task as DoTask, Taskwait as DoTaskwait, Taskgroup as DoTaskgroup, EndTaskgroup as DoEndTaskgroup, Test as DoTest, End as DoEnd}
 use Rattle.tb_model.specs.Names.{Name, child}
-use Rattle.tb_model.specs.Facts.{History, is_of, own, is_start, is_end, ends, spawns, IsSpawned}
+use Rattle.tb_model.specs.Facts.{History, is_of, own, is_start, is_end, ends, spawns, is_spawned, IsSpawned}
+use Rattle.tb_model.specs.Hindrances.{Hindrance, Refusal, NoSuchTask, Ended, By, refusal_of, can_step, least_ready, in_the_way}
+use Rattle.tb_undo.specs.State.{registers}
 use Rattle.tb_model.specs.declared.event.Event.{Event}
 use Rattle.tb_model.specs.Legal.{Cells, spawn_count, IsRunning, Continues}
 use Rattle.tb_model.specs.State.{spawn_of, called_by}
@@ -26,16 +28,34 @@ use Rattle.tb_read.specs.declared.planned.Plan.{Plan}
 use Rattle.tb_read.specs.Plans.{instruction}
 use Rattle.tb_core.specs.Seen.{Seen, history}
 use Rattle.tb_core.specs.Situation.{config_of}
-use Rattle.tb_core.specs.Outcomes.{completed, has_ended}
-use Rattle.tb_core.specs.Plain.{is_plain, is_taken}
+use Rattle.tb_core.specs.Filling.{completed}
+use Rattle.tb_core.specs.Outcomes.{has_ended, hindrance_of}
 use Rattle.tb_core.specs.Outcomes as outcomes
-use Rattle.tb_core.proofs.StepLemmas.{registers_config}
 use Rattle.tb_model.specs.WellFormed.{WellFormed, Begins, is_begin}
 use Rattle.tb_read.specs.Meaning.{IsPosition}
 use Rattle.tb_read.specs.Followed.{IsFollowed, is_last}
 use Rattle.tb_live.specs.Soundness.{Fits}
+use Rattle.tb_live.specs.Plans.{IsPlanOf, IsReady}
+use Rattle.std.specs.Prelude.{is_none}
 
 -- ---- a task stands where the program says
+
+-- the registers that are kept are those of the definitions
+registers_config : (P : Program) (line : ℕ) (args : List ℤ) (acts : List Action) → registers args acts ≡ (config P line args acts).regs
+registers_config P line args [] = refl
+registers_config P line args (Let r x ∷ acts) = ap (λ regs. set regs r x) (registers_config P line args acts)
+registers_config P line args (Load r c x ∷ acts) = ap (λ regs. set regs r x) (registers_config P line args acts)
+registers_config P line args (Test true ∷ acts) = registers_config P line args acts
+registers_config P line args (Test false ∷ acts) = registers_config P line args acts
+registers_config P line args (Start ∷ acts) = registers_config P line args acts
+registers_config P line args (Store c x ∷ acts) = registers_config P line args acts
+registers_config P line args (Print x ∷ acts) = registers_config P line args acts
+registers_config P line args (Spawn u body more items deferred ∷ acts) = registers_config P line args acts
+registers_config P line args (Wait items ∷ acts) = registers_config P line args acts
+registers_config P line args (Open ∷ acts) = registers_config P line args acts
+registers_config P line args (Close ∷ acts) = registers_config P line args acts
+registers_config P line args (End ∷ acts) = registers_config P line args acts
+registers_config P line args (Fault ∷ acts) = registers_config P line args acts
 
 called_args : (root_line : ℕ) (o : Option Action) → (called_by root_line o).args ≡ args_in o
 called_args root_line None = refl
@@ -64,29 +84,25 @@ holds_registers P run t =
 
 -- ---- the action that was planned, and the one that is taken
 
-fault_starts : (o : Option ℕ) (f g : ℕ → Action) → ((c : ℕ) → is_start (f c) ≡ is_start (g c)) → is_start (or_fault o f) ≡ is_start (or_fault o g)
-fault_starts None f g h = refl
-fault_starts (Some c) f g h = h c
+-- what doesn't look at a child's name is the same whatever the child's number
+module _ {B : Type 0} (f : Action → B) (cells : Cells) (t : Name) (n m : ℕ) (regs : List ℤ) (x : ℤ) (alike : (body : ℕ) (args : List ℤ) (items : List Item) (deferred : Bool) → f (Spawn (child t n) body args items deferred) ≡ f (Spawn (child t m) body args items deferred)) where
+  spawns_alike : (body : ℕ) (args : List ℤ) (deferred : Bool) (o : Option (List Item)) → f (items_or_fault o (λ is. Spawn (child t n) body args is deferred)) ≡ f (items_or_fault o (λ is. Spawn (child t m) body args is deferred))
+  spawns_alike body args deferred None = refl
+  spawns_alike body args deferred (Some is) = alike body args is deferred
 
-item_starts : (o : Option (List Item)) (f g : List Item → Action) → ((is : List Item) → is_start (f is) ≡ is_start (g is)) → is_start (items_or_fault o f) ≡ is_start (items_or_fault o g)
-item_starts None f g h = refl
-item_starts (Some is) f g h = h is
-
--- neither a child's number nor the number that a load reads decides whether a task starts
-start_same : (cells : Cells) (t : Name) (n m : ℕ) (regs : List ℤ) (x y : ℤ) (s : Statement) → is_start (action_of cells t n regs x s) ≡ is_start (action_of cells t m regs y s)
-start_same cells t n m regs x y DoStart = refl
-start_same cells t n m regs x y (DoLet r a) = refl
-start_same cells t n m regs x y (DoCompute r a o b) = refl
-start_same cells t n m regs x y (DoLoad r a) = fault_starts (cell_at cells (value regs a)) (λ c. Load r c x) (λ c. Load r c y) (λ c. refl)
-start_same cells t n m regs x y (DoStore a b) = refl
-start_same cells t n m regs x y (DoPrint a) = refl
-start_same cells t n m regs x y (DoTask body args depends c) =
-    item_starts (items_at cells regs depends) (λ is. Spawn (child t n) body (map (value regs) args) is (is_deferred regs c)) (λ is. Spawn (child t m) body (map (value regs) args) is (is_deferred regs c)) (λ is. refl)
-start_same cells t n m regs x y (DoTaskwait depends) = refl
-start_same cells t n m regs x y DoTaskgroup = refl
-start_same cells t n m regs x y DoEndTaskgroup = refl
-start_same cells t n m regs x y (DoTest c) = refl
-start_same cells t n m regs x y DoEnd = refl
+  pub numbered_alike : (s : Statement) → f (action_of cells t n regs x s) ≡ f (action_of cells t m regs x s)
+  numbered_alike DoStart = refl
+  numbered_alike (DoLet r a) = refl
+  numbered_alike (DoCompute r a o b) = refl
+  numbered_alike (DoLoad r a) = refl
+  numbered_alike (DoStore a b) = refl
+  numbered_alike (DoPrint a) = refl
+  numbered_alike (DoTask body args depends c) = spawns_alike body (map (value regs) args) (is_deferred regs c) (items_at cells regs depends)
+  numbered_alike (DoTaskwait depends) = refl
+  numbered_alike DoTaskgroup = refl
+  numbered_alike DoEndTaskgroup = refl
+  numbered_alike (DoTest c) = refl
+  numbered_alike DoEnd = refl
 
 -- with the number that the load reads, and the child's number, the planned action is the definition's
 module _ (cells : Cells) (H : History) (t : Name) where
@@ -149,6 +165,14 @@ pub record IsPlan (P : Program) (run : Seen) (p : Plan) : Type 0 where
   pub here : p.config ≡ config_of run p.config.task
   pub instr : instruction p.instr ≡ instr_at P p.config.at
 
+-- what the program plans for the task's situation
+pub is_plan : (P : Program) (run : Seen) (t : Name) (k : Config) (p : Plan) → k ≡ config_of run t → p.config ≡ k → instruction p.instr ≡ instr_at P k.at → IsPlan P run p
+is_plan P run t k p e q i =
+    let task : p.config.task ≡ t = ap (λ (c : Config). c.task) (q ∙ e) in record {
+      here = q ∙ e ∙ ap (config_of run) (sym task);
+      instr = i ∙ ap (λ (c : Config). instr_at P c.at) (sym q);
+    }
+
 -- the instruction and the registers are those at which the task stands
 pub plan_instr : (P : Program) (run : Seen) (p : Plan) → Fits P run → IsPlan P run p → instruction p.instr ≡ instr_at P (situation P p.config.task (history run)).line
 plan_instr P run p f i = i.instr ∙ ap (λ (c : Config). instr_at P c.at) i.here ∙ ap (instr_at P) (stands_at P run p.config.task f)
@@ -181,38 +205,84 @@ starts_pending cells t acts a k = (λ h. subst (λ b. Continues cells t acts b) 
     at : (a ≡ Start) ⊎ (IsRunning acts) → acts ≡ [] → is_start a ≡ true
     at b e = ⊎_elim (λ s. ap is_start s) (λ r. absurd (subst IsRunning e r)) b
 
-fault_plain : (o : Option ℕ) (f : ℕ → Action) → ((c : ℕ) → is_plain (f c) ≡ true) → is_plain (or_fault o f) ≡ true
-fault_plain None f h = refl
-fault_plain (Some c) f h = h c
+abbrev is_close : Action → Bool
+is_close Close = true
+is_close _ = false
 
--- the statements that are taken so far make plain actions
-taken_plain : (cells : Cells) (t : Name) (n : ℕ) (regs : List ℤ) (x : ℤ) (s : Statement) → is_taken s ≡ true → is_plain (action_of cells t n regs x s) ≡ true
-taken_plain cells t n regs x DoStart h = refl
-taken_plain cells t n regs x (DoLet r a) h = refl
-taken_plain cells t n regs x (DoCompute r a o b) h = refl
-taken_plain cells t n regs x (DoLoad r a) h = fault_plain (cell_at cells (value regs a)) (λ c. Load r c x) (λ c. refl)
-taken_plain cells t n regs x (DoStore a b) h = fault_plain (cell_at cells (value regs a)) (λ c. Store c (value regs b)) (λ c. refl)
-taken_plain cells t n regs x (DoPrint a) h = refl
-taken_plain cells t n regs x (DoTask body args depends c) h = absurd (false≢true h)
-taken_plain cells t n regs x (DoTaskwait depends) h = absurd (false≢true h)
-taken_plain cells t n regs x DoTaskgroup h = absurd (false≢true h)
-taken_plain cells t n regs x DoEndTaskgroup h = absurd (false≢true h)
-taken_plain cells t n regs x (DoTest c) h = absurd (false≢true h)
-taken_plain cells t n regs x DoEnd h = refl
+close_only : (a : Action) → is_close a ≡ true → a ≡ Close
+close_only Start h = absurd (false≢true h)
+close_only (Let r x) h = absurd (false≢true h)
+close_only (Load r c x) h = absurd (false≢true h)
+close_only (Store c x) h = absurd (false≢true h)
+close_only (Print x) h = absurd (false≢true h)
+close_only (Spawn u body args items deferred) h = absurd (false≢true h)
+close_only (Wait items) h = absurd (false≢true h)
+close_only Open h = absurd (false≢true h)
+close_only Close h = refl
+close_only (Test b) h = absurd (false≢true h)
+close_only End h = absurd (false≢true h)
+close_only Fault h = absurd (false≢true h)
+
+-- the action that was planned differs from the definitions' by a child's name alone
+pub planned_alike : {B : Type 0} (g : Action → B) (P : Program) (run : Seen) (p : Plan) → Fits P run → IsPlan P run p → p.instr.cells ≡ length P.cells
+    → ((n m : ℕ) (body : ℕ) (args : List ℤ) (items : List Item) (deferred : Bool) → g (Spawn (child p.config.task n) body args items deferred) ≡ g (Spawn (child p.config.task m) body args items deferred))
+    → g p.action ≡ g (planned P (history run) p.config.task zero_ℤ)
+planned_alike g P run p f i n alike =
+    let H = history run in
+    let t = p.config.task in
+    let c = situation P t H in
+    ap g (plan_action P run p f i n)
+    ∙ numbered_alike g P.cells t 1 (suc (spawn_count (own t H))) c.regs zero_ℤ (alike 1 (suc (spawn_count (own t H)))) (instr_at P c.line).statement
 
 pub plan_fits : (P : Program) (run : Seen) (p : Plan) → Fits P run → IsPlan P run p → has_ended run p.config.task ≡ false → p.instr.cells ≡ length P.cells → outcomes.Fits run p
 plan_fits P run p f i going n =
     let H = history run in
     let t = p.config.task in
-    let c = situation P t H in
-    let s = (instr_at P c.line).statement in
-    let same : is_start p.action ≡ is_start (planned P H t zero_ℤ) = ap is_start (plan_action P run p f i n) ∙ start_same P.cells t 1 (suc (spawn_count (own t H))) c.regs zero_ℤ zero_ℤ s in
-    let when = starts_pending P.cells t (own t H) (planned P H t zero_ℤ) (what_fits P f.well_formed H f.legal t zero_ℤ going) in
+    let a = planned P H t zero_ℤ in
+    let fits : Continues P.cells t (own t H) a = what_fits P f.well_formed H f.legal t zero_ℤ going in
+    let starts : is_start p.action ≡ is_start a = planned_alike is_start P run p f i n (λ k m body args items deferred. refl) in
+    let closes : is_close p.action ≡ is_close a = planned_alike is_close P run p f i n (λ k m body args items deferred. refl) in
+    let when = starts_pending P.cells t (own t H) a fits in
     record {
       cells = n ∙ ap length (sym f.cells);
-      plain = ap is_plain (plan_action P run p f i n) ∙ taken_plain P.cells t 1 c.regs zero_ℤ s (f.taken c.line);
-      starts = λ here. (λ h. when.0 (sym same ∙ h), λ e. same ∙ when.1 e);
+      starts = λ here. (λ h. when.0 (sym starts ∙ h), λ e. starts ∙ when.1 e);
+      closes = λ here e. (subst (Continues P.cells t (own t H)) (close_only a (sym closes ∙ ap is_close e)) fits).1;
     }
+
+-- ---- what keeps the task from the action that was planned
+
+known_refusal : (b c : Bool) (o : Option Hindrance) → b ≡ true → c ≡ false → ◌≡◌ {A = Option Refusal} (cond (not b) (Some NoSuchTask) (cond c (Some Ended) (option_map By o))) (option_map By o)
+known_refusal true false o e f = refl
+known_refusal true true o e f = absurd (false≢true (sym f))
+known_refusal false c o e f = absurd (false≢true e)
+
+pub refusal_planned : (P : Program) (run : Seen) (p : Plan) → Fits P run → IsPlan P run p → p.instr.cells ≡ length P.cells → is_spawned (history run) p.config.task ≡ true → has_ended run p.config.task ≡ false
+    → refusal_of P (history run) p.config.task ≡ option_map By (hindrance_of run p)
+refusal_planned P run p f i n there going =
+    let H = history run in
+    let t = p.config.task in
+    known_refusal (is_spawned H t) (list_any (ends t) H) (in_the_way H t (planned P H t zero_ℤ)) there going
+    ∙ ap (option_map By) (sym (planned_alike (in_the_way H t) P run p f i n (λ k m body args items deferred. refl)))
+
+-- the same for the plan of a task that goes on
+pub refusal_of_plan : (P : Program) (run : Seen) (t : Name) (p : Plan) → Fits P run → IsPlanOf P run t p → refusal_of P (history run) t ≡ option_map By (hindrance_of run p)
+refusal_of_plan P run t p f plan =
+    ap (refusal_of P (history run)) (sym plan.of_task)
+    ∙ refusal_planned P run p f (record { here = plan.current.here; instr = plan.instr }) (plan.fits.cells ∙ ap length f.cells) plan.current.spawned plan.current.going
+
+-- the plan of the least task that can step
+pub plan_ready : (P : Program) (run : Seen) (t : Name) (p : Plan) → IsPlanOf P run t p → least_ready P (history run) ≡ Some t → IsReady P run (Some p)
+plan_ready P run t p plan l = (record { of_task = refl; current = plan.current; instr = plan.instr; fits = plan.fits }, l ∙ ap Some (sym plan.of_task))
+
+-- so a task can step exactly where nothing is in the way of its plan
+pub can_by_plan : (P : Program) (run : Seen) (t : Name) (p : Plan) (b : Bool) → Fits P run → IsPlanOf P run t p → (b ≡ true) ↔ (hindrance_of run p ≡ None) → can_step P (history run) t ≡ b
+can_by_plan P run t p b f plan clear = ap is_none (refusal_of_plan P run t p f plan) ∙ at b (hindrance_of run p) clear
+  where
+    at : (x : Bool) (o : Option Hindrance) → (x ≡ true) ↔ (o ≡ None) → is_none (option_map By o) ≡ x
+    at true None c = refl
+    at true (Some h) c = cc (c.0 refl)
+    at false None c = absurd (false≢true (c.1 refl))
+    at false (Some h) c = refl
 
 -- ---- a task that isn't over stands at a statement
 

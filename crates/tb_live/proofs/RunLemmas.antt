@@ -1,20 +1,18 @@
 -- A Live's journal and run behind a move.
-use Rattle.std.proofs.Common.{◌≡◌, ◌<◌, ◌≤◌, ◌+◌, ℕ, zero, suc, List, [], ◌∷◌, ◌++◌, Bool, true, false, nat_le, not, length, reverse, refl, sym, ap, ap₂, ◌∙◌, subst, ℤ, arith, IsTrue, get_or}
+use Rattle.std.proofs.Common.{◌≡◌, ◌<◌, ◌≤◌, ◌+◌, ℕ, zero, suc, List, [], ◌∷◌, ◌++◌, Bool, true, false, nat_le, not, length, reverse, refl, sym, ap, ap₂, ◌∙◌, subst, ℤ, arith, get_or}
 use Rattle.std.proofs.lemmas.List.{reverse-append, ext_get_or, length-map}
-use Rattle.std.specs.List.{list_any}
 use Rattle.std.proofs.lemmas.Bool.Decides.{nat_tests}
 use Rattle.tb_model.specs.declared.entry.Entry.{Entry}
 use Rattle.tb_model.specs.declared.entry.Entry.TheVariants.{Opened, Stepped, Rolled}
 use Rattle.tb_model.specs.declared.event.Event.{Event}
 use Rattle.tb_model.specs.declared.step_id.StepId.{StepId}
-use Rattle.tb_model.specs.Names.{Name}
-use Rattle.tb_model.specs.Facts.{History, last, ends, is_spawned, prepend_if}
+use Rattle.tb_model.specs.Facts.{History, last, prepend_if}
 use Rattle.tb_model.specs.Legal.{Cells, first_number, MayFollow}
 use Rattle.tb_model.specs.Needs.{is_removed, without, step_of}
 use Rattle.tb_model.specs.Equivalent.{stands}
 use Rattle.tb_model.specs.Needers.{first_needer}
 use Rattle.tb_model.specs.Journal.{hist, Sound}
-use Rattle.tb_model.specs.Lines.{Departure, LinesFit}
+use Rattle.tb_model.specs.Lines.{Departure, LinesFit, without_lines}
 use Rattle.tb_model.specs.Program.{Program, Instr, Config as Place, instr_at, IsNext, LegalFor, situation, moved}
 use Rattle.tb_model.proofs.LinesLemmas.{lines_left}
 use Rattle.tb_model.proofs.NextLemmas.{removal_for}
@@ -25,13 +23,13 @@ use Rattle.tb_read.specs.Plans.{instruction, line_behind}
 use Rattle.tb_core.specs.declared.removed.Removed.{Removed}
 use Rattle.tb_core.specs.Seen.{Seen}
 use Rattle.tb_core.specs.Seen as core
-use Rattle.tb_core.specs.Situation.{config_of}
-use Rattle.tb_core.specs.Outcomes.{completed, event_of, departure_of, IsCurrent, IsFree, TakesBack}
+use Rattle.tb_core.specs.Outcomes.{event_of, departure_of, IsCurrent, IsFree, TakesBack}
 use Rattle.tb_core.specs.Outcomes as outcomes
-use Rattle.tb_core.specs.Soundness.{AreLast}
+use Rattle.tb_core.specs.Rolled.{RollsBack}
+use Rattle.tb_undo.specs.State.{AreLast}
 use Rattle.tb_model.specs.Alike.{Alike}
 use Rattle.tb_live.specs.Session.{Session, history, is_full, numbers_from, cell_numbers}
-use Rattle.tb_live.specs.Moves.{Steps, Undoes}
+use Rattle.tb_live.specs.Moves.{Undoes}
 use Rattle.tb_live.specs.Soundness.{Fits, IsSound}
 use Rattle.tb_live.proofs.PlanLemmas.{IsPlan, stands_at, holds_registers, plan_instr, plan_follows, moved_taken, own_moves}
 
@@ -98,7 +96,6 @@ stepped P limit J run new p i s room plan fitting k =
         fits = record {
           well_formed = f.well_formed;
           followed = f.followed;
-          taken = f.taken;
           cells = f.cells;
           root_line = f.root_line;
           lines = (f.lines, line_fits P run p f plan legal);
@@ -116,25 +113,34 @@ stepped P limit J run new p i s room plan fitting k =
 
 -- ---- behind an undo
 
-pub undone : (P : Program) (limit : ℕ) (J : List Entry) (run new : Seen) (i : StepId) (removed : Removed) → IsSound P limit J run → nat_le limit (length J) ≡ false
-    → TakesBack run i new removed → IsSound P limit (Rolled 0 i ∷ J) new
-undone P limit J run new i removed s room b =
+-- steps that are gone with the entry of the one that was chosen
+taken_back : (P : Program) (limit : ℕ) (J : List Entry) (run new : Seen) (i : StepId) → IsSound P limit J run → nat_le limit (length J) ≡ false
+    → stands i (core.history run) ≡ true → new.cells ≡ run.cells → new.root_line ≡ run.root_line → new.limit ≡ run.limit
+    → new.steps ≡ without_lines i run.steps → core.history new ≡ without i (core.history run) → IsSound P limit (Rolled 0 i ∷ J) new
+taken_back P limit J run new i s room stood cells root_line limits steps rest =
     let f = s.fits in record {
       fits = record {
         well_formed = f.well_formed;
         followed = f.followed;
-        taken = f.taken;
-        cells = b.cells ∙ f.cells;
-        root_line = b.root_line ∙ f.root_line;
-        lines = subst (LinesFit P) (sym b.steps) (lines_left P i run.steps f.lines);
-        legal = subst (LegalFor P) (sym b.rest) (removal_for P i (core.history run) f.legal);
+        cells = cells ∙ f.cells;
+        root_line = root_line ∙ f.root_line;
+        lines = subst (LinesFit P) (sym steps) (lines_left P i run.steps f.lines);
+        legal = subst (LegalFor P) (sym rest) (removal_for P i (core.history run) f.legal);
       };
-      sound = (s.sound, ap (stands i) (sym s.leaves) ∙ b.free.stands);
-      leaves = b.rest ∙ ap (without i) s.leaves;
-      limits = b.limit ∙ s.limits;
+      sound = (s.sound, ap (stands i) (sym s.leaves) ∙ stood);
+      leaves = rest ∙ ap (without i) s.leaves;
+      limits = limits ∙ s.limits;
       within = grind (arith, nat_tests);
       bound = s.bound;
     }
+
+pub undone : (P : Program) (limit : ℕ) (J : List Entry) (run new : Seen) (i : StepId) (removed : Removed) → IsSound P limit J run → nat_le limit (length J) ≡ false
+    → TakesBack run i new removed → IsSound P limit (Rolled 0 i ∷ J) new
+undone P limit J run new i removed s room b = taken_back P limit J run new i s room b.free.stands b.cells b.root_line b.limit b.steps b.rest
+
+pub rolled : (P : Program) (limit : ℕ) (J : List Entry) (run new : Seen) (i : StepId) (removed : List Removed) → IsSound P limit J run → nat_le limit (length J) ≡ false
+    → stands i (core.history run) ≡ true → RollsBack run i new removed → IsSound P limit (Rolled 0 i ∷ J) new
+rolled P limit J run new i removed s room stood b = taken_back P limit J run new i s room stood b.cells b.root_line b.limit b.steps b.rest
 
 -- ---- the cells
 
@@ -158,49 +164,6 @@ cells_shown first H numbers l =
 
 abbrev pub shown : Program → ℕ → List Entry → Session
 shown P limit entries = record { program = P; limit = limit; journal = reverse entries }
-
--- what the program plans for the task's situation
-pub plan_of : (P : Program) (run : Seen) (t : Name) (k : Config) (p : Plan) → k ≡ config_of run t → p.config ≡ k → instruction p.instr ≡ instr_at P k.at → IsPlan P run p
-plan_of P run t k p e q i =
-    let task : p.config.task ≡ t = ap (λ (c : Config). c.task) (q ∙ e) in record {
-      here = q ∙ e ∙ ap (config_of run) (sym task);
-      instr = i ∙ ap (λ (c : Config). instr_at P c.at) (sym q);
-    }
-
-pub record LiveSteps (P : Program) (limit : ℕ) (s : Session) (t : Name) (pushed : List Entry) (new : Seen) (i : StepId) : Type 0 where
-  pub sound : IsSound P limit (reverse pushed) new
-  pub steps : Steps s t (shown P limit pushed) i
-
-pub live_steps : (P : Program) (limit : ℕ) (entries spare pushed : List Entry) (run mid new : Seen) (s : Session) (t : Name) (k : Config) (p : Plan) (v : Event) (i : StepId)
-    → shown P limit entries ≡ s → IsSound P limit (reverse entries) run
-    → IsTrue (is_spawned (core.history run) t) → outcomes.has_ended run t ≡ false → is_full s ≡ false
-    → k ≡ config_of run t → p.config ≡ k → instruction p.instr ≡ instr_at P k.at → outcomes.Fits run p
-    → v ≡ event_of run p → mid ≡ run → outcomes.Steps mid p new i → spare ≡ entries → pushed ≡ spare ++ Stepped 0 v ∷ []
-    → LiveSteps P limit s t pushed new i
-live_steps P limit entries spare pushed run mid new s t k p v i shows sound spawned going room e q j fits event same steps kept grows =
-    let J = reverse entries in
-    let plan = plan_of P run t k p e q j in
-    let task : p.config.task ≡ t = ap (λ (c : Config). c.task) (q ∙ e) in
-    let room' : nat_le limit (length J) ≡ false = ap is_full shows ∙ room in
-    let steps' = subst (λ (z : Seen). outcomes.Steps z p new i) same steps in
-    let done = stepped P limit J run new p i sound room' plan fits steps' in
-    let all : reverse pushed ≡ Stepped 0 (event_of run p) ∷ J =
-    ap reverse (grows ∙ ap (λ es. es ++ Stepped 0 v ∷ []) kept) ∙ reverse-append entries (Stepped 0 v ∷ []) ∙ ap (λ (w : Event). Stepped 0 w ∷ J) event
-    in record {
-      sound = subst (λ (K : List Entry). IsSound P limit K new) (sym all) done.sound;
-      steps = subst (λ (z : Session). Steps z t (shown P limit pushed) i) shows (record {
-        may = record {
-          spawned = ap (λ K. is_spawned K t) (sym sound.leaves) ∙ spawned;
-          going = ap (λ K. list_any (ends t) K) (sym sound.leaves) ∙ going;
-          room = room';
-        };
-        event = event_of run p;
-        of_task = task;
-        next = done.next;
-        id = done.id;
-        now = ap (λ (K : List Entry). record { program = P; limit = limit; journal = K }) all;
-      });
-    }
 
 pub record LiveUndoes (P : Program) (limit : ℕ) (s : Session) (i : StepId) (pushed : List Entry) (new : Seen) (removed : Removed) : Type 0 where
   pub sound : IsSound P limit (reverse pushed) new

@@ -1,5 +1,5 @@
--- What a step and an undo answer, and what they leave.
-use Rattle.std.specs.Prelude.{◌≡◌, ◌∷◌, Bool, Some, None, Result, Ok, Err, IsTrue, IsFalse}
+-- What a step, an undo and a rollback answer, and what they leave.
+use Rattle.std.specs.Prelude.{◌≡◌, List, ◌∷◌, reverse, Bool, Option, Some, None, Result, Ok, Err, IsTrue, IsFalse}
 use Rattle.std.specs.List.{list_any}
 use Rattle.tb_model.specs.declared.entry.Entry.TheVariants.{Stepped, Rolled}
 use Rattle.tb_model.specs.declared.event.Event.{Event}
@@ -12,39 +12,71 @@ use Rattle.tb_model.specs.Needs.{step_of}
 use Rattle.tb_model.specs.Needers.{first_needer}
 use Rattle.tb_model.specs.Equivalent.{stands}
 use Rattle.tb_model.specs.Program.{IsNext}
+use Rattle.tb_model.specs.Hindrances.{Refusal, By, refusal_of, least_ready, next_event}
+use Rattle.tb_model.specs.Hindrances.{NoSuchTask as IsMissing, Ended as IsOver}
+use Rattle.tb_model.specs.Hindrances.{Undeferred as TheUndeferred, Waiting as IsWaiting, Excluded as IsExcluded, Children as TheChildren, Group as TheGroup}
 use Rattle.tb_core.specs.declared.removed.Removed.{Removed}
 use Rattle.tb_core.specs.declared.step_refusal.StepRefusal.{StepRefusal}
-use Rattle.tb_core.specs.declared.step_refusal.StepRefusal.TheVariants.{Memory, NoSuchTask, Ended, Full, Stale}
+use Rattle.tb_core.specs.declared.step_refusal.StepRefusal.TheVariants.{Memory, NoSuchTask, Ended, Waiting, Excluded, Children, Group, Full, Stale, Undeferred}
 use Rattle.tb_core.specs.declared.undo_refusal.UndoRefusal.{UndoRefusal}
 use Rattle.tb_core.specs.declared.undo_refusal.UndoRefusal.TheVariants.{Memory as NoMemory, NoSuchStep, Needed, Full as JournalFull}
+use Rattle.tb_core.specs.Rolled.{removals}
+use Rattle.tb_roll.specs.declared.roll_refusal.RollRefusal.{RollRefusal}
+use Rattle.tb_roll.specs.declared.roll_refusal.RollRefusal.TheVariants.{NoSuchStep as StepIsMissing, Full as NoPlace, Memory as NoRoom}
 use Rattle.tb_live.specs.Session.{Session, history, is_full, with_entry}
 
 abbrev pub has_ended : Session → Name → Bool
 has_ended s t = list_any (ends t) (history s)
 
--- the task is there, isn't over, and the journal has a place
+-- what keeps the task from its step, but for the journal's limit
+abbrev pub refusal_for : Session → Name → Option Refusal
+refusal_for s t = refusal_of s.program (history s) t
+
+-- the least task that can step, but for the journal's limit
+abbrev pub least_task : Session → Option Name
+least_task s = least_ready s.program (history s)
+
+-- what the task does next
+abbrev pub coming : Session → Name → Event
+coming s t = next_event s.program (history s) t
+
+-- nothing keeps the task from its step, and the journal has a place
 pub record MayStep (s : Session) (t : Name) : Type 0 where
-  pub spawned : IsTrue (is_spawned (history s) t)
-  pub going : IsFalse (has_ended s t)
+  pub unrefused : refusal_for s t ≡ None
   pub room : IsFalse (is_full s)
 
 -- the task's next event is the journal's newest entry
 pub record Steps (s : Session) (t : Name) (new : Session) (i : StepId) : Type 0 where
   pub may : MayStep s t
-  pub event : Event
-  pub of_task : event.task ≡ t
-  pub next : IsNext s.program (history s) event
-  pub id : i ≡ step_of (history s) event
-  pub now : new ≡ with_entry s (Stepped 0 event)
+  pub next : IsNext s.program (history s) (coming s t)
+  pub id : i ≡ step_of (history s) (coming s t)
+  pub now : new ≡ with_entry s (Stepped 0 (coming s t))
 
--- a step by its answer: the first refusal that holds, memory last; a refusal changes nothing
+-- when a task takes no step; memory may be wanted where the task is there and goes on
+abbrev pub Refuses : Session → Name → StepRefusal → Type 0
+Refuses s t NoSuchTask = refusal_for s t ≡ Some IsMissing
+Refuses s t Ended = refusal_for s t ≡ Some IsOver
+Refuses s t (Undeferred child) = refusal_for s t ≡ Some (By (TheUndeferred child))
+Refuses s t (Waiting pred) = refusal_for s t ≡ Some (By (IsWaiting pred))
+Refuses s t (Excluded by) = refusal_for s t ≡ Some (By (IsExcluded by))
+Refuses s t (Children first) = refusal_for s t ≡ Some (By (TheChildren first))
+Refuses s t (Group first) = refusal_for s t ≡ Some (By (TheGroup first))
+Refuses s t Full = (refusal_for s t ≡ None) × IsTrue (is_full s)
+Refuses s t Memory = IsTrue (is_spawned (history s) t) × IsFalse (has_ended s t)
+Refuses s t (Stale now) = ⊥
+
+-- a step by its answer: the first refusal that holds; a refusal changes nothing
 abbrev pub StepsBy : Session → Name → Session → Result StepId StepRefusal → Type 0
 StepsBy s t new (Ok i) = Steps s t new i
-StepsBy s t new (Err NoSuchTask) = (new ≡ s) × IsFalse (is_spawned (history s) t)
-StepsBy s t new (Err Ended) = (new ≡ s) × IsTrue (is_spawned (history s) t) × IsTrue (has_ended s t)
-StepsBy s t new (Err Full) = (new ≡ s) × IsTrue (is_spawned (history s) t) × IsFalse (has_ended s t) × IsTrue (is_full s)
-StepsBy s t new (Err Memory) = (new ≡ s) × MayStep s t
-StepsBy s t new (Err (Stale now)) = ⊥
+StepsBy s t new (Err e) = (new ≡ s) × Refuses s t e
+
+-- the same for the least task that can step; None where all tasks have ended
+abbrev pub LeastStepsBy : Session → Session → Result (Option StepId) StepRefusal → Type 0
+LeastStepsBy s new (Ok None) = (new ≡ s) × (least_task s ≡ None)
+LeastStepsBy s new (Ok (Some i)) = (t : Name) × (least_task s ≡ Some t) × Steps s t new i
+LeastStepsBy s new (Err Full) = (new ≡ s) × ((t : Name) × (least_task s ≡ Some t)) × IsTrue (is_full s)
+LeastStepsBy s new (Err Memory) = new ≡ s
+LeastStepsBy s new (Err _) = ⊥
 
 -- the step stands, nothing needs it, and the journal has a place
 pub record MayUndo (s : Session) (i : StepId) : Type 0 where
@@ -67,3 +99,16 @@ UndoneBy s i new (Err NoSuchStep) = (new ≡ s) × IsFalse (stands i (history s)
 UndoneBy s i new (Err (Needed by)) = (new ≡ s) × IsTrue (stands i (history s)) × (first_needer i (history s) ≡ Some by)
 UndoneBy s i new (Err JournalFull) = (new ≡ s) × IsTrue (stands i (history s)) × (first_needer i (history s) ≡ None) × IsTrue (is_full s)
 UndoneBy s i new (Err NoMemory) = (new ≡ s) × IsTrue (stands i (history s))
+
+-- the step and all that need it are gone, and nothing else; the rollback is the journal's newest entry
+pub record Rolls (s : Session) (i : StepId) (new : Session) (removed : List Removed) : Type 0 where
+  pub stands : IsTrue (stands i (history s))
+  pub room : IsFalse (is_full s)
+  pub now : new ≡ with_entry s (Rolled 0 i)
+  pub gone : removed ≡ reverse (removals i (history s))
+
+-- when all stays
+abbrev pub KeepsAll : Session → StepId → RollRefusal → Type 0
+KeepsAll s i StepIsMissing = IsFalse (stands i (history s))
+KeepsAll s i NoPlace = IsTrue (stands i (history s)) × IsTrue (is_full s)
+KeepsAll s i NoRoom = IsTrue (stands i (history s))

@@ -2,11 +2,14 @@
 #![tactic(auto)]
 
 mod live;
+mod newest;
 mod planning;
-mod taken;
+mod ready;
+mod rolling;
+mod stepping;
 #[cfg(test)]
 mod tests;
 
 pub use live::Live;
-pub use taken::first_untaken;
 pub use tb_core::{Removed, StepRefusal, UndoRefusal};
+pub use tb_roll::RollRefusal;

@@ -1,18 +1,22 @@
 //! A live run: the program, the core and the journal.
 
-ghost use Rattle.std.specs.Prelude.{◌≡◌, ◌≤◌, IfOk, reverse, slice_get};
+ghost use Rattle.std.specs.Prelude.{◌≡◌, ◌≤◌, IfOk, IfErr, reverse, slice_get};
 ghost use Rattle.std.specs.Option.{option_copied};
 ghost use Rattle.tb_model.specs.State.{printed};
-ghost use Rattle.tb_core.specs.Plain.{AllTaken};
-ghost use Rattle.tb_live.specs.Session.{opened, history, is_full, cell_numbers};
-ghost use Rattle.tb_live.specs.Moves.{StepsBy, UndoneBy};
+ghost use Rattle.tb_live.specs.Session.{opened, history, is_full, cell_numbers, last_store, last_print};
+ghost use Rattle.tb_live.specs.Moves.{StepsBy, LeastStepsBy, UndoneBy, Rolls, KeepsAll};
 
-use crate::planning::plan_step;
+use crate::newest::{newest_step, place_of_print, place_of_store};
+use crate::planning::plan_of;
+use crate::ready::ready_plan;
+use crate::rolling::enter_roll;
+use crate::stepping::enter_step;
 use std::alloc::{AllocError, Global};
 use std::marker::Model;
 use tb_core::{Core, Removed, StepRefusal, UndoRefusal};
 use tb_model::{Entry, Event, StepId, TaskName};
 use tb_read::Program;
+use tb_roll::RollRefusal;
 
 /// A program, its run so far, and the journal of all that was done.
 #[derive(Drop)]
@@ -38,10 +42,8 @@ impl Model for Live {
 }
 
 impl Live {
-    /// A run in front of its first step. The journal has one entry, of at most `limit`. The program
-    /// has none but the statements that `first_untaken` lets pass.
+    /// A run in front of its first step. The journal has one entry, of at most `limit`.
     pub fn open(alloc: Global, program: Program, limit: u32) -> Result<Live, AllocError>
-        requires taken { AllTaken program }
         requires some { 1 ≤ limit }
         requires bound { limit ≤ 1000000 }
         ensures { IfOk result (λ live. live ≡ opened program limit) }
@@ -93,38 +95,31 @@ impl Live {
         self.limit as usize <= self.journal.as_slice().len()
     }
 
-    /// Takes the next step of a task, for seat 0.
+    /// Takes the next step of a task, for seat 0. Want of memory comes only where a growth was
+    /// refused.
     pub fn step(&mut self, task: &TaskName) -> Result<StepId, StepRefusal>
         ensures { StepsBy self.old task.now self.new result }
     {
-        let config = match self.core.config(task) {
-            Some(config) => config,
-            None => return Err(StepRefusal::NoSuchTask),
-        };
-        if self.core.has_ended(task) {
-            return Err(StepRefusal::Ended);
-        }
-        if self.is_full() {
-            return Err(StepRefusal::Full);
-        }
-        let plan = match plan_step(self.alloc, &self.program, &self.core, &config) {
+        let plan = match plan_of(self.alloc, &self.program, &self.core, task) {
             Ok(plan) => plan,
+            Err(refusal) => return Err(refusal),
+        };
+        enter_step(&mut self.core, &mut self.journal, self.limit, plan)
+    }
+
+    /// Takes the next step of the least task that can step, for seat 0; None where all tasks have
+    /// ended.
+    pub fn step_least(&mut self) -> Result<Option<StepId>, StepRefusal>
+        ensures { LeastStepsBy self.old self.new result }
+    {
+        let plan = match ready_plan(self.alloc, &self.program, &self.core) {
+            Ok(Some(plan)) => plan,
+            Ok(None) => return Ok(None),
             Err(_) => return Err(StepRefusal::Memory),
         };
-        if self.journal.reserve(1).is_err() {
-            return Err(StepRefusal::Memory);
-        }
-        let event = match self.core.reserve_step(&plan) {
-            Ok(event) => event,
-            Err(_) => return Err(StepRefusal::Memory),
-        };
-        match self.core.step(plan) {
-            Ok(id) => {
-                self.journal
-                    .push_reserved(Entry::Stepped { seat: 0, event });
-                Ok(id)
-            }
-            Err(_) => unreachable!(),
+        match enter_step(&mut self.core, &mut self.journal, self.limit, plan) {
+            Ok(id) => Ok(Some(id)),
+            Err(refusal) => Err(refusal),
         }
     }
 
@@ -152,5 +147,36 @@ impl Live {
             }
             Err(_) => unreachable!(),
         }
+    }
+
+    /// Takes a step back with all that need it, for seat 0, and tells them in the order of the
+    /// history, the chosen one first.
+    pub fn roll(&mut self, id: &StepId) -> Result<Vec<Removed>, RollRefusal>
+        ensures rolled { IfOk result (λ removed. Rolls self.old id.now self.new removed.items) }
+        ensures refused { IfErr result (λ e. (self.new ≡ self.old) × KeepsAll self.old id.now e) }
+    {
+        enter_roll(
+            self.alloc,
+            &mut self.core,
+            &mut self.journal,
+            self.limit,
+            id,
+        )
+    }
+
+    /// The last store to the cell.
+    pub fn last_store(&self, cell: u32) -> Result<Option<StepId>, AllocError>
+        ensures { IfOk result (λ id. id ≡ last_store cell (history self.now)) }
+    {
+        let entries = self.core.legal_entries();
+        newest_step(entries, place_of_store(entries, cell))
+    }
+
+    /// The last print.
+    pub fn last_print(&self) -> Result<Option<StepId>, AllocError>
+        ensures { IfOk result (λ id. id ≡ last_print (history self.now)) }
+    {
+        let entries = self.core.legal_entries();
+        newest_step(entries, place_of_print(entries))
     }
 }

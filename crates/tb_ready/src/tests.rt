@@ -53,35 +53,53 @@ fn the_least_marked_name_comes_first(rt: HostRuntime) -> Result<(), Fail> {
     Ok(())
 }
 
+fn names_of(alloc: Global, rows: &[&[u32]]) -> Result<Vec<TaskName>, AllocError> {
+    let mut names = Vec::new(alloc);
+    for numbers in rows {
+        names.push(name(alloc, *numbers)?)?;
+    }
+    Ok(names)
+}
+
+/// Adds the names at these places, one after another, and marks them.
+fn mark_all(ready: &mut Ready, names: &[TaskName], places: &[usize]) -> Result<(), AllocError> {
+    for at in places {
+        if let Some(name) = names.get(*at) {
+            ready.add(name.clone()?)?;
+            ready.mark(name, true);
+        }
+    }
+    Ok(())
+}
+
+/// Whether these are all the marked names, in order.
+fn are_marked(ready: &Ready, names: &[TaskName]) -> bool {
+    let mut after = None;
+    for name in names {
+        if ready.next_marked(after) != Some(name) {
+            return false;
+        }
+        after = Some(name);
+    }
+    ready.next_marked(after).is_none()
+}
+
 #[test]
-fn the_marked_names_follow_in_order(rt: HostRuntime) -> Result<(), Fail> {
-    let alloc = rt.alloc();
-    let mut ready = Ready::new(alloc);
-    assert!(rt; ready.next_marked(None).is_none());
+fn the_marked_names_follow_in_order(rt: HostRuntime) {
     let rows: [&[u32]; 4] = [
-        [2].as_slice(),
-        [1, 3].as_slice(),
         [].as_slice(),
         [1].as_slice(),
+        [1, 3].as_slice(),
+        [2].as_slice(),
     ];
-    for numbers in rows {
-        ready.add(name(alloc, numbers)?)?;
-        ready.mark(&name(alloc, numbers)?, true);
-    }
-    let root = name(alloc, [].as_slice())?;
-    let first = name(alloc, [1].as_slice())?;
-    let grandchild = name(alloc, [1, 3].as_slice())?;
-    let second = name(alloc, [2].as_slice())?;
-    assert!(rt; ready.next_marked(None) == Some(&root));
-    assert!(rt; ready.next_marked(Some(&root)) == Some(&first));
-    assert!(rt; ready.next_marked(Some(&first)) == Some(&grandchild));
-    assert!(rt; ready.next_marked(Some(&grandchild)) == Some(&second));
-    assert!(rt; ready.next_marked(Some(&second)).is_none());
-    ready.mark(&first, false);
-    assert!(rt; ready.next_marked(Some(&root)) == Some(&grandchild));
-    assert!(rt; ready.next_marked(Some(&first)) == Some(&grandchild));
-    assert!(rt; ready.next_marked(Some(&name(alloc, [1, 4].as_slice())?)) == Some(&second));
-    Ok(())
+    let names = names_of(rt.alloc(), rows.as_slice()).expect(&rt, "memory is there");
+    let mut ready = Ready::new(rt.alloc());
+    assert!(rt; are_marked(&ready, &names[..0]));
+    let places = [3_usize, 2, 0, 1];
+    mark_all(&mut ready, &names, places.as_slice()).expect(&rt, "memory is there");
+    assert!(rt; are_marked(&ready, &names));
+    ready.mark(&names[0], false);
+    assert!(rt; are_marked(&ready, &names[1..]));
 }
 
 #[test]

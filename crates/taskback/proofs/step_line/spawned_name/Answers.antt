@@ -1,5 +1,5 @@
 use Rattle.std.proofs.Common.{ap, sym, ◌∙◌}
-use Rattle.taskback.specs.Replies.{as_text}
+use Rattle.taskback.specs.Texts.{as_text}
 use Rattle.taskback.proofs.NameLemmas.{spawned_is, nothing_is}
 use Rattle.taskback.proofs.step_line.spawned_name.Goals as goal
 

@@ -1,6 +1,6 @@
 use Rattle.std.proofs.Common.{◌≡◌, ◌++◌, drop}
 use Rattle.std.specs.Prelude.{string_bytes}
-use Rattle.taskback.specs.Replies.{cell_lines, cells_text}
+use Rattle.taskback.specs.Texts.{cell_lines, cells_text}
 use Rattle.taskback.proofs.views.cells_text.Given as goal
 
 -- the text so far, and the lines of the cells that are left, are the whole text

@@ -7,8 +7,7 @@ use Rattle.tb_read.specs.Meaning.{IsPosition}
 use Rattle.tb_read.specs.Plans.{instruction}
 use Rattle.tb_core.specs.Seen.{history}
 use Rattle.tb_core.specs.Outcomes.{has_ended}
-use Rattle.tb_live.proofs.PlanLemmas.{plan_fits, stands_at, stands_somewhere}
-use Rattle.tb_live.proofs.RunLemmas.{plan_of}
+use Rattle.tb_live.proofs.PlanLemmas.{is_plan, plan_fits, stands_at, stands_somewhere}
 use Rattle.tb_live.proofs.planning.plan_step.Goals as goal
 
 -- a task that isn't over stands at a statement
@@ -29,5 +28,5 @@ returns-clause-fits c =
     let p = c.in_ok-planned-in-Some.planned in
     let q = c.in_ok-planned-in-Some.ensures.config in
     let i : instruction p.instr ≡ instr_at P k.at = ap instruction c.in_ok-planned-in-Some.ensures.instr ∙ c.in-Some.ensures.instr in
-    plan_fits P run p c.requires.fits (plan_of P run k.task k p c.requires.here q i) (ap (λ (z : Config). has_ended run z.task) q ∙ c.requires.going)
+    plan_fits P run p c.requires.fits (is_plan P run k.task k p c.requires.here q i) (ap (λ (z : Config). has_ended run z.task) q ∙ c.requires.going)
     (ap (λ (z : Instr). z.cells) c.in_ok-planned-in-Some.ensures.instr ∙ c.in-Some.ensures.cells)

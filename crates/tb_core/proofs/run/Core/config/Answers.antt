@@ -1,12 +1,20 @@
-use Rattle.std.proofs.Common.{sym, ap, ◌∙◌, subst, length, ◌==◌}
-use Rattle.std.proofs.lemmas.Bool.{false≢true}
-use Rattle.tb_core.specs.Seen.{Seen, Held, history}
-use Rattle.tb_core.proofs.RootLemmas.{AreRootSteps, root_alone}
+use Rattle.std.proofs.Common.{◌≡◌, map, option_map, reverse, ap, ◌∙◌, subst, Some}
+use Rattle.tb_core.specs.Soundness.{departure}
+use Rattle.tb_undo.specs.State.{task_of}
+use Rattle.tb_undo.specs.Readings.{standing_of}
+use Rattle.tb_core.specs.Seen.{Held}
+use Rattle.tb_core.specs.Naming.{config_with}
+use Rattle.tb_core.proofs.ShownLemmas.{config_told, none_told}
 use Rattle.tb_core.proofs.run.Core.config.Goals as goal
 
--- only the root is there
-pub returns-else-is_empty-clause-there : goal.returns-else-is_empty-clause-there
-returns-else-is_empty-clause-there c =
-    let roots = subst (λ (z : Seen). AreRootSteps (history z)) (ap (λ (h : Held). h.run) c.self.view_is) c.self.invariant.roots in
-    let alone = root_alone (history c.args.self.now.run) c.args.task.now roots (ap (λ t. length t == 0) (sym c.numbers.ensures) ∙ sym c.is_empty.ensures ∙ c.if-is_empty.false) in
-    (λ h. absurd (false≢true h), λ h. absurd (false≢true (sym alone ∙ h)))
+pub returns-in_ok-clone-in-Some : goal.returns-in_ok-clone-in-Some
+returns-in_ok-clone-in-Some c =
+    let here = c.standing.ensures c.self.inside.first.items c.self.inside.root_line (map departure (reverse c.self.inside.entries.items)) c.self.invariant.0.state in
+    let told = subst (λ (h : Held). c.standing.result ≡ option_map standing_of (task_of h.run.root_line h.run.steps c.args.task.now)) c.self.view_is here in
+    ap Some (c.config.ensures ∙ ap (λ t. config_with t c.in-Some.standing) c.in_ok-clone-in-Some.ensures.cases) ∙ config_told c.args.self.now.run c.args.task.now c.standing.result told c.in-Some.standing c.in-Some.is
+
+pub returns-in-None : goal.returns-in-None
+returns-in-None c =
+    let here = c.standing.ensures c.self.inside.first.items c.self.inside.root_line (map departure (reverse c.self.inside.entries.items)) c.self.invariant.0.state in
+    let told = subst (λ (h : Held). c.standing.result ≡ option_map standing_of (task_of h.run.root_line h.run.steps c.args.task.now)) c.self.view_is here in
+    none_told c.args.self.now.run c.args.task.now c.standing.result told c.in-None.is

@@ -1,22 +1,11 @@
-use Rattle.std.proofs.Common.{◌≡◌, ◌<◌, ◌≤◌, length, true, sym, ap, ◌∙◌, subst, arith}
-use Rattle.tb_model.specs.Equivalent.{stands}
-use Rattle.tb_core.specs.Seen.{Seen, Held, history}
-use Rattle.tb_core.proofs.RootLemmas.{AreRootSteps}
-use Rattle.tb_core.proofs.BackLemmas.{needed_next, free_newest}
+use Rattle.std.proofs.Common.{refl, ap}
+use Rattle.tb_core.specs.Seen.{Held}
+use Rattle.tb_core.proofs.UndoneLemmas.{needed}
 use Rattle.tb_core.proofs.run.Core.keeps.Goals as goal
 
-pub returns-then-id-count-clause-some : goal.returns-then-id-count-clause-some
-returns-then-id-count-clause-some c =
-    let s = c.args.self.now.run in
-    let there : stands c.args.id.now (history s) ≡ true = sym c.is_standing.ensures ∙ c.if-not-is_standing.false in
-    let roots = subst (λ (z : Seen). AreRootSteps (history z)) (ap (λ (h : Held). h.run) c.self.view_is) c.self.invariant.roots in
-    let earlier : c.args.id.now.k < length s.steps = omega (arith, c.count.ensures.count, c.if-id-count.true) in
-    (there, needed_next s c.args.id.now c.root.result roots c.root.ensures there earlier)
-
-pub returns-clause-none : goal.returns-clause-none
-returns-clause-none c =
-    let s = c.args.self.now.run in
-    let there : stands c.args.id.now (history s) ≡ true = sym c.is_standing.ensures ∙ c.if-not-is_standing.false in
-    let roots = subst (λ (z : Seen). AreRootSteps (history z)) (ap (λ (h : Held). h.run) c.self.view_is) c.self.invariant.roots in
-    let newest : length s.steps ≤ c.args.id.now.k = omega (arith, c.count.ensures.count, c.if-id-count.false) in
-    free_newest s c.args.id.now roots there newest
+pub returns-in-Err-clause-some : goal.returns-in-Err-clause-some
+returns-in-Err-clause-some c =
+    let i = c.self.inside in
+    needed i.first.items i.root_line i.limit i.entries.items c.deref.result.now c.deref-2.result.now c.args.id.now c.in-Some.at c.in_ok-by.by c.args.self.now.run
+    (ap (λ (h : Held). h.run) c.self.view_is) c.self.invariant.0.legal c.deref.ensures.value c.deref-2.ensures.value
+    (c.in-Some.ensures.there.0 refl) c.in-Some.ensures.step c.in_ok-by.ensures.needer c.in_ok-by.ensures.within

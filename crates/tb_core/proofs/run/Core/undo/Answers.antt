@@ -1,16 +1,10 @@
 use Rattle.std.proofs.Common.{ap}
 use Rattle.tb_core.specs.Seen.{Held}
-use Rattle.tb_core.proofs.BackLemmas.{taken_back}
+use Rattle.tb_core.proofs.UndoneLemmas.{place_told}
 use Rattle.tb_core.proofs.run.Core.undo.Goals as goal
 
-pub invariant_of-self : goal.invariant_of-self
-invariant_of-self c =
+pub take_out-requires-clause-here : goal.take_out-requires-clause-here
+take_out-requires-clause-here c =
     let i = c.self.inside in
-    (taken_back i.first.items i.root_line i.limit i.entries.items c.pop.new.self.items c.in-Some-pop.entry i.tables c.revert.new.self c.args.self.now.run c.args.id.now
-    (ap (λ (h : Held). h.run) c.self.view_is) c.self.invariant c.in-Some-pop.ensures.items c.revert.ensures c.in_default.ensures.none).sound
-
-pub returns-in-Some-pop-clause-undone : goal.returns-in-Some-pop-clause-undone
-returns-in-Some-pop-clause-undone c =
-    let i = c.self.inside in
-    (taken_back i.first.items i.root_line i.limit i.entries.items c.pop.new.self.items c.in-Some-pop.entry i.tables c.revert.new.self c.args.self.now.run c.args.id.now
-    (ap (λ (h : Held). h.run) c.self.view_is) c.self.invariant c.in-Some-pop.ensures.items c.revert.ensures c.in_default.ensures.none).back
+    place_told i.first.items i.root_line i.limit i.entries.items c.deref.result.now c.args.id.now c.in-Some-place_of.at c.args.self.now.run
+    (ap (λ (h : Held). h.run) c.self.view_is) c.deref.ensures.value c.in-Some-place_of.ensures.within c.in-Some-place_of.ensures.step

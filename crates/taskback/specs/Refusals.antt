@@ -1,0 +1,47 @@
+-- Why a step, an undo or a rollback is refused, told: the first reason that holds.
+use Rattle.std.specs.Prelude.{ℕ, List, codes, not, if◌then◌else◌, option_map, Option, Some, None}
+use Rattle.std.specs.Option.{option_or}
+use Rattle.tb_model.specs.declared.step_id.StepId.{StepId}
+use Rattle.tb_model.specs.Names.{Name}
+use Rattle.tb_model.specs.Needers.{first_needer}
+use Rattle.tb_model.specs.Equivalent.{stands}
+use Rattle.tb_model.specs.Hindrances.{Hindrance, Refusal, NoSuchTask, Ended, By, Undeferred, Waiting, Excluded, Children, Group}
+use Rattle.tb_live.specs.Session.{Session, history, is_full}
+use Rattle.tb_live.specs.Moves.{refusal_for}
+use Rattle.taskback.specs.Texts.{refused, refused_for, refused_with}
+
+-- ---- a step
+
+abbrev pub hindrance_line : Hindrance → List ℕ
+hindrance_line (Waiting pred) = refused_for 3 (codes "Waiting") pred
+hindrance_line (Excluded by) = refused_for 4 (codes "Excluded") by
+hindrance_line (Children first) = refused_for 5 (codes "Children") first
+hindrance_line (Group first) = refused_for 6 (codes "Group") first
+hindrance_line (Undeferred child) = refused_for 13 (codes "Undeferred") child
+
+abbrev pub refusal_line : Refusal → List ℕ
+refusal_line NoSuchTask = refused 1 (codes "NoSuchTask")
+refusal_line Ended = refused 2 (codes "Ended")
+refusal_line (By hindrance) = hindrance_line hindrance
+
+-- what keeps the task itself comes before a full journal
+abbrev pub step_refusal : Session → Name → Option (List ℕ)
+step_refusal s t = option_or (option_map refusal_line (refusal_for s t)) (if is_full s then Some (refused 7 (codes "Full")) else None)
+
+-- ---- an undo
+
+abbrev pub needed_or : Option StepId → Option (List ℕ) → Option (List ℕ)
+needed_or (Some by) other = Some (refused_with 2 (codes "Needed") by)
+needed_or None other = other
+
+abbrev pub undo_refusal : Session → StepId → Option (List ℕ)
+undo_refusal s id =
+    if not (stands id (history s)) then Some (refused 1 (codes "NoSuchStep"))
+    else needed_or (first_needer id (history s)) (if is_full s then Some (refused 3 (codes "Full")) else None)
+
+-- ---- a rollback
+
+abbrev pub roll_refusal : Session → StepId → Option (List ℕ)
+roll_refusal s id =
+    if not (stands id (history s)) then Some (refused 1 (codes "NoSuchStep"))
+    else (if is_full s then Some (refused 2 (codes "Full")) else None)

@@ -1,0 +1,189 @@
+//! What lines ask for.
+
+use crate::asked::{Asked, CommandFault};
+use crate::asking::read_line;
+use crate::command::Command;
+use crate::divider::is_divider;
+use crate::line_reader::{LineEnd, LineReader};
+use crate::tests::fakes::FailsAt;
+use std::alloc::Global;
+use std::test::Fail;
+
+#[test]
+fn lines_come_whole_from_pieces(rt: HostRuntime) -> Result<(), Fail> {
+    for piece in [1usize, 2, 3, 5, 100] {
+        let mut source = FailsAt {
+            bytes: b"one\n\nthree\r\n# four\nlast",
+            piece,
+            calls: 0,
+            fails_at: 0,
+            failed: 0,
+        };
+        let mut reader = LineReader::new();
+        let mut line = Vec::new(rt.alloc());
+        for (want, end) in [
+            ("one", LineEnd::Feed),
+            ("", LineEnd::Feed),
+            ("three\r", LineEnd::Feed),
+            ("# four", LineEnd::Feed),
+            ("last", LineEnd::Input),
+            ("", LineEnd::Input),
+        ] {
+            assert!(rt; source.failed == 0);
+            assert!(rt;
+                reader.next_line(&rt, &mut source, &mut line) == Ok(end),
+                "{want}"
+            );
+            assert!(rt; line.as_slice() == want.as_bytes(), "{want}");
+        }
+    }
+    Ok(())
+}
+
+/// A line of so many bytes that begins so.
+fn long_line(alloc: Global, start: &str, len: usize) -> Result<Vec<u8>, Fail> {
+    let mut line = Vec::from_slice(alloc, start.as_bytes())?;
+    for _ in start.len()..len {
+        line.push(b' ')?;
+    }
+    Ok(line)
+}
+
+#[test]
+fn lines_that_are_no_commands(rt: HostRuntime) -> Result<(), Fail> {
+    let alloc = rt.alloc();
+    let table = [
+        ("fly", CommandFault::Word),
+        ("fly 1 2 3", CommandFault::Word),
+        ("steps 0", CommandFault::Word),
+        ("Step 0", CommandFault::Word),
+        ("---", CommandFault::Word),
+        ("step", CommandFault::Count),
+        ("step #0", CommandFault::Count),
+        ("step 0 0", CommandFault::Count),
+        ("cells 0", CommandFault::Count),
+        ("out out", CommandFault::Count),
+        ("step 00", CommandFault::Name),
+        ("step 1", CommandFault::Name),
+        ("step 0.01", CommandFault::Name),
+        ("step 0.0", CommandFault::Name),
+        ("step 0.1000001", CommandFault::Name),
+        ("step 0#1", CommandFault::Name),
+        ("undo 0", CommandFault::Name),
+        ("undo 0#0", CommandFault::Name),
+        ("undo 0#01", CommandFault::Name),
+        ("undo #1#1", CommandFault::Count),
+        ("run", CommandFault::Count),
+        ("run 1 x", CommandFault::Count),
+        ("run x", CommandFault::Number),
+        ("run -1", CommandFault::Number),
+        ("run -0", CommandFault::Number),
+        ("run +1", CommandFault::Number),
+        ("run 1x", CommandFault::Number),
+        ("run 1000001", CommandFault::Number),
+        ("run 4294967297", CommandFault::Number),
+        ("run 18446744073709551617", CommandFault::Number),
+        ("step \x7f", CommandFault::Line),
+        ("\x01", CommandFault::Line),
+        ("fly \x01", CommandFault::Line),
+    ];
+    for (line, want) in table {
+        let Ok(Asked::Fault(fault)) = read_line(alloc, line.as_bytes()) else {
+            panic!(rt; "{line}");
+        };
+        assert_eq!(rt; fault, want, "{line}");
+    }
+    let line = long_line(alloc, "cells", 1025)?;
+    assert!(rt;
+        matches!(
+            read_line(alloc, &line),
+            Ok(Asked::Fault(CommandFault::Line))
+        )
+    );
+    Ok(())
+}
+
+#[test]
+fn lines_that_are_commands(rt: HostRuntime) -> Result<(), Fail> {
+    let alloc = rt.alloc();
+    assert!(rt;
+        matches!(
+            read_line(alloc, b"cells"),
+            Ok(Asked::Command(Command::Cells))
+        )
+    );
+    assert!(rt;
+        matches!(
+            read_line(alloc, b" out\r"),
+            Ok(Asked::Command(Command::Out))
+        )
+    );
+    let line = long_line(alloc, "cells", 1024)?;
+    assert!(rt; matches!(read_line(alloc, &line), Ok(Asked::Command(Command::Cells))));
+    for (line, want) in [
+        ("step 0", "0"),
+        ("\tstep  0.1.12 ", "0.1.12"),
+        ("step 0.1000000 #1", "0.1000000"),
+        ("step 0.1 # \x01", "0.1"),
+    ] {
+        let Ok(Asked::Command(Command::Step { task })) = read_line(alloc, line.as_bytes()) else {
+            panic!(rt; "{line}");
+        };
+        let mut text = String::new(alloc);
+        task.print(&mut text)?;
+        assert_eq!(rt; text.as_str(), want, "{line}");
+    }
+    for (line, want) in [
+        ("run 0", 0),
+        ("run 7 # 8", 7),
+        ("run 00000000000000000000000000000000000012", 12),
+        ("run 1000000", 1_000_000),
+    ] {
+        assert!(rt;
+            matches!(
+                read_line(alloc, line.as_bytes()),
+                Ok(Asked::Command(Command::Run { most })) if most == want
+            ),
+            "{line}"
+        );
+    }
+    for (line, want) in [("undo 0#1", "0#1"), ("undo 0.2.3#1000000", "0.2.3#1000000")] {
+        let Ok(Asked::Command(Command::Undo { id })) = read_line(alloc, line.as_bytes()) else {
+            panic!(rt; "{line}");
+        };
+        let mut text = String::new(alloc);
+        id.print(&mut text)?;
+        assert_eq!(rt; text.as_str(), want, "{line}");
+    }
+    Ok(())
+}
+
+#[test]
+fn lines_without_words_ask_for_nothing(rt: HostRuntime) -> Result<(), Fail> {
+    let alloc = rt.alloc();
+    for line in ["", " \t\r", "#", "  # step 0", "#\x01"] {
+        assert!(rt;
+            matches!(read_line(alloc, line.as_bytes()), Ok(Asked::Nothing)),
+            "{line}"
+        );
+    }
+    let line = long_line(alloc, "#", 5000)?;
+    assert!(rt; matches!(read_line(alloc, &line), Ok(Asked::Nothing)));
+    let line = long_line(alloc, "", 5000)?;
+    assert!(rt; matches!(read_line(alloc, &line), Ok(Asked::Nothing)));
+    Ok(())
+}
+
+#[test]
+fn dividers(rt: HostRuntime) -> Result<(), Fail> {
+    let alloc = rt.alloc();
+    for line in ["---", "  ---\t", "--- # the commands", "---\r", "--- #\x01"] {
+        assert!(rt; is_divider(alloc, line.as_bytes())?, "{line}");
+    }
+    for line in ["", "--", "----", "--- ---", "---#", "# ---", "---x"] {
+        assert!(rt; !is_divider(alloc, line.as_bytes())?, "{line}");
+    }
+    let line = long_line(alloc, "---", 2000)?;
+    assert!(rt; is_divider(alloc, &line)?);
+    Ok(())
+}

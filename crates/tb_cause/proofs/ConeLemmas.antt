@@ -1,0 +1,221 @@
+-- The pass that finds what needs a step.
+use Rattle.std.proofs.Common.{◌≡◌, ◌<◌, ◌≤◌, ◌+◌, ℕ, suc, List, [], ◌∷◌, ◌++◌, Bool, true, false, ◌||◌, ⊎_elim, length, map, take, drop, reverse, refl, sym, ap, ap₂, ◌∙◌, subst, arith, Some, Option, get_or, slice_get, append_assoc, ne_eqb}
+use Rattle.std.specs.List.{list_any, All}
+use Rattle.std.specs.Option.{option_to_list}
+use Rattle.std.proofs.lemmas.Bool.{or_left, and_right}
+use Rattle.std.proofs.lemmas.List.{at_drop_more, length-map, length-reverse, length-take-le, reverse-append, take_all}
+use Rattle.std.proofs.lemmas.List.Elements.{All-push}
+use Rattle.std.proofs.lemmas.List.Sorted.{list_any-IsPermutation, IsPermutation-reverse}
+use Rattle.std.proofs.lemmas.Option.{slice_get_read, slice_get_cases}
+use Rattle.tb_model.specs.declared.event.Event.{Event}
+use Rattle.tb_model.specs.declared.step_id.StepId.{StepId}
+use Rattle.tb_model.specs.Causes.{Placed, some_needs}
+use Rattle.tb_model.specs.Facts.{History, is_of, own, prepend_if}
+use Rattle.tb_model.specs.Lines.{Departure}
+use Rattle.tb_model.specs.Needs.{needs, is_step, step_of, removed, is_removed}
+use Rattle.tb_model.proofs.FactsLemmas.{own_mine}
+use Rattle.tb_model.proofs.LeastLemmas.{gone_here}
+use Rattle.tb_model.proofs.RemovalLemmas.{own_grows, removed_none}
+use Rattle.tb_model.proofs.TestLemmas.{same_refl}
+use Rattle.tb_core.specs.declared.entry.Entry.{Entry}
+use Rattle.tb_core.specs.Rolled.{removed_places, removed_steps}
+use Rattle.tb_core.specs.Scans.{history_of, step_at}
+use Rattle.tb_core.specs.Soundness.{departure}
+use Rattle.tb_core.proofs.FirstLemmas.{step_read}
+use Rattle.tb_core.proofs.ScanLemmas.{history_more}
+use Rattle.tb_cause.specs.declared.cone.Cone.{Cone}
+use Rattle.tb_cause.specs.Chains.{IsCone, events_at, placed_at}
+
+-- ---- the tests of the entries at some places
+
+or_false : (b c : Bool) → b ≡ false → (b || c) ≡ c
+or_false b c h = ap (λ x. x || c) h
+
+module _ (entries : List Entry) (places : List ℕ) (i d : ℕ) (e : Entry) (within : i < length places) (inside : get_or places i d < length entries) (here : e ≡ get_or entries (get_or places i d) e) where
+  module _ (q : Event → Bool) where
+    next_event : list_any q (events_at entries (drop i places)) ≡ (q e.event || list_any q (events_at entries (drop (i + 1) places)))
+    next_event =
+        at_drop_more (λ l. list_any q (events_at entries l)) places i d within
+        ∙ ap (λ (o : Option Entry). list_any q (map (λ (x : Entry). x.event) (option_to_list o) ++ events_at entries (drop (i + 1) places))) (slice_get_read entries (length entries) (get_or places i d) e refl inside here)
+
+    abbrev found : Bool
+    found = q (get_or entries (get_or places i d) e).event
+
+    same : q e.event ≡ found
+    same = ap (λ (x : Entry). q x.event) here
+
+    pub event_passes : found ≡ true → list_any q (events_at entries (drop i places)) ≡ true
+    event_passes h = next_event ∙ or_left (q e.event) _ (same ∙ h)
+
+    pub event_passed : found ≡ false → list_any q (events_at entries (drop i places)) ≡ list_any q (events_at entries (drop (i + 1) places))
+    event_passed h = next_event ∙ or_false (q e.event) _ (same ∙ h)
+
+  module _ (u : Event) where
+    abbrev placed : Option Entry → List Placed
+    placed o = map (λ (x : Entry). record { event = x.event; front = history_of (take (get_or places i d) entries) }) (option_to_list o)
+
+    next_placed : some_needs (placed_at entries (drop i places)) u ≡ (needs (history_of (take (get_or places i d) entries)) e.event u || some_needs (placed_at entries (drop (i + 1) places)) u)
+    next_placed =
+        at_drop_more (λ l. some_needs (placed_at entries l) u) places i d within
+        ∙ ap (λ (o : Option Entry). some_needs (placed o ++ placed_at entries (drop (i + 1) places)) u) (slice_get_read entries (length entries) (get_or places i d) e refl inside here)
+
+    abbrev told : Bool
+    told = needs (history_of (take (get_or places i d) entries)) (get_or entries (get_or places i d) e).event u
+
+    alike : needs (history_of (take (get_or places i d) entries)) e.event u ≡ told
+    alike = ap (λ (x : Entry). needs (history_of (take (get_or places i d) entries)) x.event u) here
+
+    pub placed_needs : told ≡ true → some_needs (placed_at entries (drop i places)) u ≡ true
+    placed_needs h = next_placed ∙ or_left (needs (history_of (take (get_or places i d) entries)) e.event u) _ (alike ∙ h)
+
+    pub placed_passed : told ≡ false → some_needs (placed_at entries (drop i places)) u ≡ some_needs (placed_at entries (drop (i + 1) places)) u
+    placed_passed h = next_placed ∙ or_false (needs (history_of (take (get_or places i d) entries)) e.event u) _ (alike ∙ h)
+
+-- ---- what is found so far
+
+-- of the entries in front of later, these are e and all that need it; e is among them
+pub record Found (e : StepId) (entries : List Entry) (later : ℕ) (places : List ℕ) (steps : List StepId) : Type 0 where
+  pub their_places : places ≡ reverse (removed_places e (history_of (take later entries)))
+  pub their_steps : steps ≡ reverse (removed_steps e (history_of (take later entries)))
+  pub their_events : events_at entries places ≡ reverse (removed e (history_of (take later entries)))
+  pub past : e.k ≤ length (own e.task (history_of (take later entries)))
+
+events_pushed : (entries : List Entry) (places : List ℕ) (p : ℕ) (e : Entry) → p < length entries → e ≡ get_or entries p e → events_at entries (places ++ p ∷ []) ≡ events_at entries places ++ e.event ∷ []
+events_pushed entries [] p e within here =
+    ap (λ (o : Option Entry). map (λ (x : Entry). x.event) (option_to_list o) ++ []) (slice_get_read entries (length entries) p e refl within here)
+events_pushed entries (q ∷ places) p e within here =
+    let before = map (λ (x : Entry). x.event) (option_to_list (slice_get entries q)) in
+    ap (λ H. before ++ H) (events_pushed entries places p e within here) ∙ sym (append_assoc before (events_at entries places) (e.event ∷ []))
+
+-- there are as many events in front of a place as its number
+pub count_front : (entries : List Entry) (at : ℕ) → at ≤ length entries → length (history_of (take at entries)) ≡ at
+count_front entries at h =
+    length-map (map departure (reverse (take at entries))) (λ (d : Departure). d.event) ∙ length-map (reverse (take at entries)) departure
+    ∙ length-reverse (take at entries) ∙ length-take-le at entries h
+
+-- in front of the step nothing goes
+pub none_in_front : (e : StepId) (H : History) → removed e H ≡ [] → (removed_places e H ≡ []) × (removed_steps e H ≡ [])
+none_in_front e [] h = (refl, refl)
+none_in_front e (v ∷ H) h = at (is_removed e H v) h (none_in_front e H)
+  where
+    no_cons : (R : History) → v ∷ R ≡ [] → ⊥
+    no_cons R z = cc
+
+    at : (b : Bool) → prepend_if b v (removed e H) ≡ [] → (removed e H ≡ [] → (removed_places e H ≡ []) × (removed_steps e H ≡ []))
+        → (prepend_if b (length H) (removed_places e H) ≡ []) × (prepend_if b (step_of H v) (removed_steps e H) ≡ [])
+    at true z more = absurd (no_cons (removed e H) z)
+    at false z more = more z
+
+module _ (entries : List Entry) (at : ℕ) (u : Entry) (within : at < length entries) (here : u ≡ get_or entries at u) where
+  abbrev F : History
+  F = history_of (take at entries)
+
+  abbrev itself : StepId
+  itself = step_of F u.event
+
+  none : removed itself F ≡ []
+  none = removed_none itself F (omega arith)
+
+  found_itself : Found itself entries (at + 1) (at ∷ []) (itself ∷ [])
+  found_itself = record {
+    their_places = places_are ∙ ap (λ H. reverse (removed_places itself H)) (sym more);
+    their_steps = steps_are ∙ ap (λ H. reverse (removed_steps itself H)) (sym more);
+    their_events = events_pushed entries [] at u within here ∙ events_are ∙ ap (λ H. reverse (removed itself H)) (sym more);
+    past = subst (λ H. itself.k ≤ length (own itself.task H)) (sym more) (omega (arith, ap length (own_mine u.event.task u.event F (same_refl u.event.task))));
+  }
+    where
+      more : history_of (take (at + 1) entries) ≡ u.event ∷ F
+      more = history_more entries at u within here
+
+      g : is_removed itself F u.event ≡ true
+      g = gone_here u.event F
+
+      places_are : at ∷ [] ≡ reverse (removed_places itself (u.event ∷ F))
+      places_are =
+          sym (ap₂ (λ b P. reverse (prepend_if b (length F) P)) g (none_in_front itself F none).0 ∙ ap (λ n. n ∷ []) (count_front entries at (omega (arith, within))))
+
+      steps_are : itself ∷ [] ≡ reverse (removed_steps itself (u.event ∷ F))
+      steps_are = sym (ap₂ (λ b P. reverse (prepend_if b itself P)) g (none_in_front itself F none).1)
+
+      events_are : u.event ∷ [] ≡ reverse (removed itself (u.event ∷ F))
+      events_are = sym (ap₂ (λ b R. reverse (prepend_if b u.event R)) g none)
+
+pub some_same : {A : Type 0} (x y : A) → ◌≡◌ {A = Option A} (Some x) (Some y) → x ≡ y
+some_same x y e = cc
+
+pub there : (entries : List Entry) (at : ℕ) → at < length entries → (e : Entry) × (e ≡ get_or entries at e)
+there entries at within = ⊎_elim (λ found. (found.0, sym found.3)) (λ past. absurd (omega (arith, past.0))) (slice_get_cases entries at).1
+
+-- the pass begins with the step itself
+pub found_first : (entries : List Entry) (at : ℕ) (e : StepId) → at < length entries → step_at entries at ≡ Some e → (places : List ℕ) → places ≡ at ∷ [] → (steps : List StepId) → steps ≡ e ∷ [] → Found e entries (at + 1) places steps
+found_first entries at e within is places one_place steps one_step =
+    let u = there entries at within in
+    let same = some_same _ _ (sym (step_read entries at u.0 within u.1) ∙ is) in
+    let found = subst (λ i. Found i entries (at + 1) (at ∷ []) (i ∷ [])) same (found_itself entries at u.0 within u.1) in
+    subst (λ s. Found e entries (at + 1) places s) (sym one_step) (subst (λ p. Found e entries (at + 1) p (e ∷ [])) (sym one_place) found)
+
+-- one entry more
+module _ (e : StepId) (entries : List Entry) (later : ℕ) (places : List ℕ) (steps : List StepId) (w : Entry) (within : later < length entries) (here : w ≡ get_or entries later w) (so_far : Found e entries later places steps) where
+  abbrev H : History
+  H = history_of (take later entries)
+
+  more : history_of (take (later + 1) entries) ≡ w.event ∷ H
+  more = history_more entries later w within here
+
+  other : is_step e H w.event ≡ false
+  other = and_right (is_of e.task w.event) _ (ne_eqb e.k (suc (length (own e.task H))) (λ z. omega (arith, z, so_far.past)))
+
+  goes : (b : Bool) → list_any (needs H w.event) (events_at entries places) ≡ b → is_removed e H w.event ≡ b
+  goes b h =
+      ap₂ (λ c R. c || R) other
+      (list_any-IsPermutation (needs H w.event) (removed e H) (reverse (removed e H)) (IsPermutation-reverse (removed e H))
+      ∙ ap (list_any (needs H w.event)) (sym so_far.their_events) ∙ h)
+
+  past_on : e.k ≤ length (own e.task (history_of (take (later + 1) entries)))
+  past_on = subst (λ X. e.k ≤ length (own e.task X)) (sym more) (omega (arith, so_far.past, own_grows e.task w.event H))
+
+  abbrev tested : Bool
+  tested = list_any (needs H (get_or entries later w).event) (events_at entries places)
+
+  same_test : list_any (needs H w.event) (events_at entries places) ≡ tested
+  same_test = ap (λ (x : Entry). list_any (needs H x.event) (events_at entries places)) here
+
+  pub found_same : tested ≡ false → (places' : List ℕ) → places' ≡ places → (steps' : List StepId) → steps' ≡ steps → Found e entries (later + 1) places' steps'
+  found_same h places' same_places steps' same_steps =
+      let g = goes false (same_test ∙ h) in record {
+        their_places = same_places ∙ so_far.their_places ∙ ap (λ b. reverse (prepend_if b (length H) (removed_places e H))) (sym g) ∙ ap (λ X. reverse (removed_places e X)) (sym more);
+        their_steps = same_steps ∙ so_far.their_steps ∙ ap (λ b. reverse (prepend_if b (step_of H w.event) (removed_steps e H))) (sym g) ∙ ap (λ X. reverse (removed_steps e X)) (sym more);
+        their_events = ap (events_at entries) same_places ∙ so_far.their_events ∙ ap (λ b. reverse (prepend_if b w.event (removed e H))) (sym g) ∙ ap (λ X. reverse (removed e X)) (sym more);
+        past = past_on;
+      }
+
+  pub found_more : tested ≡ true → (id : StepId) → step_at entries later ≡ Some id → (places' : List ℕ) → places' ≡ places ++ later ∷ [] → (steps' : List StepId) → steps' ≡ steps ++ id ∷ [] → Found e entries (later + 1) places' steps'
+  found_more h id is places' with_place steps' with_step =
+      let g = goes true (same_test ∙ h) in
+      let name = some_same _ _ (sym is ∙ step_read entries later w within here) in record {
+        their_places =
+            with_place ∙ ap₂ (λ P n. P ++ n ∷ []) so_far.their_places (sym (count_front entries later (omega (arith, within)))) ∙ sym (reverse-append (length H ∷ []) (removed_places e H))
+            ∙ ap (λ b. reverse (prepend_if b (length H) (removed_places e H))) (sym g) ∙ ap (λ X. reverse (removed_places e X)) (sym more);
+        their_steps =
+            with_step ∙ ap₂ (λ P (n : StepId). P ++ n ∷ []) so_far.their_steps name ∙ sym (reverse-append (step_of H w.event ∷ []) (removed_steps e H))
+            ∙ ap (λ b. reverse (prepend_if b (step_of H w.event) (removed_steps e H))) (sym g) ∙ ap (λ X. reverse (removed_steps e X)) (sym more);
+        their_events =
+            ap (events_at entries) with_place ∙ events_pushed entries places later w within here ∙ ap (λ R. R ++ w.event ∷ []) so_far.their_events ∙ sym (reverse-append (w.event ∷ []) (removed e H))
+            ∙ ap (λ b. reverse (prepend_if b w.event (removed e H))) (sym g) ∙ ap (λ X. reverse (removed e X)) (sym more);
+        past = past_on;
+      }
+
+-- the pass ends with all
+pub found_all : (e : StepId) (entries : List Entry) (later : ℕ) (c : Cone) → later ≡ length entries → Found e entries later c.places.items c.steps.items → IsCone e (history_of entries) c
+found_all e entries later c end found =
+    let all : take later entries ≡ entries = ap (λ n. take n entries) end ∙ take_all (length entries) entries (omega arith) in record {
+      places = found.their_places ∙ ap (λ X. reverse (removed_places e (history_of X))) all;
+      steps = found.their_steps ∙ ap (λ X. reverse (removed_steps e (history_of X))) all;
+    }
+
+pub all_pushed : (P : ℕ → Type 0) (xs xs' : List ℕ) (x : ℕ) → xs' ≡ xs ++ x ∷ [] → All P xs → P x → All P xs'
+all_pushed P xs xs' x same a p = subst (All P) (sym same) (All-push P xs x a p)
+
+-- steps with the same fields are one
+pub same_step : (i j : StepId) → (i.task ≡ j.task) × (i.k ≡ j.k) → i ≡ j
+same_step i j h = λ x. record { task = h.0 x; k = h.1 x }

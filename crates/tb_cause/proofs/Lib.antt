@@ -1,0 +1,4 @@
+pub mod ConeLemmas
+pub mod CauseLemmas
+pub mod NamingLemmas
+pub mod AnswerLemmas

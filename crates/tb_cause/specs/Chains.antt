@@ -1,0 +1,44 @@
+-- What needs a step and what it needs, directly or through others. Lists come from the newest event.
+use Rattle.std.specs.Prelude.{◌≡◌, ℕ, List, [], ◌∷◌, ◌++◌, map, reverse, Option, Some, None, slice_get, take, if◌then◌else◌}
+use Rattle.std.specs.Option.{option_to_list}
+use Rattle.tb_model.specs.declared.step_id.StepId.{StepId}
+use Rattle.tb_model.specs.Facts.{History, prepend_if}
+use Rattle.tb_model.specs.Causes.{Placed, causes}
+use Rattle.tb_model.specs.Names.{Name, same_name}
+use Rattle.tb_model.specs.Needers.{is_needer}
+use Rattle.tb_model.specs.Needs.{is_step, step_of}
+use Rattle.tb_core.specs.declared.entry.Entry.{Entry}
+use Rattle.tb_core.specs.Rolled.{removed_places, removed_steps}
+use Rattle.tb_core.specs.Scans.{history_of}
+use Rattle.tb_cause.specs.declared.cone.Cone.{Cone}
+
+-- the steps that need e, itself not among them
+abbrev pub needers : StepId → History → List StepId
+needers e [] = []
+needers e (v ∷ H) = prepend_if (is_needer e H v) (step_of H v) (needers e H)
+
+-- the steps that e needs, none where it doesn't stand
+abbrev pub causes_of : StepId → History → List StepId
+causes_of e [] = []
+causes_of e (v ∷ H) = if is_step e H v then causes H v H else causes_of e H
+
+-- e with all that need it, by their places and by their names
+pub record IsCone (e : StepId) (H : History) (c : Cone) : Type 0 where
+  pub places : c.places.items ≡ reverse (removed_places e H)
+  pub steps : c.steps.items ≡ reverse (removed_steps e H)
+
+-- the events of the entries at these places
+abbrev pub events_at : List Entry → List ℕ → History
+events_at entries [] = []
+events_at entries (p ∷ places) = map (λ (x : Entry). x.event) (option_to_list (slice_get entries p)) ++ events_at entries places
+
+-- the same, each with what stands in front of it
+abbrev pub placed_at : List Entry → List ℕ → List Placed
+placed_at entries [] = []
+placed_at entries (p ∷ places) =
+    map (λ (x : Entry). record { event = x.event; front = history_of (take p entries) }) (option_to_list (slice_get entries p)) ++ placed_at entries places
+
+-- the number of the first of these steps that is the task's
+abbrev pub first_number : Name → List StepId → Option ℕ
+first_number t [] = None
+first_number t (s ∷ steps) = if same_name s.task t then Some s.k else first_number t steps

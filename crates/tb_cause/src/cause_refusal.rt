@@ -1,0 +1,25 @@
+//! Why needs aren't told.
+
+ghost use Rattle.std.specs.Prelude.{◌≡◌};
+ghost use Rattle.tb_cause.specs.Refusals.{cause_number};
+
+/// Why needs aren't told.
+#[derive(Clone, Copy, Debug, Drop, PartialEq, Eq)]
+pub enum CauseRefusal {
+    /// A growth was refused.
+    Memory,
+    /// The step isn't in the history.
+    NoSuchStep,
+}
+
+impl CauseRefusal {
+    /// The number by which replies name the refusal.
+    pub fn number(&self) -> u8
+        ensures { result ≡ cause_number self.now }
+    {
+        match self {
+            CauseRefusal::Memory => 0,
+            CauseRefusal::NoSuchStep => 1,
+        }
+    }
+}

@@ -1,0 +1,13 @@
+//! Which steps need a step, and which it needs, directly or through others.
+#![tactic(auto)]
+
+mod asking;
+mod cause_refusal;
+mod cone;
+mod finding;
+mod naming;
+
+pub use asking::{needed_by, needs};
+pub use cause_refusal::CauseRefusal;
+pub use cone::Cone;
+pub use finding::cone_of;

@@ -1,0 +1,120 @@
+-- Names that can be used again, and the next child.
+use Rattle.std.proofs.Common.{◌≡◌, ◌≢◌, ℤ, ◌≤◌, ◌↔◌, ℕ, suc, List, [], ◌∷◌, Bool, true, false, cond, length, refl, sym, ap, ap₂, ◌∙◌, arith, Option, Some, None, IsTrue, unwrap_or, ◌+◌, get_or, if◌then◌else◌, IfOk, Result, Ok, Err}
+use Rattle.std.proofs.lemmas.Bool.{true≢false}
+use Rattle.std.proofs.lemmas.List.{length-map}
+use Rattle.tb_model.specs.declared.item.Item.{Item}
+use Rattle.tb_model.specs.declared.action.Action.{Action}
+use Rattle.tb_model.specs.declared.action.Action.TheVariants.{Spawn, Load}
+use Rattle.tb_model.specs.declared.event.Event.{Event}
+use Rattle.tb_model.specs.Names.{Name, same_name, is_child, child}
+use Rattle.tb_model.specs.Facts.{History, own, last, IsSpawned, is_spawned, is_of, prepend_if}
+use Rattle.tb_model.specs.Legal.{Cells, first_number, spawn_count}
+use Rattle.tb_model.specs.Lines.{Departure, events_of}
+use Rattle.tb_model.proofs.TestLemmas.{same_true, same_refl}
+use Rattle.tb_undo.specs.State.{Seen as Tables, IsState}
+use Rattle.tb_core.specs.Filling.{IsRunOf, IsNextChild, Fills, completed, child_in}
+
+pub same_spare : (spare name : Name) (b : Bool) → b ≡ same_name spare name → IsTrue b → spare ≡ name
+same_spare spare name b e t = same_true spare name (sym e ∙ t)
+
+pub other_spare : (o : Option Name) (spare name : Name) (b : Bool) → o ≡ Some spare → b ≡ same_name spare name → b ≡ false → o ≡ Some name → ⊥
+other_spare o spare name b s e f h =
+    let same : spare ≡ name = ap (λ x. unwrap_or x name) (sym s ∙ h) in
+    true≢false (sym (ap (same_name spare) (sym same) ∙ same_refl spare) ∙ sym e ∙ f)
+
+-- ---- how many children a task of a run has
+
+own_within : (t : Name) (H : History) → length (own t H) ≤ length H
+own_within t [] = omega arith
+own_within t (v ∷ H) = at (is_of t v) (own_within t H)
+  where
+    at : (b : Bool) → length (own t H) ≤ length H → length (prepend_if b v.action (own t H)) ≤ suc (length H)
+    at true h = omega arith
+    at false h = omega arith
+
+spawns_within : (acts : List Action) → spawn_count acts ≤ length acts
+spawns_within [] = omega arith
+spawns_within (a ∷ acts) = more a (spawns_within acts)
+  where
+    more : (a : Action) → spawn_count acts ≤ length acts → spawn_count (a ∷ acts) ≤ suc (length acts)
+    more (Spawn u body args items deferred) h = omega arith
+    more _ h = omega arith
+
+few_children : (s : Tables) (t : Name) (r : IsRunOf s t) → spawn_count (own t (events_of r.steps)) ≤ 1000000
+few_children s t r = omega (arith, spawns_within (own t (events_of r.steps)), own_within t (events_of r.steps), length-map r.steps (λ (d : Departure). d.event), r.few)
+
+-- this is how many children the task has, whatever run that is
+abbrev pub IsCount : Tables → Name → Option ℕ → Type 0
+IsCount s t o = (first : Cells) (root_line : ℕ) (D : List Departure) → IsState first root_line D s → o ≡ (if is_spawned (events_of D) t then Some (spawn_count (own t (events_of D))) else None)
+
+-- the count as a number, and the name that comes next
+module _ (s : Tables) (t : Name) (o : Option ℕ) (n : ℕ) (c : IsCount s t o) (e : n ≡ unwrap_or o 0) where
+  counted : (first : Cells) (root_line : ℕ) (D : List Departure) → IsState first root_line D s → IsSpawned (events_of D) t → n ≡ spawn_count (own t (events_of D))
+  counted first root_line D k h =
+      e ∙ ap (λ m. unwrap_or m 0) (c first root_line D k ∙ ap (λ b. cond b (Some (spawn_count (own t (events_of D)))) None) h)
+
+  pub few : IsRunOf s t → n ≤ 1000000
+  few r = omega (arith, counted r.first r.root_line r.steps r.state r.spawned, few_children s t r)
+
+  pub next_found : (x : Name) → x ≡ child t (n + 1) → IsNextChild s t x
+  next_found x is first root_line D k h =
+      let one : n + 1 ≡ suc (spawn_count (own t (events_of D))) = omega (arith, counted first root_line D k h) in
+      is ∙ ap (child t) one
+
+  pub next_made : {E : Type 0} (r : Result Name E) → IfOk r (λ x. x ≡ child t (n + 1)) → IfOk r (IsNextChild s t)
+  next_made (Ok x) is = next_found x is
+  next_made (Err w) is = tt
+
+  -- a spare name that isn't the nth child's isn't the next child's
+  pub not_next : (spare : Option Name) (x y : Name) (b : Bool) → IsRunOf s t → spare ≡ Some x → IsTrue b ↔ (x ≡ child t (n + 1)) → b ≡ false → IsNextChild s t y → spare ≡ Some y → ⊥
+  not_next spare x y b r is w f next h =
+      let same : x ≡ y = ap (λ m. unwrap_or m y) (sym is ∙ h) in
+      let made = next_found (child t (n + 1)) refl r.first r.root_line r.steps r.state r.spawned in
+      true≢false (sym (w.1 (same ∙ next r.first r.root_line r.steps r.state r.spawned ∙ sym made)) ∙ f)
+
+-- ---- the nth child of a task
+
+-- a name whose first number is n, and that is a child of t
+pub nth_child : (name t : Name) (n : ℕ) (b : Bool) → 1 ≤ length name → get_or name 0 0 ≡ n → b ≡ is_child t name → IsTrue b ↔ (name ≡ child t n)
+nth_child [] t n b some first e = absurd (omega (arith, some))
+nth_child (m ∷ p) t n b some first e = (
+  λ h. ap₂ (λ x y. child y x) first (same_true p t (sym e ∙ h)),
+  λ h. e ∙ ap (is_child t) h ∙ same_refl t,
+)
+
+-- ---- the event of an action
+
+abbrev event : Name → Action → Event
+event t a = record { task = t; action = a }
+
+-- a load reads the number that was read
+pub load_filled : (s : Tables) (t : Name) (a b : Action) (r c : ℕ) (x y : ℤ) → ((first : Cells) (root_line : ℕ) (D : List Departure) → IsState first root_line D s → y ≡ last (first_number first c) c (events_of D)) → a ≡ Load r c x → b ≡ Load r c y → Fills s t a (record { task = t; action = b })
+load_filled s t a b r c x y reads is made first root_line D k h =
+    ap (λ e. event t e) (made ∙ ap (Load r c) (reads first root_line D k) ∙ ap (completed first (events_of D) t) (sym is))
+
+module _ (s : Tables) (t : Name) (a : Action) (u : Name) (line : ℕ) (args : List ℤ) (items : List Item) (deferred : Bool) (is : a ≡ Spawn u line args items deferred) where
+  -- a spawn names the next child
+  pub spawn_filled : (b : Action) (x : Name) → IsNextChild s t x → b ≡ Spawn x line args items deferred → Fills s t a (record { task = t; action = b })
+  spawn_filled b x next made first root_line D k h =
+      ap (λ e. event t e) (made ∙ ap (λ y. Spawn y line args items deferred) (next first root_line D k h) ∙ ap (completed first (events_of D) t) (sym is))
+
+  child_filled : (v : Event) → Fills s t a v → (first : Cells) (root_line : ℕ) (D : List Departure) → IsState first root_line D s → IsSpawned (events_of D) t → child_in v.action ≡ Some (child t (suc (spawn_count (own t (events_of D)))))
+  child_filled v f first root_line D k h =
+      ap (λ (w : Event). child_in w.action) (f first root_line D k h) ∙ ap (λ b. child_in (completed first (events_of D) t b)) is
+
+  -- so the child of its event is that
+  pub next_of_event : (R : Type 0) (v : Event) (spare : Option Name) → IsRunOf s t → Fills s t a v → spare ≡ child_in v.action → ((x : Name) → IsNextChild s t x → spare ≡ Some x → R) → R
+  next_of_event R v spare r f e use_it =
+      let x = child t (suc (spawn_count (own t (events_of r.steps)))) in
+      let named = child_filled v f r.first r.root_line r.steps r.state r.spawned in
+      use_it x (λ first root_line D k h. ap (λ o. unwrap_or o x) (sym named ∙ child_filled v f first root_line D k h)) (e ∙ named)
+
+-- any other action is as it was planned
+completed_other : (first : Cells) (H : History) (t : Name) (a : Action) → ((r c : ℕ) (x : ℤ) → a ≢ Load r c x) → ((u : Name) (line : ℕ) (args : List ℤ) (items : List Item) (deferred : Bool) → a ≢ Spawn u line args items deferred) → completed first H t a ≡ a
+completed_other first H t (Load r c x) l s = absurd (l r c x refl)
+completed_other first H t (Spawn u line args items deferred) l s = absurd (s u line args items deferred refl)
+completed_other first H t _ l s = refl
+
+pub other_filled : (s : Tables) (t : Name) (a b : Action) → ((r c : ℕ) (x : ℤ) → a ≢ Load r c x) → ((u : Name) (line : ℕ) (args : List ℤ) (items : List Item) (deferred : Bool) → a ≢ Spawn u line args items deferred) → b ≡ a → Fills s t a (record { task = t; action = b })
+other_filled s t a b l n same first root_line D k h =
+    ap (λ e. event t e) (same ∙ sym (completed_other first (events_of D) t a l n))

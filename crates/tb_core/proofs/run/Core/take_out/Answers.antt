@@ -1,0 +1,33 @@
+use Rattle.std.proofs.Common.{◌≡◌, ◌<◌, length, ap, Some, None}
+use Rattle.tb_model.specs.declared.event.Event.{Event}
+use Rattle.tb_core.specs.Seen.{Held}
+use Rattle.tb_core.proofs.UndoneLemmas.{place_within, stands_there, left_sound, takes_back}
+use Rattle.tb_core.proofs.run.Core.take_out.Goals as goal
+
+pub revert-requires : goal.revert-requires
+revert-requires c =
+    let i = c.self.inside in
+    let view = ap (λ (h : Held). h.run) c.self.view_is in
+    let within : c.args.at < length i.entries.items = place_within i.first.items i.root_line i.limit i.entries.items c.args.id.now c.args.at _ view c.requires.here in
+    stands_there i.first.items i.root_line i.limit i.entries.items i.tables c.args.id.now c.args.at c.remove-event.result _ view within c.remove-event.ensures.value c.self.invariant.0 c.requires.free c.requires.here
+
+pub invariant_of-self : goal.invariant_of-self
+invariant_of-self c =
+    let i = c.self.inside in
+    let view = ap (λ (h : Held). h.run) c.self.view_is in
+    let within : c.args.at < length i.entries.items = place_within i.first.items i.root_line i.limit i.entries.items c.args.id.now c.args.at _ view c.requires.here in (
+      left_sound i.first.items i.root_line i.limit i.entries.items i.tables c.args.id.now c.args.at c.remove-event.result _ view within c.remove-event.ensures.value c.self.invariant.0 c.requires.free c.requires.here
+          c.remove-event.new.self.items c.remove-event.ensures.items c.revert.new.self c.revert.ensures,
+      record { entry = λ v h. absurd (none v h); tables = λ v h. absurd (none v h) },
+    )
+  where
+    none : (v : Event) → None ≡ Some v → ⊥
+    none v h = cc
+
+pub returns : goal.returns
+returns c =
+    let i = c.self.inside in
+    let view = ap (λ (h : Held). h.run) c.self.view_is in
+    let within : c.args.at < length i.entries.items = place_within i.first.items i.root_line i.limit i.entries.items c.args.id.now c.args.at _ view c.requires.here in
+    takes_back i.first.items i.root_line i.limit i.entries.items i.tables c.args.id.now c.args.at c.remove-event.result _ view within c.remove-event.ensures.value c.self.invariant.0 c.requires.free c.requires.here
+    c.remove-event.new.self.items c.remove-event.ensures.items

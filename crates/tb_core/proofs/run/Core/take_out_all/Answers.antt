@@ -1,0 +1,20 @@
+use Rattle.std.proofs.Common.{ap, refl}
+use Rattle.tb_core.specs.Seen.{Held}
+use Rattle.tb_core.proofs.TakenLemmas.{none_reserved}
+use Rattle.tb_core.proofs.RolledLemmas.{rolled_sound, rolls_back}
+use Rattle.tb_core.proofs.run.Core.take_out_all.Goals as goal
+
+pub invariant_of-self : goal.invariant_of-self
+invariant_of-self c =
+    let i = c.self.inside in
+    let u = c.unwind-kept in (
+      rolled_sound i.first.items i.root_line i.limit i.entries.items u.new.entries.items c.put_back.new.entries.items u.result.0.items i.tables u.new.tables c.args.rollback.step u.result.1.items u.ensures.unwound c.put_back.ensures.items c.self.invariant.0,
+      none_reserved _ _ u.new.tables refl,
+    )
+
+pub returns : goal.returns
+returns c =
+    let i = c.self.inside in
+    let u = c.unwind-kept in
+    rolls_back i.first.items i.root_line i.limit i.entries.items u.new.entries.items c.put_back.new.entries.items u.result.0.items i.tables u.new.tables c.args.rollback.step u.result.1.items u.ensures.unwound c.put_back.ensures.items
+    c.args.self.now.run (ap (λ (h : Held). h.run) c.self.view_is) c.reverse.new.self.items c.reverse.ensures.items

@@ -1,6 +1,0 @@
-use Rattle.std.proofs.Common.{rules}
-use Rattle.std.specs.Cmp.Rules.{signed_items}
-use Rattle.tb_core.proofs.run.are_same.Goals as goal
-
-pub returns : goal.returns
-returns c = search (rules, signed_items)

@@ -1,0 +1,91 @@
+//! What a refusal names.
+
+ghost use Rattle.std.specs.Prelude.{◌≡◌, ◌<◌, ◌↔◌, IfOk, IsTrue};
+ghost use Rattle.tb_undo.specs.Obstacles.{hindrance_by, sibling};
+ghost use Rattle.tb_core.specs.Naming.{config_with, IsStaleAnswer, IsNamed, IsNumbered};
+
+use crate::step_refusal::StepRefusal;
+use std::alloc::AllocError;
+use tb_model::TaskName;
+use tb_read::Config;
+use tb_undo::{Obstacle, Standing};
+
+/// A task that stands so.
+pub fn config(task: TaskName, standing: Standing) -> Config
+    ensures { result ≡ config_with task standing }
+{
+    let regs = standing.regs;
+    Config {
+        task,
+        steps: standing.steps,
+        at: standing.at,
+        regs,
+    }
+}
+
+/// Whether the task of the configuration stands so.
+pub fn stands_so(config: &Config, standing: &Standing) -> bool
+    ensures { IsTrue result ↔ (config.now ≡ config_with config.now.task standing.now) }
+{
+    config.steps == standing.steps
+        && config.at == standing.at
+        && are_same(&config.regs, &standing.regs)
+}
+
+fn are_same(a: &[i64; 16], b: &[i64; 16]) -> bool
+    ensures { IsTrue result ↔ (a.now ≡ b.now) }
+{
+    a == b
+}
+
+/// The task stands so now.
+pub fn stale(task: &TaskName, standing: Standing) -> StepRefusal
+    ensures { IsStaleAnswer (config_with task.now standing) result }
+{
+    match task.clone() {
+        Ok(task) => StepRefusal::Stale {
+            now: config(task, standing),
+        },
+        Err(_) => StepRefusal::Memory,
+    }
+}
+
+/// What keeps the task from its action, by name.
+pub fn named(task: &TaskName, obstacle: Obstacle<'_>) -> StepRefusal
+    requires { IsNumbered obstacle }
+    ensures { IsNamed (hindrance_by task.now obstacle.entry) result }
+{
+    match obstacle {
+        Obstacle::Undeferred { child } => match task.child(child) {
+            Ok(child) => StepRefusal::Undeferred { child },
+            Err(_) => StepRefusal::Memory,
+        },
+        Obstacle::Waiting { sibling } => match sibling_of(task, sibling) {
+            Ok(pred) => StepRefusal::Waiting { pred },
+            Err(_) => StepRefusal::Memory,
+        },
+        Obstacle::Excluded { sibling } => match sibling_of(task, sibling) {
+            Ok(by) => StepRefusal::Excluded { by },
+            Err(_) => StepRefusal::Memory,
+        },
+        Obstacle::Children { child } => match task.child(child) {
+            Ok(first) => StepRefusal::Children { first },
+            Err(_) => StepRefusal::Memory,
+        },
+        Obstacle::Group { member } => match member.clone() {
+            Ok(first) => StepRefusal::Group { first },
+            Err(_) => StepRefusal::Memory,
+        },
+    }
+}
+
+/// The child of the task's parent with this number.
+fn sibling_of(task: &TaskName, number: u32) -> Result<TaskName, AllocError>
+    requires { 0 < number }
+    ensures { IfOk result (λ name. name ≡ sibling task.now number) }
+{
+    match task.parent()? {
+        Some(parent) => parent.child(number),
+        None => task.child(number),
+    }
+}

@@ -1,0 +1,25 @@
+-- A rollback and its entry.
+use Rattle.std.specs.Prelude.{◌≡◌, ◌++◌, ℕ, List, [], ◌∷◌, IsTrue, IsFalse}
+use Rattle.tb_model.specs.declared.entry.Entry.{Entry}
+use Rattle.tb_model.specs.declared.entry.Entry.TheVariants.{Rolled}
+use Rattle.tb_model.specs.declared.step_id.StepId.{StepId}
+use Rattle.tb_model.specs.Equivalent.{stands}
+use Rattle.tb_core.specs.declared.removed.Removed.{Removed}
+use Rattle.tb_core.specs.Rolled.{RollsBack}
+use Rattle.tb_core.specs.Seen.{Seen, history}
+use Rattle.tb_roll.specs.declared.roll_refusal.RollRefusal.{RollRefusal}
+use Rattle.tb_roll.specs.declared.roll_refusal.RollRefusal.TheVariants.{Memory, NoSuchStep, Full}
+use Rattle.tb_live.specs.Plans.{has_no_place}
+
+-- the step and all that need it are gone, and it is the newest entry
+pub record EntersRollback (limit : ℕ) (run : Seen) (i : StepId) (new : Seen) (old entries : List Entry) (removed : List Removed) : Type 0 where
+  pub room : IsFalse (has_no_place limit old)
+  pub stood : IsTrue (stands i (history run))
+  pub rolls : RollsBack run i new removed
+  pub grows : entries ≡ old ++ Rolled 0 i ∷ []
+
+-- why nothing goes: a step that isn't there comes before a full journal
+abbrev pub RefusesRollback : ℕ → Seen → StepId → List Entry → RollRefusal → Type 0
+RefusesRollback limit run i old NoSuchStep = IsFalse (stands i (history run))
+RefusesRollback limit run i old Full = IsTrue (stands i (history run)) × IsTrue (has_no_place limit old)
+RefusesRollback limit run i old Memory = IsTrue (stands i (history run))
