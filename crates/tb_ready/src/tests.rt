@@ -84,6 +84,15 @@ fn are_marked(ready: &Ready, names: &[TaskName]) -> bool {
     ready.next_marked(after).is_none()
 }
 
+/// Whether the others are all the marked names once the first isn't marked.
+fn follow_without_the_first(ready: &mut Ready, names: &[TaskName]) -> bool {
+    let Some((first, others)) = names.split_first() else {
+        return false;
+    };
+    ready.mark(first, false);
+    are_marked(ready, others)
+}
+
 #[test]
 fn the_marked_names_follow_in_order(rt: HostRuntime) {
     let rows: [&[u32]; 4] = [
@@ -98,8 +107,7 @@ fn the_marked_names_follow_in_order(rt: HostRuntime) {
     let places = [3_usize, 2, 0, 1];
     mark_all(&mut ready, &names, places.as_slice()).expect(&rt, "memory is there");
     assert!(rt; are_marked(&ready, &names));
-    ready.mark(&names[0], false);
-    assert!(rt; are_marked(&ready, &names[1..]));
+    assert!(rt; follow_without_the_first(&mut ready, &names));
 }
 
 #[test]
