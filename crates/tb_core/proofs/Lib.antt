@@ -5,6 +5,7 @@ pub mod FirstLemmas
 pub mod FillingLemmas
 pub mod ShownLemmas
 pub mod MiddleLemmas
+pub mod PlaceLemmas
 pub mod TakenLemmas
 pub mod RefusedLemmas
 pub mod UndoneLemmas

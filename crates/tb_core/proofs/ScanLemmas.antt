@@ -1,5 +1,5 @@
 -- The history of entries, cut at one of them, and the places of steps.
-use Rattle.std.proofs.Common.{◌≡◌, ◌<◌, ◌+◌, ℕ, suc, List, [], ◌∷◌, ◌++◌, true, refl, sym, ap, ◌∙◌, length, map, take, drop, reverse, Some, arith, get_or, eq-eqb, append_assoc, ◌≤◌, ◌-◌}
+use Rattle.std.proofs.Common.{◌≡◌, ◌==◌, ◌&&◌, ◌||◌, ◌<◌, ◌+◌, ℕ, suc, Bool, List, [], ◌∷◌, ◌++◌, true, false, refl, sym, ap, ◌∙◌, length, map, take, drop, reverse, Some, arith, get_or, eq-eqb, eqb-true, append_assoc, ◌≤◌, ◌≢◌, ◌-◌}
 use Rattle.std.proofs.Math.Seq.{split_at}
 use Rattle.std.proofs.lemmas.List.{reverse-append, map-append}
 use Rattle.std.proofs.lemmas.Option.{slice_get_read}
@@ -13,7 +13,7 @@ use Rattle.tb_model.specs.Lines.{Departure}
 use Rattle.tb_model.specs.Needs.{is_step}
 use Rattle.tb_model.specs.Equivalent.{stands}
 use Rattle.tb_model.proofs.OrderedLemmas.{the_step}
-use Rattle.tb_model.proofs.FactsLemmas.{own_mine}
+use Rattle.tb_model.proofs.FactsLemmas.{own_mine, own_other}
 use Rattle.tb_core.specs.declared.entry.Entry.{Entry}
 use Rattle.tb_core.specs.Soundness.{departure}
 use Rattle.tb_core.specs.Scans.{history_of, step_behind, step_at}
@@ -71,3 +71,50 @@ module _ (entries : List Entry) (at : ℕ) (e : Entry) (i : StepId) (count : ℕ
   pub found_step_at : step_at entries at ≡ Some i
   found_step_at =
       ap (step_behind (take at entries)) (slice_get_read entries (length entries) at e refl within here) ∙ ap Some (the_step i front e.event step)
+
+-- ---- the same from the newest entry on
+
+-- the step doesn't stand from this place on, and so many of its task stand in front of the place
+pub record IsInFront (i : StepId) (entries : List Entry) (at : ℕ) (left : ℕ) : Type 0 where
+  pub none : stands i (history_of (take at entries)) ≡ stands i (history_of entries)
+  pub counted : left ≡ length (own i.task (history_of (take at entries)))
+
+module _ (i : StepId) (entries : List Entry) (at left : ℕ) (e : Entry) (some : 0 < at) (within : at ≤ length entries) (here : e ≡ get_or entries (at - 1) e) (is : IsInFront i entries at left) where
+  abbrev rest : History
+  rest = history_of (take (at - 1) entries)
+
+  more : history_of (take at entries) ≡ e.event ∷ rest
+  more = ap (λ n. history_of (take n entries)) (omega (arith, some)) ∙ history_more entries (at - 1) e (omega (arith, some, within)) here
+
+  -- an entry of another task
+  pub among_other : is_of i.task e.event ≡ false → IsInFront i entries (at - 1) left
+  among_other other = record {
+    none = sym (ap (stands i) more ∙ ap (λ b. (b && (i.k == suc (length (own i.task rest)))) || stands i rest) other) ∙ is.none;
+    counted = is.counted ∙ ap (λ H. length (own i.task H)) more ∙ ap length (own_other i.task e.event rest other);
+  }
+
+  module _ (mine : is_of i.task e.event ≡ true) where
+    counted : left ≡ suc (length (own i.task rest))
+    counted = is.counted ∙ ap (λ H. length (own i.task H)) more ∙ ap length (own_mine i.task e.event rest mine)
+
+    pub among_some : 1 ≤ left
+    among_some = omega (arith, counted)
+
+    -- the step itself
+    pub among_stands : left ≡ i.k → stands i (history_of entries) ≡ true
+    among_stands last = found_stands entries (at - 1) e i (length (own i.task rest)) (omega (arith, some, within)) here mine refl (omega (arith, counted, last))
+
+    pub among_step_at : left ≡ i.k → step_at entries (at - 1) ≡ Some i
+    among_step_at last = found_step_at entries (at - 1) e i (length (own i.task rest)) (omega (arith, some, within)) here mine refl (omega (arith, counted, last))
+
+    -- another step of the task
+    pub among_mine : left ≢ i.k → IsInFront i entries (at - 1) (left - 1)
+    among_mine other = record {
+      none = sym (ap (stands i) more ∙ ap (λ b. b || stands i rest) (not_it (is_of i.task e.event) (i.k == suc (length (own i.task rest))) refl)) ∙ is.none;
+      counted = omega (arith, counted);
+    }
+      where
+        not_it : (p b : Bool) → (i.k == suc (length (own i.task rest))) ≡ b → (p && b) ≡ false
+        not_it true true q = absurd (other (counted ∙ sym (eqb-true i.k _ q)))
+        not_it true false q = refl
+        not_it false b q = refl

@@ -1,14 +1,16 @@
 //! Where the steps of a history stand among its entries, which come from the oldest.
 
-ghost use Rattle.std.specs.Prelude.{◌≡◌, ◌<◌, ◌≤◌, ◌↔◌, IfOk, IfSome, IsSome, IsTrue, Some, length};
+ghost use Rattle.std.specs.Prelude.{◌≡◌, ◌<◌, ◌≤◌, ◌↔◌, IfOk, IfSome, IsSome, IsTrue, Some, length, reverse};
 ghost use Rattle.tb_model.specs.declared.step_id.StepId.{StepId};
 ghost use Rattle.tb_model.specs.Facts.{own};
 ghost use Rattle.tb_model.specs.Equivalent.{stands};
 ghost use Rattle.tb_core.specs.Scans.{history_of, step_at};
+ghost use Rattle.tb_core.specs.Unwinding.{AreTied};
 
 use crate::entry::Entry;
 use std::alloc::AllocError;
 use tb_model::{StepId, TaskName};
+use tb_undo::Tables;
 
 /// The place of a step: where the kth event of its task stands.
 #[tactic(auto, using(crate::proofs::ScanLemmas::found_stands, crate::proofs::ScanLemmas::found_step_at))]
@@ -24,6 +26,42 @@ pub fn place_of(entries: &[Entry], id: &StepId) -> Option<usize>
             if count == id.k as usize {
                 return Some(at);
             }
+        }
+    }
+    None
+}
+
+/// The place of a step, looked for from the newest entry on. The tables are those of the entries,
+/// and tell how many steps the task has.
+pub fn place_from_newest(tables: &Tables, entries: &[Entry], id: &StepId) -> Option<usize>
+    requires tied { AreTied (reverse entries.now) tables.now }
+    ensures there { IsSome result ↔ IsTrue (stands id.now (history_of entries.now)) }
+    ensures step { IfSome result (λ at. step_at entries.now at ≡ Some id.now) }
+    ensures within { IfSome result (λ at. at < length entries.now) }
+{
+    match tables.standing(&id.task) {
+        Some(standing) => place_among(entries, id, standing.steps as usize),
+        None => None,
+    }
+}
+
+/// The place of a step whose task has this many steps.
+#[tactic(auto, using(crate::proofs::ScanLemmas::among_other, crate::proofs::ScanLemmas::among_some, crate::proofs::ScanLemmas::among_stands, crate::proofs::ScanLemmas::among_mine))]
+fn place_among(entries: &[Entry], id: &StepId, steps: usize) -> Option<usize>
+    requires counted { steps ≡ length (own id.now.task (history_of entries.now)) }
+    ensures there { IsSome result ↔ IsTrue (stands id.now (history_of entries.now)) }
+    ensures step { IfSome result (λ at. step_at entries.now at ≡ Some id.now) }
+    ensures within { IfSome result (λ at. at < length entries.now) }
+{
+    let mut left = steps;
+    let mut at = entries.len();
+    'back: while 0 < at {
+        at -= 1;
+        if entries[at].event.task == id.task {
+            if left == id.k as usize {
+                return Some(at);
+            }
+            left -= 1;
         }
     }
     None

@@ -23,7 +23,7 @@ use crate::answers::{config, named, stale, stands_so};
 use crate::entry::Entry;
 use crate::filling::{copy_event, copy_of, fill_in, planned, spare_names};
 use crate::needing::first_needer;
-use crate::places::{place_of, step_at};
+use crate::places::{place_from_newest, step_at};
 use crate::removed::Removed;
 use crate::rollback::Rollback;
 use crate::step_refusal::StepRefusal;
@@ -321,33 +321,41 @@ impl Core {
         }
     }
 
+    /// The place of a step that nothing needs.
+    fn free_place(&self, id: &StepId) -> Result<usize, UndoRefusal>
+        ensures place { IfOk result (IsPlaceOf self.now.run id.now) }
+        ensures free { OnOk result (IsFree self.now.run id.now) }
+        ensures kept { IfErr result (Keeps self.now.run id.now) }
+    {
+        let Some(at) = place_from_newest(&self.tables, &self.entries, id) else {
+            return Err(UndoRefusal::NoSuchStep);
+        };
+        let Some(by) = first_needer(&self.entries, at) else {
+            return Ok(at);
+        };
+        match step_at(&self.entries, by) {
+            Ok(by) => Err(UndoRefusal::Needed { by }),
+            Err(_) => Err(UndoRefusal::Memory),
+        }
+    }
+
     /// Why the step stays, if it does: it isn't there, or something needs it.
     pub fn keeps(&self, id: &StepId) -> Option<UndoRefusal>
         ensures some { IfSome result (Keeps self.now.run id.now) }
         ensures none { IfNone result (IsFree self.now.run id.now) }
     {
-        let Some(at) = place_of(&self.entries, id) else {
-            return Some(UndoRefusal::NoSuchStep);
-        };
-        let by = first_needer(&self.entries, at)?;
-        match step_at(&self.entries, by) {
-            Ok(by) => Some(UndoRefusal::Needed { by }),
-            Err(_) => Some(UndoRefusal::Memory),
-        }
+        self.free_place(id).err()
     }
 
     /// Takes a step back that nothing needs, wherever it stands. It takes no memory where that is
-    /// done.
+    /// done. The step is looked for from the newest on, and so is cheap to find near the end.
     pub fn undo(&mut self, id: &StepId) -> Result<Removed, UndoRefusal>
         ensures undone { Undone self.old.run id.now self.new.run result }
         ensures succeeds { IsFree self.old.run id.now → IsOk result }
     {
-        if let Some(refusal) = self.keeps(id) {
-            return Err(refusal);
-        }
-        match place_of(&self.entries, id) {
-            Some(at) => Ok(self.take_out(at, id)),
-            None => Err(UndoRefusal::NoSuchStep),
+        match self.free_place(id) {
+            Ok(at) => Ok(self.take_out(at, id)),
+            Err(refusal) => Err(refusal),
         }
     }
 
