@@ -1,1 +1,3 @@
 pub mod RollLemmas
+pub mod MatchingLemmas
+pub mod OrderLemmas

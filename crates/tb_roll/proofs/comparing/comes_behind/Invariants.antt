@@ -1,0 +1,13 @@
+use Rattle.std.proofs.Common.{◌≡◌, List, Some, true, take}
+use Rattle.tb_model.specs.declared.step_id.StepId.{StepId}
+use Rattle.tb_model.specs.Ordered.{all_first}
+use Rattle.tb_core.specs.declared.entry.Entry.{Entry}
+use Rattle.tb_core.specs.Scans.{history_of, step_at}
+use Rattle.tb_roll.specs.Comparing.{AreMatched}
+use Rattle.tb_roll.proofs.comparing.comes_behind.Given as goal
+
+-- it comes behind those that were asked
+abbrev pub invariant-loop-earlier : goal.invariant-loop-earlier
+invariant-loop-earlier l =
+    (others : List Entry) (i : StepId) → AreMatched l.entries l.places others → step_at l.entries l.later ≡ Some i
+    → all_first (history_of others) i (history_of (take l.later l.entries)) l.event (history_of (take l.earlier l.entries)) ≡ true

@@ -1,0 +1,77 @@
+//! Whether two runs are one, up to the order of steps that don't need each other.
+
+ghost use Rattle.std.specs.Prelude.{◌≡◌, ◌≤◌, ◌<◌, ◌↔◌, IfOk, IsTrue, List, Some, length, take};
+ghost use Rattle.tb_model.specs.declared.step_id.StepId.{StepId};
+ghost use Rattle.tb_model.specs.Equivalent.{Equivalent};
+ghost use Rattle.tb_model.specs.Ordered.{all_first, ordered};
+ghost use Rattle.tb_core.specs.declared.entry.Entry.{Entry};
+ghost use Rattle.tb_core.specs.Scans.{AreLegal, history_of, step_at};
+ghost use Rattle.tb_core.specs.Seen.{history};
+ghost use Rattle.tb_roll.specs.Comparing.{AreMatched, IsFoundIn};
+
+use crate::matching::places_in;
+use std::alloc::{AllocError, Global};
+use tb_core::{Core, Entry, needs};
+use tb_model::Event;
+
+/// Whether the two histories are equivalent. Where one program fits both, they have then the same
+/// state, the same next events and the same needs.
+pub fn same_run(alloc: Global, one: &Core, other: &Core) -> Result<bool, AllocError>
+    ensures { IfOk result (λ same.
+        IsTrue same ↔ Equivalent (history one.now.run) (history other.now.run)) }
+{
+    let entries = one.legal_entries();
+    let others = other.legal_entries();
+    if !is_found_in(alloc, entries, others)? {
+        return Ok(false);
+    }
+    is_found_in(alloc, others, entries)
+}
+
+/// Whether each step stands among the others with its action, and each direct need in its order.
+fn is_found_in(alloc: Global, entries: &[Entry], others: &[Entry]) -> Result<bool, AllocError>
+    requires legal { AreLegal entries.now }
+    requires bound { length others.now ≤ 1000000 }
+    ensures { IfOk result (λ found.
+        IsTrue found ↔ IsFoundIn (history_of entries.now) (history_of others.now)) }
+{
+    match places_in(alloc, entries, others)? {
+        Some(places) => Ok(is_in_order(entries, &places)),
+        None => Ok(false),
+    }
+}
+
+/// Whether each entry stands behind those that it directly needs, also by these places.
+fn is_in_order(entries: &[Entry], places: &[u32]) -> bool
+    requires legal { AreLegal entries.now }
+    requires count { length places.now ≡ length entries.now }
+    ensures { (others : List Entry) → AreMatched entries.now places.now others →
+        result ≡ ordered (history_of others) (history_of entries.now) }
+{
+    for later in 0..entries.len() {
+        if !comes_behind(entries, places, later, &entries[later].event) {
+            return false;
+        }
+    }
+    true
+}
+
+/// Whether the event, which stands at this place, comes behind those that it directly needs.
+fn comes_behind(entries: &[Entry], places: &[u32], later: usize, event: &Event) -> bool
+    requires legal { AreLegal (take later entries.now) }
+    requires count { length places.now ≡ length entries.now }
+    requires within { later < length entries.now }
+    ensures { (others : List Entry) (i : StepId) → AreMatched entries.now places.now others →
+        step_at entries.now later ≡ Some i →
+        result ≡ all_first (history_of others) i (history_of (take later entries.now)) event.now
+        (history_of (take later entries.now)) }
+{
+    let place = places[later];
+    for earlier in 0..later {
+        // Comparing the places is cheap.
+        if place <= places[earlier] && needs(&entries[..later], event, &entries[earlier].event) {
+            return false;
+        }
+    }
+    true
+}
