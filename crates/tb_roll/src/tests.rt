@@ -1,0 +1,207 @@
+//! On cores of a few steps: what needs what, what goes with a step, and which runs are one.
+
+ghost use Rattle.std.specs.Prelude.{IsTrue};
+ghost use Rattle.tb_core.specs.Outcomes.{Fits};
+
+use crate::{finish, ready, roll, same_run};
+use std::alloc::AllocGlobal;
+use std::process::Abort;
+use tb_cause::{needed_by, needs};
+use tb_core::{Core, Removed};
+use tb_model::{Action, StepId, TaskName};
+use tb_read::{Plan, Program, plan, read};
+
+/// Whether the plan is for the core's cells, starts a task exactly in front of its first step, and
+/// closes no group.
+fn fits(core: &Core, plan: &Plan) -> bool
+    ensures { IsTrue result → Fits core.now.run plan.now }
+{
+    if plan.instr.cells as usize != core.cells().len() {
+        return false;
+    }
+    if plan.action.is_start() != (plan.config.steps == 0) {
+        return false;
+    }
+    !matches!(&plan.action, Action::Close)
+}
+
+fn take_step(rt: &(impl Abort + AllocGlobal), program: &Program, core: &mut Core, name: &str) {
+    let task = TaskName::parse(rt.alloc(), name.as_bytes()).expect(rt, name);
+    let found = core.config(&task).expect(rt, "memory is there");
+    let config = found.expect(rt, name);
+    let instr = program.instr(config.at).expect(rt, name);
+    let plan = plan(rt.alloc(), instr, &config).expect(rt, "memory is there");
+    assert!(rt; fits(core, &plan));
+    core.step(plan).expect(rt, name);
+}
+
+fn take_steps(rt: &(impl Abort + AllocGlobal), program: &Program, core: &mut Core, names: &[&str]) {
+    for name in names {
+        take_step(rt, program, core, *name);
+    }
+}
+
+fn opened(rt: &(impl Abort + AllocGlobal), program: &Program) -> Core {
+    let core = Core::open(rt.alloc(), program.cells(), program.root_line(), 100);
+    core.expect(rt, "memory is there")
+}
+
+/// The core in which the tasks took their steps in this order.
+fn taken(rt: &(impl Abort + AllocGlobal), text: &[u8], names: &[&str]) -> Core {
+    let program = read(rt.alloc(), text).expect(rt, "an accepted program");
+    let mut core = opened(rt, &program);
+    take_steps(rt, &program, &mut core, names);
+    core
+}
+
+/// Two tasks that store one number to one cell.
+const TWICE: &[u8] = b"cells 1\nbody main 0\ntask s\ntask s\nend\nbody s 0\nstore 0 1\nend\n";
+
+/// The same with another number.
+const OTHER: &[u8] = b"cells 1\nbody main 0\ntask s\ntask s\nend\nbody s 0\nstore 0 2\nend\n";
+
+const FIRST_THEN_SECOND: [&str; 9] = ["0", "0", "0", "0.1", "0.1", "0.1", "0.2", "0.2", "0.2"];
+
+/// The program and the order of the steps, and whether it is the run in which the first task goes
+/// in front of the second. All leave one state but the last two.
+const RUNS: [(&[u8], &[&str], bool); 5] = [
+    (TWICE, &FIRST_THEN_SECOND, true),
+    (
+        TWICE,
+        &["0", "0", "0", "0.2", "0.2", "0.2", "0.1", "0.1", "0.1"],
+        false,
+    ),
+    (
+        TWICE,
+        &["0", "0", "0", "0.2", "0.1", "0.1", "0.1", "0.2", "0.2"],
+        true,
+    ),
+    (OTHER, &FIRST_THEN_SECOND, false),
+    (
+        TWICE,
+        &["0", "0", "0", "0.1", "0.1", "0.1", "0.2", "0.2"],
+        false,
+    ),
+];
+
+fn compare(rt: &(impl Abort + AllocGlobal), core: &Core, other: &Core, same: bool) {
+    let found = same_run(rt.alloc(), core, other).expect(rt, "memory is there");
+    assert_eq!(rt; found, same);
+    let back = same_run(rt.alloc(), other, core).expect(rt, "memory is there");
+    assert_eq!(rt; back, same);
+}
+
+fn compare_with(
+    rt: &(impl Abort + AllocGlobal),
+    core: &Core,
+    text: &[u8],
+    names: &[&str],
+    same: bool,
+) {
+    let other = taken(rt, text, names);
+    compare(rt, core, &other, same);
+}
+
+fn compare_all(rt: &(impl Abort + AllocGlobal), core: &Core) {
+    for (text, names, same) in RUNS {
+        compare_with(rt, core, text, names, same);
+    }
+}
+
+#[test]
+fn runs_of_one_order_of_needs_are_one(rt: HostRuntime) {
+    let core = taken(&rt, TWICE, &FIRST_THEN_SECOND);
+    compare_all(&rt, &core);
+}
+
+/// A load, and a later store to its cell, of two tasks.
+const CONFLICT: &[u8] = b"cells 1\ncell 0 5\nbody main 0\ntask a\ntask b\nend\nbody a 0\n\
+    load r0 0\nprint r0\nend\nbody b 0\nlet r0 1\nstore 0 9\nend\n";
+
+const STEPS: [&str; 8] = ["0", "0", "0", "0.1", "0.1", "0.2", "0.2", "0.2"];
+
+fn step(rt: &(impl Abort + AllocGlobal), text: &str) -> StepId {
+    StepId::parse(rt.alloc(), text.as_bytes()).expect(rt, text)
+}
+
+fn add(rt: &impl Abort, text: &mut String, id: &StepId) {
+    id.print(text).expect(rt, "memory is there");
+    text.push_str(" ").expect(rt, "memory is there");
+}
+
+fn told(rt: &(impl Abort + AllocGlobal), steps: &[StepId]) -> String {
+    let mut text = String::new(rt.alloc());
+    for id in steps {
+        add(rt, &mut text, id);
+    }
+    text
+}
+
+fn gone(rt: &(impl Abort + AllocGlobal), removed: &[Removed]) -> String {
+    let mut text = String::new(rt.alloc());
+    for one in removed {
+        add(rt, &mut text, &one.id);
+    }
+    text
+}
+
+/// A step, what needs it, and what it needs.
+const NEEDS: [(&str, &str, &str); 4] = [
+    ("0.1#2", "0.2#3 ", "0#1 0#2 0.1#1 "),
+    ("0.2#3", "", "0#1 0#2 0#3 0.1#1 0.1#2 0.2#1 0.2#2 "),
+    ("0#3", "0.2#1 0.2#2 0.2#3 ", "0#1 0#2 "),
+    ("0.2#1", "0.2#2 0.2#3 ", "0#1 0#2 0#3 "),
+];
+
+fn compare_needs(rt: &(impl Abort + AllocGlobal), core: &Core, row: &(&str, &str, &str)) {
+    let id = step(rt, row.0);
+    let later = needed_by(rt.alloc(), core, &id).expect(rt, row.0);
+    assert_eq!(rt; told(rt, &later).as_str(), row.1);
+    let earlier = needs(rt.alloc(), core, &id).expect(rt, row.0);
+    assert_eq!(rt; told(rt, &earlier).as_str(), row.2);
+}
+
+/// A step that doesn't stand is refused in each call.
+fn refuse(rt: &(impl Abort + AllocGlobal), core: &mut Core, id: &StepId) {
+    let by = needed_by(rt.alloc(), core, id).expect_err(rt, "no such step");
+    assert_eq!(rt; by.number(), 1);
+    let why = needs(rt.alloc(), core, id).expect_err(rt, "no such step");
+    assert_eq!(rt; why.number(), 1);
+    let kept = roll(rt.alloc(), core, id).expect_err(rt, "no such step");
+    assert_eq!(rt; kept.number(), 1);
+}
+
+/// Rolls a step back in two parts: what goes is told in both.
+fn roll_in_two(rt: &(impl Abort + AllocGlobal), core: &mut Core, id: &str, steps: &str) {
+    let id = step(rt, id);
+    let prepared = ready(rt.alloc(), core, &id).expect(rt, steps);
+    assert!(rt; *prepared.step() == id);
+    assert_eq!(rt; told(rt, prepared.steps_to_remove()).as_str(), steps);
+    let removed = finish(core, prepared);
+    assert_eq!(rt; gone(rt, &removed).as_str(), steps);
+}
+
+fn roll_at_once(rt: &(impl Abort + AllocGlobal), core: &mut Core, id: &str, steps: &str) {
+    let id = step(rt, id);
+    let removed = roll(rt.alloc(), core, &id).expect(rt, steps);
+    assert_eq!(rt; gone(rt, &removed).as_str(), steps);
+}
+
+fn ask_and_roll(rt: &(impl Abort + AllocGlobal), core: &mut Core) {
+    for row in &NEEDS {
+        compare_needs(rt, core, row);
+    }
+    refuse(rt, core, &step(rt, "0.2#4"));
+    assert_eq!(rt; core.count(), 8);
+    roll_in_two(rt, core, "0.1#2", "0.1#2 0.2#3 ");
+    assert_eq!(rt; core.count(), 6);
+    roll_at_once(rt, core, "0#3", "0#3 0.2#1 0.2#2 ");
+    assert_eq!(rt; core.count(), 3);
+    assert!(rt; core.cells() == [5].as_slice());
+}
+
+#[test]
+fn a_step_goes_with_all_that_need_it(rt: HostRuntime) {
+    let mut core = taken(&rt, CONFLICT, &STEPS);
+    ask_and_roll(&rt, &mut core);
+}
