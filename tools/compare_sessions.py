@@ -6,8 +6,8 @@
 COMMAND gets a session on standard input, with `--limit L` behind its words, and has to write what
 the program has to write: output, standard error and exit status are compared. A session that
 differs is kept in DIR. The programs are of the whole language, and some have faults. The commands
-are `step`, `run`, `undo`, `roll`, `rolltask`, `rollcell`, `rollprint`, `cells` and `out`, malformed
-ones among them. Most name tasks and steps that were there when the program was run on the session
+are `step`, `run`, `undo`, `roll`, `rolltask`, `rollcell`, `rollprint` and the views, malformed ones
+among them. Most name tasks and steps that were there when the program was run on the session
 so far, so that undos and rollbacks meet the middle of a history.
 """
 import argparse
@@ -34,7 +34,8 @@ MALFORMED = ['fly', 'step', 'step 00', 'step 0 0', 'step 0.', 'step 0.0', 'step 
              'undo 0.4.4#99999999999999999999', 'run', 'run x', 'run -1', 'run +1', 'run 1000001', 'run 1 1', 'run 0x1', 'run #1',
              'run 4294967297', 'run 18446744073709551617', 'run 0', 'run 000000000000000000000000000003', 'roll', 'roll 0', 'roll 0#0',
              'roll 0#1 2', 'rolltask', 'rolltask 0#1', 'rolltask 00', 'rollcell', 'rollcell x', 'rollcell -0', 'rollcell 65536',
-             'rollcell 65535', 'rollcell 000', 'rollcell 0 1', 'rollprint 0', 'rollprint #', 'rolls 0#1']
+             'rollcell 65535', 'rollcell 000', 'rollcell 0 1', 'rollprint 0', 'rollprint #', 'rolls 0#1', 'hist 1', 'hist #', 'Hist',
+             'why', 'why 0', 'why 0#0', 'why 0#1 0#2', 'why #1', 'who', 'who 00#1', 'who 0#01', 'who 0#1 x', 'whys 0#1']
 STEP = re.compile(rb'^(0(?:\.\d+)*)#(\d+) (.*)$', re.MULTILINE)
 
 
@@ -164,9 +165,12 @@ def pick_command(r, steps, newest, scattered, wild):
         return 'undo %s#%s' % (task, last[task] if r.random() < 0.75 else number)
     if kind < (0.87 if scattered else 0.8) and steps:
         return pick_rollback(r, steps, newest)
-    if kind < 0.93:
+    if kind < 0.91:
         return 'run %d' % r.choice([0, 1, 1, 2, 3, 5, 8, 20])
-    return r.choice(['cells', 'out', 'undo 0.1#1', 'undo 0#%d' % r.randrange(1, 30)])
+    if kind < 0.96 and steps:
+        task, number, _ = r.choice(r.choice([steps, newest]))
+        return r.choice(['why', 'who']) + ' %s#%s' % (task, number)
+    return r.choice(['cells', 'out', 'hist', 'why 0.2#2', 'who 0.1#1', 'undo 0.1#1', 'undo 0#%d' % r.randrange(1, 30)])
 
 
 def pick_rollback(r, steps, newest):

@@ -8,7 +8,7 @@ pub mod ServeLemmas
 pub mod BeginLemmas
 pub mod EndLemmas
 pub mod TotalLemmas
-pub mod NameLemmas
 pub mod NumberLemmas
 pub mod CourseLemmas
 pub mod RolledLemmas
+pub mod CommandLemmas

@@ -10,9 +10,9 @@ use Rattle.tb_core.specs.declared.removed.Removed.{Removed}
 use Rattle.tb_core.specs.Rolled.{removals}
 use Rattle.tb_live.specs.Session.{Session, history}
 use Rattle.tb_live.specs.Moves.{Rolls}
-use Rattle.taskback.specs.Texts.{step_line}
+use Rattle.tb_view.specs.Lines.{step_line, removal_line}
 use Rattle.taskback.specs.Refusals.{roll_refusal}
-use Rattle.taskback.specs.Rolled.{rolled, removed_lines, rolled_text, removal_line, removal_lines, removals_text}
+use Rattle.taskback.specs.Rolled.{rolled, removed_lines, rolled_text, removal_lines, removals_text}
 use Rattle.taskback.specs.Replies.{RolledReply}
 
 lines_append : (P : Program) (rs more : List Removed) → removal_lines P (rs ++ more) ≡ removal_lines P rs ++ removal_lines P more

@@ -23,7 +23,7 @@ use Rattle.taskback.specs.Replies.{Answers, ReplyTo, Reply, StepReply, UndoReply
 use Rattle.taskback.specs.Reading.{IsProgram}
 use Rattle.taskback.specs.Laws.{IsSound}
 use Rattle.taskback.specs.declared.command.Command.{Command}
-use Rattle.taskback.specs.declared.command.Command.TheVariants.{Step, Undo, Roll, Run, Cells, Out}
+use Rattle.taskback.specs.declared.command.Command.TheVariants.{Step, Undo, Roll, Run, Show}
 use Rattle.taskback.specs.declared.stop.Stop.TheVariants.{Full}
 use Rattle.taskback.specs.declared.asked.Asked.{Asked}
 use Rattle.taskback.specs.declared.asked.Asked.TheVariants.{Nothing, Command as Asks, Fault}
@@ -87,8 +87,7 @@ reply_sound s new (Step t) out h reply = step_sound s new t out (step_refusal s 
 reply_sound s new (Undo id) out h reply = undo_sound s new id out (undo_refusal s id) refl h reply
 reply_sound s new (Roll target) out h reply = roll_sound s new (step_named (history s) target) out h reply
 reply_sound s new (Run most) out h reply = subst IsSound (sym reply.1) (course_sound most s h)
-reply_sound s new Cells out h reply = subst IsSound (sym reply.1) h
-reply_sound s new Out out h reply = subst IsSound (sym reply.1) h
+reply_sound s new (Show view) out h reply = subst IsSound (sym reply.1) h
 
 reply_to_sound : (s new : Session) (asks : Asked) (out : List ℕ) → IsSound s → ReplyTo s asks out new → IsSound new
 reply_to_sound s new Nothing out h reply = subst IsSound (sym reply.1) h
@@ -121,8 +120,7 @@ some_reply s (Step t) = some_step s t (step_refusal s t)
 some_reply s (Undo id) = some_undo s id (undo_refusal s id)
 some_reply s (Roll target) = some_roll s (step_named (history s) target)
 some_reply s (Run most) = (course_text (course most s), (course most s).session, (refl, refl))
-some_reply s Cells = (_, s, (refl, refl))
-some_reply s Out = (_, s, (refl, refl))
+some_reply s (Show view) = (_, s, (refl, refl))
 
 some_reply_to : (s : Session) (asks : Asked) → (out : List ℕ) × (new : Session) × ReplyTo s asks out new
 some_reply_to s Nothing = ([], s, (refl, refl))
@@ -155,8 +153,7 @@ one_reply s new other (Step t) out more a b = one_step s new other t out more (s
 one_reply s new other (Undo id) out more a b = one_undo s new other id out more (undo_refusal s id) a b
 one_reply s new other (Roll target) out more a b = one_roll s new other (step_named (history s) target) out more a b
 one_reply s new other (Run most) out more a b = (a.0 ∙ sym b.0, a.1 ∙ sym b.1)
-one_reply s new other Cells out more a b = (a.0 ∙ sym b.0, a.1 ∙ sym b.1)
-one_reply s new other Out out more a b = (a.0 ∙ sym b.0, a.1 ∙ sym b.1)
+one_reply s new other (Show view) out more a b = (a.0 ∙ sym b.0, a.1 ∙ sym b.1)
 
 one_reply_to : (s new other : Session) (asks : Asked) (out more : List ℕ) → ReplyTo s asks out new → ReplyTo s asks more other → (out ≡ more) × (new ≡ other)
 one_reply_to s new other Nothing out more a b = (a.0 ∙ sym b.0, a.1 ∙ sym b.1)

@@ -9,9 +9,10 @@ use Rattle.tb_model.specs.Spelling.{spells_name, spelled_name, spells_step_id, s
 use Rattle.tb_read.specs.Text.{line_words, before_comment, is_text}
 use Rattle.tb_read.specs.Word.{same_word}
 use Rattle.taskback.specs.declared.command.Verb.{Verb}
-use Rattle.taskback.specs.declared.command.Verb.TheVariants.{Step as ToStep, Undo as ToUndo, Roll as ToRoll, RollTask as ToRollTask, RollCell as ToRollCell, RollPrint as ToRollPrint, Run as ToRun, Cells as ToCells, Out as ToOut}
+use Rattle.taskback.specs.declared.command.Verb.TheVariants.{Step as ToStep, Undo as ToUndo, Roll as ToRoll, RollTask as ToRollTask, RollCell as ToRollCell, RollPrint as ToRollPrint, Run as ToRun, Cells as ToCells, Out as ToOut, Hist as ToHist, Why as ToWhy, Who as ToWho}
 use Rattle.taskback.specs.declared.command.Command.{Command}
-use Rattle.taskback.specs.declared.command.Command.TheVariants.{Step, Undo, Roll, Run, Cells, Out}
+use Rattle.taskback.specs.declared.command.Command.TheVariants.{Step, Undo, Roll, Run, Show}
+use Rattle.tb_view.specs.declared.view.View.TheVariants.{Cells, Out, Hist, Why, Who}
 use Rattle.taskback.specs.declared.target.Target.TheVariants.{Step as TheStep, LastStore, LastPrint}
 use Rattle.taskback.specs.declared.asked.CommandFault.TheVariants.{Line, Word, Count, Name as BadName, Number as BadNumber}
 use Rattle.taskback.specs.declared.asked.Asked.{Asked}
@@ -73,7 +74,10 @@ verb_of word =
     else (if same_word word (codes "run") then Some ToRun
     else (if same_word word (codes "cells") then Some ToCells
     else (if same_word word (codes "out") then Some ToOut
-    else None))))))))
+    else (if same_word word (codes "hist") then Some ToHist
+    else (if same_word word (codes "why") then Some ToWhy
+    else (if same_word word (codes "who") then Some ToWho
+    else None)))))))))))
 
 abbrev pub asked_of : Verb → Words → Asked
 asked_of ToStep words = with_one words (λ word. named (task_of word) Step)
@@ -83,8 +87,11 @@ asked_of ToRollTask words = with_one words (λ word. named (task_of word) (λ t.
 asked_of ToRollCell words = with_one words (λ word. numbered (number_within 65535 word) (λ c. Roll (LastStore c)))
 asked_of ToRollPrint words = with_none words (Roll LastPrint)
 asked_of ToRun words = with_one words (λ word. numbered (number_within 1000000 word) Run)
-asked_of ToCells words = with_none words Cells
-asked_of ToOut words = with_none words Out
+asked_of ToCells words = with_none words (Show Cells)
+asked_of ToOut words = with_none words (Show Out)
+asked_of ToHist words = with_none words (Show Hist)
+asked_of ToWhy words = with_one words (λ word. named (step_of word) (λ id. Show (Why id)))
+asked_of ToWho words = with_one words (λ word. named (step_of word) (λ id. Show (Who id)))
 
 -- ---- a line
 

@@ -4,7 +4,8 @@ use Rattle.std.specs.Fmt.{decimal}
 use Rattle.tb_model.specs.Names.{Name}
 use Rattle.tb_live.specs.Session.{Session, is_full}
 use Rattle.tb_live.specs.Moves.{least_task}
-use Rattle.taskback.specs.Texts.{line, told_step, stepped}
+use Rattle.tb_view.specs.Lines.{line}
+use Rattle.taskback.specs.Texts.{told_step, stepped}
 use Rattle.taskback.specs.declared.running.Taken.{Taken}
 use Rattle.taskback.specs.declared.stop.Stop.{Stop}
 use Rattle.taskback.specs.declared.stop.Stop.TheVariants.{Limit, Done, Full}

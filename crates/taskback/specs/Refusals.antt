@@ -8,6 +8,9 @@ use Rattle.tb_model.specs.Equivalent.{stands}
 use Rattle.tb_model.specs.Hindrances.{Hindrance, Refusal, NoSuchTask, Ended, By, Undeferred, Waiting, Excluded, Children, Group}
 use Rattle.tb_live.specs.Session.{Session, history, is_full}
 use Rattle.tb_live.specs.Moves.{refusal_for}
+use Rattle.tb_view.specs.declared.view_refusal.ViewRefusal.{ViewRefusal}
+use Rattle.tb_view.specs.declared.view_refusal.ViewRefusal.TheVariants.{Memory, NoSuchStep}
+use Rattle.tb_view.specs.Refusals.{view_number}
 use Rattle.taskback.specs.Texts.{refused, refused_for, refused_with}
 
 -- ---- a step
@@ -45,3 +48,12 @@ abbrev pub roll_refusal : Session → StepId → Option (List ℕ)
 roll_refusal s id =
     if not (stands id (history s)) then Some (refused 1 (codes "NoSuchStep"))
     else (if is_full s then Some (refused 2 (codes "Full")) else None)
+
+-- ---- a view
+
+abbrev pub view_word : ViewRefusal → List ℕ
+view_word Memory = codes "Memory"
+view_word NoSuchStep = codes "NoSuchStep"
+
+abbrev pub view_line : ViewRefusal → List ℕ
+view_line r = refused (view_number r) (view_word r)

@@ -1,18 +1,21 @@
 -- The reply to each line.
-use Rattle.std.specs.Prelude.{◌≡◌, ℕ, List, [], ◌++◌, codes, reverse, Option, Some, None}
+use Rattle.std.specs.Prelude.{◌≡◌, ℕ, List, [], ◌++◌, codes, Option, Some, None}
 use Rattle.tb_model.specs.declared.step_id.StepId.{StepId}
 use Rattle.tb_model.specs.declared.entry.Entry.TheVariants.{Rolled}
 use Rattle.tb_model.specs.Names.{Name}
-use Rattle.tb_model.specs.State.{printed}
 use Rattle.tb_model.specs.Spelling.{step_id_text}
-use Rattle.tb_live.specs.Session.{Session, history, with_entry, cell_numbers}
+use Rattle.tb_live.specs.Session.{Session, history, with_entry}
 use Rattle.taskback.specs.Commands.{asked}
-use Rattle.taskback.specs.Texts.{line, fault_word, refused, told_step, stepped, cells_text, out_text}
-use Rattle.taskback.specs.Refusals.{step_refusal, undo_refusal, roll_refusal}
+use Rattle.tb_view.specs.declared.view.View.{View}
+use Rattle.tb_view.specs.declared.view_refusal.ViewRefusal.{ViewRefusal}
+use Rattle.tb_view.specs.Lines.{line}
+use Rattle.tb_view.specs.Views.{view_text, view_refusal}
+use Rattle.taskback.specs.Texts.{fault_word, refused, told_step, stepped}
+use Rattle.taskback.specs.Refusals.{step_refusal, undo_refusal, roll_refusal, view_line}
 use Rattle.taskback.specs.Rolled.{step_named, rolled_text}
 use Rattle.taskback.specs.Course.{Course, course, course_text}
 use Rattle.taskback.specs.declared.command.Command.{Command}
-use Rattle.taskback.specs.declared.command.Command.TheVariants.{Step, Undo, Roll, Run, Cells, Out}
+use Rattle.taskback.specs.declared.command.Command.TheVariants.{Step, Undo, Roll, Run, Show}
 use Rattle.taskback.specs.declared.asked.Asked.{Asked}
 use Rattle.taskback.specs.declared.asked.Asked.TheVariants.{Nothing, Command as Asks, Fault}
 
@@ -39,13 +42,21 @@ RollReply s (Some id) out new = RolledReply (roll_refusal s id) s id out new
 abbrev pub RunReply : Course → List ℕ → Session → Type 0
 RunReply c out new = (out ≡ course_text c) × (new ≡ c.session)
 
+-- a view by its reason not to be shown, and its text
+abbrev pub shown_or : Option ViewRefusal → List ℕ → List ℕ
+shown_or (Some refusal) text = view_line refusal
+shown_or None text = text
+
+abbrev pub shown : Session → View → List ℕ
+shown s view = shown_or (view_refusal s view) (view_text s view)
+
 abbrev pub Reply : Session → Command → List ℕ → Session → Type 0
 Reply s (Step t) out new = StepReply (step_refusal s t) s t out new
 Reply s (Undo id) out new = UndoReply (undo_refusal s id) s id out new
 Reply s (Roll target) out new = RollReply s (step_named (history s) target) out new
 Reply s (Run most) out new = RunReply (course most s) out new
-Reply s Cells out new = (out ≡ cells_text (cell_numbers s)) × (new ≡ s)
-Reply s Out out new = (out ≡ out_text (reverse (printed (history s)))) × (new ≡ s)
+-- a view changes nothing
+Reply s (Show view) out new = (out ≡ shown s view) × (new ≡ s)
 
 -- what a line asks for is answered so
 abbrev pub ReplyTo : Session → Asked → List ℕ → Session → Type 0

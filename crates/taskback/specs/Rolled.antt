@@ -7,7 +7,7 @@ use Rattle.tb_model.specs.Needs.{removed, is_removed}
 use Rattle.tb_model.specs.Program.{Program}
 use Rattle.tb_core.specs.declared.removed.Removed.{Removed}
 use Rattle.tb_live.specs.Session.{Session, history, last_store, last_print}
-use Rattle.taskback.specs.Texts.{line, event_line, step_line}
+use Rattle.tb_view.specs.Lines.{line, step_line, removal_line}
 use Rattle.taskback.specs.declared.target.Target.{Target}
 use Rattle.taskback.specs.declared.target.Target.TheVariants.{Step, LastStore, LastPrint}
 
@@ -30,9 +30,6 @@ abbrev pub rolled_text : Session → StepId → List ℕ
 rolled_text s e = rolled (length (removed e (history s))) (removed_lines s.program e (history s))
 
 -- ---- the same, of steps that are gone
-
-abbrev pub removal_line : Program → Removed → List ℕ
-removal_line P r = event_line P r.id (record { task = r.id.task; action = r.action })
 
 abbrev pub removal_lines : Program → List Removed → List ℕ
 removal_lines P [] = []

@@ -4,6 +4,8 @@ ghost use Rattle.std.specs.Prelude.{◌≡◌, ◌∷◌, [], IfOk, map};
 ghost use Rattle.taskback.specs.Commands.{verb_of, asked_of, asked, named, numbered, number_within, task_of, step_of, start_of, is_bad_line};
 ghost use Rattle.taskback.specs.declared.command.Command.TheVariants as command;
 ghost use Rattle.taskback.specs.declared.target.Target.TheVariants as target;
+ghost use Rattle.taskback.specs.declared.asked.Asked.TheVariants as answer;
+ghost use Rattle.tb_view.specs.declared.view.View.TheVariants as view;
 
 use crate::asked::{Asked, CommandFault};
 use crate::command::{Command, Verb};
@@ -13,6 +15,7 @@ use crate::target::Target;
 use std::alloc::{AllocError, Global};
 use tb_model::StepId;
 use tb_read::{before_comment, is_text, line_words, same_word};
+use tb_view::View;
 
 /// The most bytes of a line, without its line feed.
 const LINE_LIMIT: usize = 1024;
@@ -45,6 +48,12 @@ fn verb_of(word: &[u8]) -> Option<Verb>
         Some(Verb::Cells)
     } else if same_word(word, b"out") {
         Some(Verb::Out)
+    } else if same_word(word, b"hist") {
+        Some(Verb::Hist)
+    } else if same_word(word, b"why") {
+        Some(Verb::Why)
+    } else if same_word(word, b"who") {
+        Some(Verb::Who)
     } else {
         None
     }
@@ -114,23 +123,71 @@ fn asked_run(word: &[u8]) -> Asked
     }
 }
 
+fn asked_view(shows: View) -> Asked
+    ensures { result ≡ answer.Command (command.Show shows) }
+{
+    Asked::Command(Command::Show { view: shows })
+}
+
+fn asked_why(alloc: Global, word: &[u8]) -> Result<Asked, AllocError>
+    ensures { IfOk result (λ a. a ≡ named (step_of word.now) (λ id. command.Show (view.Why id))) }
+{
+    match read_step_id(alloc, word)? {
+        Some(id) => Ok(asked_view(View::Why { id })),
+        None => Ok(Asked::Fault(CommandFault::Name)),
+    }
+}
+
+fn asked_who(alloc: Global, word: &[u8]) -> Result<Asked, AllocError>
+    ensures { IfOk result (λ a. a ≡ named (step_of word.now) (λ id. command.Show (view.Who id))) }
+{
+    match read_step_id(alloc, word)? {
+        Some(id) => Ok(asked_view(View::Who { id })),
+        None => Ok(Asked::Fault(CommandFault::Name)),
+    }
+}
+
+/// What a command with no word behind it asks for.
+fn asked_alone(verb: Verb) -> Asked
+    ensures { result ≡ asked_of verb [] }
+{
+    match verb {
+        Verb::RollPrint => Asked::Command(Command::Roll {
+            target: Target::LastPrint,
+        }),
+        Verb::Cells => asked_view(View::Cells),
+        Verb::Out => asked_view(View::Out),
+        Verb::Hist => asked_view(View::Hist),
+        _ => Asked::Fault(CommandFault::Count),
+    }
+}
+
+/// What a command with this word behind it asks for.
+fn asked_with(alloc: Global, verb: Verb, word: &[u8]) -> Result<Asked, AllocError>
+    ensures { IfOk result (λ a. a ≡ asked_of verb (word.now ∷ [])) }
+{
+    match verb {
+        Verb::Step => asked_step(alloc, word),
+        Verb::Undo => asked_undo(alloc, word),
+        Verb::Roll => asked_roll(alloc, word),
+        Verb::RollTask => asked_roll_task(alloc, word),
+        Verb::RollCell => Ok(asked_roll_cell(word)),
+        Verb::Run => Ok(asked_run(word)),
+        Verb::Why => asked_why(alloc, word),
+        Verb::Who => asked_who(alloc, word),
+        _ => Ok(Asked::Fault(CommandFault::Count)),
+    }
+}
+
 /// What a command with these words behind it asks for.
+#[tactic(auto, using(crate::proofs::CommandLemmas::too_many))]
 fn asked_of(alloc: Global, verb: Verb, words: &[&[u8]]) -> Result<Asked, AllocError>
     ensures { IfOk result (λ a. a ≡ asked_of verb (map (λ word. word.now) words.now)) }
 {
-    match (verb, words) {
-        (Verb::Step, [word]) => asked_step(alloc, word),
-        (Verb::Undo, [word]) => asked_undo(alloc, word),
-        (Verb::Roll, [word]) => asked_roll(alloc, word),
-        (Verb::RollTask, [word]) => asked_roll_task(alloc, word),
-        (Verb::RollCell, [word]) => Ok(asked_roll_cell(word)),
-        (Verb::RollPrint, []) => Ok(Asked::Command(Command::Roll {
-            target: Target::LastPrint,
-        })),
-        (Verb::Run, [word]) => Ok(asked_run(word)),
-        (Verb::Cells, []) => Ok(Asked::Command(Command::Cells)),
-        (Verb::Out, []) => Ok(Asked::Command(Command::Out)),
-        _ => Ok(Asked::Fault(CommandFault::Count)),
+    match words {
+        [] => Ok(asked_alone(verb)),
+        [word] => asked_with(alloc, verb, word),
+        [_, _, ..] => Ok(Asked::Fault(CommandFault::Count)),
     }
 }
 

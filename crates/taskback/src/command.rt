@@ -2,6 +2,7 @@
 
 use crate::target::Target;
 use tb_model::{StepId, TaskName};
+use tb_view::View;
 
 /// The first word of a command.
 #[derive(Clone, Copy, Debug, PartialEq, Eq)]
@@ -15,6 +16,9 @@ pub enum Verb {
     Run,
     Cells,
     Out,
+    Hist,
+    Why,
+    Who,
 }
 
 /// A command, with what its words name.
@@ -28,8 +32,6 @@ pub enum Command {
     Roll { target: Target },
     /// Steps, each of the least task that can step, and no more than so many.
     Run { most: u32 },
-    /// Shows the cells that aren't 0.
-    Cells,
-    /// Shows what was printed.
-    Out,
+    /// Shows something of the run.
+    Show { view: View },
 }

@@ -9,6 +9,7 @@ mod divider;
 mod halt;
 pub mod laws;
 mod line_reader;
+mod newest;
 mod number;
 mod opening;
 mod ports;
@@ -19,13 +20,12 @@ mod rolling;
 mod running;
 mod serving;
 mod session;
+mod showing;
 mod spelling;
-mod step_line;
 mod stop;
 mod target;
 #[cfg(test)]
 mod tests;
-mod views;
 mod writing;
 
 pub use counting::{CountedReader, CountedWriter};

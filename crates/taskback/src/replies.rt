@@ -1,7 +1,8 @@
 //! The reply to a line of a session.
 
 ghost use Rattle.std.specs.Prelude.{◌≡◌, ◌++◌, IfOk, codes, string_bytes};
-ghost use Rattle.taskback.specs.Texts.{line, fault_word, newest_line};
+ghost use Rattle.tb_view.specs.Lines.{line};
+ghost use Rattle.taskback.specs.Texts.{fault_word, newest_line};
 ghost use Rattle.taskback.specs.Refusals.{step_refusal, undo_refusal};
 ghost use Rattle.taskback.specs.Replies.{Answers, Reply, StepReply, UndoReply};
 ghost use Rattle.tb_model.specs.Spelling.{step_id_text};
@@ -9,11 +10,11 @@ ghost use Rattle.tb_model.specs.Spelling.{step_id_text};
 use crate::asked::{Asked, CommandFault};
 use crate::asking::read_line;
 use crate::command::Command;
+use crate::newest::append_newest;
 use crate::refusing::{refused, refused_for, refused_with};
 use crate::rolling::roll_reply;
 use crate::running::run_reply;
-use crate::step_line::append_newest;
-use crate::views::{cells_text, out_text};
+use crate::showing::view_reply;
 use std::alloc::{AllocError, Global};
 use tb_live::{Live, StepRefusal, UndoRefusal};
 use tb_model::{StepId, TaskName};
@@ -89,26 +90,25 @@ fn undo_reply(alloc: Global, live: &mut Live, id: &StepId) -> Result<String, All
 }
 
 /// Does what a command asks for, and tells it.
-fn reply(alloc: Global, live: &mut Live, command: &Command) -> Result<String, AllocError>
-    ensures { IfOk result (λ text. Reply live.old command.now (string_bytes text) live.new) }
+fn reply(alloc: Global, live: &mut Live, command: &Command) -> Result<Vec<u8>, AllocError>
+    ensures { IfOk result (λ text. Reply live.old command.now text.items live.new) }
 {
     match command {
-        Command::Step { task } => step_reply(alloc, live, task),
-        Command::Undo { id } => undo_reply(alloc, live, id),
-        Command::Roll { target } => roll_reply(alloc, live, target),
-        Command::Run { most } => run_reply(alloc, live, *most),
-        Command::Cells => cells_text(alloc, live.cells()),
-        Command::Out => out_text(alloc, live.output()),
+        Command::Step { task } => Ok(step_reply(alloc, live, task)?.into_bytes()),
+        Command::Undo { id } => Ok(undo_reply(alloc, live, id)?.into_bytes()),
+        Command::Roll { target } => Ok(roll_reply(alloc, live, target)?.into_bytes()),
+        Command::Run { most } => Ok(run_reply(alloc, live, *most)?.into_bytes()),
+        Command::Show { view } => view_reply(alloc, live, view),
     }
 }
 
 /// Does what a line asks for, and tells it. An `Err` may come when it is done and can't be told.
-pub fn answer(alloc: Global, live: &mut Live, line: &[u8]) -> Result<String, AllocError>
-    ensures { IfOk result (λ text. Answers live.old line.now (string_bytes text) live.new) }
+pub fn answer(alloc: Global, live: &mut Live, line: &[u8]) -> Result<Vec<u8>, AllocError>
+    ensures { IfOk result (λ text. Answers live.old line.now text.items live.new) }
 {
     match read_line(alloc, line)? {
-        Asked::Nothing => Ok(String::new(alloc)),
+        Asked::Nothing => Ok(Vec::new(alloc)),
         Asked::Command(command) => reply(alloc, live, &command),
-        Asked::Fault(fault) => fault_reply(alloc, fault),
+        Asked::Fault(fault) => Ok(fault_reply(alloc, fault)?.into_bytes()),
     }
 }

@@ -3,16 +3,17 @@
 ghost use Rattle.std.specs.Prelude.{◌≡◌, ◌++◌, IfOk, OnOk, string_bytes};
 ghost use Rattle.taskback.specs.Refusals.{roll_refusal};
 ghost use Rattle.taskback.specs.Replies.{RollReply, RolledReply};
-ghost use Rattle.taskback.specs.Rolled.{removal_line, removals_text, step_named};
+ghost use Rattle.taskback.specs.Rolled.{removals_text, step_named};
+ghost use Rattle.tb_view.specs.Lines.{removal_line};
 ghost use Rattle.tb_live.specs.Session.{history};
 
 use crate::refusing::refused;
-use crate::step_line::append_line;
 use crate::target::Target;
 use std::alloc::{AllocError, Global};
 use tb_live::{Live, Removed, RollRefusal};
 use tb_model::StepId;
 use tb_read::Program;
+use tb_view::append_line;
 
 fn append_removed(text: &mut String, program: &Program, removed: &Removed) -> Result<(), AllocError>
     ensures { OnOk result (string_bytes text.new

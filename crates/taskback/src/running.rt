@@ -1,11 +1,11 @@
 //! Steps one after another, each of the least task that can step.
 
 ghost use Rattle.std.specs.Prelude.{◌≡◌, ◌++◌, IfOk, OnOk, codes, decimal, string_bytes};
-ghost use Rattle.taskback.specs.Texts.{line};
+ghost use Rattle.tb_view.specs.Lines.{line};
 ghost use Rattle.taskback.specs.Course.{course, stop_word, IsCourse};
 ghost use Rattle.taskback.specs.Replies.{RunReply};
 
-use crate::step_line::append_newest;
+use crate::newest::append_newest;
 use crate::stop::Stop;
 use std::alloc::{AllocError, Global};
 use tb_live::{Live, StepRefusal};

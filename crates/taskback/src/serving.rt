@@ -31,7 +31,7 @@ pub fn answer_line<K: Sink>(
         Ok(reply) => reply,
         Err(_) => return Err(Halt::Memory),
     };
-    match write_whole(sink, reply.as_bytes()) {
+    match write_whole(sink, &reply) {
         Ok(()) => Ok(()),
         Err(_) => Err(Halt::Write),
     }

@@ -5,3 +5,4 @@ mod fakes;
 mod lines;
 mod replies;
 mod rollbacks;
+mod views;

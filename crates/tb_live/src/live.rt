@@ -1,5 +1,7 @@
 //! A live run: the program, the core and the journal.
 
+mod inside;
+
 ghost use Rattle.std.specs.Prelude.{◌≡◌, ◌≤◌, IfOk, IfErr, reverse, slice_get};
 ghost use Rattle.std.specs.Option.{option_copied};
 ghost use Rattle.tb_model.specs.State.{printed};

@@ -1,9 +1,22 @@
-//! Texts of steps, as a session shows them.
+//! Texts of steps and of what a run shows, as a session writes them.
 #![tactic(auto)]
 
 mod action_text;
+mod counting;
+mod numbers;
+mod showing;
+mod step_line;
 mod step_text;
+mod steps;
 #[cfg(test)]
 mod tests;
+mod view;
+mod view_refusal;
+#[cfg(test)]
+mod view_tests;
 
+pub use showing::{line, text};
+pub use step_line::append_line;
 pub use step_text::write_step;
+pub use view::View;
+pub use view_refusal::ViewRefusal;

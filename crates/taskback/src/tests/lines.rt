@@ -8,6 +8,8 @@ use crate::line_reader::{LineEnd, LineReader};
 use crate::tests::fakes::FailsAt;
 use std::alloc::Global;
 use std::test::Fail;
+use tb_model::{StepId, TaskName};
+use tb_view::View;
 
 #[test]
 fn lines_come_whole_from_pieces(rt: HostRuntime) -> Result<(), Fail> {
@@ -103,59 +105,98 @@ fn lines_that_are_no_commands(rt: HostRuntime) -> Result<(), Fail> {
     Ok(())
 }
 
+/// The place of the view that the line asks for, in the order of these.
+fn view_asked(alloc: Global, line: &[u8]) -> u8 {
+    match read_line(alloc, line) {
+        Ok(Asked::Command(Command::Show { view })) => match view {
+            View::Cells => 1,
+            View::Out => 2,
+            View::Hist => 3,
+            View::Why { .. } => 4,
+            View::Who { .. } => 5,
+        },
+        _ => 0,
+    }
+}
+
 #[test]
-fn lines_that_are_commands(rt: HostRuntime) -> Result<(), Fail> {
+fn lines_that_ask_for_views(rt: HostRuntime) -> Result<(), Fail> {
     let alloc = rt.alloc();
-    assert!(rt;
-        matches!(
-            read_line(alloc, b"cells"),
-            Ok(Asked::Command(Command::Cells))
-        )
-    );
-    assert!(rt;
-        matches!(
-            read_line(alloc, b" out\r"),
-            Ok(Asked::Command(Command::Out))
-        )
-    );
+    for (line, want) in [
+        ("cells", 1),
+        (" out\r", 2),
+        ("hist # all", 3),
+        ("why 0#1", 4),
+        ("who 0.1#2", 5),
+        ("run 1", 0),
+    ] {
+        assert_eq!(rt; view_asked(alloc, line.as_bytes()), want, "{line}");
+    }
     let line = long_line(alloc, "cells", 1024)?;
-    assert!(rt; matches!(read_line(alloc, &line), Ok(Asked::Command(Command::Cells))));
+    assert_eq!(rt; view_asked(alloc, &line), 1);
+    Ok(())
+}
+
+fn task_asked(alloc: Global, line: &[u8]) -> Option<TaskName> {
+    match read_line(alloc, line) {
+        Ok(Asked::Command(Command::Step { task })) => Some(task),
+        _ => None,
+    }
+}
+
+#[test]
+fn lines_that_name_tasks(rt: HostRuntime) {
     for (line, want) in [
         ("step 0", "0"),
         ("\tstep  0.1.12 ", "0.1.12"),
         ("step 0.1000000 #1", "0.1000000"),
         ("step 0.1 # \x01", "0.1"),
     ] {
-        let Ok(Asked::Command(Command::Step { task })) = read_line(alloc, line.as_bytes()) else {
-            panic!(rt; "{line}");
-        };
-        let mut text = String::new(alloc);
-        task.print(&mut text)?;
+        let task = task_asked(rt.alloc(), line.as_bytes()).expect(&rt, line);
+        let mut text = String::new(rt.alloc());
+        task.print(&mut text).expect(&rt, "memory is there");
         assert_eq!(rt; text.as_str(), want, "{line}");
     }
+}
+
+fn most_asked(alloc: Global, line: &[u8]) -> Option<u32> {
+    match read_line(alloc, line) {
+        Ok(Asked::Command(Command::Run { most })) => Some(most),
+        _ => None,
+    }
+}
+
+#[test]
+fn lines_that_name_numbers(rt: HostRuntime) {
     for (line, want) in [
         ("run 0", 0),
         ("run 7 # 8", 7),
         ("run 00000000000000000000000000000000000012", 12),
         ("run 1000000", 1_000_000),
     ] {
-        assert!(rt;
-            matches!(
-                read_line(alloc, line.as_bytes()),
-                Ok(Asked::Command(Command::Run { most })) if most == want
-            ),
+        assert_eq!(rt;
+            most_asked(rt.alloc(), line.as_bytes()),
+            Some(want),
             "{line}"
         );
     }
+}
+
+fn step_asked(alloc: Global, line: &[u8]) -> Option<StepId> {
+    match read_line(alloc, line) {
+        Ok(Asked::Command(Command::Undo { id })) => Some(id),
+        _ => None,
+    }
+}
+
+#[test]
+fn lines_that_name_steps(rt: HostRuntime) {
     for (line, want) in [("undo 0#1", "0#1"), ("undo 0.2.3#1000000", "0.2.3#1000000")] {
-        let Ok(Asked::Command(Command::Undo { id })) = read_line(alloc, line.as_bytes()) else {
-            panic!(rt; "{line}");
-        };
-        let mut text = String::new(alloc);
-        id.print(&mut text)?;
+        let id = step_asked(rt.alloc(), line.as_bytes()).expect(&rt, line);
+        let mut text = String::new(rt.alloc());
+        id.print(&mut text).expect(&rt, "memory is there");
         assert_eq!(rt; text.as_str(), want, "{line}");
     }
-    Ok(())
 }
 
 #[test]

@@ -1,7 +1,7 @@
 use Rattle.std.proofs.Common.{ap, sym, ◌∙◌}
-use Rattle.taskback.specs.Texts.{as_text}
-use Rattle.taskback.proofs.NameLemmas.{spawned_is, nothing_is}
-use Rattle.taskback.proofs.step_line.spawned_name.Goals as goal
+use Rattle.tb_view.specs.Lines.{as_text}
+use Rattle.tb_view.proofs.NameLemmas.{spawned_is, nothing_is}
+use Rattle.tb_view.proofs.step_line.spawned_name.Goals as goal
 
 pub returns-in-Some : goal.returns-in-Some
 returns-in-Some c = c.as_text.ensures ∙ sym (ap as_text (spawned_is c.args.program.now _ _ _ _ _ _ _ c.in-Spawn.is c.in-Some.ensures))

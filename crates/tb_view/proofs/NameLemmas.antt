@@ -10,7 +10,7 @@ use Rattle.tb_model.specs.Names.{Name}
 use Rattle.tb_model.specs.Program.{Program, Body}
 use Rattle.tb_read.specs.Bodies as read
 use Rattle.tb_view.specs.Step as view
-use Rattle.taskback.specs.Texts.{as_text}
+use Rattle.tb_view.specs.Lines.{as_text}
 
 name_at_by : (b : Bool) (name more : List ℕ) (rest : Option (List ℕ)) → more ≡ unwrap_or rest [] → cond b name more ≡ unwrap_or (cond b (Some name) rest) []
 name_at_by true name more rest e = refl

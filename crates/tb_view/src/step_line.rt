@@ -2,15 +2,15 @@
 
 ghost use Rattle.std.specs.Prelude.{◌≡◌, ◌++◌, OnOk, string_bytes};
 ghost use Rattle.tb_view.specs.Step.{spawned_name};
-ghost use Rattle.taskback.specs.Texts.{as_text, event_line, newest_line};
+ghost use Rattle.tb_view.specs.Lines.{as_text, event_line};
 
+use crate::step_text::write_step;
 use std::alloc::AllocError;
-use tb_live::Live;
-use tb_model::{Action, StepId, TaskName};
+use tb_model::{Action, TaskName};
 use tb_read::Program;
-use tb_view::write_step;
 
-fn as_text(name: &[u8]) -> &str
+/// The name of a body.
+pub(crate) fn as_text(name: &[u8]) -> &str
     ensures { result.now ≡ as_text name.now }
 {
     match str::from_utf8(name) {
@@ -32,7 +32,7 @@ fn spawned_name<'a>(program: &'a Program, action: &Action) -> &'a str
     }
 }
 
-/// Appends the line of the kth step of a task.
+/// Appends the line of the kth step of a task. Where memory runs out a part of it may stand.
 pub fn append_line(
     text: &mut String,
     program: &Program,
@@ -47,15 +47,4 @@ pub fn append_line(
     let body = spawned_name(program, action);
     write_step(text, body, task, k, action)?;
     text.push('\n')
-}
-
-/// Appends the line of the newest event that stands, of which this is the step.
-pub fn append_newest(text: &mut String, live: &Live, id: &StepId) -> Result<(), AllocError>
-    ensures { OnOk result (string_bytes text.new
-        ≡ string_bytes text.old ++ newest_line live.now id.now) }
-{
-    if let Some(event) = live.newest() {
-        append_line(text, live.program(), &event.task, id.k, &event.action)?;
-    }
-    Ok(())
 }

@@ -1,7 +1,8 @@
 //! The texts of the cells and of what was printed.
 
 ghost use Rattle.std.specs.Prelude.{◌≡◌, ◌++◌, IfOk, OnOk, string_bytes, length};
-ghost use Rattle.taskback.specs.Texts.{cell_line, cell_lines, cells_text, number_lines, out_text, line};
+ghost use Rattle.tb_view.specs.Numbers.{cell_line, cell_lines, cells_text, number_lines, out_text};
+ghost use Rattle.tb_view.specs.Lines.{line};
 ghost use Rattle.std.specs.Fmt.{signed_decimal};
 
 use std::alloc::{AllocError, Global};
@@ -24,7 +25,7 @@ fn append_number(text: &mut String, number: i64) -> Result<(), AllocError>
 }
 
 /// How many cells there are, and a line for each that isn't 0.
-pub fn cells_text(alloc: Global, numbers: &[i64]) -> Result<String, AllocError>
+pub(crate) fn cells_text(alloc: Global, numbers: &[i64]) -> Result<String, AllocError>
     ensures { IfOk result (λ text. string_bytes text ≡ cells_text numbers.now) }
 {
     let count = numbers.len();
@@ -36,7 +37,7 @@ pub fn cells_text(alloc: Global, numbers: &[i64]) -> Result<String, AllocError>
 }
 
 /// How many numbers were printed, and each on a line.
-pub fn out_text(alloc: Global, numbers: &[i64]) -> Result<String, AllocError>
+pub(crate) fn out_text(alloc: Global, numbers: &[i64]) -> Result<String, AllocError>
     ensures { IfOk result (λ text. string_bytes text ≡ out_text numbers.now) }
 {
     let count = numbers.len();

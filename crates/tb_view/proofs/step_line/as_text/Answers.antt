@@ -1,5 +1,5 @@
-use Rattle.taskback.proofs.NameLemmas.{text_is, no_text}
-use Rattle.taskback.proofs.step_line.as_text.Goals as goal
+use Rattle.tb_view.proofs.NameLemmas.{text_is, no_text}
+use Rattle.tb_view.proofs.step_line.as_text.Goals as goal
 
 pub returns-in-Ok : goal.returns-in-Ok
 returns-in-Ok c = text_is _ _ c.in-Ok.ensures.cases.0 c.in-Ok.ensures.cases.1

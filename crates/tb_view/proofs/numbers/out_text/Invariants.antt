@@ -1,7 +1,7 @@
 use Rattle.std.proofs.Common.{◌≡◌, ◌++◌, drop}
 use Rattle.std.specs.Prelude.{string_bytes}
-use Rattle.taskback.specs.Texts.{number_lines, out_text}
-use Rattle.taskback.proofs.views.out_text.Given as goal
+use Rattle.tb_view.specs.Numbers.{number_lines, out_text}
+use Rattle.tb_view.proofs.numbers.out_text.Given as goal
 
 -- the text so far, and the lines of the numbers that are left, are the whole text
 abbrev pub invariant-loop-number : goal.invariant-loop-number

@@ -1,0 +1,61 @@
+-- The steps of each task, counted along a history.
+use Rattle.std.proofs.Common.{◌≡◌, ◌<◌, ◌≤◌, ◌+◌, ℕ, suc, List, [], ◌∷◌, Bool, true, false, cond, length, take, refl, sym, ap, ◌∙◌, subst, arith, ap₂, Some, None, get_or, unwrap_or, Result, Ok, Err, IsOk, OnOk}
+use Rattle.std.specs.Map.{lookup}
+use Rattle.std.proofs.lemmas.Bool.{false≢true}
+use Rattle.tb_model.specs.declared.event.Event.{Event}
+use Rattle.tb_model.specs.Facts.{History, is_of, own, prepend_if}
+use Rattle.tb_model.specs.Names.{Name, same_name}
+use Rattle.tb_model.proofs.TestLemmas.{same_true}
+use Rattle.tb_core.specs.declared.entry.Entry.{Entry}
+use Rattle.tb_core.specs.Scans.{history_of}
+use Rattle.tb_core.proofs.ScanLemmas.{history_more}
+use Rattle.tb_cause.proofs.ConeLemmas.{count_front}
+use Rattle.tb_view.specs.Steps.{Counts, count_of, IsCounted, AreCounts}
+
+-- one entry is written: t has taken k steps more than that
+pub writes_count : (old new : Counts) (t : Name) (k : ℕ) → k ≡ suc (count_of old t) → ((u : Name) → lookup (same_name u) new ≡ cond (same_name t u) (Some k) (lookup (same_name u) old)) → IsCounted old t new
+writes_count old new t k is writes u = at (same_name t u) refl
+  where
+    at : (b : Bool) → same_name t u ≡ b → count_of new u ≡ cond b (suc (count_of old u)) (count_of old u)
+    at true e =
+        ap (λ o. unwrap_or o 0) (writes u ∙ ap (λ b. cond b (Some k) (lookup (same_name u) old)) e) ∙ is ∙ ap (λ x. suc (count_of old x)) (same_true t u e)
+    at false e = ap (λ o. unwrap_or o 0) (writes u ∙ ap (λ b. cond b (Some k) (lookup (same_name u) old)) e)
+
+-- in front of the first step none is counted
+pub none_counted : (entries : List Entry) → AreCounts (history_of (take 0 entries)) []
+none_counted entries t = refl
+
+own_within : (t : Name) (H : History) → length (own t H) ≤ length H
+own_within t [] = omega arith
+own_within t (v ∷ H) = at (is_of t v) (own_within t H)
+  where
+    at : (b : Bool) → length (own t H) ≤ length H → length (prepend_if b v.action (own t H)) ≤ suc (length H)
+    at true h = omega (arith, h)
+    at false h = omega (arith, h)
+
+counts_more : (H : History) (v : Event) (old new : Counts) → AreCounts H old → IsCounted old v.task new → AreCounts (v ∷ H) new
+counts_more H v old new counts more t = at (same_name v.task t) (more t)
+  where
+    at : (b : Bool) → count_of new t ≡ cond b (suc (count_of old t)) (count_of old t) → count_of new t ≡ length (prepend_if b v.action (own t H))
+    at true h = h ∙ ap suc (counts t)
+    at false h = h ∙ counts t
+
+module _ (entries : List Entry) (i : ℕ) (e : Entry) (within : i < length entries) (here : e ≡ get_or entries i e) where
+  -- the counts behind one entry more
+  pub counted : (old new : Counts) → AreCounts (history_of (take i entries)) old → IsCounted old e.event.task new → AreCounts (history_of (take (i + 1) entries)) new
+  counted old new counts more = subst (λ H. AreCounts H new) (sym (history_more entries i e within here)) (counts_more (history_of (take i entries)) e.event old new counts more)
+
+  -- no count is so large that it can't grow
+  pub few : (counts : Counts) (t : Name) → length entries ≤ 1000000 → AreCounts (history_of (take i entries)) counts → count_of counts t < 4294967295
+  few counts t bound are = omega (arith, are t, own_within t (history_of (take i entries)), count_front entries i (omega (arith, within)), within, bound)
+
+pub on_ok : {A E : Type 0} (r : Result A E) (P : Type 0) → IsOk r → OnOk r P → P
+on_ok (Ok x) P ok h = h
+on_ok (Err e) P ok h = absurd (false≢true ok)
+
+-- a task that wasn't counted is counted now
+pub inserts_count : (old mid new : Counts) (t name : Name) → name ≡ t → mid ≡ old → lookup (same_name t) old ≡ None
+    → ((u : Name) → lookup (same_name u) new ≡ cond (same_name name u) (Some 1) (lookup (same_name u) mid)) → IsCounted old t new
+inserts_count old mid new t name same kept none writes =
+    writes_count old new t 1 (ap (λ o. suc (unwrap_or o 0)) (sym none))
+    (λ u. writes u ∙ ap₂ (λ n (m : Counts). cond (same_name n u) (Some 1) (lookup (same_name u) m)) same kept)

@@ -1,0 +1,5 @@
+mod NameLemmas
+mod CountLemmas
+mod WalkLemmas
+mod NeedLemmas
+mod ShownLemmas

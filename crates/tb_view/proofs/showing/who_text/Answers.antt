@@ -1,0 +1,22 @@
+use Rattle.std.proofs.Common.{◌∙◌, codes}
+use Rattle.tb_cause.specs.Chains.{needers}
+use Rattle.tb_view.proofs.NeedLemmas.{needers_are}
+use Rattle.tb_view.proofs.ShownLemmas.{ok_then, steps_of, steps_text_is, it_stands, not_err}
+use Rattle.tb_view.proofs.showing.who_text.Goals as goal
+
+pub chosen_text-requires-clause-steps : goal.chosen_text-requires-clause-steps
+chosen_text-requires-clause-steps c =
+    steps_of c.args.live.now c.core-core.result.now.run c.legal_entries.result.now c.core-core.ensures.history c.legal_entries.ensures.steps needers c.args.id.now c.in-Ok.steps.items c.deref.result.now
+    c.in-Ok.ensures.steps c.deref.ensures.value (needers_are c.args.id.now)
+
+pub returns-in-Ok-clause-shown : goal.returns-in-Ok-clause-shown
+returns-in-Ok-clause-shown c =
+    let live = c.args.live.now in
+    let run = c.core-core.result.now.run in
+    let text = steps_text_is live run c.legal_entries.result.now c.core-core.ensures.history c.legal_entries.ensures.steps needers c.args.id.now c.in-Ok.steps.items c.deref.result.now
+    c.in-Ok.ensures.steps c.deref.ensures.value (codes "who") c.program.result.now c.program.ensures
+    in
+    let there = it_stands live run c.legal_entries.result.now c.core-core.ensures.history c.legal_entries.ensures.steps needers c.args.id.now c.in-Ok.steps.items c.deref.result.now
+    c.in-Ok.ensures.steps c.deref.ensures.value (λ z. not_err _ _ (c.in-Ok.ensures.absent.1 z))
+    in
+    ok_then c.told.result _ _ (λ given is. record { unrefused = there; text_is = is ∙ text }) (c.told.ensures.ok _ c.chosen_text.ensures)
