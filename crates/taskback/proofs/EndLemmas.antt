@@ -47,8 +47,8 @@ ran_no_command limit left rest before held e =
     let w = e.whole in
     let read = from_unread_end left rest held w.all w.bytes w.end in
     let P : List ℕ → Type 0 = λ l. IsProgram l e.program in
-    let R : List (List ℕ) → Type 0 = λ ls. Replies (opened e.program limit) ls [] in
-    (w.all, [], read.0, read.1, (e.program, subst P w.is_text e.says, subst R (sym w.no_commands) (opened e.program limit, (refl, refl))), appends_nil before)
+    let R : List (List ℕ) → Type 0 = λ ls. Replies (opened e.program limit 65) ls [] in
+    (w.all, [], read.0, read.1, (e.program, subst P w.is_text e.says, subst R (sym w.no_commands) (opened e.program limit 65, (refl, refl))), appends_nil before)
 
 not_begun : (limit : ℕ) (left rest before : Option (List ℕ)) (held : List ℕ) (halt : Halt) → Begun limit (prepend_known [] left) (prepend_known held rest) (Err halt) → (halt ≡ Read → held ≡ []) → Ran limit left rest before before (Err halt)
 not_begun limit left rest before held (Refused fault) b emptied = (refuses_left left fault b, appends_nil before)
@@ -90,7 +90,7 @@ module _ (limit : ℕ) (left mid : Option (List ℕ)) (s : Session) (d : Divides
       let commands : command_lines (head ++ lines) ≡ lines =
       ap command_lines (joined lines) ∙ commands_of_divided d.divided.program d.divided.divider lines d.divided.undivided d.divided.divides in
       let P : List ℕ → Type 0 = λ l. IsProgram l d.program in
-      let R : List (List ℕ) → Type 0 = λ ls. Replies (opened d.program limit) ls out in
+      let R : List (List ℕ) → Type 0 = λ ls. Replies (opened d.program limit 65) ls out in
       let S : Session → Type 0 = λ t. Replies t lines out in
       (d.program, subst P (sym program) d.says, subst R (sym commands) (subst S d.opens r))
 

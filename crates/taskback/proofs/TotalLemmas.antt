@@ -30,7 +30,7 @@ use Rattle.taskback.specs.declared.asked.Asked.TheVariants.{Nothing, Command as 
 
 -- ---- each reply leaves a sound journal
 
-pub opened_sound : (text : List ℕ) (P : Program) (limit : ℕ) → IsProgram text P → IsSound (opened P limit)
+pub opened_sound : (text : List ℕ) (P : Program) (limit : ℕ) → IsProgram text P → IsSound (opened P limit 65)
 opened_sound text P limit h = record { well_formed = accepted_well_formed (numbered text) P h.0 h.1; sound = refl }
 
 -- behind the next event of a task

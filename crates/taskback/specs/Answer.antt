@@ -42,7 +42,7 @@ program_text lines = spelled (program_lines lines)
 
 -- the program is accepted, and these may be the replies to the commands behind it
 abbrev pub AnswerTo : ℕ → List (List ℕ) → List ℕ → Type 0
-AnswerTo limit lines out = (P : Program) × IsProgram (program_text lines) P × Replies (opened P limit) (command_lines lines) out
+AnswerTo limit lines out = (P : Program) × IsProgram (program_text lines) P × Replies (opened P limit 65) (command_lines lines) out
 
 abbrev pub IsAnswer : ℕ → List ℕ → List ℕ → Type 0
 IsAnswer limit bytes out = AnswerTo limit (lines_of bytes) out

@@ -69,7 +69,7 @@ Answered old line new before after (Err _) = ⊥
 
 -- a session of the text's program, in front of its first command
 abbrev pub Opens : ℕ → List ℕ → Result Session Halt → Type 0
-Opens limit text (Ok s) = (P : Program) × IsProgram text P × (s ≡ opened P limit)
+Opens limit text (Ok s) = (P : Program) × IsProgram text P × (s ≡ opened P limit 65)
 Opens limit text (Err (Refused fault)) = IsRefused text fault
 Opens limit text (Err Memory) = ⊤
 Opens limit text (Err _) = ⊥
@@ -90,7 +90,7 @@ pub record Divides (limit : ℕ) (old new : Option (List ℕ)) (s : Session) : T
   pub divided : Divided old new text
   pub program : Program
   pub says : IsProgram text program
-  pub opens : s ≡ opened program limit
+  pub opens : s ≡ opened program limit 65
 
 -- all that came is a program that is accepted
 pub record Ends (old new : Option (List ℕ)) : Type 0 where

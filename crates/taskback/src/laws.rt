@@ -21,7 +21,7 @@ pub fn one_reply()
 #[tactic(auto, using(crate::proofs::TotalLemmas::answer_sound))]
 pub fn sound_journals()
     ensures opened { (text : List ℕ) (P : Program) (limit : ℕ) → IsProgram text P →
-        IsSound (opened P limit) }
+        IsSound (opened P limit 65) }
     ensures kept { (s new : Session) (line out : List ℕ) →
         IsSound s → Answers s line out new → IsSound new }
 {}

@@ -72,7 +72,8 @@ pub fn open(alloc: Global, text: &[u8], limit: u32) -> Result<Live, Halt>
     ensures { Opens limit text.now result }
 {
     match read(alloc, text) {
-        Ok(program) => match Live::open(alloc, program, limit) {
+        // a seat for the session, and one for each of 64 workers
+        Ok(program) => match Live::open(alloc, program, limit, 65) {
             Ok(live) => Ok(live),
             Err(_) => Err(Halt::Memory),
         },

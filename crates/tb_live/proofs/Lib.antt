@@ -4,3 +4,6 @@ pub mod ReadyLemmas
 pub mod RunLemmas
 pub mod StepLemmas
 pub mod RollLemmas
+pub mod ClaimLemmas
+pub mod ControlLemmas
+pub mod WorkLemmas

@@ -1,5 +1,5 @@
 -- A Live's journal and run behind a move.
-use Rattle.std.proofs.Common.{◌≡◌, ◌<◌, ◌≤◌, ◌+◌, ℕ, zero, suc, List, [], ◌∷◌, ◌++◌, Bool, true, false, nat_le, not, length, reverse, refl, sym, ap, ap₂, ◌∙◌, subst, ℤ, arith, get_or}
+use Rattle.std.proofs.Common.{◌≡◌, ◌<◌, ◌≤◌, ◌+◌, ℕ, zero, suc, List, [], ◌∷◌, ◌++◌, Bool, true, false, nat_le, not, length, reverse, refl, sym, ap, ap₂, ◌∙◌, subst, ℤ, arith, get_or, None}
 use Rattle.std.proofs.lemmas.List.{reverse-append, ext_get_or, length-map}
 use Rattle.std.proofs.lemmas.Bool.Decides.{nat_tests}
 use Rattle.tb_model.specs.declared.entry.Entry.{Entry}
@@ -25,12 +25,16 @@ use Rattle.tb_core.specs.Seen.{Seen}
 use Rattle.tb_core.specs.Seen as core
 use Rattle.tb_core.specs.Outcomes.{event_of, departure_of, IsCurrent, IsFree, TakesBack}
 use Rattle.tb_core.specs.Outcomes as outcomes
-use Rattle.tb_core.specs.Rolled.{RollsBack}
+use Rattle.tb_core.specs.Rolled.{RollsBack, removals}
 use Rattle.tb_undo.specs.State.{AreLast}
 use Rattle.tb_model.specs.Alike.{Alike}
-use Rattle.tb_live.specs.Session.{Session, history, is_full, numbers_from, cell_numbers}
+use Rattle.tb_live.specs.declared.control.Control.{Control}
+use Rattle.tb_live.specs.Claims.{Claims, is_hit, AreLawful}
+use Rattle.tb_live.specs.Controls.{behind_removal}
+use Rattle.tb_live.specs.Session.{Session, history, is_full, with_entry, numbers_from, cell_numbers}
 use Rattle.tb_live.specs.Moves.{Undoes}
-use Rattle.tb_live.specs.Soundness.{Fits, IsSound}
+use Rattle.tb_live.specs.Soundness.{Fits, IsSound, IsLawful}
+use Rattle.tb_live.proofs.ControlLemmas.{withdrawn_alike, undo_hits, lawful_rolled}
 use Rattle.tb_live.proofs.PlanLemmas.{IsPlan, stands_at, holds_registers, plan_instr, plan_follows, moved_taken, own_moves}
 
 -- ---- a journal has more entries than its history has events
@@ -77,14 +81,14 @@ line_fits P run p f i l =
     ∙ sym (moved_taken run.cells H t (instr_at P c.line) c p.action)
     ∙ ap (λ (k : Place). k.line) (sym (own_moves P t v H l (same_refl t)))
 
-pub record Stepped' (P : Program) (limit : ℕ) (J : List Entry) (run : Seen) (p : Plan) (new : Seen) (i : StepId) : Type 0 where
-  pub sound : IsSound P limit (Stepped 0 (event_of run p) ∷ J) new
+pub record Stepped' (seat : ℕ) (P : Program) (limit : ℕ) (J : List Entry) (run : Seen) (p : Plan) (new : Seen) (i : StepId) : Type 0 where
+  pub sound : IsSound P limit (Stepped seat (event_of run p) ∷ J) new
   pub next : IsNext P (hist J) (event_of run p)
   pub id : i ≡ step_of (hist J) (event_of run p)
 
-pub stepped : (P : Program) (limit : ℕ) (J : List Entry) (run new : Seen) (p : Plan) (i : StepId) → IsSound P limit J run → nat_le limit (length J) ≡ false
-    → IsPlan P run p → outcomes.Fits run p → outcomes.Steps run p new i → Stepped' P limit J run p new i
-stepped P limit J run new p i s room plan fitting k =
+pub stepped : (seat : ℕ) (P : Program) (limit : ℕ) (J : List Entry) (run new : Seen) (p : Plan) (i : StepId) → IsSound P limit J run → nat_le limit (length J) ≡ false
+    → IsPlan P run p → outcomes.Fits run p → outcomes.Steps run p new i → Stepped' seat P limit J run p new i
+stepped seat P limit J run new p i s room plan fitting k =
     let f = s.fits in
     let H = core.history run in
     let v = event_of run p in
@@ -92,7 +96,7 @@ stepped P limit J run new p i s room plan fitting k =
     let next = next_event P run p f plan n k.may in
     let legal : LegalFor P (v ∷ H) = ((f.legal.0, next.may), (f.legal.1, next.follows)) in
     record {
-      sound = subst (λ (z : Seen). IsSound P limit (Stepped 0 v ∷ J) z) (sym k.now) (record {
+      sound = subst (λ (z : Seen). IsSound P limit (Stepped seat v ∷ J) z) (sym k.now) (record {
         fits = record {
           well_formed = f.well_formed;
           followed = f.followed;
@@ -114,10 +118,10 @@ stepped P limit J run new p i s room plan fitting k =
 -- ---- behind an undo
 
 -- steps that are gone with the entry of the one that was chosen
-taken_back : (P : Program) (limit : ℕ) (J : List Entry) (run new : Seen) (i : StepId) → IsSound P limit J run → nat_le limit (length J) ≡ false
+taken_back : (seat : ℕ) (P : Program) (limit : ℕ) (J : List Entry) (run new : Seen) (i : StepId) → IsSound P limit J run → nat_le limit (length J) ≡ false
     → stands i (core.history run) ≡ true → new.cells ≡ run.cells → new.root_line ≡ run.root_line → new.limit ≡ run.limit
-    → new.steps ≡ without_lines i run.steps → core.history new ≡ without i (core.history run) → IsSound P limit (Rolled 0 i ∷ J) new
-taken_back P limit J run new i s room stood cells root_line limits steps rest =
+    → new.steps ≡ without_lines i run.steps → core.history new ≡ without i (core.history run) → IsSound P limit (Rolled seat i ∷ J) new
+taken_back seat P limit J run new i s room stood cells root_line limits steps rest =
     let f = s.fits in record {
       fits = record {
         well_formed = f.well_formed;
@@ -136,11 +140,11 @@ taken_back P limit J run new i s room stood cells root_line limits steps rest =
 
 pub undone : (P : Program) (limit : ℕ) (J : List Entry) (run new : Seen) (i : StepId) (removed : Removed) → IsSound P limit J run → nat_le limit (length J) ≡ false
     → TakesBack run i new removed → IsSound P limit (Rolled 0 i ∷ J) new
-undone P limit J run new i removed s room b = taken_back P limit J run new i s room b.free.stands b.cells b.root_line b.limit b.steps b.rest
+undone P limit J run new i removed s room b = taken_back 0 P limit J run new i s room b.free.stands b.cells b.root_line b.limit b.steps b.rest
 
-pub rolled : (P : Program) (limit : ℕ) (J : List Entry) (run new : Seen) (i : StepId) (removed : List Removed) → IsSound P limit J run → nat_le limit (length J) ≡ false
-    → stands i (core.history run) ≡ true → RollsBack run i new removed → IsSound P limit (Rolled 0 i ∷ J) new
-rolled P limit J run new i removed s room stood b = taken_back P limit J run new i s room stood b.cells b.root_line b.limit b.steps b.rest
+pub rolled : (seat : ℕ) (P : Program) (limit : ℕ) (J : List Entry) (run new : Seen) (i : StepId) (removed : List Removed) → IsSound P limit J run → nat_le limit (length J) ≡ false
+    → stands i (core.history run) ≡ true → RollsBack run i new removed → IsSound P limit (Rolled seat i ∷ J) new
+rolled seat P limit J run new i removed s room stood b = taken_back seat P limit J run new i s room stood b.cells b.root_line b.limit b.steps b.rest
 
 -- ---- the cells
 
@@ -162,42 +166,55 @@ cells_shown first H numbers l =
 
 -- ---- the answers of a Live
 
-abbrev pub shown : Program → ℕ → List Entry → Session
-shown P limit entries = record { program = P; limit = limit; journal = reverse entries }
+abbrev pub shown : Program → ℕ → List Entry → Control → Session
+shown P limit entries control = record { program = P; limit = limit; journal = reverse entries; control = control }
 
-pub record LiveUndoes (P : Program) (limit : ℕ) (s : Session) (i : StepId) (pushed : List Entry) (new : Seen) (removed : Removed) : Type 0 where
+pub record LiveUndoes (P : Program) (limit : ℕ) (s : Session) (i : StepId) (pushed : List Entry) (after : Control) (new : Seen) (removed : Removed) : Type 0 where
   pub sound : IsSound P limit (reverse pushed) new
-  pub undoes : Undoes s i (shown P limit pushed) removed
+  pub lawful : IsLawful (reverse pushed) after
+  pub undoes : Undoes s i (shown P limit pushed after) removed
 
-pub live_undoes : (P : Program) (limit : ℕ) (entries spare pushed : List Entry) (run new : Seen) (s : Session) (i copy : StepId) (removed : Removed)
-    → shown P limit entries ≡ s → IsSound P limit (reverse entries) run → is_full s ≡ false
-    → TakesBack run i new removed → copy ≡ i → spare ≡ entries → pushed ≡ spare ++ Rolled 0 copy ∷ []
-    → LiveUndoes P limit s i pushed new removed
-live_undoes P limit entries spare pushed run new s i copy removed shows sound room b same kept grows =
+pub live_undoes : (P : Program) (limit : ℕ) (entries spare pushed : List Entry) (before after : Control) (run new : Seen) (s : Session) (i copy : StepId) (removed : Removed)
+    → shown P limit entries before ≡ s → IsSound P limit (reverse entries) run × IsLawful (reverse entries) before → is_full s ≡ false
+    → TakesBack run i new removed → copy ≡ i → spare ≡ entries → pushed ≡ spare ++ Rolled 0 copy ∷ [] → after ≡ behind_removal (removed ∷ []) before
+    → LiveUndoes P limit s i pushed after new removed
+live_undoes P limit entries spare pushed before after run new s i copy removed shows both room b same kept grows withdraws =
+    let sound = both.0 in
     let J = reverse entries in
     let room' : nat_le limit (length J) ≡ false = ap is_full shows ∙ room in
     let all : reverse pushed ≡ Rolled 0 i ∷ J =
     ap reverse (grows ∙ ap (λ es. es ++ Rolled 0 copy ∷ []) kept) ∙ reverse-append entries (Rolled 0 copy ∷ []) ∙ ap (λ (w : StepId). Rolled 0 w ∷ J) same
     in
-    let now : shown P limit pushed ≡ record { program = P; limit = limit; journal = Rolled 0 i ∷ J } = ap (λ (K : List Entry). record { program = P; limit = limit; journal = K }) all in
-    let left : core.history new ≡ without i (hist J) = b.rest ∙ ap (without i) sound.leaves in
+    let stood : stands i (hist J) ≡ true = ap (stands i) (sym sound.leaves) ∙ b.free.stands in
+    let unneeded : first_needer i (hist J) ≡ None = ap (first_needer i) (sym sound.leaves) ∙ b.free.unneeded in
     let back : Event = record { task = i.task; action = removed.action } in
+    let left : core.history new ≡ without i (hist J) = b.rest ∙ ap (without i) sound.leaves in
+    let alike : Alike (hist J) (back ∷ without i (hist J)) = subst (λ (H : History). Alike H (back ∷ without i (hist J))) sound.leaves (subst (λ (H : History). Alike (core.history run) (back ∷ H)) left b.alike) in
+    let hits : after ≡ behind_removal (removals i (hist J)) before =
+    withdraws
+    ∙ ap (λ (cs : Claims). record { claims = cs; breakpoints = before.breakpoints; mode = before.mode })
+    (sym (withdrawn_alike (is_hit (removals i (hist J))) (is_hit (removed ∷ [])) (undo_hits P.cells (hist J) i removed (subst (LegalFor P) sound.leaves sound.fits.legal).0 stood unneeded b.id alike) before.claims))
+    in
+    let now : shown P limit pushed after ≡ with_entry (shown P limit entries before) (Rolled 0 i) =
+    ap₂ (λ (K : List Entry) (c : Control). record { program = P; limit = limit; journal = K; control = c }) all hits
+    in
     record {
       sound = subst (λ (K : List Entry). IsSound P limit K new) (sym all) (undone P limit J run new i removed sound room' b);
-      undoes = subst (λ (z : Session). Undoes z i (shown P limit pushed) removed) shows (record {
+      lawful = subst (λ (K : List Entry). IsLawful K after) (sym all) (subst (λ (c : Control). AreLawful (without i (hist J)) c.claims) (sym hits) (lawful_rolled i (hist J) before.claims both.1));
+      undoes = subst (λ (z : Session). Undoes z i (shown P limit pushed after) removed) shows (record {
         may = record {
-          stands = ap (stands i) (sym sound.leaves) ∙ b.free.stands;
-          unneeded = ap (first_needer i) (sym sound.leaves) ∙ b.free.unneeded;
+          stands = stood;
+          unneeded = unneeded;
           room = room';
         };
         id = b.id;
         now = now;
         again = subst (λ (z : Session). MayFollow P.cells (history z) back) (sym now) (subst (λ (H : History). MayFollow P.cells H back) left (subst (λ (cells : Cells). MayFollow cells (core.history new) back) sound.fits.cells b.again));
-        alike = subst (λ (z : Session). Alike (hist J) (back ∷ history z)) (sym now) (subst (λ (H : History). Alike H (back ∷ without i (hist J))) sound.leaves (subst (λ (H : History). Alike (core.history run) (back ∷ H)) left b.alike));
+        alike = subst (λ (z : Session). Alike (hist J) (back ∷ history z)) (sym now) alike;
       });
     }
 
 -- what a Live shows of its cells
-pub live_cells : (P : Program) (limit : ℕ) (entries : List Entry) (run : Seen) (s : Session) (numbers : List ℤ) → shown P limit entries ≡ s → IsSound P limit (reverse entries) run → AreLast run.cells (core.history run) numbers → numbers ≡ cell_numbers s
-live_cells P limit entries run s numbers shows sound l =
+pub live_cells : (P : Program) (limit : ℕ) (entries : List Entry) (control : Control) (run : Seen) (s : Session) (numbers : List ℤ) → shown P limit entries control ≡ s → IsSound P limit (reverse entries) run → AreLast run.cells (core.history run) numbers → numbers ≡ cell_numbers s
+live_cells P limit entries control run s numbers shows sound l =
     cells_shown run.cells (core.history run) numbers l ∙ ap₂ (λ (cells : Cells) (H : History). numbers_from 0 cells H) sound.fits.cells sound.leaves ∙ ap cell_numbers shows

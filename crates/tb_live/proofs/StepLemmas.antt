@@ -1,5 +1,5 @@
 -- What a Live answers to a step, and what it leaves.
-use Rattle.std.proofs.Common.{◌≡◌, ◌<◌, arith, ℕ, List, [], ◌∷◌, Bool, true, false, nat_le, length, reverse, refl, sym, ap, ◌∙◌, subst, Option, Some, None, option_map, not, cond}
+use Rattle.std.proofs.Common.{◌≡◌, ◌<◌, arith, ap₂, ℕ, List, [], ◌∷◌, Bool, true, false, nat_le, length, reverse, refl, sym, ap, ◌∙◌, subst, Option, Some, None, option_map, not, cond}
 use Rattle.std.specs.Prelude.{is_none, Result, Ok, Err}
 use Rattle.std.specs.List.{list_any}
 use Rattle.std.proofs.lemmas.List.{reverse-append, length-reverse, length-map}
@@ -7,26 +7,33 @@ use Rattle.std.proofs.lemmas.Bool.{false≢true, both_ways}
 use Rattle.tb_model.specs.declared.entry.Entry.{Entry}
 use Rattle.tb_model.specs.declared.entry.Entry.TheVariants.{Stepped}
 use Rattle.tb_model.specs.declared.step_id.StepId.{StepId}
-use Rattle.tb_model.specs.Names.{Name}
+use Rattle.tb_model.specs.declared.event.Event.{Event}
+use Rattle.tb_model.specs.Names.{Name, same_name}
 use Rattle.tb_model.specs.Facts.{is_spawned, ends}
 use Rattle.tb_model.specs.Needs.{step_of}
 use Rattle.tb_model.specs.Journal.{hist}
-use Rattle.tb_model.specs.Program.{Program, IsNext, LegalFor, planned, zero_ℤ}
+use Rattle.tb_model.specs.Program.{Program, IsNext, LegalFor, planned, situation, zero_ℤ}
 use Rattle.tb_model.specs.Hindrances.{Refusal, By, refusal_of, can_step, least_ready, next_event, in_the_way}
 use Rattle.tb_model.specs.Hindrances.{NoSuchTask as IsMissing, Ended as IsOver}
 use Rattle.tb_model.proofs.LeastNameLemmas.{least_found}
 use Rattle.tb_model.proofs.NextStepLemmas.{next_computed, next_isnt_refused}
+use Rattle.tb_read.specs.declared.config.Config.{Config}
 use Rattle.tb_read.specs.declared.planned.Plan.{Plan}
 use Rattle.tb_core.specs.declared.step_refusal.StepRefusal.{StepRefusal}
 use Rattle.tb_core.specs.declared.step_refusal.StepRefusal.TheVariants.{Memory, NoSuchTask, Ended, Waiting, Excluded, Children, Group, Full, Stale, Undeferred}
 use Rattle.tb_core.specs.Seen.{Seen}
 use Rattle.tb_core.specs.Seen as core
+use Rattle.tb_core.specs.Situation.{config_of}
 use Rattle.tb_core.specs.Outcomes.{event_of, has_ended, hindrance_of}
+use Rattle.tb_live.specs.declared.control.Control.{Control}
+use Rattle.tb_live.specs.Claims.{AreLawful}
+use Rattle.tb_live.specs.Controls.{behind_step}
 use Rattle.tb_live.specs.Session.{Session, is_full}
-use Rattle.tb_live.specs.Moves.{Steps, Refuses, StepsBy, LeastStepsBy, refusal_for, least_task}
-use Rattle.tb_live.specs.Soundness.{IsSound}
+use Rattle.tb_live.specs.Moves.{StepsFor, Refuses, StepsBy, LeastStepsFor, refusal_for, least_task}
+use Rattle.tb_live.specs.Soundness.{IsSound, IsLawful}
 use Rattle.tb_live.specs.Plans.{IsPlanOf, IsReady, HasNone, IsEntered, IsKeptFrom, Enters, has_no_place}
-use Rattle.tb_live.proofs.PlanLemmas.{IsPlan, refusal_of_plan}
+use Rattle.tb_live.proofs.PlanLemmas.{IsPlan, refusal_of_plan, stands_at}
+use Rattle.tb_live.proofs.ControlLemmas.{lawful_step}
 use Rattle.tb_live.proofs.ReadyLemmas.{can_spawned}
 use Rattle.tb_live.proofs.RunLemmas.{shown, shorter, stepped}
 use Rattle.tb_model.specs.Lines.{Departure}
@@ -39,11 +46,16 @@ longer P limit entries run sound =
 
 -- ---- a planned step
 
-pub record LiveSteps (P : Program) (limit : ℕ) (s : Session) (t : Name) (pushed : List Entry) (new : Seen) (i : StepId) : Type 0 where
+-- what is kept of a Live
+pub record Keeps (P : Program) (limit : ℕ) (pushed : List Entry) (after : Control) (new : Seen) : Type 0 where
   pub sound : IsSound P limit (reverse pushed) new
-  pub steps : Steps s t (shown P limit pushed) i
+  pub lawful : IsLawful (reverse pushed) after
 
-module _ (P : Program) (limit : ℕ) (entries : List Entry) (run : Seen) (s : Session) (shows : shown P limit entries ≡ s) (sound : IsSound P limit (reverse entries) run) (t : Name) (p : Plan) (plan : IsPlanOf P run t p) where
+pub record LiveSteps (seat : ℕ) (P : Program) (limit : ℕ) (s : Session) (t : Name) (pushed : List Entry) (after : Control) (new : Seen) (i : StepId) : Type 0 where
+  pub keeps : Keeps P limit pushed after new
+  pub steps : StepsFor seat s t (shown P limit pushed after) i
+
+module _ (P : Program) (limit : ℕ) (entries : List Entry) (before : Control) (run : Seen) (s : Session) (shows : shown P limit entries before ≡ s) (sound : IsSound P limit (reverse entries) run) (t : Name) (p : Plan) (plan : IsPlanOf P run t p) where
   abbrev journal : List Entry
   journal = reverse entries
 
@@ -64,28 +76,42 @@ module _ (P : Program) (limit : ℕ) (entries : List Entry) (run : Seen) (s : Se
   full_so : has_no_place limit entries ≡ is_full s
   full_so = ap (nat_le limit) (sym (length-reverse entries)) ∙ ap is_full shows
 
-  entered : (new : Seen) (pushed : List Entry) (i : StepId) → IsEntered run p new entries pushed i → has_no_place limit entries ≡ false → LiveSteps P limit s t pushed new i
-  entered new pushed i e room =
+  -- where the plan's task stands
+  line_so : p.config.at ≡ (situation P t (hist journal)).line
+  line_so =
+      ap (λ (k : Config). k.at) plan.current.here ∙ ap (λ u. (config_of run u).at) plan.of_task
+      ∙ stands_at P run t sound.fits ∙ ap (λ H. (situation P t H).line) sound.leaves
+
+  pub entered : (seat : ℕ) (new : Seen) (pushed : List Entry) (after : Control) (i : StepId) → IsLawful journal before → IsEntered seat run p new entries pushed i → has_no_place limit entries ≡ false
+      → after ≡ behind_step p.config.at (event_of run p) before → LiveSteps seat P limit s t pushed after new i
+  entered seat new pushed after i lawful e room counts =
       let room' : nat_le limit (length journal) ≡ false = ap (nat_le limit) (length-reverse entries) ∙ room in
-      let done = stepped P limit journal run new p i sound room' planned_so plan.fits e.steps in
+      let done = stepped seat P limit journal run new p i sound room' planned_so plan.fits e.steps in
       let v = event_of run p in
-      let same : v ≡ next_event P (hist journal) t = next_computed P (hist journal) v done.next ∙ ap (next_event P (hist journal)) plan.of_task in
-      let all : reverse pushed ≡ Stepped 0 v ∷ journal = ap reverse e.grows ∙ reverse-append entries (Stepped 0 v ∷ []) in
+      let w = next_event P (hist journal) t in
+      let same : v ≡ w = next_computed P (hist journal) v done.next ∙ ap (next_event P (hist journal)) plan.of_task in
+      let all : reverse pushed ≡ Stepped seat v ∷ journal = ap reverse e.grows ∙ reverse-append entries (Stepped seat v ∷ []) in
+      let behind : after ≡ behind_step (situation P t (hist journal)).line w before = counts ∙ ap₂ (λ (n : ℕ) (u : Event). behind_step n u before) line_so same in
       record {
-        sound = subst (λ (K : List Entry). IsSound P limit K new) (sym all) done.sound;
-        steps = subst (λ (z : Session). Steps z t (shown P limit pushed) i) shows (record {
+        keeps = record {
+          sound = subst (λ (K : List Entry). IsSound P limit K new) (sym all) done.sound;
+          lawful =
+              subst (λ (K : List Entry). IsLawful K after) (sym all)
+              (subst (λ (c : Control). AreLawful (v ∷ hist journal) c.claims) (sym counts) (lawful_step v (hist journal) before.claims (same_name v.task) lawful));
+        };
+        steps = subst (λ (z : Session). StepsFor seat z t (shown P limit pushed after) i) shows (record {
           may = record {
             unrefused = subst (λ u. refusal_of P (hist journal) u ≡ None) plan.of_task (next_isnt_refused P (hist journal) v sound.fits.well_formed legal_so done.next);
             room = room';
           };
           next = subst (IsNext P (hist journal)) same done.next;
           id = done.id ∙ ap (step_of (hist journal)) same;
-          now = ap (λ (K : List Entry). record { program = P; limit = limit; journal = K }) (all ∙ ap (λ w. Stepped 0 w ∷ journal) same);
+          now = ap₂ (λ (K : List Entry) (c : Control). record { program = P; limit = limit; journal = K; control = c }) (all ∙ ap (λ u. Stepped seat u ∷ journal) same) behind;
         });
       }
 
   -- what the core refuses is what the session refuses
-  refused : (e : StepRefusal) → IsKeptFrom run p (has_no_place limit entries) e → Refuses s t e
+  pub refused : (e : StepRefusal) → IsKeptFrom run p (has_no_place limit entries) e → Refuses s t e
   refused NoSuchTask k = absurd (both_ways (is_spawned (core.history run) p.config.task) k plan.current.spawned)
   refused Ended k = absurd (both_ways (has_ended run p.config.task) plan.current.going k.1)
   refused (Stale now) k = absurd (k.elsewhere (plan.current.here ∙ sym k.now_is))
@@ -117,33 +143,37 @@ module _ (P : Program) (limit : ℕ) (entries : List Entry) (run : Seen) (s : Se
 -- ---- the answers
 
 -- what stays behind a refusal
-pub record Stays (P : Program) (limit : ℕ) (s : Session) (pushed : List Entry) (new : Seen) : Type 0 where
-  pub sound : IsSound P limit (reverse pushed) new
-  pub same : shown P limit pushed ≡ s
+pub record Stays (P : Program) (limit : ℕ) (s : Session) (pushed : List Entry) (after : Control) (new : Seen) : Type 0 where
+  pub keeps : Keeps P limit pushed after new
+  pub same : shown P limit pushed after ≡ s
 
-stays : (P : Program) (limit : ℕ) (entries pushed : List Entry) (run new : Seen) (s : Session) → shown P limit entries ≡ s → IsSound P limit (reverse entries) run → new ≡ run → pushed ≡ entries → Stays P limit s pushed new
-stays P limit entries pushed run new s shows sound same kept = record {
-  sound = subst (λ (es : List Entry). IsSound P limit (reverse es) new) (sym kept) (subst (λ (z : Seen). IsSound P limit (reverse entries) z) (sym same) sound);
-  same = ap (shown P limit) kept ∙ shows;
+pub stays : (P : Program) (limit : ℕ) (entries pushed : List Entry) (before after : Control) (run new : Seen) (s : Session) → shown P limit entries before ≡ s → IsSound P limit (reverse entries) run × IsLawful (reverse entries) before
+    → new ≡ run → pushed ≡ entries → after ≡ before → Stays P limit s pushed after new
+stays P limit entries pushed before after run new s shows both same kept left = record {
+  keeps = record {
+    sound = subst (λ (es : List Entry). IsSound P limit (reverse es) new) (sym kept) (subst (λ (z : Seen). IsSound P limit (reverse entries) z) (sym same) both.0);
+    lawful = subst (λ (es : List Entry). IsLawful (reverse es) after) (sym kept) (subst (IsLawful (reverse entries)) (sym left) both.1);
+  };
+  same = ap₂ (shown P limit) kept left ∙ shows;
 }
 
-pub record LiveAnswers (P : Program) (limit : ℕ) (s : Session) (t : Name) (pushed : List Entry) (new : Seen) (result : Result StepId StepRefusal) : Type 0 where
-  pub sound : IsSound P limit (reverse pushed) new
-  pub answer : StepsBy s t (shown P limit pushed) result
+pub record LiveAnswers (P : Program) (limit : ℕ) (s : Session) (t : Name) (pushed : List Entry) (after : Control) (new : Seen) (result : Result StepId StepRefusal) : Type 0 where
+  pub keeps : Keeps P limit pushed after new
+  pub answer : StepsBy s t (shown P limit pushed after) result
 
-pub live_steps : (P : Program) (limit : ℕ) (entries : List Entry) (run : Seen) (s : Session) → shown P limit entries ≡ s → IsSound P limit (reverse entries) run
-    → (t : Name) (p : Plan) → IsPlanOf P run t p → (pushed : List Entry) (new : Seen) (result : Result StepId StepRefusal)
-    → Enters limit run p new entries pushed result → LiveAnswers P limit s t pushed new result
-live_steps P limit entries run s shows sound t p plan pushed new (Ok i) e =
-    let l = entered P limit entries run s shows sound t p plan new pushed i e.0 e.1 in
-    record { sound = l.sound; answer = l.steps }
-live_steps P limit entries run s shows sound t p plan pushed new (Err r) e =
-    let l = stays P limit entries pushed run new s shows sound e.0 e.1 in
-    record { sound = l.sound; answer = (l.same, refused P limit entries run s shows sound t p plan r e.2) }
+pub live_steps : (P : Program) (limit : ℕ) (entries : List Entry) (before : Control) (run : Seen) (s : Session) → shown P limit entries before ≡ s → IsSound P limit (reverse entries) run × IsLawful (reverse entries) before
+    → (t : Name) (p : Plan) → IsPlanOf P run t p → (pushed : List Entry) (after : Control) (new : Seen) (result : Result StepId StepRefusal)
+    → Enters limit 0 run p new entries pushed before after result → LiveAnswers P limit s t pushed after new result
+live_steps P limit entries before run s shows both t p plan pushed after new (Ok i) e =
+    let l = entered P limit entries before run s shows both.0 t p plan 0 new pushed after i both.1 e.0 e.1 e.2 in
+    record { keeps = l.keeps; answer = l.steps }
+live_steps P limit entries before run s shows both t p plan pushed after new (Err r) e =
+    let l = stays P limit entries pushed before after run new s shows both e.0 e.1 e.2 in
+    record { keeps = l.keeps; answer = (l.same, refused P limit entries before run s shows both.0 t p plan r e.3) }
 
 -- a task without a plan
-pub no_plan : (P : Program) (limit : ℕ) (entries : List Entry) (run : Seen) (s : Session) → shown P limit entries ≡ s → IsSound P limit (reverse entries) run → (t : Name) (e : StepRefusal) → HasNone run t e → Refuses s t e
-no_plan P limit entries run s shows sound t NoSuchTask k = missing
+pub no_plan : (P : Program) (limit : ℕ) (entries : List Entry) (before : Control) (run : Seen) (s : Session) → shown P limit entries before ≡ s → IsSound P limit (reverse entries) run → (t : Name) (e : StepRefusal) → HasNone run t e → Refuses s t e
+no_plan P limit entries before run s shows sound t NoSuchTask k = missing
   where
     missing : refusal_for s t ≡ Some IsMissing
     missing =
@@ -153,7 +183,7 @@ no_plan P limit entries run s shows sound t NoSuchTask k = missing
         at : (b : Bool) → b ≡ false → cond (not b) (Some IsMissing) (cond (list_any (ends t) (core.history run)) (Some IsOver) (option_map By (in_the_way (core.history run) t (planned P (core.history run) t zero_ℤ)))) ≡ Some IsMissing
         at false e = refl
         at true e = absurd (false≢true (sym e))
-no_plan P limit entries run s shows sound t Ended k = over
+no_plan P limit entries before run s shows sound t Ended k = over
   where
     over : refusal_for s t ≡ Some IsOver
     over =
@@ -164,17 +194,17 @@ no_plan P limit entries run s shows sound t Ended k = over
         at true true e f = refl
         at true false e f = absurd (false≢true f)
         at false c e f = absurd (false≢true e)
-no_plan P limit entries run s shows sound t Memory k = (
+no_plan P limit entries before run s shows sound t Memory k = (
   ap (λ (z : Session). is_spawned (hist z.journal) t) (sym shows) ∙ ap (λ H. is_spawned H t) (sym sound.leaves) ∙ k.0,
   ap (λ (z : Session). list_any (ends t) (hist z.journal)) (sym shows) ∙ ap (λ H. list_any (ends t) H) (sym sound.leaves) ∙ k.1,
 )
-no_plan P limit entries run s shows sound t (Undeferred u) k = absurd k
-no_plan P limit entries run s shows sound t (Waiting u) k = absurd k
-no_plan P limit entries run s shows sound t (Excluded u) k = absurd k
-no_plan P limit entries run s shows sound t (Children u) k = absurd k
-no_plan P limit entries run s shows sound t (Group u) k = absurd k
-no_plan P limit entries run s shows sound t Full k = absurd k
-no_plan P limit entries run s shows sound t (Stale now) k = absurd k
+no_plan P limit entries before run s shows sound t (Undeferred u) k = absurd k
+no_plan P limit entries before run s shows sound t (Waiting u) k = absurd k
+no_plan P limit entries before run s shows sound t (Excluded u) k = absurd k
+no_plan P limit entries before run s shows sound t (Children u) k = absurd k
+no_plan P limit entries before run s shows sound t (Group u) k = absurd k
+no_plan P limit entries before run s shows sound t Full k = absurd k
+no_plan P limit entries before run s shows sound t (Stale now) k = absurd k
 
 -- ---- the step of the least task
 
@@ -182,39 +212,39 @@ abbrev pub for_least : Result StepId StepRefusal → Result (Option StepId) Step
 for_least (Ok i) = Ok (Some i)
 for_least (Err e) = Err e
 
-least_refused : (s new : Session) (t : Name) (e : StepRefusal) → new ≡ s → least_task s ≡ Some t → refusal_for s t ≡ None → Refuses s t e → LeastStepsBy s new (Err e)
-least_refused s new t NoSuchTask same l clear r = cc (clear, r)
-least_refused s new t Ended same l clear r = cc (clear, r)
-least_refused s new t (Stale now) same l clear r = absurd r
-least_refused s new t (Undeferred u) same l clear r = cc (clear, r)
-least_refused s new t (Waiting u) same l clear r = cc (clear, r)
-least_refused s new t (Excluded u) same l clear r = cc (clear, r)
-least_refused s new t (Children u) same l clear r = cc (clear, r)
-least_refused s new t (Group u) same l clear r = cc (clear, r)
-least_refused s new t Full same l clear r = (same, (t, l), r.1)
-least_refused s new t Memory same l clear r = same
+least_refused : (seat : ℕ) (s new : Session) (t : Name) (e : StepRefusal) → new ≡ s → least_task s ≡ Some t → refusal_for s t ≡ None → Refuses s t e → LeastStepsFor seat s new (Err e)
+least_refused seat s new t NoSuchTask same l clear r = cc (clear, r)
+least_refused seat s new t Ended same l clear r = cc (clear, r)
+least_refused seat s new t (Stale now) same l clear r = absurd r
+least_refused seat s new t (Undeferred u) same l clear r = cc (clear, r)
+least_refused seat s new t (Waiting u) same l clear r = cc (clear, r)
+least_refused seat s new t (Excluded u) same l clear r = cc (clear, r)
+least_refused seat s new t (Children u) same l clear r = cc (clear, r)
+least_refused seat s new t (Group u) same l clear r = cc (clear, r)
+least_refused seat s new t Full same l clear r = (same, (t, l), r.1)
+least_refused seat s new t Memory same l clear r = same
 
-pub record LeastAnswers (P : Program) (limit : ℕ) (s : Session) (pushed : List Entry) (new : Seen) (result : Result StepId StepRefusal) : Type 0 where
-  pub sound : IsSound P limit (reverse pushed) new
-  pub answer : LeastStepsBy s (shown P limit pushed) (for_least result)
+pub record LeastAnswers (seat : ℕ) (P : Program) (limit : ℕ) (s : Session) (pushed : List Entry) (after : Control) (new : Seen) (result : Result StepId StepRefusal) : Type 0 where
+  pub keeps : Keeps P limit pushed after new
+  pub answer : LeastStepsFor seat s (shown P limit pushed after) (for_least result)
 
 -- the least task of the run is that of the session
-pub least_so : (P : Program) (limit : ℕ) (entries : List Entry) (run : Seen) (s : Session) → shown P limit entries ≡ s → IsSound P limit (reverse entries) run → (o : Option Name) → least_ready P (core.history run) ≡ o → least_task s ≡ o
-least_so P limit entries run s shows sound o l = ap least_task (sym shows) ∙ ap (least_ready P) (sym sound.leaves) ∙ l
+pub least_so : (P : Program) (limit : ℕ) (entries : List Entry) (before : Control) (run : Seen) (s : Session) → shown P limit entries before ≡ s → IsSound P limit (reverse entries) run → (o : Option Name) → least_ready P (core.history run) ≡ o → least_task s ≡ o
+least_so P limit entries before run s shows sound o l = ap least_task (sym shows) ∙ ap (least_ready P) (sym sound.leaves) ∙ l
 
-pub live_least : (P : Program) (limit : ℕ) (entries : List Entry) (run : Seen) (s : Session) → shown P limit entries ≡ s → IsSound P limit (reverse entries) run
-    → (p : Plan) → IsReady P run (Some p) → (pushed : List Entry) (new : Seen) (result : Result StepId StepRefusal)
-    → Enters limit run p new entries pushed result → LeastAnswers P limit s pushed new result
-live_least P limit entries run s shows sound p ready pushed new (Ok i) e =
+pub live_least : (seat : ℕ) (P : Program) (limit : ℕ) (entries : List Entry) (before : Control) (run : Seen) (s : Session) → shown P limit entries before ≡ s → IsSound P limit (reverse entries) run × IsLawful (reverse entries) before
+    → (p : Plan) → IsReady P run (Some p) → (pushed : List Entry) (after : Control) (new : Seen) (result : Result StepId StepRefusal)
+    → Enters limit seat run p new entries pushed before after result → LeastAnswers seat P limit s pushed after new result
+live_least seat P limit entries before run s shows both p ready pushed after new (Ok i) e =
     let t = p.config.task in
-    let l = entered P limit entries run s shows sound t p ready.0 new pushed i e.0 e.1 in
-    record { sound = l.sound; answer = (t, least_so P limit entries run s shows sound (Some t) ready.1, l.steps) }
-live_least P limit entries run s shows sound p ready pushed new (Err r) e =
+    let l = entered P limit entries before run s shows both.0 t p ready.0 seat new pushed after i both.1 e.0 e.1 e.2 in
+    record { keeps = l.keeps; answer = (t, least_so P limit entries before run s shows both.0 (Some t) ready.1, l.steps) }
+live_least seat P limit entries before run s shows both p ready pushed after new (Err r) e =
     let t = p.config.task in
-    let l = stays P limit entries pushed run new s shows sound e.0 e.1 in
+    let l = stays P limit entries pushed before after run new s shows both e.0 e.1 e.2 in
     record {
-      sound = l.sound;
-      answer = least_refused s (shown P limit pushed) t r l.same (least_so P limit entries run s shows sound (Some t) ready.1)
-          (clear_so P limit entries run s shows sound t p ready.0 ready.1)
-          (refused P limit entries run s shows sound t p ready.0 r e.2);
+      keeps = l.keeps;
+      answer = least_refused seat s (shown P limit pushed after) t r l.same (least_so P limit entries before run s shows both.0 (Some t) ready.1)
+          (clear_so P limit entries before run s shows both.0 t p ready.0 ready.1)
+          (refused P limit entries before run s shows both.0 t p ready.0 r e.3);
     }

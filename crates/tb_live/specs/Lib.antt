@@ -3,4 +3,11 @@ pub mod Moves
 pub mod Soundness
 pub mod Plans
 pub mod Rollbacks
+pub mod Modes
+pub mod Breaks
+pub mod Claims
+pub mod Controls
+pub mod Pauses
+pub mod Working
+pub mod Numbers
 pub use Rattle.tb_core.specs.Refusals

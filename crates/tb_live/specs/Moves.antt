@@ -1,5 +1,5 @@
 -- What a step, an undo and a rollback answer, and what they leave.
-use Rattle.std.specs.Prelude.{◌≡◌, List, ◌∷◌, reverse, Bool, Option, Some, None, Result, Ok, Err, IsTrue, IsFalse}
+use Rattle.std.specs.Prelude.{◌≡◌, ℕ, List, ◌∷◌, reverse, Bool, Option, Some, None, Result, Ok, Err, IsTrue, IsFalse}
 use Rattle.std.specs.List.{list_any}
 use Rattle.tb_model.specs.declared.entry.Entry.TheVariants.{Stepped, Rolled}
 use Rattle.tb_model.specs.declared.event.Event.{Event}
@@ -45,12 +45,15 @@ pub record MayStep (s : Session) (t : Name) : Type 0 where
   pub unrefused : refusal_for s t ≡ None
   pub room : IsFalse (is_full s)
 
--- the task's next event is the journal's newest entry
-pub record Steps (s : Session) (t : Name) (new : Session) (i : StepId) : Type 0 where
+-- the task's next event is the journal's newest entry, of this seat
+pub record StepsFor (seat : ℕ) (s : Session) (t : Name) (new : Session) (i : StepId) : Type 0 where
   pub may : MayStep s t
   pub next : IsNext s.program (history s) (coming s t)
   pub id : i ≡ step_of (history s) (coming s t)
-  pub now : new ≡ with_entry s (Stepped 0 (coming s t))
+  pub now : new ≡ with_entry s (Stepped seat (coming s t))
+
+abbrev pub Steps : Session → Name → Session → StepId → Type 0
+Steps = StepsFor 0
 
 -- when a task takes no step; memory may be wanted where the task is there and goes on
 abbrev pub Refuses : Session → Name → StepRefusal → Type 0
@@ -70,13 +73,16 @@ abbrev pub StepsBy : Session → Name → Session → Result StepId StepRefusal 
 StepsBy s t new (Ok i) = Steps s t new i
 StepsBy s t new (Err e) = (new ≡ s) × Refuses s t e
 
--- the same for the least task that can step; None where all tasks have ended
+-- the same for the least task that can step, taken for this seat; None where all tasks have ended
+abbrev pub LeastStepsFor : ℕ → Session → Session → Result (Option StepId) StepRefusal → Type 0
+LeastStepsFor seat s new (Ok None) = (new ≡ s) × (least_task s ≡ None)
+LeastStepsFor seat s new (Ok (Some i)) = (t : Name) × (least_task s ≡ Some t) × StepsFor seat s t new i
+LeastStepsFor seat s new (Err Full) = (new ≡ s) × ((t : Name) × (least_task s ≡ Some t)) × IsTrue (is_full s)
+LeastStepsFor seat s new (Err Memory) = new ≡ s
+LeastStepsFor seat s new (Err _) = ⊥
+
 abbrev pub LeastStepsBy : Session → Session → Result (Option StepId) StepRefusal → Type 0
-LeastStepsBy s new (Ok None) = (new ≡ s) × (least_task s ≡ None)
-LeastStepsBy s new (Ok (Some i)) = (t : Name) × (least_task s ≡ Some t) × Steps s t new i
-LeastStepsBy s new (Err Full) = (new ≡ s) × ((t : Name) × (least_task s ≡ Some t)) × IsTrue (is_full s)
-LeastStepsBy s new (Err Memory) = new ≡ s
-LeastStepsBy s new (Err _) = ⊥
+LeastStepsBy = LeastStepsFor 0
 
 -- the step stands, nothing needs it, and the journal has a place
 pub record MayUndo (s : Session) (i : StepId) : Type 0 where
@@ -100,12 +106,15 @@ UndoneBy s i new (Err (Needed by)) = (new ≡ s) × IsTrue (stands i (history s)
 UndoneBy s i new (Err JournalFull) = (new ≡ s) × IsTrue (stands i (history s)) × (first_needer i (history s) ≡ None) × IsTrue (is_full s)
 UndoneBy s i new (Err NoMemory) = (new ≡ s) × IsTrue (stands i (history s))
 
--- the step and all that need it are gone, and nothing else; the rollback is the journal's newest entry
-pub record Rolls (s : Session) (i : StepId) (new : Session) (removed : List Removed) : Type 0 where
+-- the step and all that need it are gone, and nothing else; the rollback is the journal's newest entry, of this seat
+pub record RollsFor (seat : ℕ) (s : Session) (i : StepId) (new : Session) (removed : List Removed) : Type 0 where
   pub stands : IsTrue (stands i (history s))
   pub room : IsFalse (is_full s)
-  pub now : new ≡ with_entry s (Rolled 0 i)
+  pub now : new ≡ with_entry s (Rolled seat i)
   pub gone : removed ≡ reverse (removals i (history s))
+
+abbrev pub Rolls : Session → StepId → Session → List Removed → Type 0
+Rolls = RollsFor 0
 
 -- when all stays
 abbrev pub KeepsAll : Session → StepId → RollRefusal → Type 0

@@ -1,17 +1,29 @@
 -- The plan of a task's next step by the program, and the entry that it becomes.
-use Rattle.std.specs.Prelude.{◌≡◌, ◌++◌, ℕ, List, [], ◌∷◌, Bool, nat_le, length, Option, Some, None, Result, Ok, Err, IsTrue, IsFalse, ⊤}
+use Rattle.std.specs.Prelude.{◌≡◌, ◌≢◌, ◌++◌, ℕ, List, [], ◌∷◌, Bool, true, false, nat_le, length, Option, Some, None, Result, Ok, Err, IsTrue, IsFalse, ⊤}
 use Rattle.tb_model.specs.declared.entry.Entry.{Entry}
 use Rattle.tb_model.specs.declared.entry.Entry.TheVariants.{Stepped}
 use Rattle.tb_model.specs.declared.step_id.StepId.{StepId}
 use Rattle.tb_model.specs.Names.{Name}
-use Rattle.tb_model.specs.Facts.{is_spawned}
+use Rattle.tb_model.specs.Facts.{History, is_spawned}
 use Rattle.tb_model.specs.Program.{Program, instr_at}
-use Rattle.tb_model.specs.Hindrances.{least_ready}
+use Rattle.tb_model.specs.Hindrances.{can_step, least_ready}
+use Rattle.tb_model.specs.LeastNames.{IsLeastName}
 use Rattle.tb_read.specs.declared.planned.Plan.{Plan}
 use Rattle.tb_read.specs.Plans.{instruction}
 use Rattle.tb_core.specs.declared.step_refusal.StepRefusal.{StepRefusal}
 use Rattle.tb_core.specs.declared.step_refusal.StepRefusal.TheVariants.{Memory, NoSuchTask, Ended, Full}
 use Rattle.tb_core.specs.Seen.{Seen, history}
+use Rattle.tb_core.specs.Situation.{config_of}
+use Rattle.tb_live.specs.declared.control.Control.{Control}
+use Rattle.tb_live.specs.declared.asked.Asked.{Asked}
+use Rattle.tb_live.specs.declared.asked.Asked.TheVariants.{Free, Held, Kept}
+use Rattle.tb_live.specs.declared.claim.Claim.{Claim}
+use Rattle.tb_live.specs.declared.claim.Claim.TheVariants.{Work as Works, Later, Done, Stopped}
+use Rattle.tb_live.specs.declared.work.Work.{Work}
+use Rattle.tb_live.specs.declared.claim_refusal.ClaimRefusal.{ClaimRefusal}
+use Rattle.tb_live.specs.declared.claim_refusal.ClaimRefusal.TheVariants.{Memory as NoMemory, NoSuchTask as NoTask, Ended as Over, Claimed}
+use Rattle.tb_live.specs.Claims.{Claims, IsHeldBeside, IsFreeBeside}
+use Rattle.tb_live.specs.Controls.{behind_step}
 use Rattle.tb_core.specs.Outcomes.{Fits, IsCurrent, IsKept, Steps, event_of, has_ended, hindrance_of}
 
 -- the plan is the program's for the task's situation, and the task goes on
@@ -37,10 +49,10 @@ IsReady P run (Some p) = IsPlanOf P run p.config.task p × (least_ready P (histo
 abbrev pub has_no_place : ℕ → List Entry → Bool
 has_no_place limit entries = nat_le limit (length entries)
 
--- the plan's event was taken, and is the newest entry
-pub record IsEntered (run : Seen) (p : Plan) (new : Seen) (old entries : List Entry) (i : StepId) : Type 0 where
+-- the plan's event was taken, and is the newest entry, of this seat
+pub record IsEntered (seat : ℕ) (run : Seen) (p : Plan) (new : Seen) (old entries : List Entry) (i : StepId) : Type 0 where
   pub steps : Steps run p new i
-  pub grows : entries ≡ old ++ Stepped 0 (event_of run p) ∷ []
+  pub grows : entries ≡ old ++ Stepped seat (event_of run p) ∷ []
 
 -- what keeps the task from its action comes before a full journal
 abbrev pub IsKeptFrom : Seen → Plan → Bool → StepRefusal → Type 0
@@ -49,6 +61,60 @@ IsKeptFrom run p full Memory = ⊤
 IsKeptFrom run p full e = IsKept run p e
 
 -- a planned step by its answer
-abbrev pub Enters : ℕ → Seen → Plan → Seen → List Entry → List Entry → Result StepId StepRefusal → Type 0
-Enters limit run p new old entries (Ok i) = IsEntered run p new old entries i × IsFalse (has_no_place limit old)
-Enters limit run p new old entries (Err e) = (new ≡ run) × (entries ≡ old) × IsKeptFrom run p (has_no_place limit old) e
+abbrev pub Enters : ℕ → ℕ → Seen → Plan → Seen → List Entry → List Entry → Control → Control → Result StepId StepRefusal → Type 0
+Enters limit seat run p new old entries before after (Ok i) =
+    IsEntered seat run p new old entries i × IsFalse (has_no_place limit old) × (after ≡ behind_step p.config.at (event_of run p) before)
+Enters limit seat run p new old entries before after (Err e) = (new ≡ run) × (entries ≡ old) × (after ≡ before) × IsKeptFrom run p (has_no_place limit old) e
+
+-- ---- claims
+
+-- the program's statement for the task's situation
+pub record IsWorkOf (P : Program) (run : Seen) (t : Name) (w : Work) : Type 0 where
+  pub config : w.config ≡ config_of run t
+  pub line : w.instr.line ≡ w.config.at
+  pub instr : instruction w.instr ≡ instr_at P w.config.at
+  pub cells : w.instr.cells ≡ length P.cells
+
+-- why a seat can't claim the task
+abbrev pub IsBarred : Seen → Claims → ℕ → Name → ClaimRefusal → Type 0
+IsBarred run claims seat t NoTask = IsFalse (is_spawned (history run) t)
+IsBarred run claims seat t Over = IsTrue (is_spawned (history run) t) × IsTrue (has_ended run t)
+IsBarred run claims seat t (Claimed other) = IsTrue (is_spawned (history run) t) × IsFalse (has_ended run t) × IsHeldBeside claims seat t other
+IsBarred run claims seat t NoMemory = ⊥
+
+-- the task is there, goes on, and no other seat claims it
+pub record IsUnbarred (run : Seen) (claims : Claims) (seat : ℕ) (t : Name) : Type 0 where
+  pub there : IsTrue (is_spawned (history run) t)
+  pub going : IsFalse (has_ended run t)
+  pub free : IsFreeBeside claims seat t
+
+-- the task can step, and no other seat claims it
+abbrev pub CanTake : Program → History → Claims → ℕ → Name → Type 0
+CanTake P H claims seat t = IsTrue (can_step P H t) × IsFreeBeside claims seat t
+
+-- what a task says to a seat that asks for work
+abbrev pub IsAsked : Program → Seen → Claims → ℕ → Name → Asked → Type 0
+IsAsked P run claims seat t Free = CanTake P (history run) claims seat t
+IsAsked P run claims seat t Held = IsTrue (can_step P (history run) t) × ((other : ℕ) × IsHeldBeside claims seat t other)
+IsAsked P run claims seat t Kept = IsFalse (can_step P (history run) t)
+
+abbrev pub is_free : Asked → Bool
+is_free Free = true
+is_free _ = false
+
+-- a task that can step is held by another seat, or an earlier one was
+abbrev pub is_held_or : Asked → Bool → Bool
+is_held_or Held earlier = true
+is_held_or _ earlier = earlier
+
+-- the answer is the task's work
+abbrev pub IsClaimOn : Program → Seen → Name → Claim → Type 0
+IsClaimOn P run t (Works w) = IsWorkOf P run t w
+IsClaimOn P run t _ = ⊥
+
+-- the least task that can step and that no other seat claims; else only tasks that others claim can step, or none can
+abbrev pub IsFound : Program → Seen → Claims → ℕ → Claim → Type 0
+IsFound P run claims seat (Works w) = IsLeastName (CanTake P (history run) claims seat) (Some w.config.task) × IsWorkOf P run w.config.task w
+IsFound P run claims seat Later = IsLeastName (CanTake P (history run) claims seat) None × (least_ready P (history run) ≢ None)
+IsFound P run claims seat Done = least_ready P (history run) ≡ None
+IsFound P run claims seat Stopped = ⊥

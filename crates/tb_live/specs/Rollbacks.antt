@@ -12,11 +12,11 @@ use Rattle.tb_roll.specs.declared.roll_refusal.RollRefusal.TheVariants.{Memory, 
 use Rattle.tb_live.specs.Plans.{has_no_place}
 
 -- the step and all that need it are gone, and it is the newest entry
-pub record EntersRollback (limit : ℕ) (run : Seen) (i : StepId) (new : Seen) (old entries : List Entry) (removed : List Removed) : Type 0 where
+pub record EntersRollback (limit seat : ℕ) (run : Seen) (i : StepId) (new : Seen) (old entries : List Entry) (removed : List Removed) : Type 0 where
   pub room : IsFalse (has_no_place limit old)
   pub stood : IsTrue (stands i (history run))
   pub rolls : RollsBack run i new removed
-  pub grows : entries ≡ old ++ Rolled 0 i ∷ []
+  pub grows : entries ≡ old ++ Rolled seat i ∷ []
 
 -- why nothing goes: a step that isn't there comes before a full journal
 abbrev pub RefusesRollback : ℕ → Seen → StepId → List Entry → RollRefusal → Type 0

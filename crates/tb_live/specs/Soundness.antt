@@ -7,6 +7,8 @@ use Rattle.tb_model.specs.Program.{Program, LegalFor}
 use Rattle.tb_model.specs.WellFormed.{WellFormed}
 use Rattle.tb_read.specs.Followed.{IsFollowed}
 use Rattle.tb_core.specs.Seen.{Seen, history}
+use Rattle.tb_live.specs.declared.control.Control.{Control}
+use Rattle.tb_live.specs.Claims.{AreLawful}
 
 -- the run is one of the program, and stands at its lines
 pub record Fits (P : Program) (run : Seen) : Type 0 where
@@ -25,3 +27,7 @@ pub record IsSound (P : Program) (limit : ℕ) (J : List Entry) (run : Seen) : T
   pub limits : run.limit ≡ limit
   pub within : length J ≤ limit
   pub bound : limit ≤ 1000000
+
+-- each claim is on a task of what the journal leaves, and no task is claimed by two
+abbrev pub IsLawful : List Entry → Control → Type 0
+IsLawful J c = AreLawful (hist J) c.claims

@@ -1,15 +1,40 @@
 //! A program's run with its journal: each step and each undo is an entry.
 #![tactic(auto)]
 
+mod asked;
+mod break_refusal;
+mod breakpoint;
+mod breakpoints;
+mod breaks;
+mod claim;
+mod claim_refusal;
+mod claims;
+mod control;
 mod live;
+mod mode;
 mod newest;
+mod paused_by;
 mod planning;
 mod ready;
 mod rolling;
+#[cfg(test)]
+mod seat_tests;
 mod stepping;
 #[cfg(test)]
 mod tests;
+mod work;
 
+pub use break_refusal::BreakRefusal;
+pub use breakpoint::Breakpoint;
+pub use breakpoints::Breakpoints;
+pub use breaks::Break;
+pub use claim::Claim;
+pub use claim_refusal::ClaimRefusal;
+pub use claims::Claims;
+pub use control::Control;
 pub use live::Live;
+pub use mode::Mode;
+pub use paused_by::PausedBy;
 pub use tb_core::{Removed, StepRefusal, UndoRefusal};
 pub use tb_roll::RollRefusal;
+pub use work::Work;

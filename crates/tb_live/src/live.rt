@@ -1,13 +1,20 @@
-//! A live run: the program, the core and the journal.
+//! A live run: the program, the core, the journal, and what stands beside it.
 
+mod claiming;
 mod inside;
+mod pausing;
 
-ghost use Rattle.std.specs.Prelude.{◌≡◌, ◌≤◌, IfOk, IfErr, reverse, slice_get};
+ghost use Rattle.std.specs.Prelude.{◌≡◌, ◌<◌, ◌≤◌, IfOk, IfErr, None, length, reverse, slice_get};
 ghost use Rattle.std.specs.Option.{option_copied};
 ghost use Rattle.tb_model.specs.State.{printed};
-ghost use Rattle.tb_live.specs.Session.{opened, history, is_full, cell_numbers, last_store, last_print};
-ghost use Rattle.tb_live.specs.Moves.{StepsBy, LeastStepsBy, UndoneBy, Rolls, KeepsAll};
+ghost use Rattle.tb_live.specs.Claims.{claim_of, AreLawful};
+ghost use Rattle.tb_live.specs.Session.{opened, with_seat, history, is_full, cell_numbers, last_store, last_print};
+ghost use Rattle.tb_live.specs.Moves.{StepsBy, LeastStepsBy, LeastStepsFor, UndoneBy, Rolls, KeepsAll};
 
+use crate::breakpoints::Breakpoints;
+use crate::claims::Claims;
+use crate::control::Control;
+use crate::mode::Mode;
 use crate::newest::{newest_step, place_of_print, place_of_store};
 use crate::planning::plan_of;
 use crate::ready::ready_plan;
@@ -27,6 +34,7 @@ pub struct Live {
     program: Program,
     core: Core,
     journal: Vec<Entry>,
+    control: Control,
     limit: u32,
 }
 
@@ -36,28 +44,36 @@ impl Model for Live {
 
     ghost Value = { Session };
 
-    ghost use Rattle.tb_live.specs.Soundness.{IsSound};
+    ghost use Rattle.tb_live.specs.Soundness.{IsSound, IsLawful};
 
-    ghost view = { λ l. record { program = l.program; limit = l.limit; journal = reverse l.journal.items } };
+    ghost view = { λ l. record { program = l.program; limit = l.limit; journal = reverse l.journal.items; control = l.control } };
 
-    ghost invariant = { λ l. IsSound l.program l.limit (reverse l.journal.items) l.core.run };
+    ghost invariant = { λ l. IsSound l.program l.limit (reverse l.journal.items) l.core.run × IsLawful (reverse l.journal.items) l.control };
 }
 
 impl Live {
-    /// A run in front of its first step. The journal has one entry, of at most `limit`.
-    pub fn open(alloc: Global, program: Program, limit: u32) -> Result<Live, AllocError>
+    /// A run in front of its first step, for so many seats. The journal has one entry, of at most
+    /// `limit`.
+    pub fn open(alloc: Global, program: Program, limit: u32, seats: u32) -> Result<Live, AllocError>
         requires some { 1 ≤ limit }
         requires bound { limit ≤ 1000000 }
-        ensures { IfOk result (λ live. live ≡ opened program limit) }
+        requires seats { seats ≤ 65 }
+        ensures { IfOk result (λ live. live ≡ opened program limit seats) }
     {
         let core = Core::open(alloc, program.cells(), program.root_line(), limit)?;
         let mut journal = Vec::with_capacity(alloc, 1)?;
         journal.push(Entry::Opened)?;
+        let control = Control {
+            claims: Claims::none(alloc, seats)?,
+            breakpoints: Breakpoints::new(alloc),
+            mode: Mode::Resumed,
+        };
         Ok(Live {
             alloc,
             program,
             core,
             journal,
+            control,
             limit,
         })
     }
@@ -97,6 +113,22 @@ impl Live {
         self.limit as usize <= self.journal.as_slice().len()
     }
 
+    /// The task that the seat claims. It is there, and no other seat claims it.
+    pub fn claim_of(&self, seat: u32) -> Option<&TaskName>
+        ensures claim { option_copied result ≡ claim_of self.now.control.claims seat }
+        ensures lawful { AreLawful (history self.now) self.now.control.claims }
+    {
+        self.control.claims.of(seat)
+    }
+
+    /// Ends the seat's claim.
+    pub fn let_go(&mut self, seat: u32)
+        requires { seat < length self.old.control.claims }
+        ensures { self.new ≡ with_seat self.old seat None }
+    {
+        self.control.claims.let_go(seat);
+    }
+
     /// Takes the next step of a task, for seat 0. Want of memory comes only where a growth was
     /// refused.
     pub fn step(&mut self, task: &TaskName) -> Result<StepId, StepRefusal>
@@ -106,7 +138,14 @@ impl Live {
             Ok(plan) => plan,
             Err(refusal) => return Err(refusal),
         };
-        enter_step(&mut self.core, &mut self.journal, self.limit, plan)
+        enter_step(
+            &mut self.core,
+            &mut self.journal,
+            &mut self.control,
+            self.limit,
+            0,
+            plan,
+        )
     }
 
     /// Takes the next step of the least task that can step, for seat 0; None where all tasks have
@@ -114,12 +153,27 @@ impl Live {
     pub fn step_least(&mut self) -> Result<Option<StepId>, StepRefusal>
         ensures { LeastStepsBy self.old self.new result }
     {
+        self.step_least_for(0)
+    }
+
+    /// The same for any seat, whatever the claims and the mode. The mode counts the step, and pauses
+    /// at a breakpoint that it meets.
+    pub fn step_least_for(&mut self, seat: u32) -> Result<Option<StepId>, StepRefusal>
+        ensures { LeastStepsFor seat self.old self.new result }
+    {
         let plan = match ready_plan(self.alloc, &self.program, &self.core) {
             Ok(Some(plan)) => plan,
             Ok(None) => return Ok(None),
             Err(_) => return Err(StepRefusal::Memory),
         };
-        match enter_step(&mut self.core, &mut self.journal, self.limit, plan) {
+        match enter_step(
+            &mut self.core,
+            &mut self.journal,
+            &mut self.control,
+            self.limit,
+            seat,
+            plan,
+        ) {
             Ok(id) => Ok(Some(id)),
             Err(refusal) => Err(refusal),
         }
@@ -144,6 +198,7 @@ impl Live {
         };
         match self.core.undo(id) {
             Ok(removed) => {
+                self.control.step_removed(&removed);
                 self.journal.push_reserved(entry);
                 Ok(removed)
             }
@@ -157,13 +212,20 @@ impl Live {
         ensures rolled { IfOk result (λ removed. Rolls self.old id.now self.new removed.items) }
         ensures refused { IfErr result (λ e. (self.new ≡ self.old) × KeepsAll self.old id.now e) }
     {
-        enter_roll(
+        match enter_roll(
             self.alloc,
             &mut self.core,
             &mut self.journal,
             self.limit,
+            0,
             id,
-        )
+        ) {
+            Ok(removed) => {
+                self.control.steps_removed(&removed);
+                Ok(removed)
+            }
+            Err(refusal) => Err(refusal),
+        }
     }
 
     /// The last store to the cell.

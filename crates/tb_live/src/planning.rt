@@ -1,14 +1,17 @@
 //! The step that a task would take next.
 
-ghost use Rattle.std.specs.Prelude.{◌≡◌, IfOk, IfErr, IsFalse};
+ghost use Rattle.std.specs.Prelude.{◌≡◌, IfOk, IfErr, IsTrue, IsFalse};
+ghost use Rattle.tb_model.specs.Facts.{is_spawned};
 ghost use Rattle.tb_model.specs.Program.{instr_at};
+ghost use Rattle.tb_core.specs.Seen.{history};
 ghost use Rattle.tb_read.specs.Plans.{instruction};
 ghost use Rattle.tb_core.specs.Situation.{config_of};
 ghost use Rattle.tb_core.specs.Outcomes.{has_ended};
 ghost use Rattle.tb_core.specs.Outcomes as outcomes;
 ghost use Rattle.tb_live.specs.Soundness.{Fits};
-ghost use Rattle.tb_live.specs.Plans.{IsPlanOf, HasNone};
+ghost use Rattle.tb_live.specs.Plans.{IsPlanOf, IsWorkOf, HasNone};
 
+use crate::work::Work;
 use std::alloc::{AllocError, Global};
 use tb_core::{Core, StepRefusal};
 use tb_model::TaskName;
@@ -62,5 +65,35 @@ pub fn plan_of(
     match plan_step(alloc, program, core, &config) {
         Ok(plan) => Ok(plan),
         Err(_) => Err(StepRefusal::Memory),
+    }
+}
+
+/// What a task does next that is there and goes on, whether it may do it now or not.
+pub fn work_of(program: &Program, core: &Core, task: &TaskName) -> Result<Work, AllocError>
+    requires fits { Fits program.now core.now.run }
+    requires there { IsTrue (is_spawned (history core.now.run) task.now) }
+    requires going { IsFalse (has_ended core.now.run task.now) }
+    ensures { IfOk result (IsWorkOf program.now core.now.run task.now) }
+{
+    match core.config(task)? {
+        Some(config) => work_at(program, core, config),
+        None => unreachable!(),
+    }
+}
+
+/// The statement at which a task stands that isn't over.
+fn work_at(program: &Program, core: &Core, config: Config) -> Result<Work, AllocError>
+    requires fits { Fits program.now core.now.run }
+    requires here { config ≡ config_of core.now.run config.task }
+    requires going { IsFalse (has_ended core.now.run config.task) }
+    ensures { IfOk result (IsWorkOf program.now core.now.run config.task) }
+{
+    let at = config.at;
+    match program.instr(at) {
+        Some(instr) => Ok(Work {
+            instr: instr.clone()?,
+            config,
+        }),
+        None => unreachable!(),
     }
 }

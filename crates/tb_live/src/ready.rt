@@ -1,12 +1,15 @@
 //! The least task that can step.
 
-ghost use Rattle.std.specs.Prelude.{◌≡◌, IfOk, IfSome, is_some};
+ghost use Rattle.std.specs.Prelude.{◌≡◌, IfOk, IfSome, IsTrue, is_some};
 ghost use Rattle.tb_model.specs.Hindrances.{can_step};
 ghost use Rattle.tb_core.specs.Seen.{history};
 ghost use Rattle.tb_live.specs.Soundness.{Fits};
-ghost use Rattle.tb_live.specs.Plans.{IsPlanOf, IsReady};
+ghost use Rattle.tb_live.specs.Plans.{IsPlanOf, IsReady, IsAsked, IsFound, IsClaimOn};
 
-use crate::planning::plan_of;
+use crate::asked::Asked;
+use crate::claim::Claim;
+use crate::claims::Claims;
+use crate::planning::{plan_of, work_of};
 use std::alloc::{AllocError, Global};
 use tb_core::Core;
 use tb_model::TaskName;
@@ -49,4 +52,67 @@ pub fn ready_plan(alloc: Global, program: &Program, core: &Core) -> Result<Optio
         }
     }
     Ok(None)
+}
+
+/// Whether the seat can take the task on.
+fn ask(
+    alloc: Global,
+    program: &Program,
+    core: &Core,
+    claims: &Claims,
+    seat: u32,
+    task: &TaskName,
+) -> Result<Asked, AllocError>
+    requires { Fits program.now core.now.run }
+    ensures { IfOk result (IsAsked program.now core.now.run claims.now seat task.now) }
+{
+    match clear_plan(alloc, program, core, task) {
+        Ok(Some(_)) => match claims.held_beside(seat, task) {
+            Some(_) => Ok(Asked::Held),
+            None => Ok(Asked::Free),
+        },
+        Ok(None) => Ok(Asked::Kept),
+        Err(_) => Err(AllocError),
+    }
+}
+
+/// The least task that can step and that no other seat claims. The tasks that haven't ended are asked
+/// in the order of their names.
+pub fn free_work(
+    alloc: Global,
+    program: &Program,
+    core: &Core,
+    claims: &Claims,
+    seat: u32,
+) -> Result<Claim, AllocError>
+    requires { Fits program.now core.now.run }
+    ensures { IfOk result (IsFound program.now core.now.run claims.now seat) }
+{
+    let mut after: Option<&TaskName> = None;
+    let mut later = false;
+    'tasks: while let Some(task) = core.next_unended(after) {
+        let asked = match ask(alloc, program, core, claims, seat, task) {
+            Ok(asked) => asked,
+            Err(_) => return Err(AllocError),
+        };
+        if asked.is_free() {
+            return work_on(program, core, task);
+        }
+        later = asked.is_held_or(later);
+        after = Some(task);
+    }
+    if later {
+        Ok(Claim::Later)
+    } else {
+        Ok(Claim::Done)
+    }
+}
+
+/// The task's work, as the answer to who asked for it.
+fn work_on(program: &Program, core: &Core, task: &TaskName) -> Result<Claim, AllocError>
+    requires fits { Fits program.now core.now.run }
+    requires can { IsTrue (can_step program.now (history core.now.run) task.now) }
+    ensures { IfOk result (IsClaimOn program.now core.now.run task.now) }
+{
+    Ok(Claim::Work(work_of(program, core, task)?))
 }

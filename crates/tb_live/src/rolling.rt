@@ -8,15 +8,16 @@ use tb_core::{Core, Removed, place_of};
 use tb_model::{Entry, StepId};
 use tb_roll::{RollRefusal, finish, ready};
 
-/// Takes a step back with all that need it, and enters it for seat 0.
+/// Takes a step back with all that need it, and enters it for the seat.
 pub fn enter_roll(
     alloc: Global,
     core: &mut Core,
     journal: &mut Vec<Entry>,
     limit: u32,
+    seat: u32,
     id: &StepId,
 ) -> Result<Vec<Removed>, RollRefusal>
-    ensures rolled { IfOk result (λ removed. EntersRollback limit core.old.run id.now
+    ensures rolled { IfOk result (λ removed. EntersRollback limit seat core.old.run id.now
         core.new.run journal.old.items journal.new.items removed.items) }
     ensures refused { IfErr result (λ e. (core.new.run ≡ core.old.run)
         × (journal.new.items ≡ journal.old.items)
@@ -36,7 +37,7 @@ pub fn enter_roll(
         return Err(RollRefusal::Memory);
     }
     let entry = match id.clone() {
-        Ok(id) => Entry::Rolled { seat: 0, id },
+        Ok(id) => Entry::Rolled { seat, id },
         Err(_) => return Err(RollRefusal::Memory),
     };
     journal.push_reserved(entry);

@@ -17,7 +17,7 @@ fn opened(alloc: Global, text: &[u8], limit: u32) -> Option<Live>
         Ok(program) => program,
         Err(_) => return None,
     };
-    match Live::open(alloc, program, limit) {
+    match Live::open(alloc, program, limit, 3) {
         Ok(live) => Some(live),
         Err(_) => None,
     }

@@ -4,4 +4,4 @@ use Rattle.tb_live.proofs.live.Live.cells.Goals as goal
 pub returns : goal.returns
 returns c =
     let i = c.self.inside in
-    live_cells i.program i.limit i.journal.items i.core.run c.args.self.now c.cells.result.now c.self.view_is c.self.invariant c.cells.ensures
+    live_cells i.program i.limit i.journal.items i.control i.core.run c.args.self.now c.cells.result.now c.self.view_is c.self.invariant.0 c.cells.ensures

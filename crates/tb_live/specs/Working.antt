@@ -1,0 +1,71 @@
+-- What a claim answers, and what it leaves.
+use Rattle.std.specs.Prelude.{◌≡◌, ◌≢◌, ℕ, length, ◌||◌, Bool, Option, Some, None, Result, Ok, Err, IsTrue, IsFalse}
+use Rattle.tb_model.specs.Names.{Name}
+use Rattle.tb_model.specs.Facts.{History, own, is_spawned}
+use Rattle.tb_model.specs.LeastNames.{IsLeastName}
+use Rattle.tb_model.specs.Program.{Program, instr_at, situation}
+use Rattle.tb_read.specs.declared.config.Config.{Config}
+use Rattle.tb_read.specs.Plans.{instruction}
+use Rattle.tb_live.specs.declared.work.Work.{Work}
+use Rattle.tb_live.specs.declared.claim.Claim.{Claim}
+use Rattle.tb_live.specs.declared.claim.Claim.TheVariants.{Work as Works, Later, Done, Stopped}
+use Rattle.tb_live.specs.declared.claim_refusal.ClaimRefusal.{ClaimRefusal}
+use Rattle.tb_live.specs.declared.claim_refusal.ClaimRefusal.TheVariants.{Memory, NoSuchTask, Ended, Claimed}
+use Rattle.tb_live.specs.Claims.{IsHeldBeside, IsFreeBeside}
+use Rattle.tb_live.specs.Modes.{is_paused}
+use Rattle.tb_live.specs.Session.{Session, history, is_full, with_seat}
+use Rattle.tb_live.specs.Moves.{has_ended, least_task}
+use Rattle.tb_live.specs.Plans.{CanTake}
+
+-- the situation of a task behind a history
+abbrev pub configuration : Program → History → Name → Config
+configuration P H t = record { task = t; steps = length (own t H); at = (situation P t H).line; regs = (situation P t H).regs }
+
+-- the program's statement for the task, and its situation
+pub record IsWork (P : Program) (H : History) (t : Name) (w : Work) : Type 0 where
+  pub config : w.config ≡ configuration P H t
+  pub line : w.instr.line ≡ w.config.at
+  pub instr : instruction w.instr ≡ instr_at P w.config.at
+  pub cells : w.instr.cells ≡ length P.cells
+
+-- ---- one task
+
+-- the task is there, goes on, and no other seat claims it
+pub record IsFree (s : Session) (seat : ℕ) (t : Name) : Type 0 where
+  pub there : IsTrue (is_spawned (history s) t)
+  pub going : IsFalse (has_ended s t)
+  pub free : IsFreeBeside s.control.claims seat t
+
+-- why the seat doesn't get the task: want of memory comes last
+abbrev pub RefusesClaim : Session → ℕ → Name → ClaimRefusal → Type 0
+RefusesClaim s seat t NoSuchTask = IsFalse (is_spawned (history s) t)
+RefusesClaim s seat t Ended = IsTrue (is_spawned (history s) t) × IsTrue (has_ended s t)
+RefusesClaim s seat t (Claimed other) = IsTrue (is_spawned (history s) t) × IsFalse (has_ended s t) × IsHeldBeside s.control.claims seat t other
+RefusesClaim s seat t Memory = IsFree s seat t
+
+-- the seat claims the task in place of its former one, whether the task can step or not
+abbrev pub ClaimsTask : Session → ℕ → Name → Session → Result Work ClaimRefusal → Type 0
+ClaimsTask s seat t new (Ok w) = IsFree s seat t × (new ≡ with_seat s seat (Some t)) × IsWork s.program (history s) t w
+ClaimsTask s seat t new (Err e) = (new ≡ s) × RefusesClaim s seat t e
+
+-- ---- the least task
+
+-- the task of the work
+abbrev pub claimed : Claim → Option Name
+claimed (Works w) = Some w.config.task
+claimed _ = None
+
+-- the run is paused, or its journal is full
+abbrev pub is_stopped : Session → Bool
+is_stopped s = is_paused s.control.mode || is_full s
+
+-- the seat's former claim is given up; it gets the least task that can step and that no other seat claims
+abbrev pub ClaimsWork : Session → ℕ → Session → Claim → Type 0
+ClaimsWork s seat new (Works w) =
+    IsFalse (is_stopped s)
+    × IsLeastName (CanTake s.program (history s) s.control.claims seat) (Some w.config.task)
+    × (new ≡ with_seat s seat (Some w.config.task)) × IsWork s.program (history s) w.config.task w
+ClaimsWork s seat new Later =
+    IsFalse (is_stopped s) × IsLeastName (CanTake s.program (history s) s.control.claims seat) None × (least_task s ≢ None) × (new ≡ with_seat s seat None)
+ClaimsWork s seat new Done = IsFalse (is_stopped s) × (least_task s ≡ None) × (new ≡ with_seat s seat None)
+ClaimsWork s seat new Stopped = IsTrue (is_stopped s) × (new ≡ with_seat s seat None)

@@ -1,0 +1,225 @@
+//! Which task each seat claims.
+
+ghost use Rattle.std.specs.Prelude.{◌≡◌, ◌<◌, ◌≤◌, ◌↔◌, IfOk, IfSome, IfNone, IsTrue, [], ◌∷◌, Some, None, true, length, replicate};
+ghost use Rattle.std.specs.Option.{option_copied};
+ghost use Rattle.tb_model.specs.Names.{same_name};
+ghost use Rattle.tb_live.specs.Claims.{claim_of, with_claim, withdrawn, unless, is_hit, IsHeldBeside, IsFreeBeside};
+
+use std::alloc::{AllocError, Global};
+use std::marker::Model;
+use tb_core::Removed;
+use tb_model::TaskName;
+
+/// For each seat the task that it claims, if any.
+#[derive(Drop)]
+pub struct Claims {
+    rows: Vec<Option<TaskName>>,
+}
+
+impl Model for Claims {
+    ghost use Rattle.std.specs.Prelude.{◌≤◌, length};
+    ghost use Rattle.tb_live.specs.Claims.{Claims as Rows};
+
+    ghost Value = { Rows };
+
+    ghost view = { λ c. c.rows.items };
+
+    ghost invariant = { λ c. length c.rows.items ≤ 65 };
+}
+
+impl Claims {
+    /// No claims, of so many seats.
+    pub fn none(alloc: Global, seats: u32) -> Result<Claims, AllocError>
+        requires { seats ≤ 65 }
+        ensures { IfOk result (λ c. c ≡ replicate seats None) }
+    {
+        let mut rows = Vec::with_capacity(alloc, seats as usize)?;
+        for _ in 0..seats {
+            rows.push(None)?;
+        }
+        Ok(Claims { rows })
+    }
+
+    /// How many seats there are.
+    pub fn seats(&self) -> u32
+        ensures { result ≡ length self.now }
+    {
+        self.rows.as_slice().len() as u32
+    }
+
+    /// The task that the seat claims.
+    pub fn of(&self, seat: u32) -> Option<&TaskName>
+        ensures { option_copied result ≡ claim_of self.now seat }
+    {
+        match self.rows.get(seat as usize) {
+            Some(Some(task)) => Some(task),
+            _ => None,
+        }
+    }
+
+    /// The seat other than this one that claims the task.
+    pub fn held_beside(&self, seat: u32, task: &TaskName) -> Option<u32>
+        ensures some { IfSome result (IsHeldBeside self.now seat task.now) }
+        ensures none { IfNone result (IsFreeBeside self.now seat task.now) }
+    {
+        holder_beside(&self.rows, seat, task)
+    }
+
+    /// Gives the seat this claim in place of its former one.
+    pub fn give(&mut self, seat: u32, task: TaskName)
+        requires { seat < length self.old }
+        ensures { self.new ≡ with_claim self.old seat (Some task) }
+    {
+        self.rows[seat as usize] = Some(task);
+    }
+
+    /// Gives the seat this claim in place of its former one, or none.
+    pub fn set(&mut self, seat: u32, claim: Option<TaskName>)
+        requires { seat < length self.old }
+        ensures { self.new ≡ with_claim self.old seat claim }
+    {
+        self.rows[seat as usize] = claim;
+    }
+
+    /// Ends the seat's claim.
+    pub fn let_go(&mut self, seat: u32)
+        requires { seat < length self.old }
+        ensures { self.new ≡ with_claim self.old seat None }
+    {
+        self.rows[seat as usize] = None;
+    }
+
+    /// Withdraws each claim on the task.
+    pub fn withdraw(&mut self, task: &TaskName)
+        ensures { self.new ≡ withdrawn (same_name task.now) self.old }
+    {
+        withdraw_task(&mut self.rows, task);
+    }
+
+    /// Withdraws each claim on a task of which a step or the spawn was removed.
+    pub fn withdraw_removed(&mut self, removed: &[Removed])
+        ensures { self.new ≡ withdrawn (is_hit removed.now) self.old }
+    {
+        withdraw_hit(&mut self.rows, removed);
+    }
+
+    /// Withdraws each claim on the task of this removed step, and on the one that it generated.
+    pub fn withdraw_one(&mut self, removed: &Removed)
+        ensures { self.new ≡ withdrawn (is_hit (removed.now ∷ [])) self.old }
+    {
+        withdraw_by(&mut self.rows, removed);
+    }
+
+    /// Withdraws all claims.
+    pub fn withdraw_all(&mut self)
+        ensures { self.new ≡ withdrawn (λ t. true) self.old }
+    {
+        clear(&mut self.rows);
+    }
+}
+
+fn holder_beside(rows: &[Option<TaskName>], seat: u32, task: &TaskName) -> Option<u32>
+    requires { length rows.now ≤ 65 }
+    ensures some { IfSome result (IsHeldBeside rows.now seat task.now) }
+    ensures none { IfNone result (IsFreeBeside rows.now seat task.now) }
+{
+    for (at, row) in rows.iter().enumerate() {
+        if at != seat as usize && is_on(row, task) {
+            return Some(at as u32);
+        }
+    }
+    None
+}
+
+fn is_on(row: &Option<TaskName>, task: &TaskName) -> bool
+    ensures { IsTrue result ↔ (row.now ≡ Some task.now) }
+{
+    match row {
+        Some(claimed) => claimed == task,
+        None => false,
+    }
+}
+
+fn clear(rows: &mut Vec<Option<TaskName>>)
+    ensures { rows.new.items ≡ withdrawn (λ t. true) rows.old.items }
+{
+    for row in rows.iter_mut() {
+        forget(row);
+    }
+}
+
+fn withdraw_task(rows: &mut Vec<Option<TaskName>>, task: &TaskName)
+    ensures { rows.new.items ≡ withdrawn (same_name task.now) rows.old.items }
+{
+    for row in rows.iter_mut() {
+        leave(row, task);
+    }
+}
+
+fn withdraw_hit(rows: &mut Vec<Option<TaskName>>, removed: &[Removed])
+    ensures { rows.new.items ≡ withdrawn (is_hit removed.now) rows.old.items }
+{
+    for row in rows.iter_mut() {
+        leave_hit(row, removed);
+    }
+}
+
+fn withdraw_by(rows: &mut Vec<Option<TaskName>>, removed: &Removed)
+    ensures { rows.new.items ≡ withdrawn (is_hit (removed.now ∷ [])) rows.old.items }
+{
+    for row in rows.iter_mut() {
+        leave_by(row, removed);
+    }
+}
+
+fn forget(row: &mut Option<TaskName>)
+    ensures { row.new ≡ unless (λ t. true) row.old }
+{
+    *row = None;
+}
+
+fn leave(row: &mut Option<TaskName>, task: &TaskName)
+    ensures { row.new ≡ unless (same_name task.now) row.old }
+{
+    if let Some(claimed) = row {
+        if task == claimed {
+            *row = None;
+        }
+    }
+}
+
+fn leave_hit(row: &mut Option<TaskName>, removed: &[Removed])
+    ensures { row.new ≡ unless (is_hit removed.now) row.old }
+{
+    if let Some(claimed) = row {
+        if is_hit(removed, claimed) {
+            *row = None;
+        }
+    }
+}
+
+fn leave_by(row: &mut Option<TaskName>, removed: &Removed)
+    ensures { row.new ≡ unless (is_hit (removed.now ∷ [])) row.old }
+{
+    if let Some(claimed) = row {
+        if hits(removed, claimed) {
+            *row = None;
+        }
+    }
+}
+
+/// Whether the removed step is one of the task, or generated it.
+fn hits(removed: &Removed, task: &TaskName) -> bool
+    ensures { result ≡ is_hit (removed.now ∷ []) task.now }
+{
+    removed.id.task == *task || removed.action.is_spawn_of(task)
+}
+
+/// Whether a step or the spawn of the task was removed.
+fn is_hit(removed: &[Removed], task: &TaskName) -> bool
+    ensures { result ≡ is_hit removed.now task.now }
+{
+    removed
+        .iter()
+        .any(|r| r.id.task == *task || r.action.is_spawn_of(task))
+}

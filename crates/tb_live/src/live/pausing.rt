@@ -1,0 +1,91 @@
+//! Pauses of a run, and its breakpoints.
+
+ghost use Rattle.std.specs.Prelude.{◌≡◌};
+ghost use Rattle.tb_live.specs.declared.mode.Mode.TheVariants.{Resumed};
+ghost use Rattle.tb_live.specs.Modes as modes;
+ghost use Rattle.tb_live.specs.Pauses.{with_mode, misplaced, AddsBreak, ClearsBreak};
+
+use super::Live;
+use crate::break_refusal::BreakRefusal;
+use crate::breakpoint::Breakpoint;
+use crate::breaks::Break;
+use crate::mode::Mode;
+use tb_read::Program;
+
+impl Live {
+    /// Whether steps are taken, and what paused the run where they aren't.
+    pub fn mode(&self) -> Mode
+        ensures { result ≡ self.now.control.mode }
+    {
+        self.control.mode
+    }
+
+    /// Pauses the run. What is paused stays as it is.
+    pub fn pause(&mut self)
+        ensures { self.new ≡ with_mode self.old (modes.paused self.old.control.mode) }
+    {
+        self.control.mode = self.control.mode.paused();
+    }
+
+    /// Lets the run go on.
+    pub fn resume(&mut self)
+        ensures { self.new ≡ with_mode self.old Resumed }
+    {
+        self.control.mode = Mode::Resumed;
+    }
+
+    /// Lets the run go on for so many steps. None pauses it at once.
+    pub fn resume_for(&mut self, steps: u32)
+        ensures { self.new ≡ with_mode self.old (modes.counting steps) }
+    {
+        self.control.mode = Mode::counting(steps);
+    }
+
+    /// The breakpoints that stand, by rising numbers.
+    pub fn breakpoints(&self) -> &[Breakpoint]
+        ensures { result.now ≡ self.now.control.breakpoints.standing }
+    {
+        self.control.breakpoints.as_slice()
+    }
+
+    /// Makes a breakpoint, and answers its number. A body is named by its line.
+    pub fn add_break(&mut self, at: Break) -> Result<u32, BreakRefusal>
+        ensures { AddsBreak self.old at self.new result }
+    {
+        if let Some(refusal) = misplaced(&self.program, &at) {
+            return Err(refusal);
+        }
+        self.control.breakpoints.add(at)
+    }
+
+    /// Takes a breakpoint away. Takes no memory.
+    pub fn clear_break(&mut self, number: u32) -> Result<(), BreakRefusal>
+        ensures { ClearsBreak self.old number self.new result }
+    {
+        if !self.control.breakpoints.stands(number) {
+            return Err(BreakRefusal::NoSuchBreak);
+        }
+        self.control.breakpoints.clear(number);
+        Ok(())
+    }
+}
+
+/// What the program lacks for such a breakpoint.
+fn misplaced(program: &Program, at: &Break) -> Option<BreakRefusal>
+    ensures { result ≡ misplaced program.now at.now }
+{
+    match at {
+        Break::Body(line) => match program.body_name(*line) {
+            Some(_) => None,
+            None => Some(BreakRefusal::NoSuchBody),
+        },
+        Break::Cell(cell) => {
+            if (*cell as usize) < program.cells().len() {
+                None
+            } else {
+                Some(BreakRefusal::NoSuchCell)
+            }
+        }
+        _ => None,
+    }
+}

@@ -1,0 +1,12 @@
+//! What paused a run.
+
+/// Why no further step is taken.
+#[derive(Clone, Copy, Debug, Drop, PartialEq, Eq)]
+pub enum PausedBy {
+    /// A step met the breakpoint with this number.
+    Break { number: u32 },
+    /// The steps that were asked for have been taken.
+    Count,
+    /// It was asked for.
+    Pause,
+}

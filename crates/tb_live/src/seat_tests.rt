@@ -1,0 +1,200 @@
+//! Claims of several seats, and pauses.
+
+ghost use Rattle.std.specs.Prelude.{◌≤◌};
+
+use crate::{Break, Claim, Live, Mode, PausedBy};
+use std::alloc::{AllocGlobal, Global};
+use std::process::Abort;
+use tb_model::{StepId, TaskName};
+use tb_read::read;
+
+fn opened(alloc: Global, text: &[u8]) -> Option<Live> {
+    let program = match read(alloc, text) {
+        Ok(program) => program,
+        Err(_) => return None,
+    };
+    match Live::open(alloc, program, 20, 65) {
+        Ok(live) => Some(live),
+        Err(_) => None,
+    }
+}
+
+fn task(rt: &(impl Abort + AllocGlobal), text: &str) -> TaskName {
+    TaskName::parse(rt.alloc(), text.as_bytes()).expect(rt, text)
+}
+
+/// The breakpoint that the words name.
+fn at(rt: &(impl Abort + AllocGlobal), words: &[&str]) -> Break {
+    match words {
+        ["task", name] => Break::Task(task(rt, *name)),
+        ["cell", cell] => Break::Cell(cell.parse().expect(rt, "a cell")),
+        ["body", line] => Break::Body(line.parse().expect(rt, "a line")),
+        ["print"] => Break::Print,
+        ["fault"] => Break::Fault,
+        _ => panic!(rt; "a breakpoint"),
+    }
+}
+
+/// The number of a breakpoint that is made, and 100 more than that of a refusal.
+fn made(live: &mut Live, at: Break) -> u32 {
+    match live.add_break(at) {
+        Ok(number) => number,
+        Err(refusal) => 100 + refusal.number() as u32,
+    }
+}
+
+/// The number of the refusal, and 100 where the breakpoint is taken away.
+fn cleared(live: &mut Live, number: u32) -> u8 {
+    match live.clear_break(number) {
+        Ok(_) => 100,
+        Err(refusal) => refusal.number(),
+    }
+}
+
+/// Steps for seat 1 until the run pauses: how many they are.
+fn run_on(rt: &(impl Abort + AllocGlobal), live: &mut Live) -> u32 {
+    for count in 0..20u32 {
+        if live.mode().is_paused() {
+            return count;
+        }
+        match live.step_least_for(1) {
+            Ok(Some(_)) => (),
+            _ => return count,
+        }
+    }
+    panic!(rt; "the run goes on")
+}
+
+const PRINTED: &[u8] = b"cells 1\nbody main 0\n  store 0 7\n  print 7\nend\n";
+
+/// What is asked for, and the answer.
+const BREAKS: [(&[&str], u32); 5] = [
+    (&["cell", "1"], 104),
+    (&["body", "3"], 103),
+    (&["task", "0.1"], 1),
+    (&["body", "2"], 2),
+    (&["print"], 3),
+];
+
+#[test]
+fn a_breakpoint_pauses(rt: HostRuntime) {
+    let mut live = opened(rt.alloc(), PRINTED).expect(&rt, "an accepted program");
+    for (words, answer) in BREAKS {
+        assert_eq!(rt; made(&mut live, at(&rt, words)), answer);
+    }
+    assert_eq!(rt; cleared(&mut live, 1), 100);
+    assert_eq!(rt; cleared(&mut live, 1), 2);
+    assert_eq!(rt; run_on(&rt, &mut live), 1);
+    assert!(rt;
+        live.mode()
+            == Mode::Paused {
+                by: PausedBy::Break { number: 2 }
+            }
+    );
+    live.resume_for(2);
+    assert_eq!(rt; run_on(&rt, &mut live), 2);
+    assert!(rt;
+        live.mode()
+            == Mode::Paused {
+                by: PausedBy::Break { number: 3 }
+            }
+    );
+    assert_eq!(rt; live.breakpoints().len(), 2);
+    live.resume_for(1);
+    assert_eq!(rt; run_on(&rt, &mut live), 1);
+    live.pause();
+    assert!(rt;
+        live.mode()
+            == Mode::Paused {
+                by: PausedBy::Count
+            }
+    );
+    live.resume();
+    live.pause();
+    assert!(rt;
+        live.mode()
+            == Mode::Paused {
+                by: PausedBy::Pause
+            }
+    );
+}
+
+const SPAWNED: &[u8] = b"cells 2\nbody main 0\n  task u 0\n  task u 1\nend\nbody u 1\n\
+    let r1 r0 + 1\n  store r0 r1\n  load r2 r0\nend\n";
+
+/// The line at which the seat gets work, 101 for Later, 102 for Done and 103 for Stopped.
+fn claimed(rt: &(impl Abort + AllocGlobal), live: &mut Live, seat: u32) -> u32 {
+    assert!(rt; seat < live.seats());
+    match live.claim(seat) {
+        Ok(Claim::Work(work)) => work.config.at,
+        Ok(Claim::Later) => 101,
+        Ok(Claim::Done) => 102,
+        Ok(Claim::Stopped) => 103,
+        Err(_) => 104,
+    }
+}
+
+/// The line at which the task stands, or 100 more than the number of the refusal.
+fn asked(rt: &(impl Abort + AllocGlobal), live: &mut Live, seat: u32, name: &str) -> u32 {
+    assert!(rt; seat < live.seats());
+    match live.claim_task(seat, &task(rt, name)) {
+        Ok(work) => work.config.at,
+        Err(refusal) => 100 + refusal.number() as u32,
+    }
+}
+
+fn has_claim(live: &Live, seat: u32) -> bool {
+    live.claim_of(seat).is_some()
+}
+
+/// Steps of the tasks for seat 0, one after another.
+fn step_all(rt: &(impl Abort + AllocGlobal), live: &mut Live, names: &[&str]) {
+    for name in names {
+        assert!(rt; live.step(&task(rt, *name)).is_ok(), "{name}");
+    }
+}
+
+/// How many steps go with this one, and 100 where the rollback is refused.
+fn gone(rt: &(impl Abort + AllocGlobal), live: &mut Live, id: &str) -> usize {
+    let id = StepId::parse(rt.alloc(), id.as_bytes()).expect(rt, "a step");
+    match live.roll(&id) {
+        Ok(removed) => removed.len(),
+        Err(_) => 100,
+    }
+}
+
+#[test]
+fn each_seat_has_its_task(rt: HostRuntime) {
+    let mut live = opened(rt.alloc(), SPAWNED).expect(&rt, "an accepted program");
+    assert_eq!(rt; claimed(&rt, &mut live, 1), 2);
+    assert_eq!(rt; claimed(&rt, &mut live, 2), 101);
+    assert_eq!(rt; asked(&rt, &mut live, 2, "0"), 112);
+    assert_eq!(rt; asked(&rt, &mut live, 2, "0.1"), 101);
+    step_all(&rt, &mut live, ["0", "0", "0", "0"].as_slice());
+    assert!(rt; !has_claim(&live, 1));
+    assert_eq!(rt; asked(&rt, &mut live, 0, "0"), 102);
+    assert_eq!(rt; claimed(&rt, &mut live, 1), 6);
+    assert_eq!(rt; claimed(&rt, &mut live, 2), 6);
+    assert_eq!(rt; claimed(&rt, &mut live, 3), 101);
+    live.pause();
+    assert_eq!(rt; claimed(&rt, &mut live, 1), 103);
+    assert!(rt; !has_claim(&live, 1));
+    assert_eq!(rt; asked(&rt, &mut live, 1, "0.1"), 6);
+}
+
+/// A rollback withdraws the claim on a task of which it removes a step, and on one that it leaves
+/// without its spawn, and no other.
+#[test]
+fn a_rollback_withdraws_claims(rt: HostRuntime) {
+    let mut live = opened(rt.alloc(), SPAWNED).expect(&rt, "an accepted program");
+    step_all(&rt, &mut live, ["0", "0", "0", "0", "0.1"].as_slice());
+    assert_eq!(rt; asked(&rt, &mut live, 1, "0.1"), 7);
+    assert_eq!(rt; asked(&rt, &mut live, 2, "0.2"), 6);
+    assert_eq!(rt; gone(&rt, &mut live, "0.1#1"), 1);
+    assert!(rt; !has_claim(&live, 1));
+    assert!(rt; has_claim(&live, 2));
+    assert_eq!(rt; asked(&rt, &mut live, 1, "0.1"), 6);
+    assert_eq!(rt; gone(&rt, &mut live, "0#2"), 3);
+    assert!(rt; !has_claim(&live, 1));
+    assert!(rt; !has_claim(&live, 2));
+}
