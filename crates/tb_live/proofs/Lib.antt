@@ -7,3 +7,4 @@ pub mod RollLemmas
 pub mod ClaimLemmas
 pub mod ControlLemmas
 pub mod WorkLemmas
+pub mod RunsLemmas

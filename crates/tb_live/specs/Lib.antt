@@ -9,5 +9,6 @@ pub mod Claims
 pub mod Controls
 pub mod Pauses
 pub mod Working
+pub mod Runs
 pub mod Numbers
 pub use Rattle.tb_core.specs.Refusals

@@ -1,6 +1,7 @@
 //! A program's run with its journal: each step and each undo is an entry.
 #![tactic(auto)]
 
+mod answer;
 mod asked;
 mod break_refusal;
 mod breakpoint;
@@ -12,6 +13,7 @@ mod claims;
 mod control;
 mod live;
 mod mode;
+mod moves;
 mod newest;
 mod paused_by;
 mod planning;
@@ -24,6 +26,7 @@ mod stepping;
 mod tests;
 mod work;
 
+pub use answer::Answer;
 pub use break_refusal::BreakRefusal;
 pub use breakpoint::Breakpoint;
 pub use breakpoints::Breakpoints;
@@ -34,6 +37,7 @@ pub use claims::Claims;
 pub use control::Control;
 pub use live::Live;
 pub use mode::Mode;
+pub use moves::Move;
 pub use paused_by::PausedBy;
 pub use tb_core::{Removed, StepRefusal, UndoRefusal};
 pub use tb_roll::RollRefusal;

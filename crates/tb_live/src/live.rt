@@ -3,6 +3,7 @@
 mod claiming;
 mod inside;
 mod pausing;
+mod running;
 
 ghost use Rattle.std.specs.Prelude.{◌≡◌, ◌<◌, ◌≤◌, IfOk, IfErr, None, length, reverse, slice_get};
 ghost use Rattle.std.specs.Option.{option_copied};
