@@ -16,7 +16,7 @@ fn opened(alloc: Global) -> Option<Live> {
         Ok(program) => program,
         Err(_) => return None,
     };
-    match Live::open(alloc, program, 100) {
+    match Live::open(alloc, program, 100, 1) {
         Ok(live) => Some(live),
         Err(_) => None,
     }
