@@ -6,7 +6,8 @@
 Two kinds of session, of 100,000 and of 1,000,000 steps and undos each: `step 0` and `undo 0#2` in
 turn, and one `run` of a loop that counts. Each is read from a file and written into a file, with a
 journal of 1,000,000 entries, and run three times; the best time counts. The journal's first entry
-is none of a step, so a run that fills it has 999,999.
+is none of a step, so a run that fills it has 999,999. Then the newest step is undone and taken again
+50,000 times behind a long history; the time of the history alone is taken off.
 """
 import os
 import sys
@@ -54,6 +55,12 @@ def main():
                 times.append(taken)
                 print('%9d: %6.3f s, %7.0f a second, %6.1f MB' % (count, taken, count / taken, memory / 1024))
             print('ten times as many take %.1f times the time' % (times[1] / times[0]))
+        print('the newest step undone and taken again')
+        for count in (10000, 100000, 800000):
+            before, _ = measure(program, LOOP + b'run %d\n' % count, folder)
+            turns = b'undo 0#%d\nstep 0\n' % count * 50000
+            taken, memory = measure(program, LOOP + b'run %d\n' % count + turns, folder)
+            print('behind %7d: %6.3f s, %7.0f a second, %6.1f MB' % (count, taken - before, 100000 / (taken - before), memory / 1024))
 
 
 if __name__ == '__main__':
