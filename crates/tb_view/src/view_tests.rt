@@ -60,32 +60,62 @@ fn removed_line(alloc: Global, live: &mut Live, id: &StepId, want: &str) -> bool
     }
 }
 
+fn view(alloc: Global, word: &str, k: u32) -> View {
+    let id = of_root(alloc, k);
+    match word {
+        "cells" => View::Cells,
+        "out" => View::Out,
+        "hist" => View::Hist,
+        "why" => View::Why { id },
+        _ => View::Who { id },
+    }
+}
+
+/// The view, the step of the root that it is asked of, and the text.
+const TEXTS: [(&str, u32, &str); 5] = [
+    ("cells", 1, "cells 2\n1 7\n"),
+    ("out", 1, "out 1\n7\n"),
+    (
+        "hist",
+        1,
+        "hist 4\n0#1 start\n0#2 store 1 7\n0#3 load r3 1 7\n0#4 print 7\n",
+    ),
+    ("why", 3, "why 2\n0#1 start\n0#2 store 1 7\n"),
+    ("who", 3, "who 1\n0#4 print 7\n"),
+];
+
+fn show_all(rt: &(impl Abort + AllocGlobal), live: &Live) {
+    for (word, k, want) in TEXTS {
+        assert!(rt;
+            shows(rt.alloc(), live, view(rt.alloc(), word, k), want),
+            "{word}"
+        );
+    }
+}
+
+fn refuse_all(rt: &(impl Abort + AllocGlobal), live: &Live) {
+    for word in ["why", "who"] {
+        assert_eq!(rt; refusal(rt.alloc(), live, view(rt.alloc(), word, 5)), 1);
+    }
+}
+
 #[test]
 fn views_of_the_root(rt: HostRuntime) {
-    let alloc = rt.alloc();
-    let mut live = opened(alloc).expect(&rt, "an accepted program");
-    assert!(rt; shows(alloc, &live, View::Hist, "hist 0\n"));
+    let mut live = opened(rt.alloc()).expect(&rt, "an accepted program");
     step_root(&rt, &mut live, 4);
-    assert!(rt; shows(alloc, &live, View::Cells, "cells 2\n1 7\n"));
-    assert!(rt; shows(alloc, &live, View::Out, "out 1\n7\n"));
-    let lines = "hist 4\n0#1 start\n0#2 store 1 7\n0#3 load r3 1 7\n0#4 print 7\n";
-    assert!(rt; shows(alloc, &live, View::Hist, lines));
-    let id = of_root(alloc, 3);
-    assert!(rt;
-        shows(
-            alloc,
-            &live,
-            View::Why { id },
-            "why 2\n0#1 start\n0#2 store 1 7\n"
-        )
-    );
-    let id = of_root(alloc, 3);
-    assert!(rt; shows(alloc, &live, View::Who { id }, "who 1\n0#4 print 7\n"));
-    let id = of_root(alloc, 5);
-    assert_eq!(rt; refusal(alloc, &live, View::Why { id }), 1);
-    let id = of_root(alloc, 5);
-    assert_eq!(rt; refusal(alloc, &live, View::Who { id }), 1);
-    let id = of_root(alloc, 4);
-    assert!(rt; removed_line(alloc, &mut live, &id, "0#4 print 7\n"));
+    show_all(&rt, &live);
+    refuse_all(&rt, &live);
+}
+
+#[test]
+fn the_line_of_a_removed_step(rt: HostRuntime) {
+    let mut live = opened(rt.alloc()).expect(&rt, "an accepted program");
+    step_root(&rt, &mut live, 4);
+    let id = of_root(rt.alloc(), 4);
+    assert!(rt; removed_line(rt.alloc(), &mut live, &id, "0#4 print 7\n"));
+}
+
+#[test]
+fn refusals_have_numbers(rt: HostRuntime) {
     assert_eq!(rt; ViewRefusal::Memory.number(), 0);
 }
