@@ -13,6 +13,8 @@ mod claims;
 mod control;
 mod live;
 mod mode;
+#[cfg(test)]
+mod move_tests;
 mod moves;
 mod newest;
 mod paused_by;

@@ -76,32 +76,32 @@ const BREAKS: [(&[&str], u32); 5] = [
     (&["print"], 3),
 ];
 
-#[test]
-fn a_breakpoint_pauses(rt: HostRuntime) {
-    let mut live = opened(rt.alloc(), PRINTED).expect(&rt, "an accepted program");
+fn make_and_clear(rt: &(impl Abort + AllocGlobal), live: &mut Live) {
     for (words, answer) in BREAKS {
-        assert_eq!(rt; made(&mut live, at(&rt, words)), answer);
+        assert_eq!(rt; made(live, at(rt, words)), answer);
     }
-    assert_eq!(rt; cleared(&mut live, 1), 100);
-    assert_eq!(rt; cleared(&mut live, 1), 2);
-    assert_eq!(rt; run_on(&rt, &mut live), 1);
-    assert!(rt;
-        live.mode()
-            == Mode::Paused {
-                by: PausedBy::Break { number: 2 }
-            }
-    );
-    live.resume_for(2);
-    assert_eq!(rt; run_on(&rt, &mut live), 2);
-    assert!(rt;
-        live.mode()
-            == Mode::Paused {
-                by: PausedBy::Break { number: 3 }
-            }
-    );
-    assert_eq!(rt; live.breakpoints().len(), 2);
-    live.resume_for(1);
-    assert_eq!(rt; run_on(&rt, &mut live), 1);
+    assert_eq!(rt; cleared(live, 1), 100);
+    assert_eq!(rt; cleared(live, 1), 2);
+}
+
+/// How many steps are asked for, how many are taken, and what paused behind them.
+const PAUSES: [(Option<u32>, u32, PausedBy); 3] = [
+    (None, 1, PausedBy::Break { number: 2 }),
+    (Some(2), 2, PausedBy::Break { number: 3 }),
+    (Some(1), 1, PausedBy::Count),
+];
+
+fn run_and_pause(rt: &(impl Abort + AllocGlobal), live: &mut Live) {
+    for (count, steps, by) in PAUSES {
+        if let Some(count) = count {
+            live.resume_for(count);
+        }
+        assert_eq!(rt; run_on(rt, live), steps);
+        assert!(rt; live.mode() == Mode::Paused { by });
+    }
+}
+
+fn pause_twice(rt: &(impl Abort + AllocGlobal), live: &mut Live) {
     live.pause();
     assert!(rt;
         live.mode()
@@ -117,6 +117,14 @@ fn a_breakpoint_pauses(rt: HostRuntime) {
                 by: PausedBy::Pause
             }
     );
+}
+
+#[test]
+fn a_breakpoint_pauses(rt: HostRuntime) {
+    let mut live = opened(rt.alloc(), PRINTED).expect(&rt, "an accepted program");
+    make_and_clear(&rt, &mut live);
+    run_and_pause(&rt, &mut live);
+    pause_twice(&rt, &mut live);
 }
 
 const SPAWNED: &[u8] = b"cells 2\nbody main 0\n  task u 0\n  task u 1\nend\nbody u 1\n\
@@ -163,23 +171,62 @@ fn gone(rt: &(impl Abort + AllocGlobal), live: &mut Live, id: &str) -> usize {
     }
 }
 
+/// The seats that claim, and the answers; `claim` where no task is named, else `claim_task`.
+type Claims<'a> = &'a [(u32, &'a str, u32)];
+
+fn claim_all(rt: &(impl Abort + AllocGlobal), live: &mut Live, rows: Claims) {
+    for (seat, name, answer) in rows {
+        let got = if name.is_empty() {
+            claimed(rt, live, *seat)
+        } else {
+            asked(rt, live, *seat, *name)
+        };
+        assert_eq!(rt; got, *answer, "{seat} {name}");
+    }
+}
+
+fn claim_in_turn(rt: &(impl Abort + AllocGlobal), live: &mut Live) {
+    claim_all(
+        rt,
+        live,
+        [(1, "", 2), (2, "", 101), (2, "0", 112), (2, "0.1", 101)].as_slice(),
+    );
+    step_all(rt, live, ["0", "0", "0", "0"].as_slice());
+    assert!(rt; !has_claim(live, 1));
+    claim_all(
+        rt,
+        live,
+        [(0, "0", 102), (1, "", 6), (2, "", 6), (3, "", 101)].as_slice(),
+    );
+}
+
+fn claim_while_paused(rt: &(impl Abort + AllocGlobal), live: &mut Live) {
+    live.pause();
+    claim_all(rt, live, [(1, "", 103)].as_slice());
+    assert!(rt; !has_claim(live, 1));
+    claim_all(rt, live, [(1, "0.1", 6)].as_slice());
+}
+
 #[test]
 fn each_seat_has_its_task(rt: HostRuntime) {
     let mut live = opened(rt.alloc(), SPAWNED).expect(&rt, "an accepted program");
-    assert_eq!(rt; claimed(&rt, &mut live, 1), 2);
-    assert_eq!(rt; claimed(&rt, &mut live, 2), 101);
-    assert_eq!(rt; asked(&rt, &mut live, 2, "0"), 112);
-    assert_eq!(rt; asked(&rt, &mut live, 2, "0.1"), 101);
-    step_all(&rt, &mut live, ["0", "0", "0", "0"].as_slice());
-    assert!(rt; !has_claim(&live, 1));
-    assert_eq!(rt; asked(&rt, &mut live, 0, "0"), 102);
-    assert_eq!(rt; claimed(&rt, &mut live, 1), 6);
-    assert_eq!(rt; claimed(&rt, &mut live, 2), 6);
-    assert_eq!(rt; claimed(&rt, &mut live, 3), 101);
-    live.pause();
-    assert_eq!(rt; claimed(&rt, &mut live, 1), 103);
-    assert!(rt; !has_claim(&live, 1));
-    assert_eq!(rt; asked(&rt, &mut live, 1, "0.1"), 6);
+    claim_in_turn(&rt, &mut live);
+    claim_while_paused(&rt, &mut live);
+}
+
+fn roll_a_claimed_task(rt: &(impl Abort + AllocGlobal), live: &mut Live) {
+    step_all(rt, live, ["0", "0", "0", "0", "0.1"].as_slice());
+    claim_all(rt, live, [(1, "0.1", 7), (2, "0.2", 6)].as_slice());
+    assert_eq!(rt; gone(rt, live, "0.1#1"), 1);
+    assert!(rt; !has_claim(live, 1));
+    assert!(rt; has_claim(live, 2));
+}
+
+fn roll_claimed_spawns(rt: &(impl Abort + AllocGlobal), live: &mut Live) {
+    claim_all(rt, live, [(1, "0.1", 6)].as_slice());
+    assert_eq!(rt; gone(rt, live, "0#2"), 3);
+    assert!(rt; !has_claim(live, 1));
+    assert!(rt; !has_claim(live, 2));
 }
 
 /// A rollback withdraws the claim on a task of which it removes a step, and on one that it leaves
@@ -187,14 +234,6 @@ fn each_seat_has_its_task(rt: HostRuntime) {
 #[test]
 fn a_rollback_withdraws_claims(rt: HostRuntime) {
     let mut live = opened(rt.alloc(), SPAWNED).expect(&rt, "an accepted program");
-    step_all(&rt, &mut live, ["0", "0", "0", "0", "0.1"].as_slice());
-    assert_eq!(rt; asked(&rt, &mut live, 1, "0.1"), 7);
-    assert_eq!(rt; asked(&rt, &mut live, 2, "0.2"), 6);
-    assert_eq!(rt; gone(&rt, &mut live, "0.1#1"), 1);
-    assert!(rt; !has_claim(&live, 1));
-    assert!(rt; has_claim(&live, 2));
-    assert_eq!(rt; asked(&rt, &mut live, 1, "0.1"), 6);
-    assert_eq!(rt; gone(&rt, &mut live, "0#2"), 3);
-    assert!(rt; !has_claim(&live, 1));
-    assert!(rt; !has_claim(&live, 2));
+    roll_a_claimed_task(&rt, &mut live);
+    roll_claimed_spawns(&rt, &mut live);
 }
