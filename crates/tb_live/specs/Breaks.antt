@@ -28,7 +28,7 @@ abbrev pub met : ℕ → Event → List Breakpoint → Option ℕ
 met line v [] = None
 met line v (b ∷ bs) = if meets line v b.at then Some b.number else met line v bs
 
--- the breakpoints that stand, by rising numbers, and how many numbers were given
+-- the breakpoints that stand, in the order in which they were made, and the last number that was given
 pub record Points : Type 0 where
   pub standing : List Breakpoint
   pub given : ℕ

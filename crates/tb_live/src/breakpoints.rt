@@ -81,7 +81,7 @@ impl Breakpoints {
         first_met(&self.standing, line, event)
     }
 
-    /// The breakpoints that stand, by rising numbers.
+    /// The breakpoints that stand, in the order in which they were made.
     pub fn as_slice(&self) -> &[Breakpoint]
         ensures { result.now ≡ self.now.standing }
     {

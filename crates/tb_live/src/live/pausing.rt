@@ -41,7 +41,7 @@ impl Live {
         self.control.mode = Mode::counting(steps);
     }
 
-    /// The breakpoints that stand, by rising numbers.
+    /// The breakpoints that stand, in the order in which they were made.
     pub fn breakpoints(&self) -> &[Breakpoint]
         ensures { result.now ≡ self.now.control.breakpoints.standing }
     {
