@@ -15,7 +15,8 @@ ghost use Rattle.tb_undo.specs.State.{AreLast};
 ghost use Rattle.tb_core.specs.Seen.{history};
 ghost use Rattle.tb_core.specs.Situation.{config_of};
 ghost use Rattle.tb_core.specs.Outcomes.{event_of, has_ended, hindrance_of, Fits, IsCurrent, IsOpen, IsKept, Refuses, Steps, Stepped, IsFree, IsPlaceOf, TakesBack, Keeps, Undone};
-ghost use Rattle.tb_core.specs.Soundness.{seen};
+ghost use Rattle.tb_core.specs.Soundness.{AreRecords, seen};
+ghost use Rattle.tb_core.specs.declared.step_refusal.StepRefusal.TheVariants.{Memory};
 ghost use Rattle.tb_core.specs.Rolled.{IsReady, RollsBack};
 ghost use Rattle.tb_core.specs.Scans.{AreLegal};
 
@@ -226,6 +227,7 @@ impl Core {
         ensures reserved { OnOk result (self.new.reserved ≡ Some (event_of self.old.run plan.now)) }
         ensures ready { OnOk result (IsOpen self.old.run plan.now) }
         ensures refused { IfErr result (Refuses self.old.run plan.now) }
+        ensures err { IfErr result (λ e. e ≢ Memory → self.new ≡ self.old) }
     {
         if let Some(refusal) = self.refusal(plan) {
             return Err(refusal);
@@ -241,6 +243,7 @@ impl Core {
     pub fn step(&mut self, plan: Plan) -> Result<StepId, StepRefusal>
         requires { Fits self.old.run plan }
         ensures stepped { Stepped self.old.run plan self.new.run result }
+        ensures err { IfErr result (λ e. e ≢ Memory → self.new ≡ self.old) }
         ensures room { IsOpen self.old.run plan → self.old.reserved ≡ Some (event_of self.old.run plan) → IsOk result }
     {
         if let Some(refusal) = self.refusal(&plan) {
@@ -351,6 +354,7 @@ impl Core {
     /// done. The step is looked for from the newest on, and so is cheap to find near the end.
     pub fn undo(&mut self, id: &StepId) -> Result<Removed, UndoRefusal>
         ensures undone { Undone self.old.run id.now self.new.run result }
+        ensures err { OnErr result (self.new ≡ self.old) }
         ensures succeeds { IsFree self.old.run id.now → IsOk result }
     {
         match self.free_place(id) {
@@ -376,6 +380,7 @@ impl Core {
     pub fn legal_entries(&self) -> &[Entry]
         ensures steps { map departure (reverse result.now) ≡ self.now.run.steps }
         ensures legal { AreLegal result.now }
+        ensures records { AreRecords self.now.run.cells self.now.run.root_line (reverse result.now) }
         ensures bound { length result.now ≤ 1000000 }
     {
         self.entries.as_slice()
