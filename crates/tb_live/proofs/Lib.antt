@@ -8,3 +8,6 @@ pub mod ClaimLemmas
 pub mod ControlLemmas
 pub mod WorkLemmas
 pub mod RunsLemmas
+pub mod BreakLemmas
+pub mod CommitLemmas
+pub mod PreparedLemmas

@@ -9,7 +9,7 @@ use Rattle.tb_model.specs.declared.statement.Statement.{Statement}
 use Rattle.tb_model.specs.declared.statement.Statement.TheVariants.{Start as DoStart, Let as DoLet, Compute as DoCompute, Load as DoLoad, Store as DoStore, Print as DoPrint, Task as DoTask, Taskwait as DoTaskwait, Taskgroup as DoTaskgroup, EndTaskgroup as DoEndTaskgroup, Test as DoTest, End as DoEnd}
 use Rattle.tb_model.specs.Names.{Name, child}
 use Rattle.tb_model.specs.Facts.{History, is_of, own, is_start, is_end, ends, spawns, is_spawned, IsSpawned}
-use Rattle.tb_model.specs.Hindrances.{Hindrance, Refusal, NoSuchTask, Ended, By, refusal_of, can_step, least_ready, in_the_way}
+use Rattle.tb_model.specs.Hindrances.{Hindrance, Refusal, NoSuchTask, Ended, By, refusal_of, can_step, least_ready, in_the_way, number_read, next_event}
 use Rattle.tb_undo.specs.State.{registers}
 use Rattle.tb_model.specs.declared.event.Event.{Event}
 use Rattle.tb_model.specs.Legal.{Cells, spawn_count, IsRunning, Continues}
@@ -142,6 +142,25 @@ module _ (cells : Cells) (H : History) (t : Name) where
   taken_planned regs (DoTest c) = refl
   taken_planned regs DoEnd = refl
 
+  load_next : (r : ℕ) (o : Option ℕ) → taken (or_fault o (λ c. Load r c zero_ℤ)) ≡ or_fault o (λ c. Load r c (number_read cells H (or_fault o (λ d. Load r d zero_ℤ))))
+  load_next r None = refl
+  load_next r (Some c) = refl
+
+  -- it is what the definitions compute
+  pub taken_next : (regs : List ℤ) (s : Statement) → taken (action_of cells t 1 regs zero_ℤ s) ≡ action_of cells t next_number regs (number_read cells H (action_of cells t next_number regs zero_ℤ s)) s
+  taken_next regs DoStart = refl
+  taken_next regs (DoLet r a) = refl
+  taken_next regs (DoCompute r a o b) = refl
+  taken_next regs (DoLoad r a) = load_next r (cell_at cells (value regs a))
+  taken_next regs (DoStore a b) = store_taken (value regs b) (cell_at cells (value regs a))
+  taken_next regs (DoPrint a) = refl
+  taken_next regs (DoTask body args depends c) = spawn_taken body (map (value regs) args) (is_deferred regs c) (items_at cells regs depends)
+  taken_next regs (DoTaskwait depends) = wait_taken (items_at cells regs depends)
+  taken_next regs DoTaskgroup = refl
+  taken_next regs DoEndTaskgroup = refl
+  taken_next regs (DoTest c) = refl
+  taken_next regs DoEnd = refl
+
   -- neither number decides where the task stands then
   pub moved_taken : (i : Instr) (c : Place) (a : Action) → (moved i c (taken a)).line ≡ (moved i c a).line
   moved_taken i c Start = refl
@@ -196,6 +215,18 @@ plan_follows P run p f i n =
     ap₂ (λ (cells : Cells) (a : Action). completed cells H t a) f.cells (plan_action P run p f i n)
     in
     same ∙ taken_planned P.cells H t c.regs s ∙ ap (λ a. planned P H t (loaded a)) (sym same)
+
+-- the plan's event is the next of its task, as the definitions compute it
+pub plan_next : (P : Program) (run : Seen) (p : Plan) → Fits P run → IsPlan P run p → p.instr.cells ≡ length P.cells → outcomes.event_of run p ≡ next_event P (history run) p.config.task
+plan_next P run p f i n =
+    let H = history run in
+    let t = p.config.task in
+    let c = situation P t H in
+    let s = (instr_at P c.line).statement in
+    let same : completed run.cells H t p.action ≡ completed P.cells H t (action_of P.cells t 1 c.regs zero_ℤ s) =
+    ap₂ (λ (cells : Cells) (a : Action). completed cells H t a) f.cells (plan_action P run p f i n)
+    in
+    ap (λ (a : Action). record { task = t; action = a }) (same ∙ taken_next P.cells H t c.regs s)
 
 -- ---- it fits the core
 

@@ -32,7 +32,7 @@ use Rattle.tb_live.specs.declared.control.Control.{Control}
 use Rattle.tb_live.specs.Claims.{Claims, is_hit, AreLawful}
 use Rattle.tb_live.specs.Controls.{behind_removal}
 use Rattle.tb_live.specs.Session.{Session, history, is_full, with_entry, numbers_from, cell_numbers}
-use Rattle.tb_live.specs.Moves.{Undoes}
+use Rattle.tb_live.specs.Moves.{UndoesFor}
 use Rattle.tb_live.specs.Soundness.{Fits, IsSound, IsLawful}
 use Rattle.tb_live.proofs.ControlLemmas.{withdrawn_alike, undo_hits, lawful_rolled}
 use Rattle.tb_live.proofs.PlanLemmas.{IsPlan, stands_at, holds_registers, plan_instr, plan_follows, moved_taken, own_moves}
@@ -138,9 +138,9 @@ taken_back seat P limit J run new i s room stood cells root_line limits steps re
       bound = s.bound;
     }
 
-pub undone : (P : Program) (limit : ℕ) (J : List Entry) (run new : Seen) (i : StepId) (removed : Removed) → IsSound P limit J run → nat_le limit (length J) ≡ false
-    → TakesBack run i new removed → IsSound P limit (Rolled 0 i ∷ J) new
-undone P limit J run new i removed s room b = taken_back 0 P limit J run new i s room b.free.stands b.cells b.root_line b.limit b.steps b.rest
+pub undone : (seat : ℕ) (P : Program) (limit : ℕ) (J : List Entry) (run new : Seen) (i : StepId) (removed : Removed) → IsSound P limit J run → nat_le limit (length J) ≡ false
+    → TakesBack run i new removed → IsSound P limit (Rolled seat i ∷ J) new
+undone seat P limit J run new i removed s room b = taken_back seat P limit J run new i s room b.free.stands b.cells b.root_line b.limit b.steps b.rest
 
 pub rolled : (seat : ℕ) (P : Program) (limit : ℕ) (J : List Entry) (run new : Seen) (i : StepId) (removed : List Removed) → IsSound P limit J run → nat_le limit (length J) ≡ false
     → stands i (core.history run) ≡ true → RollsBack run i new removed → IsSound P limit (Rolled seat i ∷ J) new
@@ -169,21 +169,21 @@ cells_shown first H numbers l =
 abbrev pub shown : Program → ℕ → List Entry → Control → Session
 shown P limit entries control = record { program = P; limit = limit; journal = reverse entries; control = control }
 
-pub record LiveUndoes (P : Program) (limit : ℕ) (s : Session) (i : StepId) (pushed : List Entry) (after : Control) (new : Seen) (removed : Removed) : Type 0 where
+pub record LiveUndoes (seat : ℕ) (P : Program) (limit : ℕ) (s : Session) (i : StepId) (pushed : List Entry) (after : Control) (new : Seen) (removed : Removed) : Type 0 where
   pub sound : IsSound P limit (reverse pushed) new
   pub lawful : IsLawful (reverse pushed) after
-  pub undoes : Undoes s i (shown P limit pushed after) removed
+  pub undoes : UndoesFor seat s i (shown P limit pushed after) removed
 
-pub live_undoes : (P : Program) (limit : ℕ) (entries spare pushed : List Entry) (before after : Control) (run new : Seen) (s : Session) (i copy : StepId) (removed : Removed)
+pub live_undoes : (seat : ℕ) (P : Program) (limit : ℕ) (entries spare pushed : List Entry) (before after : Control) (run new : Seen) (s : Session) (i copy : StepId) (removed : Removed)
     → shown P limit entries before ≡ s → IsSound P limit (reverse entries) run × IsLawful (reverse entries) before → is_full s ≡ false
-    → TakesBack run i new removed → copy ≡ i → spare ≡ entries → pushed ≡ spare ++ Rolled 0 copy ∷ [] → after ≡ behind_removal (removed ∷ []) before
-    → LiveUndoes P limit s i pushed after new removed
-live_undoes P limit entries spare pushed before after run new s i copy removed shows both room b same kept grows withdraws =
+    → TakesBack run i new removed → copy ≡ i → spare ≡ entries → pushed ≡ spare ++ Rolled seat copy ∷ [] → after ≡ behind_removal (removed ∷ []) before
+    → LiveUndoes seat P limit s i pushed after new removed
+live_undoes seat P limit entries spare pushed before after run new s i copy removed shows both room b same kept grows withdraws =
     let sound = both.0 in
     let J = reverse entries in
     let room' : nat_le limit (length J) ≡ false = ap is_full shows ∙ room in
-    let all : reverse pushed ≡ Rolled 0 i ∷ J =
-    ap reverse (grows ∙ ap (λ es. es ++ Rolled 0 copy ∷ []) kept) ∙ reverse-append entries (Rolled 0 copy ∷ []) ∙ ap (λ (w : StepId). Rolled 0 w ∷ J) same
+    let all : reverse pushed ≡ Rolled seat i ∷ J =
+    ap reverse (grows ∙ ap (λ es. es ++ Rolled seat copy ∷ []) kept) ∙ reverse-append entries (Rolled seat copy ∷ []) ∙ ap (λ (w : StepId). Rolled seat w ∷ J) same
     in
     let stood : stands i (hist J) ≡ true = ap (stands i) (sym sound.leaves) ∙ b.free.stands in
     let unneeded : first_needer i (hist J) ≡ None = ap (first_needer i) (sym sound.leaves) ∙ b.free.unneeded in
@@ -195,13 +195,13 @@ live_undoes P limit entries spare pushed before after run new s i copy removed s
     ∙ ap (λ (cs : Claims). record { claims = cs; breakpoints = before.breakpoints; mode = before.mode })
     (sym (withdrawn_alike (is_hit (removals i (hist J))) (is_hit (removed ∷ [])) (undo_hits P.cells (hist J) i removed (subst (LegalFor P) sound.leaves sound.fits.legal).0 stood unneeded b.id alike) before.claims))
     in
-    let now : shown P limit pushed after ≡ with_entry (shown P limit entries before) (Rolled 0 i) =
+    let now : shown P limit pushed after ≡ with_entry (shown P limit entries before) (Rolled seat i) =
     ap₂ (λ (K : List Entry) (c : Control). record { program = P; limit = limit; journal = K; control = c }) all hits
     in
     record {
-      sound = subst (λ (K : List Entry). IsSound P limit K new) (sym all) (undone P limit J run new i removed sound room' b);
+      sound = subst (λ (K : List Entry). IsSound P limit K new) (sym all) (undone seat P limit J run new i removed sound room' b);
       lawful = subst (λ (K : List Entry). IsLawful K after) (sym all) (subst (λ (c : Control). AreLawful (without i (hist J)) c.claims) (sym hits) (lawful_rolled i (hist J) before.claims both.1));
-      undoes = subst (λ (z : Session). Undoes z i (shown P limit pushed after) removed) shows (record {
+      undoes = subst (λ (z : Session). UndoesFor seat z i (shown P limit pushed after) removed) shows (record {
         may = record {
           stands = stood;
           unneeded = unneeded;

@@ -9,7 +9,7 @@ use Rattle.tb_model.specs.declared.entry.Entry.TheVariants.{Stepped}
 use Rattle.tb_model.specs.declared.step_id.StepId.{StepId}
 use Rattle.tb_model.specs.declared.event.Event.{Event}
 use Rattle.tb_model.specs.Names.{Name, same_name}
-use Rattle.tb_model.specs.Facts.{is_spawned, ends}
+use Rattle.tb_model.specs.Facts.{History, is_spawned, ends}
 use Rattle.tb_model.specs.Needs.{step_of}
 use Rattle.tb_model.specs.Journal.{hist}
 use Rattle.tb_model.specs.Program.{Program, IsNext, LegalFor, planned, situation, zero_ℤ}
@@ -120,7 +120,7 @@ module _ (P : Program) (limit : ℕ) (entries : List Entry) (before : Control) (
   refused (Excluded u) k = refusal_so ∙ ap (option_map By) k.hindrance
   refused (Children u) k = refusal_so ∙ ap (option_map By) k.hindrance
   refused (Group u) k = refusal_so ∙ ap (option_map By) k.hindrance
-  refused Full k = (refusal_so ∙ ap (option_map By) k.0, sym full_so ∙ k.1)
+  refused Full k = (refusal_so ∙ ap (option_map By) k.1, sym full_so ∙ k.2)
   refused Memory k = (
     subst (λ (z : Session). is_spawned (hist z.journal) t ≡ true) shows
         (subst (λ H. is_spawned H t ≡ true) sound.leaves (subst (λ u. is_spawned (core.history run) u ≡ true) plan.of_task plan.current.spawned)),
@@ -172,28 +172,24 @@ live_steps P limit entries before run s shows both t p plan pushed after new (Er
     record { keeps = l.keeps; answer = (l.same, refused P limit entries before run s shows both.0 t p plan r e.3) }
 
 -- a task without a plan
+pub missing_so : (P : Program) (H : History) (t : Name) → is_spawned H t ≡ false → refusal_of P H t ≡ Some IsMissing
+missing_so P H t k = at (is_spawned H t) k
+  where
+    at : (b : Bool) → b ≡ false → cond (not b) (Some IsMissing) (cond (list_any (ends t) H) (Some IsOver) (option_map By (in_the_way H t (planned P H t zero_ℤ)))) ≡ Some IsMissing
+    at false e = refl
+    at true e = absurd (false≢true (sym e))
+
+pub over_so : (P : Program) (H : History) (t : Name) → is_spawned H t ≡ true → list_any (ends t) H ≡ true → refusal_of P H t ≡ Some IsOver
+over_so P H t k m = at (is_spawned H t) (list_any (ends t) H) k m
+  where
+    at : (b c : Bool) → b ≡ true → c ≡ true → cond (not b) (Some IsMissing) (cond c (Some IsOver) (option_map By (in_the_way H t (planned P H t zero_ℤ)))) ≡ Some IsOver
+    at true true e f = refl
+    at true false e f = absurd (false≢true f)
+    at false c e f = absurd (false≢true e)
+
 pub no_plan : (P : Program) (limit : ℕ) (entries : List Entry) (before : Control) (run : Seen) (s : Session) → shown P limit entries before ≡ s → IsSound P limit (reverse entries) run → (t : Name) (e : StepRefusal) → HasNone run t e → Refuses s t e
-no_plan P limit entries before run s shows sound t NoSuchTask k = missing
-  where
-    missing : refusal_for s t ≡ Some IsMissing
-    missing =
-        ap (λ (z : Session). refusal_for z t) (sym shows) ∙ ap (λ H. refusal_of P H t) (sym sound.leaves)
-        ∙ at (is_spawned (core.history run) t) k
-      where
-        at : (b : Bool) → b ≡ false → cond (not b) (Some IsMissing) (cond (list_any (ends t) (core.history run)) (Some IsOver) (option_map By (in_the_way (core.history run) t (planned P (core.history run) t zero_ℤ)))) ≡ Some IsMissing
-        at false e = refl
-        at true e = absurd (false≢true (sym e))
-no_plan P limit entries before run s shows sound t Ended k = over
-  where
-    over : refusal_for s t ≡ Some IsOver
-    over =
-        ap (λ (z : Session). refusal_for z t) (sym shows) ∙ ap (λ H. refusal_of P H t) (sym sound.leaves)
-        ∙ at (is_spawned (core.history run) t) (list_any (ends t) (core.history run)) k.0 k.1
-      where
-        at : (b c : Bool) → b ≡ true → c ≡ true → cond (not b) (Some IsMissing) (cond c (Some IsOver) (option_map By (in_the_way (core.history run) t (planned P (core.history run) t zero_ℤ)))) ≡ Some IsOver
-        at true true e f = refl
-        at true false e f = absurd (false≢true f)
-        at false c e f = absurd (false≢true e)
+no_plan P limit entries before run s shows sound t NoSuchTask k = ap (λ (z : Session). refusal_for z t) (sym shows) ∙ ap (λ H. refusal_of P H t) (sym sound.leaves) ∙ missing_so P (core.history run) t k
+no_plan P limit entries before run s shows sound t Ended k = ap (λ (z : Session). refusal_for z t) (sym shows) ∙ ap (λ H. refusal_of P H t) (sym sound.leaves) ∙ over_so P (core.history run) t k.0 k.1
 no_plan P limit entries before run s shows sound t Memory k = (
   ap (λ (z : Session). is_spawned (hist z.journal) t) (sym shows) ∙ ap (λ H. is_spawned H t) (sym sound.leaves) ∙ k.0,
   ap (λ (z : Session). list_any (ends t) (hist z.journal)) (sym shows) ∙ ap (λ H. list_any (ends t) H) (sym sound.leaves) ∙ k.1,

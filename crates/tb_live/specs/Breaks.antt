@@ -1,5 +1,5 @@
 -- Which steps meet a breakpoint, and the breakpoints that stand.
-use Rattle.std.specs.Prelude.{IsTrue, IsFalse, ℕ, List, [], ◌∷◌, ◌++◌, Bool, true, false, ◌&&◌, ◌||◌, ◌==◌, not, suc, nat_le, length, filter, Option, Some, None, if◌then◌else◌}
+use Rattle.std.specs.Prelude.{IsTrue, IsFalse, ℕ, List, [], ◌∷◌, ◌++◌, Bool, true, false, ◌&&◌, ◌||◌, ◌==◌, not, suc, nat_le, length, filter, Option, Some, None, if◌then◌else◌, ◌<◌, ◌≤◌, ⊤}
 use Rattle.std.specs.List.{list_any}
 use Rattle.tb_model.specs.declared.action.Action.{Action}
 use Rattle.tb_model.specs.declared.action.Action.TheVariants.{Fault}
@@ -32,6 +32,17 @@ met line v (b ∷ bs) = if meets line v b.at then Some b.number else met line v 
 pub record Points : Type 0 where
   pub standing : List Breakpoint
   pub given : ℕ
+
+-- the numbers rise from above the one to at most the other
+abbrev pub AreRising : ℕ → ℕ → List Breakpoint → Type 0
+AreRising low high [] = ⊤
+AreRising low high (b ∷ bs) = (low < b.number) × (b.number ≤ high) × AreRising b.number high bs
+
+-- 64 stand at most, the last number is 1,000,000, and each that stands has a number of its own, at most the last that was given
+pub record AreNumbered (p : Points) : Type 0 where
+  pub few : length p.standing ≤ 64
+  pub last : p.given ≤ 1000000
+  pub rising : AreRising 0 p.given p.standing
 
 abbrev pub no_points : Points
 no_points = record { standing = []; given = 0 }

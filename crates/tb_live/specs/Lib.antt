@@ -10,5 +10,7 @@ pub mod Controls
 pub mod Pauses
 pub mod Working
 pub mod Runs
+pub mod Preparing
+pub mod Commits
 pub mod Numbers
 pub use Rattle.tb_core.specs.Refusals

@@ -1,6 +1,7 @@
 -- What a step, an undo and a rollback answer, and what they leave.
 use Rattle.std.specs.Prelude.{◌≡◌, ℕ, List, ◌∷◌, reverse, Bool, Option, Some, None, Result, Ok, Err, IsTrue, IsFalse}
 use Rattle.std.specs.List.{list_any}
+use Rattle.tb_model.specs.declared.entry.Entry.{Entry}
 use Rattle.tb_model.specs.declared.entry.Entry.TheVariants.{Stepped, Rolled}
 use Rattle.tb_model.specs.declared.event.Event.{Event}
 use Rattle.tb_model.specs.declared.step_id.StepId.{StepId}
@@ -23,7 +24,7 @@ use Rattle.tb_core.specs.declared.undo_refusal.UndoRefusal.TheVariants.{Memory a
 use Rattle.tb_core.specs.Rolled.{removals}
 use Rattle.tb_roll.specs.declared.roll_refusal.RollRefusal.{RollRefusal}
 use Rattle.tb_roll.specs.declared.roll_refusal.RollRefusal.TheVariants.{NoSuchStep as StepIsMissing, Full as NoPlace, Memory as NoRoom}
-use Rattle.tb_live.specs.Session.{Session, history, is_full, with_entry}
+use Rattle.tb_live.specs.Session.{Session, Held, history, is_full, with_entry}
 
 abbrev pub has_ended : Session → Name → Bool
 has_ended s t = list_any (ends t) (history s)
@@ -68,6 +69,12 @@ Refuses s t Full = (refusal_for s t ≡ None) × IsTrue (is_full s)
 Refuses s t Memory = IsTrue (is_spawned (history s) t) × IsFalse (has_ended s t)
 Refuses s t (Stale now) = ⊥
 
+-- what keeps the task from its next step, a full journal aside
+abbrev pub Hinders : Session → Name → StepRefusal → Type 0
+Hinders s t Full = ⊥
+Hinders s t Memory = ⊥
+Hinders s t e = Refuses s t e
+
 -- a step by its answer: the first refusal that holds; a refusal changes nothing
 abbrev pub StepsBy : Session → Name → Session → Result StepId StepRefusal → Type 0
 StepsBy s t new (Ok i) = Steps s t new i
@@ -90,21 +97,27 @@ pub record MayUndo (s : Session) (i : StepId) : Type 0 where
   pub unneeded : first_needer i (history s) ≡ None
   pub room : IsFalse (is_full s)
 
--- the undo is the journal's newest entry; the step may be taken again, and then all is as it was
-pub record Undoes (s : Session) (i : StepId) (new : Session) (removed : Removed) : Type 0 where
+-- the undo is the journal's newest entry, of this seat; the step may be taken again, and then all is as it was
+pub record UndoesFor (seat : ℕ) (s : Session) (i : StepId) (new : Session) (removed : Removed) : Type 0 where
   pub may : MayUndo s i
   pub id : removed.id ≡ i
-  pub now : new ≡ with_entry s (Rolled 0 i)
+  pub now : new ≡ with_entry s (Rolled seat i)
   pub again : MayFollow s.program.cells (history new) (record { task = i.task; action = removed.action })
   pub alike : Alike (history s) (record { task = i.task; action = removed.action } ∷ history new)
 
+abbrev pub Undoes : Session → StepId → Session → Removed → Type 0
+Undoes = UndoesFor 0
+
 -- an undo by its answer; memory may be wanted for the name of what needs the step
+abbrev pub UndoneFor : ℕ → Session → StepId → Session → Result Removed UndoRefusal → Type 0
+UndoneFor seat s i new (Ok removed) = UndoesFor seat s i new removed
+UndoneFor seat s i new (Err NoSuchStep) = (new ≡ s) × IsFalse (stands i (history s))
+UndoneFor seat s i new (Err (Needed by)) = (new ≡ s) × IsTrue (stands i (history s)) × (first_needer i (history s) ≡ Some by)
+UndoneFor seat s i new (Err JournalFull) = (new ≡ s) × IsTrue (stands i (history s)) × (first_needer i (history s) ≡ None) × IsTrue (is_full s)
+UndoneFor seat s i new (Err NoMemory) = (new ≡ s) × IsTrue (stands i (history s))
+
 abbrev pub UndoneBy : Session → StepId → Session → Result Removed UndoRefusal → Type 0
-UndoneBy s i new (Ok removed) = Undoes s i new removed
-UndoneBy s i new (Err NoSuchStep) = (new ≡ s) × IsFalse (stands i (history s))
-UndoneBy s i new (Err (Needed by)) = (new ≡ s) × IsTrue (stands i (history s)) × (first_needer i (history s) ≡ Some by)
-UndoneBy s i new (Err JournalFull) = (new ≡ s) × IsTrue (stands i (history s)) × (first_needer i (history s) ≡ None) × IsTrue (is_full s)
-UndoneBy s i new (Err NoMemory) = (new ≡ s) × IsTrue (stands i (history s))
+UndoneBy = UndoneFor 0
 
 -- the step and all that need it are gone, and nothing else; the rollback is the journal's newest entry, of this seat
 pub record RollsFor (seat : ℕ) (s : Session) (i : StepId) (new : Session) (removed : List Removed) : Type 0 where
@@ -115,6 +128,13 @@ pub record RollsFor (seat : ℕ) (s : Session) (i : StepId) (new : Session) (rem
 
 abbrev pub Rolls : Session → StepId → Session → List Removed → Type 0
 Rolls = RollsFor 0
+
+-- the rollback may come, and its entry is the one that is prepared
+pub record IsRollPrepared (seat : ℕ) (held : Held) (i : StepId) (e : Entry) : Type 0 where
+  pub stands : IsTrue (stands i (history held.session))
+  pub room : IsFalse (is_full held.session)
+  pub entry : e ≡ Rolled seat i
+  pub prepared : held.prepared ≡ Some e
 
 -- when all stays
 abbrev pub KeepsAll : Session → StepId → RollRefusal → Type 0

@@ -2,6 +2,9 @@
 use Rattle.std.specs.Prelude.{ℕ}
 use Rattle.tb_live.specs.declared.break_refusal.BreakRefusal.{BreakRefusal}
 use Rattle.tb_live.specs.declared.break_refusal.BreakRefusal.TheVariants.{Memory, TooMany, NoSuchBreak, NoSuchBody, NoSuchCell}
+use Rattle.tb_core.specs.Refusals.{step_number}
+use Rattle.tb_live.specs.declared.commit_refusal.CommitRefusal.{CommitRefusal}
+use Rattle.tb_live.specs.declared.commit_refusal.CommitRefusal.TheVariants.{Paused, Withdrawn, Step}
 use Rattle.tb_live.specs.declared.claim_refusal.ClaimRefusal.{ClaimRefusal}
 use Rattle.tb_live.specs.declared.claim_refusal.ClaimRefusal.TheVariants.{Memory as NoMemory, NoSuchTask, Ended, Claimed}
 
@@ -17,3 +20,8 @@ claim_number NoMemory = 0
 claim_number NoSuchTask = 1
 claim_number Ended = 2
 claim_number (Claimed seat) = 12
+
+abbrev pub commit_number : CommitRefusal → ℕ
+commit_number Paused = 9
+commit_number Withdrawn = 10
+commit_number (Step refusal) = step_number refusal

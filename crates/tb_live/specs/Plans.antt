@@ -6,12 +6,16 @@ use Rattle.tb_model.specs.declared.step_id.StepId.{StepId}
 use Rattle.tb_model.specs.Names.{Name}
 use Rattle.tb_model.specs.Facts.{History, is_spawned}
 use Rattle.tb_model.specs.Program.{Program, instr_at}
-use Rattle.tb_model.specs.Hindrances.{can_step, least_ready}
+use Rattle.tb_model.specs.Hindrances.{By, can_step, least_ready, refusal_of}
+use Rattle.tb_model.specs.Hindrances.{NoSuchTask as IsMissing, Ended as IsOver}
+use Rattle.tb_model.specs.Hindrances.{Undeferred as TheUndeferred, Waiting as IsWaiting, Excluded as IsExcluded, Children as TheChildren, Group as TheGroup}
 use Rattle.tb_model.specs.LeastNames.{IsLeastName}
+use Rattle.tb_read.specs.declared.instr.Instr.{Instr}
 use Rattle.tb_read.specs.declared.planned.Plan.{Plan}
+use Rattle.tb_read.specs.Meaning.{IsPosition}
 use Rattle.tb_read.specs.Plans.{instruction}
 use Rattle.tb_core.specs.declared.step_refusal.StepRefusal.{StepRefusal}
-use Rattle.tb_core.specs.declared.step_refusal.StepRefusal.TheVariants.{Memory, NoSuchTask, Ended, Full}
+use Rattle.tb_core.specs.declared.step_refusal.StepRefusal.TheVariants.{Memory, NoSuchTask, Ended, Waiting, Excluded, Children, Group, Full, Stale, Undeferred}
 use Rattle.tb_core.specs.Seen.{Seen, history}
 use Rattle.tb_core.specs.Situation.{config_of}
 use Rattle.tb_live.specs.declared.control.Control.{Control}
@@ -26,6 +30,12 @@ use Rattle.tb_live.specs.Claims.{Claims, IsHeldBeside, IsFreeBeside}
 use Rattle.tb_live.specs.Controls.{behind_step}
 use Rattle.tb_core.specs.Outcomes.{Fits, IsCurrent, IsKept, Steps, event_of, has_ended, hindrance_of}
 
+-- the instruction is the program's at its line
+pub record IsOfProgram (P : Program) (i : Instr) : Type 0 where
+  pub position : IsPosition P i.line
+  pub instr : instruction i ≡ instr_at P i.line
+  pub cells : i.cells ≡ length P.cells
+
 -- the plan is the program's for the task's situation, and the task goes on
 pub record IsPlanOf (P : Program) (run : Seen) (t : Name) (p : Plan) : Type 0 where
   pub of_task : p.config.task ≡ t
@@ -39,6 +49,26 @@ HasNone run t NoSuchTask = IsFalse (is_spawned (history run) t)
 HasNone run t Ended = IsTrue (is_spawned (history run) t) × IsTrue (has_ended run t)
 HasNone run t Memory = IsTrue (is_spawned (history run) t) × IsFalse (has_ended run t)
 HasNone run t _ = ⊥
+
+-- what keeps a task from its next step by the definitions, a full journal aside
+abbrev pub IsRefusalTo : Program → Seen → Name → StepRefusal → Type 0
+IsRefusalTo P run t NoSuchTask = refusal_of P (history run) t ≡ Some IsMissing
+IsRefusalTo P run t Ended = refusal_of P (history run) t ≡ Some IsOver
+IsRefusalTo P run t (Undeferred child) = refusal_of P (history run) t ≡ Some (By (TheUndeferred child))
+IsRefusalTo P run t (Waiting pred) = refusal_of P (history run) t ≡ Some (By (IsWaiting pred))
+IsRefusalTo P run t (Excluded by) = refusal_of P (history run) t ≡ Some (By (IsExcluded by))
+IsRefusalTo P run t (Children first) = refusal_of P (history run) t ≡ Some (By (TheChildren first))
+IsRefusalTo P run t (Group first) = refusal_of P (history run) t ≡ Some (By (TheGroup first))
+IsRefusalTo P run t _ = ⊥
+
+abbrev pub IsRefusalOf : Program → Seen → Name → Option StepRefusal → Type 0
+IsRefusalOf P run t None = refusal_of P (history run) t ≡ None
+IsRefusalOf P run t (Some e) = IsRefusalTo P run t e
+
+-- what is told of a refusal
+abbrev pub IsTold : StepRefusal → Option StepRefusal → Type 0
+IsTold e None = e ≡ Full
+IsTold e (Some told) = (told ≡ e) × (e ≢ Full) × (e ≢ Memory)
 
 -- the plan of the least task that can step, and None where no task can
 abbrev pub IsReady : Program → Seen → Option Plan → Type 0
@@ -56,7 +86,7 @@ pub record IsEntered (seat : ℕ) (run : Seen) (p : Plan) (new : Seen) (old entr
 
 -- what keeps the task from its action comes before a full journal
 abbrev pub IsKeptFrom : Seen → Plan → Bool → StepRefusal → Type 0
-IsKeptFrom run p full Full = (hindrance_of run p ≡ None) × IsTrue full
+IsKeptFrom run p full Full = IsCurrent run p × (hindrance_of run p ≡ None) × IsTrue full
 IsKeptFrom run p full Memory = ⊤
 IsKeptFrom run p full e = IsKept run p e
 
@@ -118,3 +148,27 @@ IsFound P run claims seat (Works w) = IsLeastName (CanTake P (history run) claim
 IsFound P run claims seat Later = IsLeastName (CanTake P (history run) claims seat) None × (least_ready P (history run) ≢ None)
 IsFound P run claims seat Done = least_ready P (history run) ≡ None
 IsFound P run claims seat Stopped = ⊥
+
+-- ---- a plan that was made at some time
+
+-- why a plan isn't one of the program for a task that is there and goes on
+abbrev pub IsForeign : Program → Seen → Plan → StepRefusal → Type 0
+IsForeign P run p NoSuchTask = IsFalse (is_spawned (history run) p.config.task)
+IsForeign P run p Ended = IsTrue (is_spawned (history run) p.config.task) × IsTrue (has_ended run p.config.task)
+IsForeign P run p (Stale now) =
+    IsTrue (is_spawned (history run) p.config.task) × IsFalse (has_ended run p.config.task)
+    × (now ≡ config_of run p.config.task) × (IsOfProgram P p.instr → ⊥)
+IsForeign P run p Memory = IsTrue (is_spawned (history run) p.config.task) × IsFalse (has_ended run p.config.task) × (IsOfProgram P p.instr → ⊥)
+IsForeign P run p _ = ⊥
+
+-- the plan is of the program, for a task that is there and goes on, be it up to date or not
+pub record IsNative (P : Program) (run : Seen) (p : Plan) : Type 0 where
+  pub spawned : IsTrue (is_spawned (history run) p.config.task)
+  pub going : IsFalse (has_ended run p.config.task)
+  pub program : IsOfProgram P p.instr
+
+-- where the task stands now
+abbrev pub IsStaleAnswer : Seen → Name → StepRefusal → Type 0
+IsStaleAnswer run t (Stale now) = now ≡ config_of run t
+IsStaleAnswer run t Memory = ⊤
+IsStaleAnswer run t _ = ⊥

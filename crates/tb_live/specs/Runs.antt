@@ -1,5 +1,9 @@
 -- What a list of moves is answered, and what it leaves.
-use Rattle.std.specs.Prelude.{◌≡◌, List, [], ◌∷◌, true, IfOk, IfErr}
+use Rattle.std.specs.Prelude.{◌≡◌, ℕ, List, [], ◌∷◌, true, length, Result, Ok, Err, IfOk, IfErr}
+use Rattle.tb_model.specs.declared.step_id.StepId.{StepId}
+use Rattle.tb_model.specs.Names.{Name}
+use Rattle.tb_live.specs.declared.commit_refusal.CommitRefusal.{CommitRefusal}
+use Rattle.tb_live.specs.declared.commit_refusal.CommitRefusal.TheVariants.{Step as NotTaken}
 use Rattle.tb_live.specs.declared.moves.Move.{Move}
 use Rattle.tb_live.specs.declared.moves.Move.TheVariants.{Step, Undo, Roll}
 use Rattle.tb_live.specs.declared.answer.Answer.{Answer}
@@ -8,7 +12,7 @@ use Rattle.tb_live.specs.declared.mode.Mode.TheVariants.{Resumed}
 use Rattle.tb_live.specs.Claims.{withdrawn}
 use Rattle.tb_live.specs.Session.{Session}
 use Rattle.tb_live.specs.Pauses.{with_mode}
-use Rattle.tb_live.specs.Moves.{StepsBy, UndoneBy, Rolls, KeepsAll}
+use Rattle.tb_live.specs.Moves.{Steps, Refuses, UndoneBy, Rolls, KeepsAll}
 
 -- no seat claims a task
 abbrev pub unclaimed : Session → Session
@@ -22,9 +26,15 @@ unclaimed s = record {
 abbrev pub resumed : Session → Session
 resumed s = with_mode s Resumed
 
+-- the task's next event is the newest entry, at this place; a refusal changes nothing
+abbrev pub StepsAt : Session → Name → Session → Result ℕ CommitRefusal → Type 0
+StepsAt s t new (Ok place) = (place ≡ length s.journal) × ((i : StepId) × Steps s t new i)
+StepsAt s t new (Err (NotTaken e)) = (new ≡ s) × Refuses s t e
+StepsAt s t new (Err _) = ⊥
+
 -- a move by its answer; a refusal changes nothing
 abbrev pub Makes : Session → Move → Session → Answer → Type 0
-Makes s (Step t) new (Stepped result) = StepsBy s t new result
+Makes s (Step t) new (Stepped result) = StepsAt s t new result
 Makes s (Undo i) new (Undone result) = UndoneBy s i new result
 Makes s (Roll i) new (RolledBack result) = IfOk result (λ removed. Rolls s i new removed.items) × IfErr result (λ e. (new ≡ s) × KeepsAll s i e)
 Makes s _ new _ = ⊥

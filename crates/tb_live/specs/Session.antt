@@ -24,6 +24,11 @@ pub record Session : Type 0 where
   pub journal : List Entry
   pub control : Control
 
+-- what a Live holds: its session, and the entry for which all room is made
+pub record Held : Type 0 where
+  pub session : Session
+  pub prepared : Option Entry
+
 -- resumed, with so many seats, no claims and no breakpoints
 abbrev pub fresh : ℕ → Control
 fresh seats = record { claims = replicate seats None; breakpoints = no_points; mode = Resumed }

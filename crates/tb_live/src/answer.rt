@@ -1,13 +1,13 @@
 //! The answer to a move.
 
-use tb_core::{Removed, StepRefusal, UndoRefusal};
-use tb_model::StepId;
+use crate::commit_refusal::CommitRefusal;
+use tb_core::{Removed, UndoRefusal};
 use tb_roll::RollRefusal;
 
-/// What a move of a run is answered.
+/// What a move of a run is answered. A step is answered by the place of its entry in the journal.
 #[derive(Debug, Drop)]
 pub enum Answer {
-    Step(Result<StepId, StepRefusal>),
+    Step(Result<u32, CommitRefusal>),
     Undo(Result<Removed, UndoRefusal>),
     Roll(Result<Vec<Removed>, RollRefusal>),
 }

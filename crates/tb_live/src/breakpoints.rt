@@ -2,7 +2,7 @@
 
 ghost use Rattle.std.specs.Prelude.{◌≡◌, IfOk, IfErr, OnErr, OnOk, IsFalse, suc, not, filter};
 ghost use Rattle.std.specs.List.{list_any};
-ghost use Rattle.tb_live.specs.Breaks.{IsRefused, met, no_points, are_too_many, with_break, has_number, is_standing, without_break};
+ghost use Rattle.tb_live.specs.Breaks.{AreNumbered, IsRefused, met, no_points, are_too_many, with_break, has_number, is_standing, without_break};
 
 use crate::break_refusal::BreakRefusal;
 use crate::breakpoint::Breakpoint;
@@ -20,11 +20,13 @@ pub struct Breakpoints {
 }
 
 impl Model for Breakpoints {
-    ghost use Rattle.tb_live.specs.Breaks.{Points};
+    ghost use Rattle.tb_live.specs.Breaks.{Points, AreNumbered};
 
     ghost Value = { Points };
 
     ghost view = { λ b. record { standing = b.standing.items; given = b.given } };
+
+    ghost invariant = { λ b. AreNumbered (record { standing = b.standing.items; given = b.given }) };
 }
 
 impl Breakpoints {
@@ -83,7 +85,8 @@ impl Breakpoints {
 
     /// The breakpoints that stand, in the order in which they were made.
     pub fn as_slice(&self) -> &[Breakpoint]
-        ensures { result.now ≡ self.now.standing }
+        ensures standing { result.now ≡ self.now.standing }
+        ensures numbered { AreNumbered self.now }
     {
         self.standing.as_slice()
     }

@@ -57,6 +57,16 @@ impl Claims {
         }
     }
 
+    /// Whether the seat claims the task.
+    pub fn is_by(&self, seat: u32, task: &TaskName) -> bool
+        ensures { IsTrue result ↔ (claim_of self.now seat ≡ Some task.now) }
+    {
+        match self.rows.get(seat as usize) {
+            Some(row) => is_on(row, task),
+            None => false,
+        }
+    }
+
     /// The seat other than this one that claims the task.
     pub fn held_beside(&self, seat: u32, task: &TaskName) -> Option<u32>
         ensures some { IfSome result (IsHeldBeside self.now seat task.now) }

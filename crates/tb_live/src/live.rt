@@ -1,16 +1,18 @@
 //! A live run: the program, the core, the journal, and what stands beside it.
 
 mod claiming;
+mod committing;
 mod inside;
 mod pausing;
 mod running;
 
-ghost use Rattle.std.specs.Prelude.{◌≡◌, ◌<◌, ◌≤◌, IfOk, IfErr, None, length, reverse, slice_get};
+ghost use Rattle.std.specs.Prelude.{◌≡◌, ◌<◌, ◌≤◌, IfOk, IfErr, IfSome, IfNone, IsOk, Some, None, length, reverse, slice_get};
 ghost use Rattle.std.specs.Option.{option_copied};
+ghost use Rattle.tb_model.specs.declared.entry.Entry.TheVariants.{Rolled};
 ghost use Rattle.tb_model.specs.State.{printed};
 ghost use Rattle.tb_live.specs.Claims.{claim_of, AreLawful};
 ghost use Rattle.tb_live.specs.Session.{opened, with_seat, history, is_full, cell_numbers, last_store, last_print};
-ghost use Rattle.tb_live.specs.Moves.{StepsBy, LeastStepsBy, LeastStepsFor, UndoneBy, Rolls, KeepsAll};
+ghost use Rattle.tb_live.specs.Moves.{StepsBy, LeastStepsBy, LeastStepsFor, UndoneFor, RollsFor, KeepsAll, Hinders, refusal_for, MayUndo};
 
 use crate::breakpoints::Breakpoints;
 use crate::claims::Claims;
@@ -18,8 +20,9 @@ use crate::control::Control;
 use crate::mode::Mode;
 use crate::newest::{newest_step, place_of_print, place_of_store};
 use crate::planning::plan_of;
-use crate::ready::ready_plan;
-use crate::rolling::enter_roll;
+use crate::prepared::{Prepared, forget, prepared_roll};
+use crate::ready::{ready_plan, refusal_of};
+use crate::rolling::{enter_roll, name_of_roll};
 use crate::stepping::enter_step;
 use std::alloc::{AllocError, Global};
 use std::marker::Model;
@@ -37,19 +40,21 @@ pub struct Live {
     journal: Vec<Entry>,
     control: Control,
     limit: u32,
+    // what the next change finds ready
+    prepared: Option<Prepared>,
 }
 
 impl Model for Live {
-    ghost use Rattle.std.specs.Prelude.{reverse};
-    ghost use Rattle.tb_live.specs.Session.{Session};
-
-    ghost Value = { Session };
-
+    ghost use Rattle.std.specs.Prelude.{◌-◌, reverse, option_map, vec_len, vec_capacity};
+    ghost use Rattle.tb_live.specs.Session.{Held};
     ghost use Rattle.tb_live.specs.Soundness.{IsSound, IsLawful};
+    ghost use Rattle.tb_live.specs.Preparing.{HasRoom, entry_of};
 
-    ghost view = { λ l. record { program = l.program; limit = l.limit; journal = reverse l.journal.items; control = l.control } };
+    ghost Value = { Held };
 
-    ghost invariant = { λ l. IsSound l.program l.limit (reverse l.journal.items) l.core.run × IsLawful (reverse l.journal.items) l.control };
+    ghost view = { λ l. record { session = record { program = l.program; limit = l.limit; journal = reverse l.journal.items; control = l.control }; prepared = option_map entry_of l.prepared } };
+
+    ghost invariant = { λ l. IsSound l.program l.limit (reverse l.journal.items) l.core.run × IsLawful (reverse l.journal.items) l.control × HasRoom l.limit l.program l.core l.journal.items (vec_capacity l.journal - vec_len l.journal) l.prepared };
 }
 
 impl Live {
@@ -59,7 +64,7 @@ impl Live {
         requires some { 1 ≤ limit }
         requires bound { limit ≤ 1000000 }
         requires seats { seats ≤ 65 }
-        ensures { IfOk result (λ live. live ≡ opened program limit seats) }
+        ensures { IfOk result (λ live. live.session ≡ opened program limit seats) }
     {
         let core = Core::open(alloc, program.cells(), program.root_line(), limit)?;
         let mut journal = Vec::with_capacity(alloc, 1)?;
@@ -76,56 +81,57 @@ impl Live {
             journal,
             control,
             limit,
+            prepared: None,
         })
     }
 
     /// The program.
     pub fn program(&self) -> &Program
-        ensures { result.now ≡ self.now.program }
+        ensures { result.now ≡ self.now.session.program }
     {
         &self.program
     }
 
     /// The cells' numbers, in order.
     pub fn cells(&self) -> &[i64]
-        ensures { result.now ≡ cell_numbers self.now }
+        ensures { result.now ≡ cell_numbers self.now.session }
     {
         self.core.cells()
     }
 
     /// The printed numbers, in order.
     pub fn output(&self) -> &[i64]
-        ensures { result.now ≡ reverse (printed (history self.now)) }
+        ensures { result.now ≡ reverse (printed (history self.now.session)) }
     {
         self.core.output()
     }
 
     /// The newest event that stands.
     pub fn newest(&self) -> Option<&Event>
-        ensures { option_copied result ≡ slice_get (history self.now) 0 }
+        ensures { option_copied result ≡ slice_get (history self.now.session) 0 }
     {
         self.core.newest()
     }
 
     /// Whether the journal has no place for one more entry.
     pub fn is_full(&self) -> bool
-        ensures { result ≡ is_full self.now }
+        ensures { result ≡ is_full self.now.session }
     {
         self.limit as usize <= self.journal.as_slice().len()
     }
 
     /// The task that the seat claims. It is there, and no other seat claims it.
     pub fn claim_of(&self, seat: u32) -> Option<&TaskName>
-        ensures claim { option_copied result ≡ claim_of self.now.control.claims seat }
-        ensures lawful { AreLawful (history self.now) self.now.control.claims }
+        ensures claim { option_copied result ≡ claim_of self.now.session.control.claims seat }
+        ensures lawful { AreLawful (history self.now.session) self.now.session.control.claims }
     {
         self.control.claims.of(seat)
     }
 
     /// Ends the seat's claim.
     pub fn let_go(&mut self, seat: u32)
-        requires { seat < length self.old.control.claims }
-        ensures { self.new ≡ with_seat self.old seat None }
+        requires { seat < length self.old.session.control.claims }
+        ensures { self.new.session ≡ with_seat self.old.session seat None }
     {
         self.control.claims.let_go(seat);
     }
@@ -133,12 +139,13 @@ impl Live {
     /// Takes the next step of a task, for seat 0. Want of memory comes only where a growth was
     /// refused.
     pub fn step(&mut self, task: &TaskName) -> Result<StepId, StepRefusal>
-        ensures { StepsBy self.old task.now self.new result }
+        ensures { StepsBy self.old.session task.now self.new.session result }
     {
         let plan = match plan_of(self.alloc, &self.program, &self.core, task) {
             Ok(plan) => plan,
             Err(refusal) => return Err(refusal),
         };
+        forget(&mut self.prepared);
         enter_step(
             &mut self.core,
             &mut self.journal,
@@ -152,7 +159,7 @@ impl Live {
     /// Takes the next step of the least task that can step, for seat 0; None where all tasks have
     /// ended.
     pub fn step_least(&mut self) -> Result<Option<StepId>, StepRefusal>
-        ensures { LeastStepsBy self.old self.new result }
+        ensures { LeastStepsBy self.old.session self.new.session result }
     {
         self.step_least_for(0)
     }
@@ -160,13 +167,14 @@ impl Live {
     /// The same for any seat, whatever the claims and the mode. The mode counts the step, and pauses
     /// at a breakpoint that it meets.
     pub fn step_least_for(&mut self, seat: u32) -> Result<Option<StepId>, StepRefusal>
-        ensures { LeastStepsFor seat self.old self.new result }
+        ensures { LeastStepsFor seat self.old.session self.new.session result }
     {
         let plan = match ready_plan(self.alloc, &self.program, &self.core) {
             Ok(Some(plan)) => plan,
             Ok(None) => return Ok(None),
             Err(_) => return Err(StepRefusal::Memory),
         };
+        forget(&mut self.prepared);
         match enter_step(
             &mut self.core,
             &mut self.journal,
@@ -180,45 +188,53 @@ impl Live {
         }
     }
 
-    /// Takes a step back that nothing needs, for seat 0.
-    pub fn undo(&mut self, id: &StepId) -> Result<Removed, UndoRefusal>
-        ensures { UndoneBy self.old id.now self.new result }
+    /// Why the task's next step would be refused now, a full journal aside.
+    pub fn refusal(&self, task: &TaskName) -> Result<Option<StepRefusal>, AllocError>
+        ensures some { IfOk result (λ o. IfSome o (Hinders self.now.session task.now)) }
+        ensures none { IfOk result (λ o. IfNone o (refusal_for self.now.session task.now ≡ None)) }
     {
-        if let Some(refusal) = self.core.keeps(id) {
-            return Err(refusal);
-        }
+        refusal_of(self.alloc, &self.program, &self.core, task)
+    }
+
+    /// Takes a step back that nothing needs, for the seat. The step is looked for once.
+    pub fn undo(&mut self, seat: u32, id: &StepId) -> Result<Removed, UndoRefusal>
+        ensures undone { UndoneFor seat self.old.session id.now self.new.session result }
+        ensures room { MayUndo self.old.session id.now
+            → self.old.prepared ≡ Some (Rolled seat id.now) → IsOk result }
+    {
         if self.is_full() {
-            return Err(UndoRefusal::Full);
+            return Err(self.core.keeps(id).unwrap_or(UndoRefusal::Full));
         }
-        if self.journal.reserve(1).is_err() {
-            return Err(UndoRefusal::Memory);
-        }
-        let entry = match id.clone() {
-            Ok(id) => Entry::Rolled { seat: 0, id },
-            Err(_) => return Err(UndoRefusal::Memory),
+        let readied = prepared_roll(self.prepared.take(), seat, id);
+        let name = match name_of_roll(&mut self.journal, readied, id) {
+            Ok(name) => name,
+            Err(_) => return Err(self.core.keeps(id).unwrap_or(UndoRefusal::Memory)),
         };
         match self.core.undo(id) {
             Ok(removed) => {
                 self.control.step_removed(&removed);
-                self.journal.push_reserved(entry);
+                self.journal.push_reserved(Entry::Rolled { seat, id: name });
                 Ok(removed)
             }
-            Err(_) => unreachable!(),
+            Err(refusal) => Err(refusal),
         }
     }
 
-    /// Takes a step back with all that need it, for seat 0, and tells them in the order of the
+    /// Takes a step back with all that need it, for the seat, and tells them in the order of the
     /// history, the chosen one first.
-    pub fn roll(&mut self, id: &StepId) -> Result<Vec<Removed>, RollRefusal>
-        ensures rolled { IfOk result (λ removed. Rolls self.old id.now self.new removed.items) }
-        ensures refused { IfErr result (λ e. (self.new ≡ self.old) × KeepsAll self.old id.now e) }
+    pub fn roll(&mut self, seat: u32, id: &StepId) -> Result<Vec<Removed>, RollRefusal>
+        ensures rolled { IfOk result (λ removed. RollsFor seat self.old.session id.now self.new.session removed.items) }
+        ensures refused { IfErr result (λ e. (self.new.session ≡ self.old.session) × KeepsAll self.old.session id.now e) }
+        ensures room { self.old.prepared ≡ Some (Rolled seat id.now) → IsOk result }
     {
+        let readied = prepared_roll(self.prepared.take(), seat, id);
         match enter_roll(
             self.alloc,
             &mut self.core,
             &mut self.journal,
             self.limit,
-            0,
+            seat,
+            readied,
             id,
         ) {
             Ok(removed) => {
@@ -231,7 +247,7 @@ impl Live {
 
     /// The last store to the cell.
     pub fn last_store(&self, cell: u32) -> Result<Option<StepId>, AllocError>
-        ensures { IfOk result (λ id. id ≡ last_store cell (history self.now)) }
+        ensures { IfOk result (λ id. id ≡ last_store cell (history self.now.session)) }
     {
         let entries = self.core.legal_entries();
         newest_step(entries, place_of_store(entries, cell))
@@ -239,7 +255,7 @@ impl Live {
 
     /// The last print.
     pub fn last_print(&self) -> Result<Option<StepId>, AllocError>
-        ensures { IfOk result (λ id. id ≡ last_print (history self.now)) }
+        ensures { IfOk result (λ id. id ≡ last_print (history self.now.session)) }
     {
         let entries = self.core.legal_entries();
         newest_step(entries, place_of_print(entries))

@@ -4,14 +4,14 @@ ghost use Rattle.std.specs.Prelude.{◌≡◌, IfOk, IfSome, IsTrue, is_some};
 ghost use Rattle.tb_model.specs.Hindrances.{can_step};
 ghost use Rattle.tb_core.specs.Seen.{history};
 ghost use Rattle.tb_live.specs.Soundness.{Fits};
-ghost use Rattle.tb_live.specs.Plans.{IsPlanOf, IsReady, IsAsked, IsFound, IsClaimOn};
+ghost use Rattle.tb_live.specs.Plans.{IsPlanOf, IsReady, IsAsked, IsFound, IsClaimOn, IsRefusalOf, IsTold};
 
 use crate::asked::Asked;
 use crate::claim::Claim;
 use crate::claims::Claims;
 use crate::planning::{plan_of, work_of};
 use std::alloc::{AllocError, Global};
-use tb_core::Core;
+use tb_core::{Core, StepRefusal};
 use tb_model::TaskName;
 use tb_read::{Plan, Program};
 
@@ -34,6 +34,38 @@ fn clear_plan(
         Ok(Some(plan))
     } else {
         Ok(None)
+    }
+}
+
+/// Why the task's next step would be refused now, a full journal aside.
+pub fn refusal_of(
+    alloc: Global,
+    program: &Program,
+    core: &Core,
+    task: &TaskName,
+) -> Result<Option<StepRefusal>, AllocError>
+    requires { Fits program.now core.now.run }
+    ensures { IfOk result (IsRefusalOf program.now core.now.run task.now) }
+{
+    let plan = match plan_of(alloc, program, core, task) {
+        Ok(plan) => plan,
+        Err(StepRefusal::Memory) => return Err(AllocError),
+        Err(refusal) => return Ok(Some(refusal)),
+    };
+    match core.refusal(&plan) {
+        Some(refusal) => told(refusal),
+        None => Ok(None),
+    }
+}
+
+/// What a refusal says of the task: a full history is none of its matters.
+fn told(refusal: StepRefusal) -> Result<Option<StepRefusal>, AllocError>
+    ensures { IfOk result (IsTold refusal) }
+{
+    match refusal {
+        StepRefusal::Memory => Err(AllocError),
+        StepRefusal::Full => Ok(None),
+        refusal => Ok(Some(refusal)),
     }
 }
 

@@ -1,45 +1,96 @@
 //! A rollback, with its entry in the journal.
 
+ghost use Rattle.std.specs.Prelude.{◌≡◌, ◌<◌, ◌-◌, ◌++◌, ◌∷◌, [], IfOk, IfErr, IsOk, IsSome, IfSome, OnOk, OnErr, vec_len, vec_capacity};
+ghost use Rattle.tb_model.specs.declared.entry.Entry.TheVariants.{Rolled};
 ghost use Rattle.tb_live.specs.Rollbacks.{EntersRollback, RefusesRollback};
-ghost use Rattle.std.specs.Prelude.{◌≡◌, IfOk, IfErr};
+ghost use Rattle.tb_live.specs.Preparing.{IsRollReadied};
 
-use std::alloc::Global;
+use std::alloc::{AllocError, Global};
 use tb_core::{Core, Removed, place_of};
 use tb_model::{Entry, StepId};
-use tb_roll::{RollRefusal, finish, ready};
+use tb_roll::{Ready, RollRefusal, finish, ready};
 
-/// Takes a step back with all that need it, and enters it for the seat.
-pub fn enter_roll(
+/// Finds all that goes with a step, and makes all room for the rollback and for its entry.
+pub fn ready_roll(
     alloc: Global,
-    core: &mut Core,
+    core: &Core,
     journal: &mut Vec<Entry>,
     limit: u32,
-    seat: u32,
-    id: &StepId,
-) -> Result<Vec<Removed>, RollRefusal>
-    ensures rolled { IfOk result (λ removed. EntersRollback limit seat core.old.run id.now
-        core.new.run journal.old.items journal.new.items removed.items) }
-    ensures refused { IfErr result (λ e. (core.new.run ≡ core.old.run)
-        × (journal.new.items ≡ journal.old.items)
-        × RefusesRollback limit core.old.run id.now journal.old.items e) }
+    step: &StepId,
+) -> Result<(StepId, Ready), RollRefusal>
+    ensures entries { journal.new.items ≡ journal.old.items }
+    ensures step { IfOk result (λ r. r.0 ≡ step.now) }
+    ensures readied { IfOk result (λ r. IsRollReadied limit core.now step.now journal.old.items
+        (vec_capacity journal.new - vec_len journal.new) r.1) }
+    ensures refused { IfErr result (RefusesRollback limit core.now.run step.now journal.old.items) }
 {
     if limit as usize <= journal.as_slice().len() {
-        return Err(match place_of(core.legal_entries(), id) {
+        return Err(match place_of(core.legal_entries(), step) {
             Some(_) => RollRefusal::Full,
             None => RollRefusal::NoSuchStep,
         });
     }
-    let ready = match ready(alloc, core, id) {
+    let ready = match ready(alloc, core, step) {
         Ok(ready) => ready,
         Err(refusal) => return Err(refusal),
     };
     if journal.reserve(1).is_err() {
         return Err(RollRefusal::Memory);
     }
-    let entry = match id.clone() {
-        Ok(id) => Entry::Rolled { seat, id },
-        Err(_) => return Err(RollRefusal::Memory),
+    match step.clone() {
+        Ok(id) => Ok((id, ready)),
+        Err(_) => Err(RollRefusal::Memory),
+    }
+}
+
+/// Takes a step back with all that need it, and enters it for the seat: by what is readied, where
+/// something is, and then without memory.
+pub fn enter_roll(
+    alloc: Global,
+    core: &mut Core,
+    journal: &mut Vec<Entry>,
+    limit: u32,
+    seat: u32,
+    readied: Option<(StepId, Ready)>,
+    step: &StepId,
+) -> Result<Vec<Removed>, RollRefusal>
+    requires { IfSome readied (λ r. (r.0 ≡ step.now) × IsRollReadied limit core.old step.now
+        journal.old.items (vec_capacity journal.old - vec_len journal.old) r.1) }
+    ensures rolled { IfOk result (λ removed. EntersRollback limit seat core.old.run step.now
+        core.new.run journal.old.items journal.new.items removed.items) }
+    ensures refused { IfErr result (λ e. (core.new.run ≡ core.old.run)
+        × (journal.new.items ≡ journal.old.items)
+        × RefusesRollback limit core.old.run step.now journal.old.items e) }
+    ensures room { IsSome readied → IsOk result }
+{
+    let (id, ready) = match readied {
+        Some(readied) => readied,
+        None => match ready_roll(alloc, core, journal, limit, step) {
+            Ok(readied) => readied,
+            Err(refusal) => return Err(refusal),
+        },
     };
-    journal.push_reserved(entry);
+    journal.push_reserved(Entry::Rolled { seat, id });
     Ok(finish(core, ready))
+}
+
+/// The name of a step for its entry, for which the journal has room: what is readied, where
+/// something is, and then without memory.
+pub fn name_of_roll(
+    journal: &mut Vec<Entry>,
+    readied: Option<(StepId, Ready)>,
+    step: &StepId,
+) -> Result<StepId, AllocError>
+    requires { IfSome readied (λ r. (r.0 ≡ step.now)
+        × (0 < vec_capacity journal.old - vec_len journal.old)) }
+    ensures entries { journal.new.items ≡ journal.old.items }
+    ensures name { IfOk result (λ id. id ≡ step.now) }
+    ensures spare { OnOk result (0 < vec_capacity journal.new - vec_len journal.new) }
+    ensures room { IsSome readied → IsOk result }
+{
+    if let Some((id, _)) = readied {
+        return Ok(id);
+    }
+    journal.reserve(1)?;
+    Ok(step.clone()?)
 }

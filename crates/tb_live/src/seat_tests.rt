@@ -8,7 +8,7 @@ use std::process::Abort;
 use tb_model::{StepId, TaskName};
 use tb_read::read;
 
-fn opened(alloc: Global, text: &[u8]) -> Option<Live> {
+pub fn opened(alloc: Global, text: &[u8]) -> Option<Live> {
     let program = match read(alloc, text) {
         Ok(program) => program,
         Err(_) => return None,
@@ -19,7 +19,7 @@ fn opened(alloc: Global, text: &[u8]) -> Option<Live> {
     }
 }
 
-fn task(rt: &(impl Abort + AllocGlobal), text: &str) -> TaskName {
+pub fn task(rt: &(impl Abort + AllocGlobal), text: &str) -> TaskName {
     TaskName::parse(rt.alloc(), text.as_bytes()).expect(rt, text)
 }
 
@@ -127,7 +127,7 @@ fn a_breakpoint_pauses(rt: HostRuntime) {
     pause_twice(&rt, &mut live);
 }
 
-const SPAWNED: &[u8] = b"cells 2\nbody main 0\n  task u 0\n  task u 1\nend\nbody u 1\n\
+pub const SPAWNED: &[u8] = b"cells 2\nbody main 0\n  task u 0\n  task u 1\nend\nbody u 1\n\
     let r1 r0 + 1\n  store r0 r1\n  load r2 r0\nend\n";
 
 /// The line at which the seat gets work, 101 for Later, 102 for Done and 103 for Stopped.
@@ -143,7 +143,7 @@ fn claimed(rt: &(impl Abort + AllocGlobal), live: &mut Live, seat: u32) -> u32 {
 }
 
 /// The line at which the task stands, or 100 more than the number of the refusal.
-fn asked(rt: &(impl Abort + AllocGlobal), live: &mut Live, seat: u32, name: &str) -> u32 {
+pub fn asked(rt: &(impl Abort + AllocGlobal), live: &mut Live, seat: u32, name: &str) -> u32 {
     assert!(rt; seat < live.seats());
     match live.claim_task(seat, &task(rt, name)) {
         Ok(work) => work.config.at,
@@ -156,16 +156,16 @@ fn has_claim(live: &Live, seat: u32) -> bool {
 }
 
 /// Steps of the tasks for seat 0, one after another.
-fn step_all(rt: &(impl Abort + AllocGlobal), live: &mut Live, names: &[&str]) {
+pub fn step_all(rt: &(impl Abort + AllocGlobal), live: &mut Live, names: &[&str]) {
     for name in names {
         assert!(rt; live.step(&task(rt, *name)).is_ok(), "{name}");
     }
 }
 
 /// How many steps go with this one, and 100 where the rollback is refused.
-fn gone(rt: &(impl Abort + AllocGlobal), live: &mut Live, id: &str) -> usize {
+pub fn gone(rt: &(impl Abort + AllocGlobal), live: &mut Live, id: &str) -> usize {
     let id = StepId::parse(rt.alloc(), id.as_bytes()).expect(rt, "a step");
-    match live.roll(&id) {
+    match live.roll(0, &id) {
         Ok(removed) => removed.len(),
         Err(_) => 100,
     }

@@ -1,16 +1,77 @@
 //! A planned step, with its entry in the journal.
 
-ghost use Rattle.std.specs.Prelude.{◌≡◌, ◌<◌, length};
-ghost use Rattle.tb_core.specs.Outcomes.{Fits, IsCurrent};
-ghost use Rattle.tb_live.specs.Plans.{Enters};
+ghost use Rattle.std.specs.Prelude.{◌≡◌, ◌<◌, ◌-◌, IfOk, IfErr, Some, length, vec_len, vec_capacity};
+ghost use Rattle.tb_core.specs.Outcomes.{Fits, IsOpen, event_of};
+ghost use Rattle.tb_live.specs.Controls.{behind_step};
+ghost use Rattle.tb_live.specs.Plans.{Enters, IsEntered, IsKeptFrom, has_no_place};
+ghost use Rattle.tb_live.specs.Preparing.{IsReadied};
 
 use crate::control::Control;
 use tb_core::{Core, StepRefusal};
-use tb_model::{Entry, StepId};
+use tb_model::{Entry, Event, StepId};
 use tb_read::Plan;
 
-/// Takes the step of a plan, and enters it for the seat. The journal has more entries than the
-/// history has events.
+/// Makes all room for the step of a plan and for its entry, and tells the event. The journal has more
+/// entries than the history has events.
+pub fn ready_step(
+    core: &mut Core,
+    journal: &mut Vec<Entry>,
+    limit: u32,
+    plan: &Plan,
+) -> Result<Event, StepRefusal>
+    requires fits { Fits core.old.run plan.now }
+    requires limit { core.old.run.limit ≡ limit }
+    requires shorter { length core.old.run.steps < length journal.old.items }
+    ensures run { core.new.run ≡ core.old.run }
+    ensures entries { journal.new.items ≡ journal.old.items }
+    ensures readied { IfOk result (IsReadied limit core.new plan.now journal.old.items
+        (vec_capacity journal.new - vec_len journal.new)) }
+    ensures refused { IfErr result (IsKeptFrom core.old.run plan.now
+        (has_no_place limit journal.old.items)) }
+{
+    if limit as usize <= journal.as_slice().len() {
+        return Err(core.refusal(plan).unwrap_or(StepRefusal::Full));
+    }
+    let event = match core.reserve_step(plan) {
+        Ok(event) => event,
+        Err(refusal) => return Err(refusal),
+    };
+    if journal.reserve(1).is_err() {
+        return Err(StepRefusal::Memory);
+    }
+    Ok(event)
+}
+
+/// Takes a step for which all room is made, and enters it for the seat. It takes no memory.
+pub fn enter_readied(
+    core: &mut Core,
+    journal: &mut Vec<Entry>,
+    control: &mut Control,
+    seat: u32,
+    plan: Plan,
+    event: Event,
+) -> StepId
+    requires fits { Fits core.old.run plan }
+    requires open { IsOpen core.old.run plan }
+    requires event { event ≡ event_of core.old.run plan }
+    requires reserved { core.old.reserved ≡ Some event }
+    requires spare { 0 < vec_capacity journal.old - vec_len journal.old }
+    ensures entered { IsEntered seat core.old.run plan core.new.run
+        journal.old.items journal.new.items result }
+    ensures control { control.new ≡ behind_step plan.config.at event control.old }
+{
+    let line = plan.config.at;
+    match core.step(plan) {
+        Ok(id) => {
+            control.step_taken(line, &event);
+            journal.push_reserved(Entry::Stepped { seat, event });
+            id
+        }
+        Err(_) => unreachable!(),
+    }
+}
+
+/// Takes the step of a plan, and enters it for the seat.
 pub fn enter_step(
     core: &mut Core,
     journal: &mut Vec<Entry>,
@@ -20,28 +81,12 @@ pub fn enter_step(
     plan: Plan,
 ) -> Result<StepId, StepRefusal>
     requires fits { Fits core.old.run plan }
-    requires current { IsCurrent core.old.run plan }
     requires limit { core.old.run.limit ≡ limit }
     requires shorter { length core.old.run.steps < length journal.old.items }
     ensures { Enters limit seat core.old.run plan core.new.run journal.old.items journal.new.items control.old control.new result }
 {
-    if limit as usize <= journal.as_slice().len() {
-        return Err(core.refusal(&plan).unwrap_or(StepRefusal::Full));
-    }
-    let event = match core.reserve_step(&plan) {
-        Ok(event) => event,
-        Err(refusal) => return Err(refusal),
-    };
-    if journal.reserve(1).is_err() {
-        return Err(StepRefusal::Memory);
-    }
-    let line = plan.config.at;
-    match core.step(plan) {
-        Ok(id) => {
-            control.step_taken(line, &event);
-            journal.push_reserved(Entry::Stepped { seat, event });
-            Ok(id)
-        }
-        Err(_) => unreachable!(),
+    match ready_step(core, journal, limit, &plan) {
+        Ok(event) => Ok(enter_readied(core, journal, control, seat, plan, event)),
+        Err(refusal) => Err(refusal),
     }
 }

@@ -35,7 +35,7 @@ fn number_kept(live: &mut Live, alloc: Global, k: u32) -> u8 {
         task: TaskName::root(alloc),
         k,
     };
-    match live.undo(&id) {
+    match live.undo(0, &id) {
         Ok(_) => 100,
         Err(UndoRefusal::Needed { by }) => { if by.k > k { 2 } else { 99 } }
         Err(refusal) => refusal.number(),
@@ -204,7 +204,7 @@ fn told(alloc: Global, id: Option<StepId>) -> Option<String> {
 fn rolled(alloc: Global, live: &mut Live, id: &str) -> Option<String> {
     let id = StepId::parse(alloc, id.as_bytes()).ok()?;
     let mut text = String::new(alloc);
-    match live.roll(&id) {
+    match live.roll(0, &id) {
         Ok(removed) => {
             for step in &removed {
                 step.id.print(&mut text).ok()?;
@@ -323,12 +323,14 @@ fn roll_again(rt: &(impl Abort + AllocGlobal), live: &mut Live) {
         task: TaskName::root(rt.alloc()),
         k: 1,
     };
-    let count = match live.roll(&first) {
+    let count = match live.roll(0, &first) {
         Ok(removed) => removed.len(),
         Err(refusal) => {
             assert_eq!(rt; refusal.number(), 0);
             assert_eq!(rt; live.output().len(), 1);
-            live.roll(&first).expect(rt, "memory is there again").len()
+            live.roll(0, &first)
+                .expect(rt, "memory is there again")
+                .len()
         }
     };
     assert_eq!(rt; count, 4);

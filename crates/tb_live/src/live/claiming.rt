@@ -23,7 +23,7 @@ use tb_read::Program;
 impl Live {
     /// How many seats there are. They count from 0.
     pub fn seats(&self) -> u32
-        ensures { result ≡ length self.now.control.claims }
+        ensures { result ≡ length self.now.session.control.claims }
     {
         self.control.claims.seats()
     }
@@ -31,8 +31,8 @@ impl Live {
     /// Gives the seat a claim on the task in place of its former one, whatever the mode and the
     /// journal.
     pub fn claim_task(&mut self, seat: u32, task: &TaskName) -> Result<Work, ClaimRefusal>
-        requires { seat < length self.old.control.claims }
-        ensures { ClaimsTask self.old seat task.now self.new result }
+        requires { seat < length self.old.session.control.claims }
+        ensures { ClaimsTask self.old.session seat task.now self.new.session result }
     {
         if let Some(refusal) = barred(&self.core, &self.control.claims, seat, task) {
             return Err(refusal);
@@ -49,9 +49,9 @@ impl Live {
     /// Gives up the seat's former claim, and gives it one on the least task that can step and that no
     /// other seat claims.
     pub fn claim(&mut self, seat: u32) -> Result<Claim, AllocError>
-        requires { seat < length self.old.control.claims }
-        ensures ok { IfOk result (ClaimsWork self.old seat self.new) }
-        ensures err { OnErr result (self.new ≡ self.old) }
+        requires { seat < length self.old.session.control.claims }
+        ensures ok { IfOk result (ClaimsWork self.old.session seat self.new.session) }
+        ensures err { OnErr result (self.new.session ≡ self.old.session) }
     {
         if self.control.mode.is_paused() || self.is_full() {
             self.control.claims.let_go(seat);

@@ -1,20 +1,35 @@
 //! What a live run is made of, for who reads it.
 
-ghost use Rattle.std.specs.Prelude.{◌≡◌};
+ghost use Rattle.std.specs.Prelude.{◌≡◌, reverse};
 ghost use Rattle.tb_core.specs.Seen.{history as events};
 ghost use Rattle.tb_live.specs.Session.{history};
 ghost use Rattle.tb_live.specs.Soundness.{Fits};
 
 use crate::live::Live;
 use tb_core::Core;
+use tb_model::Entry;
 
 impl Live {
     /// The core: its history is what the journal leaves.
     pub fn core(&self) -> &Core
-        ensures history { events result.now.run ≡ history self.now }
-        ensures fits { Fits self.now.program result.now.run }
-        ensures limit { result.now.run.limit ≡ self.now.limit }
+        ensures history { events result.now.run ≡ history self.now.session }
+        ensures fits { Fits self.now.session.program result.now.run }
+        ensures limit { result.now.run.limit ≡ self.now.session.limit }
     {
         &self.core
+    }
+
+    /// What was done, from the opening on.
+    pub fn journal(&self) -> &[Entry]
+        ensures { reverse result.now ≡ self.now.session.journal }
+    {
+        self.journal.as_slice()
+    }
+
+    /// How many entries the journal may have.
+    pub fn limit(&self) -> u32
+        ensures { result ≡ self.now.session.limit }
+    {
+        self.limit
     }
 }

@@ -2,6 +2,7 @@
 
 ghost use Rattle.std.specs.Prelude.{◌≡◌};
 ghost use Rattle.tb_live.specs.declared.mode.Mode.TheVariants.{Resumed};
+ghost use Rattle.tb_live.specs.Breaks.{AreNumbered};
 ghost use Rattle.tb_live.specs.Modes as modes;
 ghost use Rattle.tb_live.specs.Pauses.{with_mode, misplaced, AddsBreak, ClearsBreak};
 
@@ -15,42 +16,43 @@ use tb_read::Program;
 impl Live {
     /// Whether steps are taken, and what paused the run where they aren't.
     pub fn mode(&self) -> Mode
-        ensures { result ≡ self.now.control.mode }
+        ensures { result ≡ self.now.session.control.mode }
     {
         self.control.mode
     }
 
     /// Pauses the run. What is paused stays as it is.
     pub fn pause(&mut self)
-        ensures { self.new ≡ with_mode self.old (modes.paused self.old.control.mode) }
+        ensures { self.new.session ≡ with_mode self.old.session (modes.paused self.old.session.control.mode) }
     {
         self.control.mode = self.control.mode.paused();
     }
 
     /// Lets the run go on.
     pub fn resume(&mut self)
-        ensures { self.new ≡ with_mode self.old Resumed }
+        ensures { self.new.session ≡ with_mode self.old.session Resumed }
     {
         self.control.mode = Mode::Resumed;
     }
 
     /// Lets the run go on for so many steps. None pauses it at once.
     pub fn resume_for(&mut self, steps: u32)
-        ensures { self.new ≡ with_mode self.old (modes.counting steps) }
+        ensures { self.new.session ≡ with_mode self.old.session (modes.counting steps) }
     {
         self.control.mode = Mode::counting(steps);
     }
 
     /// The breakpoints that stand, in the order in which they were made.
     pub fn breakpoints(&self) -> &[Breakpoint]
-        ensures { result.now ≡ self.now.control.breakpoints.standing }
+        ensures standing { result.now ≡ self.now.session.control.breakpoints.standing }
+        ensures numbered { AreNumbered self.now.session.control.breakpoints }
     {
         self.control.breakpoints.as_slice()
     }
 
     /// Makes a breakpoint, and answers its number. A body is named by its line.
     pub fn add_break(&mut self, at: Break) -> Result<u32, BreakRefusal>
-        ensures { AddsBreak self.old at self.new result }
+        ensures { AddsBreak self.old.session at self.new.session result }
     {
         if let Some(refusal) = misplaced(&self.program, &at) {
             return Err(refusal);
@@ -60,7 +62,7 @@ impl Live {
 
     /// Takes a breakpoint away. Takes no memory.
     pub fn clear_break(&mut self, number: u32) -> Result<(), BreakRefusal>
-        ensures { ClearsBreak self.old number self.new result }
+        ensures { ClearsBreak self.old.session number self.new.session result }
     {
         if !self.control.breakpoints.stands(number) {
             return Err(BreakRefusal::NoSuchBreak);

@@ -1,19 +1,21 @@
 //! A list of moves, one after another.
 
 ghost use Rattle.std.specs.Prelude.{◌≡◌, IfOk, OnErr};
-ghost use Rattle.tb_live.specs.Runs.{Answers, Makes, Runs, unclaimed};
+ghost use Rattle.tb_live.specs.Runs.{Answers, Makes, Runs, StepsAt, unclaimed};
 
 use super::Live;
 use crate::answer::Answer;
+use crate::commit_refusal::CommitRefusal;
 use crate::moves::Move;
 use std::alloc::AllocError;
+use tb_model::TaskName;
 
 impl Live {
     /// Makes the moves for seat 0, in order. All claims are withdrawn, and the run is resumed in front
     /// of each move. Room for the answers is taken first; what is refused later is an answer.
     pub fn run(&mut self, moves: &[Move]) -> Result<Vec<Answer>, AllocError>
-        ensures ok { IfOk result (λ answers. Runs moves.now (unclaimed self.old) answers.items self.new) }
-        ensures err { OnErr result (self.new ≡ self.old) }
+        ensures ok { IfOk result (λ answers. Runs moves.now (unclaimed self.old.session) answers.items self.new.session) }
+        ensures err { OnErr result (self.new.session ≡ self.old.session) }
     {
         let mut answers = Vec::with_capacity(self.alloc, moves.len())?;
         self.withdraw_all();
@@ -25,26 +27,37 @@ impl Live {
 
     /// Withdraws all claims.
     fn withdraw_all(&mut self)
-        ensures { self.new ≡ unclaimed self.old }
+        ensures { self.new.session ≡ unclaimed self.old.session }
     {
         self.control.claims.withdraw_all();
     }
 
     /// Makes a move, behind a resume.
     fn answer(&mut self, one: &Move) -> Answer
-        ensures { Answers self.old one.now self.new result }
+        ensures { Answers self.old.session one.now self.new.session result }
     {
         self.resume();
         self.make(one)
     }
 
     fn make(&mut self, one: &Move) -> Answer
-        ensures { Makes self.old one.now self.new result }
+        ensures { Makes self.old.session one.now self.new.session result }
     {
         match one {
-            Move::Step(task) => Answer::Step(self.step(task)),
-            Move::Undo(id) => Answer::Undo(self.undo(id)),
-            Move::Roll(id) => Answer::Roll(self.roll(id)),
+            Move::Step(task) => Answer::Step(self.step_for_move(task)),
+            Move::Undo(id) => Answer::Undo(self.undo(0, id)),
+            Move::Roll(id) => Answer::Roll(self.roll(0, id)),
+        }
+    }
+
+    /// Takes the task's next step, and answers the place of its entry.
+    fn step_for_move(&mut self, task: &TaskName) -> Result<u32, CommitRefusal>
+        ensures { StepsAt self.old.session task.now self.new.session result }
+    {
+        let place = self.journal.as_slice().len() as u32;
+        match self.step(task) {
+            Ok(_) => Ok(place),
+            Err(refusal) => Err(CommitRefusal::Step { refusal }),
         }
     }
 }

@@ -1,16 +1,20 @@
+use Rattle.std.proofs.Common.{ap, sym, subst, ◌-◌}
+use Rattle.std.specs.Prelude.{vec_len, vec_capacity}
+use Rattle.tb_live.specs.Preparing.{HasRoom}
+use Rattle.tb_live.specs.Session.{Held}
 use Rattle.tb_live.proofs.RollLemmas.{live_rolls}
 use Rattle.tb_live.proofs.live.Live.roll.Goals as goal
 
 pub invariant_of-self : goal.invariant_of-self
 invariant_of-self c =
     let i = c.self.inside in
-    let l = live_rolls 0 i.program i.limit i.journal.items c.enter_roll.new.journal.items i.control c.steps_removed.new.self i.core.run c.enter_roll.new.core.run c.args.self.now c.args.id.now c.in-Ok.removed.items c.deref.result.now
-    c.self.view_is c.self.invariant c.in-Ok.ensures.rolled c.deref.ensures.value c.steps_removed.ensures
+    let l = live_rolls c.args.seat i.program i.limit i.journal.items c.enter_roll.new.journal.items i.control c.steps_removed.new.self i.core.run c.enter_roll.new.core.run c.args.self.now.session c.args.id.now c.in-Ok.removed.items c.deref.result.now
+    (ap (λ (h : Held). h.session) c.self.view_is) (c.self.invariant.0, c.self.invariant.1) c.in-Ok.ensures.rolled c.deref.ensures.value c.steps_removed.ensures
     in
-    (l.keeps.sound, l.keeps.lawful)
+    (l.keeps.sound, l.keeps.lawful, subst (HasRoom i.limit i.program c.enter_roll.new.core c.enter_roll.new.journal.items (vec_capacity c.enter_roll.new.journal - vec_len c.enter_roll.new.journal)) (sym c.take.ensures.after) tt)
 
 pub returns-in-Ok-clause-rolled : goal.returns-in-Ok-clause-rolled
 returns-in-Ok-clause-rolled c =
     let i = c.self.inside in
-    (live_rolls 0 i.program i.limit i.journal.items c.enter_roll.new.journal.items i.control c.steps_removed.new.self i.core.run c.enter_roll.new.core.run c.args.self.now c.args.id.now c.in-Ok.removed.items c.deref.result.now
-    c.self.view_is c.self.invariant c.in-Ok.ensures.rolled c.deref.ensures.value c.steps_removed.ensures).rolls
+    (live_rolls c.args.seat i.program i.limit i.journal.items c.enter_roll.new.journal.items i.control c.steps_removed.new.self i.core.run c.enter_roll.new.core.run c.args.self.now.session c.args.id.now c.in-Ok.removed.items c.deref.result.now
+    (ap (λ (h : Held). h.session) c.self.view_is) (c.self.invariant.0, c.self.invariant.1) c.in-Ok.ensures.rolled c.deref.ensures.value c.steps_removed.ensures).rolls

@@ -6,7 +6,7 @@ use Rattle.tb_live.proofs.live.Live.run.Given as goal
 
 abbrev pub invariant-loop-one : goal.invariant-loop-one
 invariant-loop-one l = record {
-  so_far : SoFar l.moves (unclaimed l.fn.self) l.one-index l.self l.answers.items;
+  so_far : SoFar l.moves (unclaimed l.fn.self.session) l.one-index l.self.session l.answers.items;
   count : vec_len l.answers ≡ l.one-index;
   room : length l.moves ≤ vec_capacity l.answers;
 }

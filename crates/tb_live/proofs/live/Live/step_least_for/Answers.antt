@@ -1,10 +1,13 @@
-use Rattle.std.proofs.Common.{subst, ap, sym, ◌∙◌, Option}
+use Rattle.std.proofs.Common.{subst, ap, sym, ◌∙◌, Option, ◌-◌}
 use Rattle.tb_read.specs.declared.planned.Plan.{Plan}
 use Rattle.tb_live.specs.Plans.{IsReady}
 use Rattle.tb_live.proofs.StepLemmas.{longer, for_least, live_least}
 use Rattle.tb_live.proofs.RunLemmas.{shown}
 use Rattle.tb_live.specs.Moves.{LeastStepsFor}
 use Rattle.tb_live.proofs.live.Live.step_least_for.Goals as goal
+use Rattle.std.specs.Prelude.{vec_len, vec_capacity}
+use Rattle.tb_live.specs.Preparing.{HasRoom}
+use Rattle.tb_live.specs.Session.{Held}
 use Rattle.tb_live.proofs.live.Live.step_least_for.Goals.{in-Ok, in-Err-enter_step}
 
 pub enter_step-requires-clause-shorter : goal.enter_step-requires-clause-shorter
@@ -16,19 +19,19 @@ pub invariant_of-self : goal.invariant_of-self
 invariant_of-self c =
     let i = c.self.inside in
     let ready = subst (λ (o : Option Plan). IsReady i.program i.core.run o) c.in-Ok-Some.field-0-is c.in-Ok-Some.ensures in
-    let l = live_least c.args.seat i.program i.limit i.journal.items i.control i.core.run c.args.self.now c.self.view_is c.self.invariant c.in-Ok-Some.plan ready
+    let l = live_least c.args.seat i.program i.limit i.journal.items i.control i.core.run c.args.self.now.session (ap (λ (h : Held). h.session) c.self.view_is) (c.self.invariant.0, c.self.invariant.1) c.in-Ok-Some.plan ready
     c.enter_step.new.journal.items c.enter_step.new.control c.enter_step.new.core.run c.enter_step.result c.enter_step.ensures
     in
-    (l.keeps.sound, l.keeps.lawful)
+    (l.keeps.sound, l.keeps.lawful, subst (HasRoom i.limit i.program c.enter_step.new.core c.enter_step.new.journal.items (vec_capacity c.enter_step.new.journal - vec_len c.enter_step.new.journal)) (sym c.forget.ensures) tt)
 
 pub returns : goal.returns
 returns c =
     let i = c.self.inside in
     let ready = subst (λ (o : Option Plan). IsReady i.program i.core.run o) c.in-Ok-Some.field-0-is c.in-Ok-Some.ensures in
-    let answer = (live_least c.args.seat i.program i.limit i.journal.items i.control i.core.run c.args.self.now c.self.view_is c.self.invariant c.in-Ok-Some.plan ready
+    let answer = (live_least c.args.seat i.program i.limit i.journal.items i.control i.core.run c.args.self.now.session (ap (λ (h : Held). h.session) c.self.view_is) (c.self.invariant.0, c.self.invariant.1) c.in-Ok-Some.plan ready
     c.enter_step.new.journal.items c.enter_step.new.control c.enter_step.new.core.run c.enter_step.result c.enter_step.ensures).answer
     in
     elim c.match-enter_step.branch [
-      | in-Ok w ↦ subst (LeastStepsFor c.args.seat c.args.self.now (shown i.program i.limit c.enter_step.new.journal.items c.enter_step.new.control)) (ap for_least w.in-Ok.is ∙ sym w.result-is) answer
-      | in-Err-enter_step w ↦ subst (LeastStepsFor c.args.seat c.args.self.now (shown i.program i.limit c.enter_step.new.journal.items c.enter_step.new.control)) (ap for_least w.in-Err-enter_step.is ∙ sym w.result-is) answer
+      | in-Ok w ↦ subst (LeastStepsFor c.args.seat c.args.self.now.session (shown i.program i.limit c.enter_step.new.journal.items c.enter_step.new.control)) (ap for_least w.in-Ok.is ∙ sym w.result-is) answer
+      | in-Err-enter_step w ↦ subst (LeastStepsFor c.args.seat c.args.self.now.session (shown i.program i.limit c.enter_step.new.journal.items c.enter_step.new.control)) (ap for_least w.in-Err-enter_step.is ∙ sym w.result-is) answer
     ]

@@ -1,0 +1,359 @@
+-- A plan that was made at some time, and is taken now.
+use Rattle.std.proofs.Common.{◌≡◌, ◌≢◌, ◌<◌, ◌≤◌, ◌↔◌, ℕ, List, Bool, true, false, nat_le, length, reverse, refl, sym, ap, ap₂, ◌∙◌, subst, Option, Some, None, option_map, arith}
+use Rattle.std.specs.Prelude.{Result, Ok, Err, IfSome, IfNone, IsSome, IsOk, IfOk}
+use Rattle.std.specs.List.{list_any}
+use Rattle.std.proofs.lemmas.Bool.{false≢true, both_ways}
+use Rattle.std.proofs.lemmas.Bool.Decides.{nat_tests}
+use Rattle.std.proofs.lemmas.List.{length-reverse}
+use Rattle.tb_model.specs.declared.entry.Entry.{Entry}
+use Rattle.tb_model.specs.declared.entry.Entry.TheVariants.{Stepped, Rolled}
+use Rattle.tb_model.specs.declared.event.Event.{Event}
+use Rattle.tb_model.specs.declared.step_id.StepId.{StepId}
+use Rattle.tb_model.specs.Names.{Name}
+use Rattle.tb_model.specs.Facts.{is_spawned, ends}
+use Rattle.tb_model.specs.Journal.{hist}
+use Rattle.tb_model.specs.Program.{Program, instr_at}
+use Rattle.tb_model.specs.Hindrances.{Refusal, Hindrance, By, refusal_of, next_event}
+use Rattle.tb_model.specs.Hindrances.{Undeferred as TheUndeferred, Waiting as IsWaiting, Excluded as IsExcluded, Children as TheChildren, Group as TheGroup}
+use Rattle.tb_read.specs.Plans.{instruction}
+use Rattle.tb_read.specs.declared.config.Config.{Config}
+use Rattle.tb_read.specs.declared.instr.Instr.{Instr}
+use Rattle.tb_read.specs.declared.planned.Plan.{Plan}
+use Rattle.tb_core.specs.declared.step_refusal.StepRefusal.{StepRefusal}
+use Rattle.tb_core.specs.declared.step_refusal.StepRefusal.TheVariants.{Memory, NoSuchTask, Ended, Waiting, Excluded, Children, Group, Full, Stale, Undeferred}
+use Rattle.tb_core.specs.Seen.{Seen, Held as HeldCore}
+use Rattle.tb_core.specs.Seen as core
+use Rattle.tb_core.specs.Situation.{config_of}
+use Rattle.tb_core.specs.Outcomes.{event_of, has_ended, hindrance_of, IsOpen, IsCurrent, IsKept}
+use Rattle.tb_core.specs.Outcomes as outcomes
+use Rattle.tb_roll.specs.declared.readied.Ready.{Ready}
+use Rattle.tb_live.specs.declared.control.Control.{Control}
+use Rattle.tb_live.specs.declared.commit_refusal.CommitRefusal.{CommitRefusal}
+use Rattle.tb_live.specs.declared.commit_refusal.CommitRefusal.TheVariants.{Step as NotTaken}
+use Rattle.tb_live.specs.declared.prepared.Prepared.{Prepared}
+use Rattle.tb_live.specs.declared.prepared.Prepared.TheVariants.{Step, Roll}
+use Rattle.tb_live.specs.Claims.{claim_of}
+use Rattle.tb_live.specs.Modes.{is_paused}
+use Rattle.tb_live.specs.Session.{Session, Held, history, is_full}
+use Rattle.tb_live.specs.Moves.{MayStep, Refuses, refusal_for, coming}
+use Rattle.tb_live.specs.Moves as moves
+use Rattle.tb_live.specs.Commits.{IsClaimed, IsOffered, IsUpToDate, MayCommit, RefusesPlan, RefusesCommit, Commits, IsPrepared, entry_to_come}
+use Rattle.tb_live.specs.Plans.{IsPlanOf, IsOfProgram, IsNative, IsForeign, IsKeptFrom, IsRefusalTo, IsRefusalOf, IsTold, HasNone, Enters, has_no_place}
+use Rattle.tb_live.specs.Preparing.{IsReadied, HasStepRoom, HasRoom, entry_of}
+use Rattle.tb_live.specs.Soundness.{Fits, IsSound, IsLawful}
+use Rattle.tb_live.specs.Working.{configuration}
+use Rattle.tb_live.proofs.PlanLemmas.{IsPlan, plan_fits, plan_next, refusal_of_plan}
+use Rattle.tb_live.proofs.RunLemmas.{shown, has_place}
+use Rattle.tb_live.proofs.StepLemmas.{Keeps, entered, refused, stays, no_plan, missing_so, over_so}
+use Rattle.tb_live.proofs.WorkLemmas.{config_so}
+
+-- ---- a plan of the program
+
+module _ (P : Program) (run : Seen) (p : Plan) (f : Fits P run) (native : IsNative P run p) where
+  instr_so : instruction p.instr ≡ instr_at P p.config.at
+  instr_so = native.program.instr ∙ ap (instr_at P) p.at_one_line
+
+  is_plan_where : p.config ≡ config_of run p.config.task → IsPlan P run p
+  is_plan_where here = record { here = here; instr = instr_so }
+
+  fits_where : p.config ≡ config_of run p.config.task → outcomes.Fits run p
+  fits_where here = plan_fits P run p f (is_plan_where here) native.going native.program.cells
+
+  -- it fits the core, be it up to date or not
+  pub native_fits : outcomes.Fits run p
+  native_fits = record {
+    cells = native.program.cells ∙ ap length (sym f.cells);
+    starts = λ here. (fits_where here).starts here;
+    closes = λ here. (fits_where here).closes here;
+  }
+
+  pub native_plan : p.config ≡ config_of run p.config.task → IsPlanOf P run p.config.task p
+  native_plan here = record {
+    of_task = refl;
+    current = record { spawned = native.spawned; going = native.going; here = here };
+    instr = instr_so;
+    fits = native_fits;
+  }
+
+  pub native_next : p.config ≡ config_of run p.config.task → event_of run p ≡ next_event P (core.history run) p.config.task
+  native_next here = plan_next P run p f (is_plan_where here) native.program.cells
+
+-- what is prepared for the task is the plan's event
+pub readied_so : (limit : ℕ) (P : Program) (c : HeldCore) (entries : List Entry) (spare : ℕ) (p : Plan) (v : Event) → Fits P c.run → IsNative P c.run p → v.task ≡ p.config.task
+    → HasStepRoom limit P c entries spare v → IsOpen c.run p → IsReadied limit c p entries spare v
+readied_so limit P c entries spare p v f native same room o = record {
+  is_open = o;
+  event = room.next ∙ ap (next_event P (core.history c.run)) same ∙ sym (native_next P c.run p f native o.current.here);
+  reserved = room.reserved;
+  room = room.room;
+  free = room.free;
+}
+
+-- what is readied for the plan serves as what is prepared
+pub room_so : (limit : ℕ) (P : Program) (c : HeldCore) (entries : List Entry) (spare : ℕ) (p : Plan) (v : Event) → Fits P c.run → IsNative P c.run p → IsReadied limit c p entries spare v → HasStepRoom limit P c entries spare v
+room_so limit P c entries spare p v f native r =
+    let next : v ≡ next_event P (core.history c.run) p.config.task = r.event ∙ native_next P c.run p f native r.is_open.current.here in
+    record {
+      next = next ∙ ap (next_event P (core.history c.run)) (sym (ap (λ (u : Event). u.task) next));
+      reserved = r.reserved;
+      room = r.room;
+      free = r.free;
+    }
+
+-- ---- the same, told of the session
+
+module _ (P : Program) (limit : ℕ) (entries : List Entry) (before : Control) (run : Seen) (s : Session) (shows : shown P limit entries before ≡ s) (sound : IsSound P limit (reverse entries) run) (seat : ℕ) (p : Plan) where
+  abbrev t : Name
+  t = p.config.task
+
+  configuration_so : config_of run t ≡ configuration s.program (history s) t
+  configuration_so =
+      config_so P run t sound.fits ∙ ap (λ H. configuration P H t) sound.leaves
+      ∙ ap (λ (z : Session). configuration z.program (history z) t) shows
+
+  spawned_so : (b : Bool) → is_spawned (core.history run) t ≡ b → is_spawned (history s) t ≡ b
+  spawned_so b h = ap (λ (z : Session). is_spawned (hist z.journal) t) (sym shows) ∙ ap (λ H. is_spawned H t) (sym sound.leaves) ∙ h
+
+  ended_so : (b : Bool) → has_ended run t ≡ b → moves.has_ended s t ≡ b
+  ended_so b h = ap (λ (z : Session). moves.has_ended z t) (sym shows) ∙ ap (λ H. list_any (ends t) H) (sym sound.leaves) ∙ h
+
+  -- and back
+  spawned_back : (b : Bool) → is_spawned (history s) t ≡ b → is_spawned (core.history run) t ≡ b
+  spawned_back b h = ap (λ H. is_spawned H t) sound.leaves ∙ ap (λ (z : Session). is_spawned (hist z.journal) t) shows ∙ h
+
+  ended_back : (b : Bool) → moves.has_ended s t ≡ b → has_ended run t ≡ b
+  ended_back b h = ap (λ H. list_any (ends t) H) sound.leaves ∙ ap (λ (z : Session). moves.has_ended z t) shows ∙ h
+
+  program_so : IsOfProgram P p.instr → IsOfProgram s.program p.instr
+  program_so k = subst (λ (z : Session). IsOfProgram z.program p.instr) shows k
+
+  program_back : IsOfProgram s.program p.instr → IsOfProgram P p.instr
+  program_back k = subst (λ (z : Session). IsOfProgram z.program p.instr) (sym shows) k
+
+  pub offered_native : IsOffered s seat p → IsNative P run p
+  offered_native o = record {
+    spawned = spawned_back true o.spawned;
+    going = ended_back false o.going;
+    program = program_back o.program;
+  }
+
+  -- a claim on a plan of the program
+  pub offered : IsClaimed s seat p → IsNative P run p → IsOffered s seat p
+  offered claimed n = record {
+    claimed = claimed;
+    spawned = spawned_so true n.spawned;
+    going = ended_so false n.going;
+    program = program_so n.program;
+  }
+
+  pub foreign_refused : (e : StepRefusal) → IsForeign P run p e → RefusesPlan s p e
+  foreign_refused NoSuchTask k = no_plan P limit entries before run s shows sound t NoSuchTask k
+  foreign_refused Ended k = no_plan P limit entries before run s shows sound t Ended k
+  foreign_refused (Stale now) k = (spawned_so true k.0, ended_so false k.1, k.2 ∙ configuration_so, (λ u. k.3 (program_back u.program)))
+  foreign_refused Memory k = (spawned_so true k.0, ended_so false k.1)
+  foreign_refused (Waiting u) k = absurd k
+  foreign_refused (Excluded u) k = absurd k
+  foreign_refused (Children u) k = absurd k
+  foreign_refused (Group u) k = absurd k
+  foreign_refused (Undeferred u) k = absurd k
+  foreign_refused Full k = absurd k
+
+  -- a plan that isn't native may not be committed
+  pub foreign_blocks : (e : StepRefusal) → IsForeign P run p e → MayCommit s seat p → ⊥
+  foreign_blocks NoSuchTask k m = cc (sym (foreign_refused NoSuchTask k) ∙ m.may.unrefused)
+  foreign_blocks Ended k m = cc (sym (foreign_refused Ended k) ∙ m.may.unrefused)
+  foreign_blocks (Stale now) k m = k.3 (program_back m.up_to_date.program)
+  foreign_blocks Memory k m = k.2 (program_back m.up_to_date.program)
+  foreign_blocks (Waiting u) k m = absurd k
+  foreign_blocks (Excluded u) k m = absurd k
+  foreign_blocks (Children u) k m = absurd k
+  foreign_blocks (Group u) k m = absurd k
+  foreign_blocks (Undeferred u) k m = absurd k
+  foreign_blocks Full k m = absurd k
+
+  module _ (native : IsNative P run p) where
+    plan_so : IsCurrent run p → IsPlanOf P run t p
+    plan_so k = native_plan P run p sound.fits native k.here
+
+    up_to_date : IsCurrent run p → IsUpToDate s p
+    up_to_date k = record { program = program_so native.program; here = k.here ∙ configuration_so }
+
+    refused_so : IsCurrent run p → (e : StepRefusal) → IsKeptFrom run p (has_no_place limit entries) e → Refuses s t e
+    refused_so k e r = refused P limit entries before run s shows sound t p (plan_so k) e r
+
+    pub native_refused : (e : StepRefusal) → IsKeptFrom run p (has_no_place limit entries) e → RefusesPlan s p e
+    native_refused NoSuchTask k = absurd (both_ways (is_spawned (core.history run) t) k native.spawned)
+    native_refused Ended k = absurd (both_ways (has_ended run t) native.going k.1)
+    native_refused (Stale now) k = (spawned_so true k.spawned, ended_so false k.going, k.now_is ∙ configuration_so, (λ u. k.elsewhere (u.here ∙ sym configuration_so ∙ sym k.now_is)))
+    native_refused Memory k = (spawned_so true native.spawned, ended_so false native.going)
+    native_refused (Waiting u) k = (up_to_date k.current, refused_so k.current (Waiting u) k)
+    native_refused (Excluded u) k = (up_to_date k.current, refused_so k.current (Excluded u) k)
+    native_refused (Children u) k = (up_to_date k.current, refused_so k.current (Children u) k)
+    native_refused (Group u) k = (up_to_date k.current, refused_so k.current (Group u) k)
+    native_refused (Undeferred u) k = (up_to_date k.current, refused_so k.current (Undeferred u) k)
+    native_refused Full k = (up_to_date k.0, refused_so k.0 Full k)
+
+    -- nothing keeps the task from a plan that may be committed
+    pub may_open : MayCommit s seat p → IsOpen run p
+    may_open m =
+        let here : p.config ≡ config_of run t = m.up_to_date.here ∙ sym configuration_so in
+        let current : IsCurrent run p = record { spawned = native.spawned; going = native.going; here = here } in
+        let clear : option_map By (hindrance_of run p) ≡ None =
+        sym (refusal_of_plan P run t p sound.fits (plan_so current)) ∙ ap (λ H. refusal_of P H t) sound.leaves ∙ ap (λ (z : Session). refusal_for z t) shows ∙ m.may.unrefused
+        in
+        record {
+          current = current;
+          clear = none_of (hindrance_of run p) clear;
+          room = has_place P limit (reverse entries) run sound (ap is_full shows ∙ m.may.room);
+        }
+      where
+        none_of : (o : Option Hindrance) → option_map By o ≡ None → o ≡ None
+        none_of None e = refl
+        none_of (Some h) e = cc
+
+    -- and so is a plan that is open
+    pub open_may : IsClaimed s seat p → IsOpen run p → has_no_place limit entries ≡ false → MayCommit s seat p
+    open_may claimed o room = record {
+      claimed = claimed;
+      up_to_date = up_to_date o.current;
+      may = record {
+        unrefused =
+            ap (λ (z : Session). refusal_for z t) (sym shows) ∙ ap (λ H. refusal_of P H t) (sym sound.leaves)
+            ∙ refusal_of_plan P run t p sound.fits (plan_so o.current) ∙ ap (option_map By) o.clear;
+        room = ap is_full (sym shows) ∙ ap (nat_le limit) (length-reverse entries) ∙ room;
+      };
+    }
+
+    pub event_so : IsCurrent run p → event_of run p ≡ coming s t
+    event_so k =
+        native_next P run p sound.fits native k.here ∙ ap (λ H. next_event P H t) sound.leaves
+        ∙ ap (λ (z : Session). coming z t) shows
+
+-- ---- what a task's refusal is
+
+pub no_plan_so : (P : Program) (run : Seen) (t : Name) (e : StepRefusal) → HasNone run t e → (e ≢ Memory) → IsRefusalTo P run t e
+no_plan_so P run t NoSuchTask k m = missing_so P (core.history run) t k
+no_plan_so P run t Ended k m = over_so P (core.history run) t k.0 k.1
+no_plan_so P run t Memory k m = absurd (m refl)
+no_plan_so P run t (Waiting u) k m = absurd k
+no_plan_so P run t (Excluded u) k m = absurd k
+no_plan_so P run t (Children u) k m = absurd k
+no_plan_so P run t (Group u) k m = absurd k
+no_plan_so P run t (Undeferred u) k m = absurd k
+no_plan_so P run t Full k m = absurd k
+no_plan_so P run t (Stale now) k m = absurd k
+
+pub told_so : (P : Program) (run : Seen) (t : Name) (p : Plan) (e : StepRefusal) (o : Option StepRefusal) → Fits P run → IsPlanOf P run t p → IsKept run p e → IsTold e o → IsRefusalOf P run t o
+told_so P run t p e None f plan k told = refusal_of_plan P run t p f plan ∙ ap (option_map By) (full_clear (subst (IsKept run p) told k))
+  where
+    full_clear : IsKept run p Full → hindrance_of run p ≡ None
+    full_clear k = k.1
+told_so P run t p e (Some r) f plan k told = at e r k told.0 told.1 told.2
+  where
+    by : (h : Hindrance) → hindrance_of run p ≡ Some h → refusal_of P (core.history run) t ≡ Some (By h)
+    by h q = refusal_of_plan P run t p f plan ∙ ap (option_map By) q
+
+    mine : (e : StepRefusal) → IsKept run p e → (e ≢ Full) → (e ≢ Memory) → IsRefusalTo P run t e
+    mine NoSuchTask k n m = absurd (both_ways (is_spawned (core.history run) p.config.task) k plan.current.spawned)
+    mine Ended k n m = absurd (both_ways (has_ended run p.config.task) plan.current.going k.1)
+    mine (Stale now) k n m = absurd (k.elsewhere (plan.current.here ∙ sym k.now_is))
+    mine Memory k n m = absurd (m refl)
+    mine Full k n m = absurd (n refl)
+    mine (Waiting u) k n m = by (IsWaiting u) k.hindrance
+    mine (Excluded u) k n m = by (IsExcluded u) k.hindrance
+    mine (Children u) k n m = by (TheChildren u) k.hindrance
+    mine (Group u) k n m = by (TheGroup u) k.hindrance
+    mine (Undeferred u) k n m = by (TheUndeferred u) k.hindrance
+
+    at : (e r : StepRefusal) → IsKept run p e → r ≡ e → (e ≢ Full) → (e ≢ Memory) → IsRefusalTo P run t r
+    at e r k same n m = subst (IsRefusalTo P run t) (sym same) (mine e k n m)
+
+pub told_result : {A : Type 0} (P : Program) (run : Seen) (t : Name) (p : Plan) (e : StepRefusal) (r : Result (Option StepRefusal) A) → Fits P run → IsPlanOf P run t p → IsKept run p e → IfOk r (IsTold e) → IfOk r (IsRefusalOf P run t)
+told_result P run t p e (Ok o) f plan k told = told_so P run t p e o f plan k told
+told_result P run t p e (Err x) f plan k told = told
+
+pub clear_so : (P : Program) (run : Seen) (t : Name) (p : Plan) → Fits P run → IsPlanOf P run t p → IsOpen run p → refusal_of P (core.history run) t ≡ None
+clear_so P run t p f plan o = refusal_of_plan P run t p f plan ∙ ap (option_map By) o.clear
+
+-- the same, told of the session
+pub hinders_so : (P : Program) (limit : ℕ) (entries : List Entry) (before : Control) (run : Seen) (s : Session) → shown P limit entries before ≡ s → IsSound P limit (reverse entries) run → (t : Name) (o : Option StepRefusal) → IsRefusalOf P run t o
+    → IfSome o (moves.Hinders s t) × IfNone o (refusal_for s t ≡ None)
+hinders_so P limit entries before run s shows sound t o k = at o k
+  where
+    so : refusal_for s t ≡ refusal_of P (core.history run) t
+    so = ap (λ (z : Session). refusal_for z t) (sym shows) ∙ ap (λ H. refusal_of P H t) (sym sound.leaves)
+
+    one : (e : StepRefusal) → IsRefusalTo P run t e → moves.Hinders s t e
+    one NoSuchTask k = so ∙ k
+    one Ended k = so ∙ k
+    one (Waiting u) k = so ∙ k
+    one (Excluded u) k = so ∙ k
+    one (Children u) k = so ∙ k
+    one (Group u) k = so ∙ k
+    one (Undeferred u) k = so ∙ k
+    one Memory k = absurd k
+    one Full k = absurd k
+    one (Stale now) k = absurd k
+
+    at : (o : Option StepRefusal) → IsRefusalOf P run t o → IfSome o (moves.Hinders s t) × IfNone o (refusal_for s t ≡ None)
+    at None k = (tt, so ∙ k)
+    at (Some e) k = (one e k, tt)
+
+-- ---- the answers of a Live
+
+abbrev pub as_commit : ℕ → Result StepId StepRefusal → Result ℕ CommitRefusal
+as_commit place (Ok i) = Ok place
+as_commit place (Err e) = Err (NotTaken e)
+
+pub record LiveCommits (seat : ℕ) (P : Program) (limit : ℕ) (s : Session) (p : Plan) (pushed : List Entry) (after : Control) (new : Seen) (result : Result ℕ CommitRefusal) : Type 0 where
+  pub keeps : Keeps P limit pushed after new
+  pub answer : Commits seat s p (shown P limit pushed after) result
+
+pub live_commits : (seat : ℕ) (P : Program) (limit : ℕ) (entries : List Entry) (before : Control) (run : Seen) (s : Session) → shown P limit entries before ≡ s → IsSound P limit (reverse entries) run × IsLawful (reverse entries) before
+    → (p : Plan) → IsClaimed s seat p → IsNative P run p → (place : ℕ) → place ≡ length entries → (pushed : List Entry) (after : Control) (new : Seen) (result : Result StepId StepRefusal)
+    → Enters limit seat run p new entries pushed before after result → LiveCommits seat P limit s p pushed after new (as_commit place result)
+live_commits seat P limit entries before run s shows both p claimed native place at pushed after new (Ok i) e =
+    let here = e.0.steps.current in
+    let l = entered P limit entries before run s shows both.0 p.config.task p (native_plan P run p both.0.fits native here.here) seat new pushed after i both.1 e.0 e.1 e.2 in
+    record {
+      keeps = l.keeps;
+      answer = record {
+        may = record { claimed = claimed; up_to_date = up_to_date P limit entries before run s shows both.0 seat p native here; may = l.steps.may };
+        place = at ∙ sym (length-reverse entries) ∙ ap (λ (z : Session). length z.journal) shows;
+        step = i;
+        steps = l.steps;
+      };
+    }
+live_commits seat P limit entries before run s shows both p claimed native place at pushed after new (Err r) e =
+    let l = stays P limit entries pushed before after run new s shows both e.0 e.1 e.2 in
+    record { keeps = l.keeps; answer = (l.same, (claimed, native_refused P limit entries before run s shows both.0 seat p native r e.3)) }
+
+-- what is prepared is the entry of the commit
+pub live_prepares : (seat : ℕ) (P : Program) (limit : ℕ) (entries : List Entry) (before : Control) (run : Seen) (s : Session) → shown P limit entries before ≡ s → IsSound P limit (reverse entries) run
+    → (p : Plan) → IsClaimed s seat p → IsNative P run p → (held : Held) (e : Entry) (v : Event) → held.session ≡ s → held.prepared ≡ Some e → e ≡ Stepped seat v → v ≡ event_of run p → IsOpen run p → has_no_place limit entries ≡ false → IsPrepared seat held p e
+live_prepares seat P limit entries before run s shows sound p claimed native held e v same prepared entry event o room =
+    let m = open_may P limit entries before run s shows sound seat p native claimed o room in
+    record {
+      may = subst (λ z. MayCommit z seat p) (sym same) m;
+      entry = entry ∙ ap (Stepped seat) (event ∙ event_so P limit entries before run s shows sound seat p native o.current) ∙ ap (λ z. entry_to_come seat z p) (sym same);
+      prepared = prepared;
+      place =
+          let within : length entries < limit = grind (arith, nat_tests) in
+          omega (arith, within, sound.bound, ap (λ z. length z.journal) same, ap (λ (z : Session). length z.journal) shows, length-reverse entries);
+    }
+
+-- a claim that stands in a run that goes on
+pub claimed_so : (P : Program) (limit : ℕ) (entries : List Entry) (before : Control) (s : Session) → shown P limit entries before ≡ s → (seat : ℕ) (p : Plan) (paused held : Bool) → paused ≡ is_paused before.mode → paused ≡ false
+    → (held ≡ true) ↔ (claim_of before.claims seat ≡ Some p.config.task) → held ≡ true → IsClaimed s seat p
+claimed_so P limit entries before s shows seat p paused held e going f h = record {
+  going = ap (λ (z : Session). is_paused z.control.mode) (sym shows) ∙ sym e ∙ going;
+  claims = ap (λ (z : Session). claim_of z.control.claims seat) (sym shows) ∙ f.0 h;
+}
+
+-- what is readied for the plan is kept
+pub room_kept : (limit : ℕ) (P : Program) (old new : HeldCore) (entries pushed : List Entry) (spare : ℕ) (p : Plan) (v copy : Event) → Fits P old.run → IsNative P old.run p → new.run ≡ old.run → pushed ≡ entries → copy ≡ v
+    → IsReadied limit new p entries spare v → HasStepRoom limit P new pushed spare copy
+room_kept limit P old new entries pushed spare p v copy f native same kept copied r =
+    subst (λ u. HasStepRoom limit P new pushed spare u) (sym copied)
+    (subst (λ es. HasStepRoom limit P new es spare v) (sym kept)
+    (room_so limit P new entries spare p v (subst (Fits P) (sym same) f) (subst (λ (z : Seen). IsNative P z p) (sym same) native) r))

@@ -1,0 +1,52 @@
+use Rattle.std.proofs.Common.{ap, refl, sym, ◌∙◌, subst, length, Some, rules, ◌-◌}
+use Rattle.std.specs.Prelude.{Ok, Err, vec_len, vec_capacity}
+use Rattle.tb_live.specs.Moves.{coming}
+use Rattle.tb_live.specs.Preparing.{HasRoom}
+use Rattle.tb_live.specs.Session.{Held}
+use Rattle.tb_live.proofs.StepLemmas.{longer}
+use Rattle.tb_live.proofs.CommitLemmas.{offered_native, live_commits, may_open}
+use Rattle.tb_live.proofs.PreparedLemmas.{event_of_entry}
+use Rattle.tb_live.proofs.live.Live.commit.Goals as goal
+
+pub enter_plan-requires-clause-shorter : goal.enter_plan-requires-clause-shorter
+enter_plan-requires-clause-shorter c =
+    let i = c.self.inside in
+    longer i.program i.limit i.journal.items i.core.run c.self.invariant.0
+
+pub returns-in-Some-clause-room : goal.returns-in-Some-clause-room
+returns-in-Some-clause-room c = λ m given. absurd (c.withheld.ensures.blocked (search rules) m)
+
+pub invariant_of-self : goal.invariant_of-self
+invariant_of-self c =
+    let i = c.self.inside in
+    let native = offered_native i.program i.limit i.journal.items i.control i.core.run c.args.self.now.session (ap (λ (h : Held). h.session) c.self.view_is) c.self.invariant.0 c.args.seat c.args.plan c.in_default.ensures.none in
+    let l = live_commits c.args.seat i.program i.limit i.journal.items i.control i.core.run c.args.self.now.session (ap (λ (h : Held). h.session) c.self.view_is) (c.self.invariant.0, c.self.invariant.1) c.args.plan c.in_default.ensures.none.claimed native
+    (length c.as_slice.result.now) (ap length c.as_slice.ensures.value) c.enter_plan.new.journal.items c.enter_plan.new.control c.enter_plan.new.core.run c.enter_plan.result c.enter_plan.ensures.entered
+    in
+    (l.keeps.sound, l.keeps.lawful, subst (HasRoom i.limit i.program c.enter_plan.new.core c.enter_plan.new.journal.items (vec_capacity c.enter_plan.new.journal - vec_len c.enter_plan.new.journal)) (sym c.take.ensures.after) tt)
+
+pub returns-in-Ok-clause-committed : goal.returns-in-Ok-clause-committed
+returns-in-Ok-clause-committed c =
+    let i = c.self.inside in
+    let native = offered_native i.program i.limit i.journal.items i.control i.core.run c.args.self.now.session (ap (λ (h : Held). h.session) c.self.view_is) c.self.invariant.0 c.args.seat c.args.plan c.in_default.ensures.none in
+    (live_commits c.args.seat i.program i.limit i.journal.items i.control i.core.run c.args.self.now.session (ap (λ (h : Held). h.session) c.self.view_is) (c.self.invariant.0, c.self.invariant.1) c.args.plan c.in_default.ensures.none.claimed native
+    (length c.as_slice.result.now) (ap length c.as_slice.ensures.value) c.enter_plan.new.journal.items c.enter_plan.new.control c.enter_plan.new.core.run (Ok c.in-Ok.field-0) c.in-Ok.ensures.entered).answer
+
+pub returns-clause-committed : goal.returns-clause-committed
+returns-clause-committed c =
+    let i = c.self.inside in
+    let native = offered_native i.program i.limit i.journal.items i.control i.core.run c.args.self.now.session (ap (λ (h : Held). h.session) c.self.view_is) c.self.invariant.0 c.args.seat c.args.plan c.in_default.ensures.none in
+    (live_commits c.args.seat i.program i.limit i.journal.items i.control i.core.run c.args.self.now.session (ap (λ (h : Held). h.session) c.self.view_is) (c.self.invariant.0, c.self.invariant.1) c.args.plan c.in_default.ensures.none.claimed native
+    (length c.as_slice.result.now) (ap length c.as_slice.ensures.value) c.enter_plan.new.journal.items c.enter_plan.new.control c.enter_plan.new.core.run (Err c.in-Err.refusal) c.in-Err.ensures.entered).answer
+
+-- what is prepared serves, so nothing is refused
+pub returns-clause-room : goal.returns-clause-room
+returns-clause-room c =
+    let i = c.self.inside in
+    let t = c.args.plan.config.task in
+    let v = coming c.args.self.now.session t in
+    let native = offered_native i.program i.limit i.journal.items i.control i.core.run c.args.self.now.session (ap (λ (h : Held). h.session) c.self.view_is) c.self.invariant.0 c.args.seat c.args.plan c.in_default.ensures.none in
+    λ m given.
+    c.in-Err.ensures.room
+    (c.prepared_event-event.ensures.found v (c.take.ensures.value ∙ event_of_entry i.prepared c.args.seat v (ap (λ (h : Held). h.prepared) c.self.view_is ∙ given)) refl)
+    (may_open i.program i.limit i.journal.items i.control i.core.run c.args.self.now.session (ap (λ (h : Held). h.session) c.self.view_is) c.self.invariant.0 c.args.seat c.args.plan native m)

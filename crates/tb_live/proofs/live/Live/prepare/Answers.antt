@@ -1,0 +1,53 @@
+use Rattle.std.proofs.Common.{ap, refl, sym, ◌∙◌, subst, ◌-◌, option_map, Some}
+use Rattle.std.specs.Prelude.{vec_len, vec_capacity}
+use Rattle.tb_model.specs.declared.entry.Entry.TheVariants.{Stepped}
+use Rattle.tb_core.specs.Outcomes.{event_of, IsOpen}
+use Rattle.tb_live.specs.Preparing.{HasRoom, entry_of}
+use Rattle.tb_live.specs.Session.{Held}
+use Rattle.tb_live.proofs.RunLemmas.{shown}
+use Rattle.tb_live.proofs.StepLemmas.{longer, stays}
+use Rattle.tb_live.proofs.CommitLemmas.{offered_native, native_fits, native_refused, room_kept, live_prepares}
+use Rattle.tb_live.proofs.live.Live.prepare.Goals as goal
+
+pub ready_step-requires-clause-fits : goal.ready_step-requires-clause-fits
+ready_step-requires-clause-fits c =
+    let i = c.self.inside in
+    native_fits i.program i.core.run c.args.plan.now c.self.invariant.0.fits
+    (offered_native i.program i.limit i.journal.items i.control i.core.run c.args.self.now.session (ap (λ (h : Held). h.session) c.self.view_is) c.self.invariant.0 c.args.seat c.args.plan.now c.in_default.ensures.none)
+
+pub ready_step-requires-clause-shorter : goal.ready_step-requires-clause-shorter
+ready_step-requires-clause-shorter c =
+    let i = c.self.inside in
+    longer i.program i.limit i.journal.items i.core.run c.self.invariant.0
+
+pub invariant_of-self : goal.invariant_of-self
+invariant_of-self c =
+    let i = c.self.inside in
+    let native = offered_native i.program i.limit i.journal.items i.control i.core.run c.args.self.now.session (ap (λ (h : Held). h.session) c.self.view_is) c.self.invariant.0 c.args.seat c.args.plan.now c.in_default.ensures.none in
+    let l = stays i.program i.limit i.journal.items c.ready_step.new.journal.items i.control i.control i.core.run c.ready_step.new.core.run c.args.self.now.session (ap (λ (h : Held). h.session) c.self.view_is) (c.self.invariant.0, c.self.invariant.1) c.ready_step.ensures.run c.ready_step.ensures.entries refl in
+    let spare = vec_capacity c.ready_step.new.journal - vec_len c.ready_step.new.journal in (
+      l.keeps.sound,
+      l.keeps.lawful,
+      subst (HasRoom i.limit i.program c.ready_step.new.core c.ready_step.new.journal.items spare) (sym c.keep.ensures)
+          (room_kept i.limit i.program i.core c.ready_step.new.core i.journal.items c.ready_step.new.journal.items spare c.args.plan.now c.in-Ok.event c.in-Ok-copy_of.copy c.self.invariant.0.fits native c.ready_step.ensures.run c.ready_step.ensures.entries c.in-Ok-copy_of.ensures c.in-Ok.ensures.readied),
+    )
+
+pub returns-in-Ok-copy_of-clause-prepared : goal.returns-in-Ok-copy_of-clause-prepared
+returns-in-Ok-copy_of-clause-prepared c =
+    let i = c.self.inside in
+    let p = c.args.plan.now in
+    let offered = c.in_default.ensures.none in
+    let native = offered_native i.program i.limit i.journal.items i.control i.core.run c.args.self.now.session (ap (λ (h : Held). h.session) c.self.view_is) c.self.invariant.0 c.args.seat p offered in
+    let l = stays i.program i.limit i.journal.items c.ready_step.new.journal.items i.control i.control i.core.run c.ready_step.new.core.run c.args.self.now.session (ap (λ (h : Held). h.session) c.self.view_is) (c.self.invariant.0, c.self.invariant.1) c.ready_step.ensures.run c.ready_step.ensures.entries refl in
+    let r = c.in-Ok.ensures.readied in
+    live_prepares c.args.seat i.program i.limit i.journal.items i.control i.core.run c.args.self.now.session (ap (λ (h : Held). h.session) c.self.view_is) c.self.invariant.0 p offered.claimed native
+    (record { session = shown i.program i.limit c.ready_step.new.journal.items i.control; prepared = option_map entry_of c.keep.new.place })
+    (Stepped c.args.seat c.in-Ok.event) c.in-Ok.event l.same (ap (option_map entry_of) c.keep.ensures ∙ ap (λ u. Some (Stepped c.args.seat u)) c.in-Ok-copy_of.ensures) refl
+    (r.event ∙ ap (λ z. event_of z p) c.ready_step.ensures.run) (subst (λ z. IsOpen z p) c.ready_step.ensures.run r.is_open) r.room
+
+pub returns-in-Err-clause-refused : goal.returns-in-Err-clause-refused
+returns-in-Err-clause-refused c =
+    let i = c.self.inside in
+    let offered = c.in_default.ensures.none in
+    let native = offered_native i.program i.limit i.journal.items i.control i.core.run c.args.self.now.session (ap (λ (h : Held). h.session) c.self.view_is) c.self.invariant.0 c.args.seat c.args.plan.now offered in
+    (offered.claimed, native_refused i.program i.limit i.journal.items i.control i.core.run c.args.self.now.session (ap (λ (h : Held). h.session) c.self.view_is) c.self.invariant.0 c.args.seat c.args.plan.now native c.in-Err.refusal c.in-Err.ensures.refused)

@@ -1,0 +1,116 @@
+//! Plans that seats commit, and rollbacks that are prepared.
+
+ghost use Rattle.std.specs.Prelude.{◌≡◌, IfOk, IfErr, IfSome, IfNone, IsOk, IsSome, Some};
+ghost use Rattle.tb_model.specs.declared.entry.Entry.TheVariants.{Rolled};
+ghost use Rattle.tb_live.specs.Commits.{Commits, IsPrepared, IsOffered, MayCommit, RefusesCommit, entry_to_come};
+ghost use Rattle.tb_live.specs.Moves.{IsRollPrepared, KeepsAll};
+
+use super::Live;
+use crate::commit_refusal::CommitRefusal;
+use crate::committing::{enter_plan, foreign};
+use crate::prepared::{Prepared, copy_of, forget, keep, prepared_event};
+use crate::rolling::ready_roll;
+use crate::stepping::ready_step;
+use tb_core::StepRefusal;
+use tb_model::{Entry, StepId};
+use tb_read::Plan;
+use tb_roll::RollRefusal;
+
+impl Live {
+    /// Takes all memory for a commit of the plan by the seat, and tells the entry to come, whose place
+    /// is the journal's length. The `commit` of that plan right behind it is done, and takes none.
+    pub fn prepare(&mut self, seat: u32, plan: &Plan) -> Result<Entry, CommitRefusal>
+        ensures session { self.new.session ≡ self.old.session }
+        ensures prepared { IfOk result (IsPrepared seat self.new plan.now) }
+        ensures refused { IfErr result (RefusesCommit self.old.session seat plan.now) }
+    {
+        if let Some(refusal) = self.withheld(seat, plan) {
+            return Err(refusal);
+        }
+        forget(&mut self.prepared);
+        match ready_step(&mut self.core, &mut self.journal, self.limit, plan) {
+            Ok(event) => match copy_of(&event) {
+                Ok(copy) => {
+                    keep(&mut self.prepared, Prepared::Step { seat, event: copy });
+                    Ok(Entry::Stepped { seat, event })
+                }
+                Err(_) => Err(CommitRefusal::Step {
+                    refusal: StepRefusal::Memory,
+                }),
+            },
+            Err(refusal) => Err(CommitRefusal::Step { refusal }),
+        }
+    }
+
+    /// Takes the step of a plan that was made for the task that the seat claims, and answers the place
+    /// of its entry. The claim ends. A plan that isn't for the task's situation by this program is
+    /// stale.
+    pub fn commit(&mut self, seat: u32, plan: Plan) -> Result<u32, CommitRefusal>
+        ensures committed { Commits seat self.old.session plan self.new.session result }
+        ensures room { MayCommit self.old.session seat plan
+            → self.old.prepared ≡ Some (entry_to_come seat self.old.session plan) → IsOk result }
+    {
+        if let Some(refusal) = self.withheld(seat, &plan) {
+            return Err(refusal);
+        }
+        let place = self.journal.as_slice().len() as u32;
+        let event = prepared_event(self.prepared.take(), seat, &plan.config.task);
+        match enter_plan(
+            &self.program,
+            &mut self.core,
+            &mut self.journal,
+            &mut self.control,
+            self.limit,
+            seat,
+            event,
+            plan,
+        ) {
+            Ok(_) => Ok(place),
+            Err(refusal) => Err(CommitRefusal::Step { refusal }),
+        }
+    }
+
+    /// Takes all memory for a rollback of the step by the seat, and tells the entry to come. The `roll`
+    /// right behind it is done, and takes none; so is the `undo`, where nothing needs the step.
+    pub fn prepare_roll(&mut self, seat: u32, id: &StepId) -> Result<Entry, RollRefusal>
+        ensures session { self.new.session ≡ self.old.session }
+        ensures prepared { IfOk result (IsRollPrepared seat self.new id.now) }
+        ensures refused { IfErr result (KeepsAll self.old.session id.now) }
+    {
+        forget(&mut self.prepared);
+        match ready_roll(self.alloc, &self.core, &mut self.journal, self.limit, id) {
+            Ok((step, ready)) => match id.clone() {
+                Ok(id) => {
+                    let prepared = Prepared::Roll {
+                        seat,
+                        id: step,
+                        ready,
+                    };
+                    keep(&mut self.prepared, prepared);
+                    Ok(Entry::Rolled { seat, id })
+                }
+                Err(_) => Err(RollRefusal::Memory),
+            },
+            Err(refusal) => Err(refusal),
+        }
+    }
+
+    /// Why the seat's plan isn't looked at: the run is paused, the seat doesn't claim the task, or the
+    /// plan isn't one of the program for a task that goes on.
+    fn withheld(&self, seat: u32, plan: &Plan) -> Option<CommitRefusal>
+        ensures some { IfSome result (RefusesCommit self.now.session seat plan.now) }
+        ensures blocked { IsSome result → MayCommit self.now.session seat plan.now → ⊥ }
+        ensures none { IfNone result (IsOffered self.now.session seat plan.now) }
+    {
+        if self.control.mode.is_paused() {
+            return Some(CommitRefusal::Paused);
+        }
+        if !self.control.claims.is_by(seat, &plan.config.task) {
+            return Some(CommitRefusal::Withdrawn);
+        }
+        match foreign(&self.program, &self.core, plan) {
+            Some(refusal) => Some(CommitRefusal::Step { refusal }),
+            None => None,
+        }
+    }
+}
