@@ -3,3 +3,7 @@ mod CountLemmas
 mod WalkLemmas
 mod NeedLemmas
 mod ShownLemmas
+mod ListingLemmas
+mod TaskLemmas
+mod StateLemmas
+mod RelationLemmas

@@ -3,10 +3,6 @@ use Rattle.std.proofs.Common.{◌≡◌, ℕ, List, [], ◌∷◌, ◌==◌, con
 use Rattle.std.specs.Prelude.{unwrap_or}
 use Rattle.std.specs.Str.{IsUtf8, is_utf8}
 use Rattle.std.proofs.lemmas.Str.{IsUtf8-from_is_utf8, is_utf8-from_IsUtf8}
-use Rattle.tb_model.specs.declared.item.Item.{Item}
-use Rattle.tb_model.specs.declared.action.Action.{Action}
-use Rattle.tb_model.specs.declared.action.Action.TheVariants.{Spawn}
-use Rattle.tb_model.specs.Names.{Name}
 use Rattle.tb_model.specs.Program.{Program, Body}
 use Rattle.tb_read.specs.Bodies as read
 use Rattle.tb_view.specs.Step as view
@@ -20,10 +16,9 @@ name_at_is : (bodies : List Body) (line : ℕ) → view.name_at bodies line ≡ 
 name_at_is [] line = refl
 name_at_is (b ∷ bodies) line = name_at_by (b.line == line) b.name (view.name_at bodies line) (read.name_at line bodies) (name_at_is bodies line)
 
--- what an action spawns is named by what was found
-pub spawned_is : (P : Program) (action : Action) (u : Name) (line : ℕ) (args : _) (items : List Item) (deferred : Bool) (found : Option (List ℕ))
-    → action ≡ Spawn u line args items deferred → found ≡ read.name_at line P.bodies → view.spawned_name P action ≡ unwrap_or found []
-spawned_is P action u line args items deferred found e f = ap (view.spawned_name P) e ∙ (name_at_is P.bodies line ∙ ap (λ o. unwrap_or o []) (sym f))
+-- the name at a line is what was found there
+pub found_is : (P : Program) (line : ℕ) (found : Option (List ℕ)) → found ≡ read.name_at line P.bodies → view.name_at P.bodies line ≡ unwrap_or found []
+found_is P line found f = name_at_is P.bodies line ∙ ap (λ o. unwrap_or o []) (sym f)
 
 pub text_is : (name text : List ℕ) → text ≡ name → IsUtf8 name → text ≡ as_text name
 text_is name text e u = e ∙ rw (is_utf8-from_IsUtf8 name u)

@@ -1,10 +1,11 @@
 -- What is written of the entries of a core is what the session shows.
-use Rattle.std.proofs.Common.{◌≡◌, ℕ, List, Bool, true, false, map, reverse, refl, sym, ap, ap₂, ◌∙◌, subst, Result, Ok, Err, IfOk, None}
+use Rattle.std.proofs.Common.{◌≡◌, ℕ, List, Bool, true, false, map, reverse, refl, sym, ap, ap₂, ◌∙◌, subst, cond, Result, Ok, Err, IfOk, Some, None}
 use Rattle.std.proofs.lemmas.List.{reverse-reverse}
 use Rattle.tb_model.specs.declared.step_id.StepId.{StepId}
 use Rattle.tb_model.specs.Equivalent.{stands}
-use Rattle.tb_model.specs.Facts.{History}
+use Rattle.tb_model.specs.Facts.{History, is_spawned}
 use Rattle.tb_model.specs.Lines.{events_of}
+use Rattle.tb_model.specs.Names.{Name}
 use Rattle.tb_model.specs.Program.{Program}
 use Rattle.tb_core.specs.declared.entry.Entry.{Entry}
 use Rattle.tb_core.specs.Scans.{history_of}
@@ -12,7 +13,8 @@ use Rattle.tb_core.specs.Seen.{Seen, history as events}
 use Rattle.tb_core.specs.Soundness.{departure}
 use Rattle.tb_live.specs.Session.{Session, history}
 use Rattle.tb_view.specs.Steps.{chosen_text, AreStepsOf}
-use Rattle.tb_view.specs.Views.{steps_text, unless_it_stands}
+use Rattle.tb_view.specs.declared.view_refusal.ViewRefusal.TheVariants.{NoSuchTask}
+use Rattle.tb_view.specs.Views.{steps_text, unless_it_stands, unless_it_is_there}
 
 pub ok_then : {A E : Type 0} (r : Result A E) (P Q : A → Type 0) → ((x : A) → P x → Q x) → IfOk r P → IfOk r Q
 ok_then (Ok x) P Q f h = f x h
@@ -46,3 +48,12 @@ module _ (s : Session) (run : Seen) (entries : List Entry) (leaves : events run 
 
   pub it_stands : (stands id (events run) ≡ false → ⊥) → unless_it_stands s id ≡ None
   it_stands h = let there : stands id (history s) ≡ true = ap (stands id) (sym leaves) ∙ stands_then (stands id (events run)) h in rw there refl
+
+-- ---- a task is there
+
+module _ (s : Session) (run : Seen) (t : Name) (leaves : events run ≡ history s) where
+  pub it_is_there : is_spawned (events run) t ≡ true → unless_it_is_there s t ≡ None
+  it_is_there h = ap (λ b. cond b None (Some NoSuchTask)) (ap (λ H. is_spawned H t) (sym leaves) ∙ h)
+
+  pub it_is_missing : is_spawned (events run) t ≡ false → unless_it_is_there s t ≡ Some NoSuchTask
+  it_is_missing h = ap (λ b. cond b None (Some NoSuchTask)) (ap (λ H. is_spawned H t) (sym leaves) ∙ h)

@@ -1,6 +1,11 @@
 pub mod Step
 pub mod Lines
+pub mod Listing
 pub mod Numbers
 pub mod Steps
+pub mod Tasks
+pub mod Waits
+pub mod Relations
+pub mod Breaks
 pub mod Refusals
 pub mod Views

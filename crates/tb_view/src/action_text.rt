@@ -109,7 +109,8 @@ fn append_spawn(
     text.push_str(last_word(deferred))
 }
 
-fn append_args(text: &mut String, args: &[i64]) -> Result<(), AllocError>
+/// Appends each number behind a blank.
+pub(crate) fn append_args(text: &mut String, args: &[i64]) -> Result<(), AllocError>
     ensures ok { OnOk result (string_bytes text.new ≡ string_bytes text.old ++ args_text args.now) }
     ensures begins { Begins (string_bytes text.old) (string_bytes text.new) }
 {
@@ -137,13 +138,22 @@ fn append_item(text: &mut String, item: &Item) -> Result<(), AllocError>
     text.push_str(" depend ")?;
     text.push_str(kind(item.kind))?;
     text.push_str(" ")?;
-    match item.place {
+    append_place(text, item.place)
+}
+
+/// Appends a cell by its number, or that it is all memory.
+pub(crate) fn append_place(text: &mut String, place: Place) -> Result<(), AllocError>
+    ensures ok { OnOk result (string_bytes text.new ≡ string_bytes text.old ++ place_text place) }
+    ensures begins { Begins (string_bytes text.old) (string_bytes text.new) }
+{
+    match place {
         Place::Cell(cell) => text.push_str(Buffer::new().format(cell)),
         Place::All => text.push_str("all"),
     }
 }
 
-fn kind(kind: Kind) -> &'static str
+/// The name of a dependence type.
+pub(crate) fn kind(kind: Kind) -> &'static str
     ensures { result.now ≡ kind_text kind }
 {
     match kind {

@@ -2,18 +2,28 @@
 #![tactic(auto)]
 
 mod action_text;
+mod breaks;
 mod counting;
+mod hindrances;
+mod listing;
 mod numbers;
+mod relations;
 mod showing;
+mod states;
 mod step_line;
 mod step_text;
 mod steps;
+mod task_text;
+#[cfg(test)]
+mod task_view_tests;
+mod tasks;
 #[cfg(test)]
 mod tests;
 mod view;
 mod view_refusal;
 #[cfg(test)]
 mod view_tests;
+mod waits;
 
 pub use showing::{line, text};
 pub use step_line::append_line;

@@ -6,15 +6,20 @@ ghost use Rattle.tb_view.specs.Views.{IsShown, IsRefused};
 ghost use Rattle.tb_view.specs.declared.view.View.TheVariants as view;
 ghost use Rattle.tb_view.specs.declared.view_refusal.ViewRefusal.TheVariants as refusal;
 
+use crate::breaks::breaks_text;
 use crate::numbers::{cells_text, out_text};
+use crate::relations::deps_text;
 use crate::step_line::append_line;
 use crate::steps::{chosen_text, history_text};
+use crate::task_text::task_text;
+use crate::tasks::tasks_text;
 use crate::view::View;
 use crate::view_refusal::ViewRefusal;
+use crate::waits::{ready_text, waits_text};
 use std::alloc::{AllocError, Global};
 use tb_cause::{CauseRefusal, needed_by, needs};
 use tb_live::{Live, Removed};
-use tb_model::StepId;
+use tb_model::{StepId, TaskName};
 
 /// The text, or that memory ran out.
 fn told(text: Result<String, AllocError>) -> Result<String, ViewRefusal>
@@ -30,8 +35,8 @@ fn told(text: Result<String, AllocError>) -> Result<String, ViewRefusal>
 
 fn why_text(alloc: Global, live: &Live, id: &StepId) -> Result<String, ViewRefusal>
     ensures shown { IfOk result
-        (λ text. IsShown live.now (view.Why id.now) (string_bytes text)) }
-    ensures refused { IfErr result (IsRefused live.now (view.Why id.now)) }
+        (λ text. IsShown live.now.session (view.Why id.now) (string_bytes text)) }
+    ensures refused { IfErr result (IsRefused live.now.session (view.Why id.now)) }
 {
     let core = live.core();
     match needs(alloc, core, id) {
@@ -43,8 +48,8 @@ fn why_text(alloc: Global, live: &Live, id: &StepId) -> Result<String, ViewRefus
 
 fn who_text(alloc: Global, live: &Live, id: &StepId) -> Result<String, ViewRefusal>
     ensures shown { IfOk result
-        (λ text. IsShown live.now (view.Who id.now) (string_bytes text)) }
-    ensures refused { IfErr result (IsRefused live.now (view.Who id.now)) }
+        (λ text. IsShown live.now.session (view.Who id.now) (string_bytes text)) }
+    ensures refused { IfErr result (IsRefused live.now.session (view.Who id.now)) }
 {
     let core = live.core();
     match needed_by(alloc, core, id) {
@@ -54,9 +59,33 @@ fn who_text(alloc: Global, live: &Live, id: &StepId) -> Result<String, ViewRefus
     }
 }
 
+fn one_task(alloc: Global, live: &Live, task: &TaskName) -> Result<String, ViewRefusal>
+    ensures shown { IfOk result
+        (λ text. IsShown live.now.session (view.Task task.now) (string_bytes text)) }
+    ensures refused { IfErr result (IsRefused live.now.session (view.Task task.now)) }
+{
+    let core = live.core();
+    if !core.is_there(task) {
+        return Err(ViewRefusal::NoSuchTask);
+    }
+    told(task_text(alloc, live.program(), core, task))
+}
+
+fn relations(alloc: Global, live: &Live, task: &TaskName) -> Result<String, ViewRefusal>
+    ensures shown { IfOk result
+        (λ text. IsShown live.now.session (view.Deps task.now) (string_bytes text)) }
+    ensures refused { IfErr result (IsRefused live.now.session (view.Deps task.now)) }
+{
+    let core = live.core();
+    if !core.is_there(task) {
+        return Err(ViewRefusal::NoSuchTask);
+    }
+    told(deps_text(alloc, core, task))
+}
+
 fn written(alloc: Global, live: &Live, view: &View) -> Result<String, ViewRefusal>
-    ensures shown { IfOk result (λ text. IsShown live.now view.now (string_bytes text)) }
-    ensures refused { IfErr result (IsRefused live.now view.now) }
+    ensures shown { IfOk result (λ text. IsShown live.now.session view.now (string_bytes text)) }
+    ensures refused { IfErr result (IsRefused live.now.session view.now) }
 {
     match view {
         View::Cells => told(cells_text(alloc, live.cells())),
@@ -64,13 +93,19 @@ fn written(alloc: Global, live: &Live, view: &View) -> Result<String, ViewRefusa
         View::Hist => told(history_text(alloc, live.program(), live.core().legal_entries())),
         View::Why { id } => why_text(alloc, live, id),
         View::Who { id } => who_text(alloc, live, id),
+        View::Tasks => told(tasks_text(alloc, live.program(), live.core())),
+        View::Task { task } => one_task(alloc, live, task),
+        View::Ready => told(ready_text(alloc, live)),
+        View::Waits => told(waits_text(alloc, live)),
+        View::Deps { task } => relations(alloc, live, task),
+        View::Breaks => told(breaks_text(alloc, live.program(), live.breakpoints())),
     }
 }
 
 /// What the view shows. A view that is refused has written nothing.
 pub fn text(alloc: Global, live: &Live, view: &View) -> Result<Vec<u8>, ViewRefusal>
-    ensures shown { IfOk result (λ text. IsShown live.now view.now text.items) }
-    ensures refused { IfErr result (IsRefused live.now view.now) }
+    ensures shown { IfOk result (λ text. IsShown live.now.session view.now text.items) }
+    ensures refused { IfErr result (IsRefused live.now.session view.now) }
 {
     match written(alloc, live, view) {
         Ok(text) => Ok(text.into_bytes()),
@@ -80,7 +115,7 @@ pub fn text(alloc: Global, live: &Live, view: &View) -> Result<Vec<u8>, ViewRefu
 
 /// The line of a step that was taken back.
 pub fn line(alloc: Global, live: &Live, removed: &Removed) -> Result<Vec<u8>, AllocError>
-    ensures { IfOk result (λ text. text.items ≡ removal_line live.now.program removed.now) }
+    ensures { IfOk result (λ text. text.items ≡ removal_line live.now.session.program removed.now) }
 {
     let mut text = String::new(alloc);
     let id = &removed.id;

@@ -3,6 +3,7 @@
 ghost use Rattle.std.specs.Prelude.{◌≡◌, ◌++◌, OnOk, string_bytes};
 ghost use Rattle.tb_view.specs.Step.{spawned_name};
 ghost use Rattle.tb_view.specs.Lines.{as_text, event_line};
+ghost use Rattle.tb_view.specs.Tasks.{body_text};
 
 use crate::step_text::write_step;
 use std::alloc::AllocError;
@@ -19,15 +20,22 @@ pub(crate) fn as_text(name: &[u8]) -> &str
     }
 }
 
+/// The name of the body that the line begins, and nothing for other lines.
+pub(crate) fn body_name(program: &Program, begins: u32) -> &str
+    ensures { result.now ≡ body_text program.now begins }
+{
+    match program.body_name(begins) {
+        Some(name) => as_text(name),
+        None => "",
+    }
+}
+
 /// The name of the body that an action spawns, and nothing for other actions.
 fn spawned_name<'a>(program: &'a Program, action: &Action) -> &'a str
     ensures { result.now ≡ as_text (spawned_name program.now action.now) }
 {
     match action {
-        Action::Spawn { body, .. } => match program.body_name(*body) {
-            Some(name) => as_text(name),
-            None => "",
-        },
+        Action::Spawn { body, .. } => body_name(program, *body),
         _ => "",
     }
 }

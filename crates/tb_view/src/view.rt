@@ -1,6 +1,6 @@
 //! What a session can show.
 
-use tb_model::StepId;
+use tb_model::{StepId, TaskName};
 
 /// What is shown of a run.
 #[derive(Debug, Drop)]
@@ -15,4 +15,16 @@ pub enum View {
     Why { id: StepId },
     /// The steps that need a step.
     Who { id: StepId },
+    /// All tasks, and how far each has come.
+    Tasks,
+    /// A task: its body, its position, its registers, its open groups and its items.
+    Task { task: TaskName },
+    /// The tasks that can step.
+    Ready,
+    /// The tasks that can't step and haven't ended, and what each waits for.
+    Waits,
+    /// The siblings before a task, and those that aren't to run at its time.
+    Deps { task: TaskName },
+    /// The breakpoints.
+    Breaks,
 }

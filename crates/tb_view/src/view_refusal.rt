@@ -10,6 +10,8 @@ pub enum ViewRefusal {
     Memory,
     /// The step isn't in the history.
     NoSuchStep,
+    /// The task is neither the root nor spawned in the history.
+    NoSuchTask,
 }
 
 impl ViewRefusal {
@@ -20,6 +22,7 @@ impl ViewRefusal {
         match self {
             ViewRefusal::Memory => 0,
             ViewRefusal::NoSuchStep => 1,
+            ViewRefusal::NoSuchTask => 1,
         }
     }
 }

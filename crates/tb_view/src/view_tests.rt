@@ -36,14 +36,14 @@ fn of_root(alloc: Global, k: u32) -> StepId {
     }
 }
 
-fn shows(alloc: Global, live: &Live, view: View, want: &str) -> bool {
+pub(crate) fn shows(alloc: Global, live: &Live, view: View, want: &str) -> bool {
     match text(alloc, live, &view) {
         Ok(bytes) => bytes.as_slice() == want.as_bytes(),
         Err(_) => false,
     }
 }
 
-fn refusal(alloc: Global, live: &Live, view: View) -> u8 {
+pub(crate) fn refusal(alloc: Global, live: &Live, view: View) -> u8 {
     match text(alloc, live, &view) {
         Ok(_) => 100,
         Err(refusal) => refusal.number(),
@@ -51,7 +51,7 @@ fn refusal(alloc: Global, live: &Live, view: View) -> u8 {
 }
 
 fn removed_line(alloc: Global, live: &mut Live, id: &StepId, want: &str) -> bool {
-    match live.undo(id) {
+    match live.undo(0, id) {
         Ok(removed) => match line(alloc, live, &removed) {
             Ok(bytes) => bytes.as_slice() == want.as_bytes(),
             Err(_) => false,
@@ -116,6 +116,6 @@ fn the_line_of_a_removed_step(rt: HostRuntime) {
 }
 
 #[test]
-fn refusals_have_numbers(rt: HostRuntime) {
+pub(crate) fn refusals_have_numbers(rt: HostRuntime) {
     assert_eq!(rt; ViewRefusal::Memory.number(), 0);
 }

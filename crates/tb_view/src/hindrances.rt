@@ -1,0 +1,52 @@
+//! What keeps a task from its step, as text.
+
+ghost use Rattle.std.specs.Prelude.{◌≡◌, ◌≤◌, ◌++◌, IfOk, OnOk, length, codes, string_bytes};
+ghost use Rattle.tb_model.specs.Spelling.{name_text};
+ghost use Rattle.tb_view.specs.Lines.{line};
+ghost use Rattle.tb_view.specs.Listing.{joined};
+ghost use Rattle.tb_view.specs.Waits.{told_by, wait_by};
+
+use std::alloc::AllocError;
+use tb_core::StepRefusal;
+use tb_model::TaskName;
+
+/// Appends the line of a task, of a kind of hindrance and of the task that is in the way.
+fn append_kind(
+    text: &mut String,
+    task: &TaskName,
+    kind: &str,
+    other: &TaskName,
+) -> Result<usize, AllocError>
+    ensures text { OnOk result (string_bytes text.new ≡ string_bytes text.old
+        ++ line (name_text task.now ++ codes " " ++ (kind.now ++ name_text other.now))) }
+    ensures count { IfOk result (λ n. n ≡ 1) }
+{
+    task.print(text)?;
+    text.push_str(" ")?;
+    text.push_str(kind)?;
+    other.print(text)?;
+    text.push('\n')?;
+    Ok(1)
+}
+
+/// Appends what keeps the task from its step, unless it has ended, and tells how many lines that
+/// took.
+pub(crate) fn append_hindrance(
+    text: &mut String,
+    task: &TaskName,
+    refusal: &StepRefusal,
+) -> Result<usize, AllocError>
+    ensures text { OnOk result (string_bytes text.new
+        ≡ string_bytes text.old ++ joined (wait_by task.now (told_by refusal.now))) }
+    ensures count { IfOk result (λ n. n ≡ length (wait_by task.now (told_by refusal.now))) }
+    ensures few { IfOk result (λ n. n ≤ 1) }
+{
+    match refusal {
+        StepRefusal::Undeferred { child } => append_kind(text, task, "Undeferred ", child),
+        StepRefusal::Waiting { pred } => append_kind(text, task, "Waiting ", pred),
+        StepRefusal::Excluded { by } => append_kind(text, task, "Excluded ", by),
+        StepRefusal::Children { first } => append_kind(text, task, "Children ", first),
+        StepRefusal::Group { first } => append_kind(text, task, "Group ", first),
+        _ => Ok(0),
+    }
+}

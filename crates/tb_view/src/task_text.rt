@@ -1,0 +1,133 @@
+//! One task, as text.
+
+ghost use Rattle.std.specs.Prelude.{◌≡◌, ◌++◌, IfOk, OnOk, IsTrue, None, codes, length, string_bytes};
+ghost use Rattle.tb_model.specs.Facts.{own, is_spawned};
+ghost use Rattle.tb_model.specs.State.{spawn_of, spawn_or, called_by, open_groups};
+ghost use Rattle.tb_core.specs.Scans.{history_of};
+ghost use Rattle.tb_core.specs.Seen.{history};
+ghost use Rattle.tb_core.specs.Situation.{config_of};
+ghost use Rattle.tb_live.specs.Soundness.{Fits};
+ghost use Rattle.tb_view.specs.Listing.{joined, listed, lines_of};
+ghost use Rattle.tb_view.specs.Tasks.{head_text, numbers_text, item_line, task_text};
+
+use crate::action_text::{append_args, append_place, kind};
+use crate::states::append_state;
+use crate::step_line::body_name;
+use std::alloc::{AllocError, Global};
+use tb_core::{Core, Entry};
+use tb_model::{Action, Item, TaskName};
+use tb_read::Program;
+
+/// The line that begins the body of a task.
+fn body_line(root_line: u32, entries: &[Entry], task: &TaskName) -> u32
+    ensures { result ≡ (called_by root_line (spawn_of task.now (history_of entries.now))).line }
+{
+    let mut line = root_line;
+    'entries: for entry in entries {
+        line = spawned_line(&entry.event.action, task, line);
+    }
+    line
+}
+
+/// The body's line in an action that spawns the task, else this line.
+fn spawned_line(action: &Action, task: &TaskName, line: u32) -> u32
+    ensures { result ≡ (called_by line (spawn_or task.now action.now None)).line }
+{
+    match action {
+        Action::Spawn { child, body, .. } if child == task => *body,
+        _ => line,
+    }
+}
+
+/// Appends the lines of the task's name, of its body and of its state.
+fn append_head(
+    text: &mut String,
+    program: &Program,
+    core: &Core,
+    task: &TaskName,
+) -> Result<(), AllocError>
+    requires { Fits program.now core.now.run }
+    ensures { OnOk result (string_bytes text.new
+        ≡ string_bytes text.old ++ head_text program.now (history core.now.run) task.now) }
+{
+    let begins = body_line(program.root_line(), core.legal_entries(), task);
+    text.push_str("task ")?;
+    task.print(text)?;
+    text.push_str("\nbody ")?;
+    text.push_str(body_name(program, begins))?;
+    text.push_str("\nstate ")?;
+    append_state(text, program, core, task)?;
+    text.push('\n')
+}
+
+/// Appends the lines of so many steps, of these registers and of so many open groups.
+fn append_numbers(
+    text: &mut String,
+    steps: u32,
+    regs: &[i64],
+    groups: usize,
+) -> Result<(), AllocError>
+    ensures { OnOk result (string_bytes text.new
+        ≡ string_bytes text.old ++ numbers_text steps regs.now groups) }
+{
+    writeln!(text, "steps {steps}")?;
+    text.push_str("regs")?;
+    append_args(text, regs)?;
+    writeln!(text, "\ngroups {groups}")
+}
+
+/// Appends those of the task.
+fn append_own(text: &mut String, core: &Core, task: &TaskName) -> Result<(), AllocError>
+    requires { IsTrue (is_spawned (history core.now.run) task.now) }
+    ensures { OnOk result (string_bytes text.new ≡ string_bytes text.old
+        ++ numbers_text (config_of core.now.run task.now).steps (config_of core.now.run task.now).regs
+        (length (open_groups (own task.now (history core.now.run))))) }
+{
+    let Some(config) = core.config(task)? else {
+        unreachable!()
+    };
+    append_numbers(text, config.steps, &config.regs, core.groups(task))
+}
+
+/// Appends the line of a depend item.
+fn append_item(text: &mut String, item: &Item) -> Result<(), AllocError>
+    ensures { OnOk result (string_bytes text.new
+        ≡ string_bytes text.old ++ joined (item_line item.now)) }
+{
+    text.push_str(kind(item.kind))?;
+    text.push_str(" ")?;
+    append_place(text, item.place)?;
+    text.push('\n')
+}
+
+/// Appends how many depend items these are, and the line of each.
+fn append_items(text: &mut String, items: &[Item]) -> Result<(), AllocError>
+    ensures { OnOk result (string_bytes text.new
+        ≡ string_bytes text.old ++ listed (codes "items") (lines_of item_line items.now)) }
+{
+    let count = items.len();
+    writeln!(text, "items {count}")?;
+    'items: for item in items {
+        append_item(text, item)?;
+    }
+    Ok(())
+}
+
+/// What a task is, how far it has come, and its depend items.
+pub(crate) fn task_text(
+    alloc: Global,
+    program: &Program,
+    core: &Core,
+    task: &TaskName,
+) -> Result<String, AllocError>
+    requires fits { Fits program.now core.now.run }
+    requires there { IsTrue (is_spawned (history core.now.run) task.now) }
+    ensures { IfOk result (λ text. string_bytes text
+        ≡ task_text program.now (history core.now.run) task.now) }
+{
+    let mut text = String::new(alloc);
+    append_head(&mut text, program, core, task)?;
+    append_own(&mut text, core, task)?;
+    append_items(&mut text, core.items(task))?;
+    Ok(text)
+}

@@ -1,0 +1,85 @@
+//! The tasks of a run, as text.
+
+ghost use Rattle.std.specs.Prelude.{◌≡◌, ◌++◌, IfOk, OnOk, string_bytes};
+ghost use Rattle.tb_core.specs.Scans.{history_of};
+ghost use Rattle.tb_core.specs.Seen.{history};
+ghost use Rattle.tb_live.specs.Soundness.{Fits};
+ghost use Rattle.tb_view.specs.Listing.{joined};
+ghost use Rattle.tb_view.specs.Tasks.{with_spawned, named_tasks, task_line, tasks_text};
+
+use crate::states::append_state;
+use crate::step_line::body_name;
+use std::alloc::{AllocError, Global};
+use std::collections::BTreeMap;
+use tb_core::{Core, Entry};
+use tb_model::{Action, TaskName};
+use tb_read::Program;
+
+/// Adds the task that the action spawns, where it spawns one.
+fn insert_spawned(tasks: &mut BTreeMap<TaskName, u32>, action: &Action) -> Result<(), AllocError>
+    ensures { OnOk result (tasks.new.entries ≡ with_spawned action.now tasks.old.entries) }
+{
+    match action {
+        Action::Spawn { child, body, .. } => {
+            tasks.insert(child.clone()?, *body)?;
+            Ok(())
+        }
+        _ => Ok(()),
+    }
+}
+
+/// The root and all tasks that were spawned, in the order of names, each with the line that begins
+/// its body.
+pub(crate) fn named_tasks(
+    alloc: Global,
+    root_line: u32,
+    entries: &[Entry],
+) -> Result<Vec<(TaskName, u32)>, AllocError>
+    ensures { IfOk result (λ tasks. tasks.items ≡ named_tasks root_line (history_of entries.now)) }
+{
+    let mut tasks = BTreeMap::new(alloc);
+    tasks.insert(TaskName::root(alloc), root_line)?;
+    'entries: for entry in entries {
+        insert_spawned(&mut tasks, &entry.event.action)?;
+    }
+    tasks.into_iter().collect(alloc)
+}
+
+/// Appends the line of a task.
+fn append_task(
+    text: &mut String,
+    program: &Program,
+    core: &Core,
+    task: &TaskName,
+    body: u32,
+) -> Result<(), AllocError>
+    requires { Fits program.now core.now.run }
+    ensures { OnOk result (string_bytes text.new ≡ string_bytes text.old
+        ++ joined (task_line program.now (history core.now.run) (task.now, body))) }
+{
+    task.print(text)?;
+    text.push_str(" ")?;
+    text.push_str(body_name(program, body))?;
+    text.push_str(" ")?;
+    append_state(text, program, core, task)?;
+    text.push('\n')
+}
+
+/// How many tasks there are, and the line of each.
+pub(crate) fn tasks_text(
+    alloc: Global,
+    program: &Program,
+    core: &Core,
+) -> Result<String, AllocError>
+    requires { Fits program.now core.now.run }
+    ensures { IfOk result (λ text. string_bytes text
+        ≡ tasks_text program.now (history core.now.run)) }
+{
+    let tasks = named_tasks(alloc, program.root_line(), core.legal_entries())?;
+    let count = tasks.len();
+    let mut text = format!(in alloc; "tasks {count}\n")?;
+    'tasks: for (task, body) in &tasks {
+        append_task(&mut text, program, core, task, *body)?;
+    }
+    Ok(text)
+}
