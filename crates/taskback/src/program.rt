@@ -1,14 +1,12 @@
 //! The program: options, standard streams and the exit status.
 
-use crate::counting::{CountedReader, CountedWriter};
-use crate::halt::Halt;
-use crate::session::run;
 use std::alloc::AllocError;
 use std::io::{Eprint, Input, Print};
 use std::rt::Env;
 use std::sync::Wait;
 use std::{env, io};
 use tb_options::{Settings, is_memory, settings};
+use tb_session::{CountedReader, CountedWriter, Halt, run};
 
 /// The exit status where the options are wrong.
 const USAGE: u8 = 2;

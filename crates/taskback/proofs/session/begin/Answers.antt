@@ -1,5 +1,0 @@
-use Rattle.taskback.proofs.BeginLemmas.{begin_fails}
-use Rattle.taskback.proofs.session.begin.Goals as goal
-
-pub returns-clause-begun : goal.returns-clause-begun
-returns-clause-begun g c = begin_fails c.args.limit _ _ _ _ c.in-Ok.end c.in-Err.halt c.in-Ok.ensures.gathered c.deref.ensures.value c.in-Err.ensures

@@ -1,8 +1,0 @@
-//! Sessions over memory.
-
-mod endings;
-mod fakes;
-mod lines;
-mod replies;
-mod rollbacks;
-mod views;

@@ -1,0 +1,129 @@
+-- What a session's stages come to, at each way to end.
+use Rattle.std.proofs.Common.{◌≡◌, ℕ, List, [], ◌∷◌, ◌++◌, refl, sym, ap, ◌∙◌, subst, append_assoc, append-nil, inl, inr, Option, Some, None, Result, Ok, Err}
+use Rattle.std.specs.Prelude.{IsErrOf}
+use Rattle.std.specs.Io.KnownBytes.{Consumes, IsAtEnd, prepend_known}
+use Rattle.tb_read.specs.declared.fault.ReadFault.{ReadFault}
+use Rattle.tb_read.specs.Text.{lines_of}
+use Rattle.tb_session.specs.Lines.{AreUnbroken, spelled}
+use Rattle.tb_live.specs.Session.{Session, opened}
+use Rattle.tb_session.specs.Reading.{IsProgram}
+use Rattle.tb_session.specs.Answer.{command_lines, program_text, Replies, AnswerTo, Ran, Refuses}
+use Rattle.tb_session.specs.Stages.{Divides, Ends, Begun, Served}
+use Rattle.tb_session.specs.declared.halt.Halt.{Halt}
+use Rattle.tb_session.specs.declared.halt.Halt.TheVariants.{Refused, Read, Write, Memory, Journal}
+use Rattle.tb_session.proofs.KnownLemmas.{consumes_trans, appends_nil}
+use Rattle.tb_session.proofs.LineLemmas.{lines_of_spelled, spelled_append}
+use Rattle.tb_session.proofs.GatherLemmas.{program_of_divided, commands_of_divided}
+
+-- what was taken of the unread bytes, and what is still held, was read
+from_unread : (a b : Option (List ℕ)) (held bytes : List ℕ) → Consumes (prepend_known [] a) (prepend_known held b) bytes → Consumes a b (bytes ++ held)
+from_unread None b held bytes p = tt
+from_unread (Some x) None held bytes p = absurd p
+from_unread (Some x) (Some y) held bytes p = p ∙ sym (append_assoc bytes held y)
+
+-- where nothing is held
+from_unread_all : (a b : Option (List ℕ)) (held bytes : List ℕ) → Consumes (prepend_known [] a) (prepend_known held b) bytes → held ≡ [] → Consumes a b bytes
+from_unread_all a b held bytes p e =
+    let P : List ℕ → Type 0 = λ l. Consumes a b l in
+    subst P (ap (λ l. bytes ++ l) e ∙ append-nil bytes) (from_unread a b held bytes p)
+
+-- at the end nothing is held
+from_unread_end : (a b : Option (List ℕ)) (held bytes : List ℕ) → Consumes (prepend_known [] a) (prepend_known held b) bytes → IsAtEnd (prepend_known held b) → Consumes a b bytes × IsAtEnd b
+from_unread_end None None held bytes p e = (tt, tt)
+from_unread_end None (Some y) [] bytes p e = (tt, e)
+from_unread_end None (Some y) (h ∷ held) bytes p e = cc
+from_unread_end (Some x) None held bytes p e = absurd p
+from_unread_end (Some x) (Some y) [] bytes p e = (p, e)
+from_unread_end (Some x) (Some y) (h ∷ held) bytes p e = cc
+
+refuses_left : (left : Option (List ℕ)) (fault : ReadFault) → Refuses fault (prepend_known [] left) → Refuses fault left
+refuses_left None fault r = tt
+refuses_left (Some x) fault r = r
+
+-- ---- a session that ends before its first command
+
+pub ran_no_command : (limit : ℕ) (left rest before : Option (List ℕ)) (held : List ℕ) → Ends (prepend_known [] left) (prepend_known held rest) → Ran limit left rest before before (Ok tt)
+ran_no_command limit left rest before held e =
+    let w = e.whole in
+    let read = from_unread_end left rest held w.all w.bytes w.end in
+    let P : List ℕ → Type 0 = λ l. IsProgram l e.program in
+    let R : List (List ℕ) → Type 0 = λ ls. Replies (opened e.program limit 65) ls [] in
+    (w.all, [], read.0, read.1, (e.program, subst P w.is_text e.says, subst R (sym w.no_commands) (opened e.program limit 65, (refl, refl))), appends_nil before)
+
+not_begun : (limit : ℕ) (left rest before : Option (List ℕ)) (held : List ℕ) (halt : Halt) → Begun limit (prepend_known [] left) (prepend_known held rest) (Err halt) → (halt ≡ Read → held ≡ []) → Ran limit left rest before before (Err halt)
+not_begun limit left rest before held (Refused fault) b emptied = (refuses_left left fault b, appends_nil before)
+not_begun limit left rest before held Read b emptied =
+    (b.0, b.1, [], from_unread_all left rest held _ b.2 (emptied refl), b.3, b.4, inl (b.5, refl), appends_nil before)
+not_begun limit left rest before held Write b emptied = absurd b
+not_begun limit left rest before held Journal b emptied = absurd b
+not_begun limit left rest before held Memory b emptied =
+    let P : List ℕ → Type 0 = λ l. Consumes left rest l in
+    (b.0, b.1 ++ held, [], subst P (append_assoc (spelled b.0) b.1 held) (from_unread left rest held _ b.2), b.3, inl (b.4, refl), appends_nil before)
+
+-- the reader holds nothing at first
+pub ran_not_begun : (limit : ℕ) (left rest before : Option (List ℕ)) (first held : List ℕ) (halt : Halt) → first ≡ [] → Begun limit (prepend_known first left) (prepend_known held rest) (Err halt) → (halt ≡ Read → held ≡ []) → Ran limit left rest before before (Err halt)
+ran_not_begun limit left rest before first held halt none b emptied =
+    let P : List ℕ → Type 0 = λ l. Begun limit (prepend_known l left) (prepend_known held rest) (Err halt) in
+    not_begun limit left rest before held halt (subst P none b) emptied
+
+-- ---- a session with commands
+
+unbroken_append : (xs ys : List (List ℕ)) → AreUnbroken xs → AreUnbroken ys → AreUnbroken (xs ++ ys)
+unbroken_append [] ys h k = k
+unbroken_append (x ∷ xs) ys h k = (h.0, unbroken_append xs ys h.1 k)
+
+module _ (limit : ℕ) (left mid : Option (List ℕ)) (s : Session) (d : Divides limit (prepend_known [] left) mid s) where
+  -- all lines in front of the commands
+  head : List (List ℕ)
+  head = d.divided.program ++ d.divided.divider ∷ []
+
+  -- the whole lines, from those of the commands
+  joined : (lines : List (List ℕ)) → head ++ lines ≡ d.divided.program ++ d.divided.divider ∷ lines
+  unfolding head
+  joined lines = append_assoc d.divided.program (d.divided.divider ∷ []) lines
+
+  -- replies to the commands are an answer to all
+  answers : (lines : List (List ℕ)) (out : List ℕ) → Replies s lines out → AnswerTo limit (head ++ lines) out
+  answers lines out r =
+      let program : program_text (head ++ lines) ≡ d.text =
+      ap program_text (joined lines) ∙ (ap spelled (program_of_divided d.divided.program d.divided.divider lines d.divided.undivided d.divided.divides) ∙ sym d.divided.is_text) in
+      let commands : command_lines (head ++ lines) ≡ lines =
+      ap command_lines (joined lines) ∙ commands_of_divided d.divided.program d.divided.divider lines d.divided.undivided d.divided.divides in
+      let P : List ℕ → Type 0 = λ l. IsProgram l d.program in
+      let R : List (List ℕ) → Type 0 = λ ls. Replies (opened d.program limit 65) ls out in
+      let S : Session → Type 0 = λ t. Replies t lines out in
+      (d.program, subst P (sym program) d.says, subst R (sym commands) (subst S d.opens r))
+
+  taken : (new : Option (List ℕ)) (bytes : List ℕ) → Consumes mid new bytes → Consumes (prepend_known [] left) new (spelled head ++ bytes)
+  unfolding head
+  taken new bytes t = consumes_trans (prepend_known [] left) mid new (spelled (d.divided.program ++ d.divided.divider ∷ [])) bytes d.divided.bytes t
+
+  taken_lines : (new : Option (List ℕ)) (lines : List (List ℕ)) (part : List ℕ) → Consumes mid new (spelled lines ++ part) → Consumes (prepend_known [] left) new (spelled (head ++ lines) ++ part)
+  taken_lines new lines part t =
+      let P : List ℕ → Type 0 = λ l. Consumes (prepend_known [] left) new l in
+      subst P (sym (append_assoc (spelled head) (spelled lines) part) ∙ ap (λ l. l ++ part) (sym (spelled_append head lines))) (taken new (spelled lines ++ part) t)
+
+  unbroken : (lines : List (List ℕ)) → AreUnbroken lines → AreUnbroken (head ++ lines)
+  unfolding head
+  unbroken lines u = unbroken_append (d.divided.program ++ d.divided.divider ∷ []) lines d.divided.unbroken u
+
+  lines_all : (bytes : List ℕ) → lines_of (spelled head ++ bytes) ≡ head ++ lines_of bytes
+  unfolding head
+  lines_all bytes = lines_of_spelled (d.divided.program ++ d.divided.divider ∷ []) bytes d.divided.unbroken
+
+  answers_all : (bytes out : List ℕ) → Replies s (lines_of bytes) out → AnswerTo limit (lines_of (spelled head ++ bytes)) out
+  answers_all bytes out r = let P : List (List ℕ) → Type 0 = λ ls. AnswerTo limit ls out in subst P (sym (lines_all bytes)) (answers (lines_of bytes) out r)
+
+  pub ran_commands : (rest before after : Option (List ℕ)) (held : List ℕ) (result : Result (Unit {0}) Halt) → Served s mid (prepend_known held rest) before after result → (IsErrOf result Read → held ≡ []) → Ran limit left rest before after result
+  ran_commands rest before after held (Ok u) r emptied =
+      let read = from_unread_end left rest held _ (taken (prepend_known held rest) r.0 r.2) r.3 in
+      (spelled head ++ r.0, r.1, read.0, read.1, answers_all r.0 r.1 r.4, r.5)
+  ran_commands rest before after held (Err (Refused fault)) r emptied = absurd r
+  ran_commands rest before after held (Err Journal) r emptied = absurd r
+  ran_commands rest before after held (Err Read) r emptied =
+      (head ++ r.0, r.1, r.2, from_unread_all left rest held _ (taken_lines (prepend_known held rest) r.0 r.1 r.3) (emptied refl), unbroken r.0 r.4, r.5, inr (answers r.0 r.2 r.6), r.7)
+  ran_commands rest before after held (Err Write) r emptied =
+      (spelled head ++ r.0, held, r.1, r.2, from_unread left rest held _ (taken (prepend_known held rest) r.0 r.3), answers_all r.0 r.1 r.4, r.5)
+  ran_commands rest before after held (Err Memory) r emptied =
+      let P : List ℕ → Type 0 = λ l. Consumes left rest l in
+      (head ++ r.0, r.1 ++ held, r.2, subst P (append_assoc (spelled (head ++ r.0)) r.1 held) (from_unread left rest held _ (taken_lines (prepend_known held rest) r.0 r.1 r.3)), unbroken r.0 r.4, inr (answers r.0 r.2 r.5), r.6)

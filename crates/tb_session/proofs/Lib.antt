@@ -1,0 +1,15 @@
+pub mod KnownLemmas
+pub mod PieceLemmas
+pub mod ResultLemmas
+pub mod LineLemmas
+pub mod GatherLemmas
+pub mod RunLemmas
+pub mod ServeLemmas
+pub mod BeginLemmas
+pub mod EndLemmas
+pub mod TotalLemmas
+pub mod NumberLemmas
+pub mod CourseLemmas
+pub mod RolledLemmas
+pub mod CommandLemmas
+pub mod BodyLemmas

@@ -1,0 +1,20 @@
+use Rattle.std.proofs.Common.{rules}
+use Rattle.tb_session.proofs.ServeLemmas.{serve_halts, serve_more, serve_ends}
+use Rattle.tb_session.proofs.serving.serve.Goals as goal
+
+pub returns-in-Err-clause-served : goal.returns-in-Err-clause-served
+returns-in-Err-clause-served g c =
+    serve_halts _ _ _ _ _ _ _ _ _ _ _ c.in-Ok.end c.in-Err.halt c.lines.invariant.served c.in-Ok.ensures.line c.deref.ensures.value c.in-Err.ensures.answered
+
+pub lines-preserved : goal.lines-preserved
+lines-preserved g c = record {
+  can = tt;
+  ends = tt;
+  served = serve_more _ _ _ _ _ _ _ _ _ _ _ c.in-Ok.end c.lines.invariant.served c.in-Ok.ensures.line c.deref.ensures.value c.in-Ok-answer_line.ensures.answered c.in-Feed.is;
+  reads = search rules;
+  writes = search rules;
+}
+
+pub returns-in-Input-clause-served : goal.returns-in-Input-clause-served
+returns-in-Input-clause-served g c =
+    serve_ends _ _ _ _ _ _ _ _ _ _ _ c.in-Ok.end c.lines.invariant.served c.in-Ok.ensures.line c.deref.ensures.value c.in-Ok-answer_line.ensures.answered c.in-Input.is

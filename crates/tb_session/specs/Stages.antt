@@ -1,0 +1,112 @@
+-- What the stages of a session come to, by what was to come before and what is to come after.
+use Rattle.std.specs.Prelude.{◌≡◌, ℕ, List, [], ◌∷◌, ◌++◌, take, Option, Result, Ok, Err, Bool, true, false, ⊤}
+use Rattle.std.specs.Io.KnownBytes.{Consumes, IsAtEnd, Appends}
+use Rattle.tb_model.specs.Program.{Program}
+use Rattle.tb_read.specs.Text.{lines_of}
+use Rattle.tb_session.specs.Lines.{last_line, spelled, AreUnbroken, IsUnbroken, is_divider}
+use Rattle.tb_session.specs.Reading.{IsProgram, IsRefused}
+use Rattle.tb_live.specs.Session.{Session, Held, opened}
+use Rattle.tb_session.specs.Replies.{Answers}
+use Rattle.tb_session.specs.Answer.{Replies, AreUndivided, program_text, command_lines, Refuses}
+use Rattle.tb_session.specs.declared.halt.Halt.{Halt}
+use Rattle.tb_session.specs.declared.halt.Halt.TheVariants.{Refused, Read, Write, Memory}
+use Rattle.tb_session.specs.declared.line_reader.LineEnd.{LineEnd}
+use Rattle.tb_session.specs.declared.line_reader.LineEnd.TheVariants.{Feed, Input}
+use Rattle.tb_session.specs.declared.line_reader.LineFault.{LineFault}
+use Rattle.tb_session.specs.declared.line_reader.LineFault.TheVariants.{Read as NotRead, Memory as NoMemory}
+
+-- whole lines of the program were taken, and a part of one more
+abbrev pub Cut : Option (List ℕ) → Option (List ℕ) → Type 0
+Cut old new = (lines : List (List ℕ)) × (part : List ℕ) × Consumes old new (spelled lines ++ part) × AreUnbroken lines × IsUnbroken part × AreUndivided lines
+
+-- the same, with whole lines left
+abbrev pub Halted : Option (List ℕ) → Option (List ℕ) → Type 0
+Halted old new = (lines : List (List ℕ)) × (more : List ℕ) × Consumes old new (spelled lines ++ more) × AreUnbroken lines × AreUndivided lines
+
+-- the lines of the program, and the divider behind them
+pub record Divided (old new : Option (List ℕ)) (text : List ℕ) : Type 0 where
+  pub program : List (List ℕ)
+  pub divider : List ℕ
+  pub bytes : Consumes old new (spelled (program ++ divider ∷ []))
+  pub unbroken : AreUnbroken (program ++ divider ∷ [])
+  pub undivided : AreUndivided program
+  pub divides : is_divider divider ≡ true
+  pub is_text : text ≡ spelled program
+
+-- all that came is the program, and perhaps its divider
+pub record Whole (old new : Option (List ℕ)) (text : List ℕ) : Type 0 where
+  pub all : List ℕ
+  pub bytes : Consumes old new all
+  pub end : IsAtEnd new
+  pub no_commands : command_lines (lines_of all) ≡ []
+  pub is_text : text ≡ program_text (lines_of all)
+
+-- the program text was taken, and is this
+abbrev pub Gathered : Option (List ℕ) → Option (List ℕ) → List ℕ → Result LineEnd LineFault → Type 0
+Gathered old new text (Ok Feed) = Divided old new text
+Gathered old new text (Ok Input) = Whole old new text
+Gathered old new text (Err NotRead) = Cut old new
+Gathered old new text (Err NoMemory) = Halted old new
+
+-- commands were taken, and their replies written
+abbrev pub Served : Session → Option (List ℕ) → Option (List ℕ) → Option (List ℕ) → Option (List ℕ) → Result (Unit {0}) Halt → Type 0
+Served s old new before after (Ok u) = (bytes : List ℕ) × (out : List ℕ) × Consumes old new bytes × IsAtEnd new × Replies s (lines_of bytes) out × Appends before after out
+Served s old new before after (Err Read) =
+    (lines : List (List ℕ)) × (part : List ℕ) × (out : List ℕ) × Consumes old new (spelled lines ++ part)
+    × AreUnbroken lines × IsUnbroken part × Replies s lines out × Appends before after out
+Served s old new before after (Err Write) = (bytes : List ℕ) × (out : List ℕ) × (n : ℕ) × Consumes old new bytes × Replies s (lines_of bytes) out × Appends before after (take n out)
+Served s old new before after (Err Memory) =
+    (lines : List (List ℕ)) × (more : List ℕ) × (out : List ℕ) × Consumes old new (spelled lines ++ more)
+    × AreUnbroken lines × Replies s lines out × Appends before after out
+Served s old new before after (Err _) = ⊥
+
+-- one line was answered, or a part of its reply was written
+abbrev pub Answered : Session → List ℕ → Session → Option (List ℕ) → Option (List ℕ) → Result (Unit {0}) Halt → Type 0
+Answered old line new before after (Ok u) = (reply : List ℕ) × Answers old line reply new × Appends before after reply
+Answered old line new before after (Err Write) = (reply : List ℕ) × (n : ℕ) × Answers old line reply new × Appends before after (take n reply)
+Answered old line new before after (Err Memory) = Appends before after []
+Answered old line new before after (Err _) = ⊥
+
+-- a session of the text's program, in front of its first command
+abbrev pub Opens : ℕ → List ℕ → Result Held Halt → Type 0
+Opens limit text (Ok held) = (P : Program) × IsProgram text P × (held.session ≡ opened P limit 65)
+Opens limit text (Err (Refused fault)) = IsRefused text fault
+Opens limit text (Err Memory) = ⊤
+Opens limit text (Err _) = ⊥
+
+-- a whole line is always one, a last piece unless it is empty
+abbrev pub line_at : LineEnd → List ℕ → List (List ℕ)
+line_at Feed line = line ∷ []
+line_at Input line = last_line line
+
+-- the line is the divider, or went to the text
+abbrev pub Kept : List ℕ → LineEnd → List ℕ → List ℕ → Bool → Type 0
+Kept line end text new true = (is_divider line ≡ true) × (new ≡ text)
+Kept line end text new false = (is_divider line ≡ false) × (new ≡ text ++ spelled (line_at end line))
+
+-- the program's lines and the divider were taken, and this is the session of that program
+pub record Divides (limit : ℕ) (old new : Option (List ℕ)) (s : Session) : Type 0 where
+  pub text : List ℕ
+  pub divided : Divided old new text
+  pub program : Program
+  pub says : IsProgram text program
+  pub opens : s ≡ opened program limit 65
+
+-- all that came is a program that is accepted
+pub record Ends (old new : Option (List ℕ)) : Type 0 where
+  pub text : List ℕ
+  pub whole : Whole old new text
+  pub program : Program
+  pub says : IsProgram text program
+
+-- the program was taken, and opens this session
+abbrev pub Opened : ℕ → Option (List ℕ) → Option (List ℕ) → Session → LineEnd → Type 0
+Opened limit old new s Feed = Divides limit old new s
+Opened limit old new s Input = Ends old new
+
+abbrev pub Begun : ℕ → Option (List ℕ) → Option (List ℕ) → Result (Held × LineEnd) Halt → Type 0
+Begun limit old new (Ok begun) = Opened limit old new begun.0.session begun.1
+Begun limit old new (Err (Refused fault)) = Refuses fault old
+Begun limit old new (Err Read) = Cut old new
+Begun limit old new (Err Memory) = Halted old new
+Begun limit old new (Err _) = ⊥
