@@ -6,8 +6,7 @@
 COMMAND gets a session on standard input, with `--limit L` behind its words, and has to write what
 the program has to write: output, standard error and exit status are compared. A session that
 differs is kept in DIR. The programs are of the whole language, and some have faults. The commands
-are `step`, `run`, `undo`, `roll`, `rolltask`, `rollcell`, `rollprint` and the views, malformed ones
-among them. Most name tasks and steps that were there when the program was run on the session
+are all that there are, `go` with one worker, and malformed ones among them. Most name tasks and steps that were there when the program was run on the session
 so far, so that undos and rollbacks meet the middle of a history.
 """
 import argparse
@@ -35,6 +34,11 @@ MALFORMED = ['fly', 'step', 'step 00', 'step 0 0', 'step 0.', 'step 0.0', 'step 
              'run 4294967297', 'run 18446744073709551617', 'run 0', 'run 000000000000000000000000000003', 'roll', 'roll 0', 'roll 0#0',
              'roll 0#1 2', 'rolltask', 'rolltask 0#1', 'rolltask 00', 'rollcell', 'rollcell x', 'rollcell -0', 'rollcell 65536',
              'rollcell 65535', 'rollcell 000', 'rollcell 0 1', 'rollprint 0', 'rollprint #', 'rolls 0#1', 'hist 1', 'hist #', 'Hist',
+             'break', 'break zzz', 'break zzz 1 2', 'break task', 'break task 00', 'break task 0 0', 'break cell', 'break cell x',
+             'break cell 65536', 'break cell 65535', 'break cell 000', 'break body', 'break body 9x', 'break body a b', 'break body é',
+             'break print 1', 'break fault #', 'break Print', 'clear', 'clear x', 'clear -1', 'clear 1000001', 'clear 1000000',
+             'clear 0', 'clear 01', 'go', 'go 1', 'go 0 5', 'go 65 5', 'go x 5', 'go 1 x', 'go 1 -1', 'go 1 1000001', 'go 1 1 1',
+             'go 01 002', 'go 1 0', 'tasks 0', 'task', 'task 00', 'task 0#1', 'ready 0', 'waits #', 'deps', 'deps 0 0', 'deps 0.0', 'breaks 1',
              'why', 'why 0', 'why 0#0', 'why 0#1 0#2', 'why #1', 'who', 'who 00#1', 'who 0#01', 'who 0#1 x', 'whys 0#1']
 STEP = re.compile(rb'^(0(?:\.\d+)*)#(\d+) (.*)$', re.MULTILINE)
 
@@ -156,6 +160,8 @@ def pick_command(r, steps, newest, scattered, wild):
     """A command on a session that wrote these steps, each with its task, its number and its text."""
     if r.random() < wild:
         return r.choice(MALFORMED)
+    if r.random() < 0.25:
+        return pick_break_or_view(r, steps)
     kind = r.random()
     if kind < (0.7 if scattered else 0.4):
         return 'step ' + pick_task(r, steps)
@@ -171,6 +177,18 @@ def pick_command(r, steps, newest, scattered, wild):
         task, number, _ = r.choice(r.choice([steps, newest]))
         return r.choice(['why', 'who']) + ' %s#%s' % (task, number)
     return r.choice(['cells', 'out', 'hist', 'why 0.2#2', 'who 0.1#1', 'undo 0.1#1', 'undo 0#%d' % r.randrange(1, 30)])
+
+
+def pick_break_or_view(r, steps):
+    """A breakpoint, a `go` of one worker that may meet it, or a view of tasks."""
+    return r.choice([
+        'go 1 %d' % r.choice([0, 1, 2, 5, 20, 100]),
+        'go 1 %d' % r.choice([1, 3, 10]),
+        r.choice(['break print', 'break fault', 'break cell %d' % r.randrange(4), 'break task ' + pick_task(r, steps),
+                  'break body ' + r.choice(['main', 'a', 'b', '_x1', 'longer_name', 'none'])]),
+        'clear %d' % r.choice([1, 1, 2, 3, 4]),
+        r.choice(['tasks', 'ready', 'waits', 'breaks']),
+        r.choice(['task ', 'deps ']) + pick_task(r, steps)])
 
 
 def pick_rollback(r, steps, newest):
