@@ -35,6 +35,10 @@ KEPT = program('cells 1', 'body main 0', '  let r0 0', '  while r0 < 10000', '  
 SPAWN_ALL = b'run 30004\nstep 0.10000\n'
 
 
+def turns(count):
+    return b'run 4\n' + b'step 0.1\nstep 0.2\n' * count
+
+
 def long_text():
     return program('cells 1', 'body main 0', *['  store 0 %d' % n for n in range(65533)], 'end')
 
@@ -47,11 +51,12 @@ SESSIONS = [
     ('rollbacks of half of 100,000 steps', HALVES + b'run 100000\n', b'rolltask 0.2\nrun 100000\n' * 2),
     ('rollbacks of 12 of 100,000 steps', HALVES + b'run 100000\n', b'roll 0.2#49990\nrun 100\n' * 10),
     ('hist of 100,000 steps', HALVES + b'run 100000\n', b'hist\n'),
-    ('why of 50,000 steps', HALVES + b'run 100000\n', b'why 0.2#49990\n'),
-    ('who of 50,000 steps', HALVES + b'run 100000\n', b'who 0.2#1\n'),
+    ('why of 5,000 steps behind 10,000', HALVES + turns(5000), b'why 0.2#5000\n'),
+    ('why of 10,000 steps behind 20,000', HALVES + turns(10000), b'why 0.2#10000\n'),
+    ('who of 10,000 steps in 20,000', HALVES + turns(10000), b'who 0.2#1\n'),
     ('tasks of 10,001 tasks', KEPT + SPAWN_ALL, b'tasks\n' * 10),
     ('waits of 10,001 tasks', KEPT + SPAWN_ALL, b'waits\n'),
-    ('1,000 steps behind 9,999 tasks that are kept', KEPT + SPAWN_ALL, b'run 1000\n'),
+    ('10 steps behind 9,999 tasks that are kept', KEPT + SPAWN_ALL, b'run 10\n'),
     ('a program of 65,536 lines', long_text(), b'run 1000000\n'),
     ('200,000 small commands', HALVES + b'run 10\n', b'step 0.1\nundo 0.1#4\nout\ndeps 0.2\n' * 50000),
 ]
