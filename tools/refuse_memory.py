@@ -1,9 +1,9 @@
 #!/usr/bin/env python3
 """Refuses each allocation in turn: of the tests whose name says `refused_growth`, and of whole sessions.
 
-    tools/refuse_memory.py        after `rt ci`, or `rt test` in each crate and `./run` once
+    tools/refuse_memory.py [SESSION..]        after `rt ci`, or `rt test` in each crate and `./run` once
 
-A test has to pass whichever allocation fails: it makes a refused call again, and asks that nothing
+Without a session these are the examples and two stored cases. A test has to pass whichever allocation fails: it makes a refused call again, and asks that nothing
 had changed. A session has to give its whole output, or a beginning of it that ends with a whole
 reply, and then `taskback: memory` and status 3.
 """
@@ -39,6 +39,11 @@ def refuse_each(name, command, library, is_right, text=b''):
             return wrong
 
 
+def sessions():
+    stored = ('sums_that_exclude_each_other', 'views_of_order_and_exclusion')
+    return sorted(glob.glob(os.path.join(TOP, 'examples/*.session'))) + [os.path.join(TOP, 'crates/tb_session_rows/data', name + '.session') for name in stored]
+
+
 def main():
     wrong = 0
     with tempfile.TemporaryDirectory() as folder:
@@ -49,7 +54,7 @@ def main():
             for test in re.findall(r'[\w:]*refused_growth\w*', listed):
                 wrong += refuse_each(test, [tests, test], library, lambda status, out, err: status == 0)
         program = os.path.join(TOP, 'crates/taskback/out/taskback')
-        for session in sorted(glob.glob(os.path.join(TOP, 'examples/*.session'))):
+        for session in sys.argv[1:] or sessions():
             with open(session, 'rb') as opened:
                 text = opened.read()
             whole = subprocess.run([program], input=text, capture_output=True).stdout
