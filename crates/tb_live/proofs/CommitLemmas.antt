@@ -1,6 +1,6 @@
 -- A plan that was made at some time, and is taken now.
 use Rattle.std.proofs.Common.{◌≡◌, ◌≢◌, ◌<◌, ◌≤◌, ◌↔◌, ℕ, List, Bool, true, false, nat_le, length, reverse, refl, sym, ap, ap₂, ◌∙◌, subst, Option, Some, None, option_map, arith}
-use Rattle.std.specs.Prelude.{Result, Ok, Err, IfSome, IfNone, IsSome, IsOk, IfOk}
+use Rattle.std.specs.Prelude.{Result, Ok, Err, IfOk}
 use Rattle.std.specs.List.{list_any}
 use Rattle.std.proofs.lemmas.Bool.{false≢true, both_ways}
 use Rattle.std.proofs.lemmas.Bool.Decides.{nat_tests}
@@ -38,13 +38,13 @@ use Rattle.tb_live.specs.Session.{Session, Held, history, is_full}
 use Rattle.tb_live.specs.Moves.{MayStep, Refuses, refusal_for, coming}
 use Rattle.tb_live.specs.Moves as moves
 use Rattle.tb_live.specs.Commits.{IsClaimed, IsOffered, IsUpToDate, MayCommit, RefusesPlan, RefusesCommit, Commits, IsPrepared, entry_to_come}
-use Rattle.tb_live.specs.Plans.{IsPlanOf, IsOfProgram, IsNative, IsForeign, IsKeptFrom, IsRefusalTo, IsRefusalOf, IsTold, HasNone, Enters, has_no_place}
+use Rattle.tb_live.specs.Plans.{IsPlanOf, IsOfProgram, IsNative, IsForeign, IsKeptFrom, IsRefusalTo, IsRefusalOf, IsTold, Enters, has_no_place}
 use Rattle.tb_live.specs.Preparing.{IsReadied, HasStepRoom, HasRoom, entry_of}
 use Rattle.tb_live.specs.Soundness.{Fits, IsSound, IsLawful}
 use Rattle.tb_live.specs.Working.{configuration}
 use Rattle.tb_live.proofs.PlanLemmas.{IsPlan, plan_fits, plan_next, refusal_of_plan}
 use Rattle.tb_live.proofs.RunLemmas.{shown, has_place}
-use Rattle.tb_live.proofs.StepLemmas.{Keeps, entered, refused, stays, no_plan, missing_so, over_so}
+use Rattle.tb_live.proofs.StepLemmas.{Keeps, entered, refused, stays, no_plan}
 use Rattle.tb_live.proofs.WorkLemmas.{config_so}
 
 -- ---- a plan of the program
@@ -231,18 +231,6 @@ module _ (P : Program) (limit : ℕ) (entries : List Entry) (before : Control) (
 
 -- ---- what a task's refusal is
 
-pub no_plan_so : (P : Program) (run : Seen) (t : Name) (e : StepRefusal) → HasNone run t e → (e ≢ Memory) → IsRefusalTo P run t e
-no_plan_so P run t NoSuchTask k m = missing_so P (core.history run) t k
-no_plan_so P run t Ended k m = over_so P (core.history run) t k.0 k.1
-no_plan_so P run t Memory k m = absurd (m refl)
-no_plan_so P run t (Waiting u) k m = absurd k
-no_plan_so P run t (Excluded u) k m = absurd k
-no_plan_so P run t (Children u) k m = absurd k
-no_plan_so P run t (Group u) k m = absurd k
-no_plan_so P run t (Undeferred u) k m = absurd k
-no_plan_so P run t Full k m = absurd k
-no_plan_so P run t (Stale now) k m = absurd k
-
 pub told_so : (P : Program) (run : Seen) (t : Name) (p : Plan) (e : StepRefusal) (o : Option StepRefusal) → Fits P run → IsPlanOf P run t p → IsKept run p e → IsTold e o → IsRefusalOf P run t o
 told_so P run t p e None f plan k told = refusal_of_plan P run t p f plan ∙ ap (option_map By) (full_clear (subst (IsKept run p) told k))
   where
@@ -274,30 +262,6 @@ told_result P run t p e (Err x) f plan k told = told
 
 pub clear_so : (P : Program) (run : Seen) (t : Name) (p : Plan) → Fits P run → IsPlanOf P run t p → IsOpen run p → refusal_of P (core.history run) t ≡ None
 clear_so P run t p f plan o = refusal_of_plan P run t p f plan ∙ ap (option_map By) o.clear
-
--- the same, told of the session
-pub hinders_so : (P : Program) (limit : ℕ) (entries : List Entry) (before : Control) (run : Seen) (s : Session) → shown P limit entries before ≡ s → IsSound P limit (reverse entries) run → (t : Name) (o : Option StepRefusal) → IsRefusalOf P run t o
-    → IfSome o (moves.Hinders s t) × IfNone o (refusal_for s t ≡ None)
-hinders_so P limit entries before run s shows sound t o k = at o k
-  where
-    so : refusal_for s t ≡ refusal_of P (core.history run) t
-    so = ap (λ (z : Session). refusal_for z t) (sym shows) ∙ ap (λ H. refusal_of P H t) (sym sound.leaves)
-
-    one : (e : StepRefusal) → IsRefusalTo P run t e → moves.Hinders s t e
-    one NoSuchTask k = so ∙ k
-    one Ended k = so ∙ k
-    one (Waiting u) k = so ∙ k
-    one (Excluded u) k = so ∙ k
-    one (Children u) k = so ∙ k
-    one (Group u) k = so ∙ k
-    one (Undeferred u) k = so ∙ k
-    one Memory k = absurd k
-    one Full k = absurd k
-    one (Stale now) k = absurd k
-
-    at : (o : Option StepRefusal) → IsRefusalOf P run t o → IfSome o (moves.Hinders s t) × IfNone o (refusal_for s t ≡ None)
-    at None k = (tt, so ∙ k)
-    at (Some e) k = (one e k, tt)
 
 -- ---- the answers of a Live
 
