@@ -1,5 +1,5 @@
 -- What a core tells of a task, and why a plan is refused.
-use Rattle.std.proofs.Common.{◌≡◌, ◌≢◌, ◌↔◌, inl, inr, List, [], ◌∷◌, Bool, true, false, cond, length, refl, sym, ap, ◌∙◌, arith, Option, Some, None, unwrap_or, nat_lt, not, nat_le}
+use Rattle.std.proofs.Common.{◌≡◌, ◌≢◌, ◌↔◌, inl, inr, List, [], ◌∷◌, Bool, true, false, cond, length, refl, sym, ap, ◌∙◌, arith, Option, Some, None, unwrap_or, nat_lt, nat_le}
 use Rattle.std.specs.List.{AllByRecursion, list_all}
 use Rattle.std.specs.Option.{option_map}
 use Rattle.std.proofs.lemmas.Bool.{false≢true, true≢false, and_parts}
@@ -21,9 +21,6 @@ use Rattle.tb_read.specs.declared.planned.Plan.{Plan}
 use Rattle.tb_read.specs.declared.config.Config.{Config}
 use Rattle.tb_read.specs.Plans.{names_allowed, is_placed, is_place}
 use Rattle.tb_undo.specs.declared.standing.Standing.{Standing}
-use Rattle.tb_undo.specs.declared.obstacle.Obstacle.{Obstacle}
-use Rattle.tb_undo.specs.Obstacles.{hindrance_by}
-use Rattle.std.specs.Prelude.{is_some}
 use Rattle.tb_undo.specs.State.{known_task, task_of}
 use Rattle.tb_undo.specs.Readings.{standing_of}
 use Rattle.tb_core.specs.declared.step_refusal.StepRefusal.{StepRefusal}
@@ -223,10 +220,3 @@ kept_closed s p (Undeferred u) k o = hindered_closed s p _ k o
 -- a step that is open wants memory
 pub open_refuses : (s : Seen) (p : Plan) → IsOpen s p → Refuses s p Memory
 open_refuses s p o = inl o
-
--- nothing was found exactly where nothing is in the way
-pub clear_by : (t : Name) (o : Option Obstacle) (h : Option Hindrance) (b : Bool) → h ≡ option_map (hindrance_by t) o → is_some o ≡ not b → (b ≡ true) ↔ (h ≡ None)
-clear_by t None h true found same = (λ e. found, λ e. refl)
-clear_by t None h false found same = absurd (false≢true same)
-clear_by t (Some x) h true found same = absurd (false≢true (sym same))
-clear_by t (Some x) h false found same = (λ e. absurd (false≢true e), λ e. cc (found, e))

@@ -189,9 +189,7 @@ impl Core {
         requires current { IsCurrent self.now.run plan.now }
         ensures { IsTrue result ↔ (hindrance_of self.now.run plan.now ≡ None) }
     {
-        self.tables
-            .in_the_way(&plan.config.task, &plan.action)
-            .is_none()
+        self.tables.is_clear(&plan.config.task, &plan.action)
     }
 
     /// Why a step of this plan would be refused now.

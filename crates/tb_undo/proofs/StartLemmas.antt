@@ -1,5 +1,5 @@
 -- What the tables of a history tell of one task: its own part, and what keeps it from its start.
-use Rattle.std.proofs.Common.{◌≡◌, ◌<◌, ◌≤◌, ◌&&◌, ℕ, List, [], ◌∷◌, true, false, cond, not, Option, Some, None, option_map, drop, length, slice_get, refl, sym, ap, ◌∙◌, subst, arith}
+use Rattle.std.proofs.Common.{◌≡◌, ◌<◌, ◌≤◌, ◌&&◌, ℕ, List, [], ◌∷◌, true, false, cond, not, Option, Some, None, option_map, drop, length, slice_get, is_some, IsTrue, refl, sym, ap, ◌∙◌, subst, arith}
 use Rattle.std.specs.List.{list_any}
 use Rattle.std.proofs.lemmas.Bool.{and_parts, false≢true}
 use Rattle.tb_model.specs.declared.action.Action.{Action}
@@ -19,7 +19,7 @@ use Rattle.tb_undo.specs.Tasks.{Task, row, seen_row}
 use Rattle.tb_undo.specs.State.{Seen, IsState, known_task}
 use Rattle.tb_undo.specs.Obstacles.{IsUnendedWhere, IsKnown, sibling}
 use Rattle.tb_undo.proofs.ObstacleLemmas.{waited_least, none_excluding, excluding_least}
-use Rattle.tb_undo.proofs.ReasonLemmas.{waits, starts_when}
+use Rattle.tb_undo.proofs.ReasonLemmas.{waits, starts_when, excluded_kept}
 
 pub headed : (t : Name) (n : ℕ) → slice_get t 0 ≡ Some n → t ≡ n ∷ drop 1 t
 headed [] n e = cc
@@ -92,7 +92,7 @@ module _ (first : Cells) (root_line : ℕ) (D : List Departure) (s : Seen) (lega
           at [] = refl
           at (m ∷ u) = refl
 
-  module _ (t : Name) (n : ℕ) (r q : Row) (unended : is_unended H t ≡ true) (free : IsFree H t) (mine : row s.rows t ≡ Some r) (number : slice_get t 0 ≡ Some n) (found : row s.rows r.parent ≡ Some q) where
+  module _ (t : Name) (n : ℕ) (r q : Row) (unended : is_unended H t ≡ true) (mine : row s.rows t ≡ Some r) (number : slice_get t 0 ≡ Some n) (found : row s.rows r.parent ≡ Some q) where
     abbrev p : Name
     p = r.parent
 
@@ -120,18 +120,8 @@ module _ (first : Cells) (root_line : ℕ) (D : List Departure) (s : Seen) (lega
     sibling_name : (m : ℕ) → m ∷ p ≡ sibling t m
     sibling_name m = ap (λ u. sibling u m) (sym name)
 
-    pub tells_waiting : (o : Option ℕ) (m : ℕ) → o ≡ Some m → Earlier o → in_the_way H t Start ≡ Some (Waiting (sibling t m))
-    tells_waiting o m e l =
-        waits H t free (m ∷ p) (subst (λ o. IsLeast (is_waited_for H t) (option_map (child p) o)) e (earlier o l)) ∙ ap (λ u. Some (Waiting u)) (sibling_name m)
-
     none_earlier : (o : Option ℕ) → o ≡ None → Earlier o → IsLeast (is_waited_for H t) None
     none_earlier o e l = subst (λ o. IsLeast (is_waited_for H t) (option_map (child p) o)) e (earlier o l)
-
-    pub tells_started : (o : Option ℕ) → o ≡ None → Earlier o → 0 < r.steps → in_the_way H t Start ≡ None
-    tells_started o e l some =
-        starts_when H t free None (none_earlier o e l)
-        (subst (λ u. IsLeast (is_excluding H u) None) (sym name)
-        (none_excluding first H p n legal here (λ k. let none = steps ∙ ap (λ u. length (own u H)) name ∙ ap length k in absurd (omega (arith, none, some)))))
 
     not_begun : r.steps ≤ 0 → own (n ∷ p) H ≡ []
     not_begun few = at (own (n ∷ p) H) (sym (ap (λ u. length (own u H)) name) ∙ sym steps)
@@ -145,12 +135,28 @@ module _ (first : Cells) (root_line : ℕ) (D : List Departure) (s : Seen) (lega
         subst (λ u. IsLeast (is_excluding H u) (option_map (child p) b)) (sym name)
         (excluding_least first H p n legal here q.holders q.children.siblings b (not_begun few) (state.holders p q.holders (ap (option_map (λ (r : Row). r.holders)) found)) parent_known.children l)
 
-    pub tells_excluded : (o : Option ℕ) → o ≡ None → Earlier o → r.steps ≤ 0 → (b : Option ℕ) (m : ℕ) → b ≡ Some m → IsLeastNumber (Excludes q.holders (items_at q.children.siblings n)) b
-        → in_the_way H t Start ≡ Some (Excluded (sibling t m))
-    tells_excluded o e l few b m k x =
-        starts_when H t free (Some (m ∷ p)) (none_earlier o e l) (subst (λ b. IsLeast (is_excluding H t) (option_map (child p) b)) k (excluding b few x))
-        ∙ ap (λ u. Some (Excluded u)) (sibling_name m)
+    -- who is excluded is kept back, also where something else is in the way first
+    pub keeps_excluded : (b : Option ℕ) → IsTrue (is_some b) → r.steps ≡ 0 → IsLeastNumber (Excludes q.holders (items_at q.children.siblings n)) b → in_the_way H t Start ≡ None → ⊥
+    keeps_excluded None some e x = absurd (false≢true some)
+    keeps_excluded (Some m) some e x = excluded_kept first H t (m ∷ p) legal ((excluding (Some m) (omega (arith, e)) x).found (m ∷ p) refl)
 
-    pub tells_free : (o : Option ℕ) → o ≡ None → Earlier o → r.steps ≤ 0 → (b : Option ℕ) → b ≡ None → IsLeastNumber (Excludes q.holders (items_at q.children.siblings n)) b → in_the_way H t Start ≡ None
-    tells_free o e l few b k x =
-        starts_when H t free None (none_earlier o e l) (subst (λ b. IsLeast (is_excluding H t) (option_map (child p) b)) k (excluding b few x))
+    module _ (free : IsFree H t) where
+      pub tells_waiting : (o : Option ℕ) (m : ℕ) → o ≡ Some m → Earlier o → in_the_way H t Start ≡ Some (Waiting (sibling t m))
+      tells_waiting o m e l =
+          waits H t free (m ∷ p) (subst (λ o. IsLeast (is_waited_for H t) (option_map (child p) o)) e (earlier o l)) ∙ ap (λ u. Some (Waiting u)) (sibling_name m)
+
+      pub tells_started : (o : Option ℕ) → o ≡ None → Earlier o → 0 < r.steps → in_the_way H t Start ≡ None
+      tells_started o e l some =
+          starts_when H t free None (none_earlier o e l)
+          (subst (λ u. IsLeast (is_excluding H u) None) (sym name)
+          (none_excluding first H p n legal here (λ k. let none = steps ∙ ap (λ u. length (own u H)) name ∙ ap length k in absurd (omega (arith, none, some)))))
+
+      pub tells_excluded : (o : Option ℕ) → o ≡ None → Earlier o → r.steps ≤ 0 → (b : Option ℕ) (m : ℕ) → b ≡ Some m → IsLeastNumber (Excludes q.holders (items_at q.children.siblings n)) b
+          → in_the_way H t Start ≡ Some (Excluded (sibling t m))
+      tells_excluded o e l few b m k x =
+          starts_when H t free (Some (m ∷ p)) (none_earlier o e l) (subst (λ b. IsLeast (is_excluding H t) (option_map (child p) b)) k (excluding b few x))
+          ∙ ap (λ u. Some (Excluded u)) (sibling_name m)
+
+      pub tells_free : (o : Option ℕ) → o ≡ None → Earlier o → r.steps ≤ 0 → (b : Option ℕ) → b ≡ None → IsLeastNumber (Excludes q.holders (items_at q.children.siblings n)) b → in_the_way H t Start ≡ None
+      tells_free o e l few b k x =
+          starts_when H t free None (none_earlier o e l) (subst (λ b. IsLeast (is_excluding H t) (option_map (child p) b)) k (excluding b few x))

@@ -1,6 +1,6 @@
 //! What keeps a task from an action.
 
-ghost use Rattle.std.specs.Prelude.{◌≡◌, ℕ, List, Some, IsTrue, option_map};
+ghost use Rattle.std.specs.Prelude.{◌≡◌, ◌≢◌, ◌↔◌, ℕ, List, Some, None, IsTrue, option_map};
 ghost use Rattle.tb_model.specs.declared.action.Action.TheVariants.{Start};
 ghost use Rattle.tb_model.specs.Names.{child};
 ghost use Rattle.tb_model.specs.Facts.{History, own, IsSpawned};
@@ -43,6 +43,39 @@ impl Tables {
             }
             _ => None,
         }
+    }
+
+    /// Whether nothing keeps the task from the action, as `in_the_way` tells what does. Takes no
+    /// memory. Who is excluded is asked first, since it costs no walk over the siblings.
+    pub fn is_clear(&self, name: &TaskName, action: &Action) -> bool
+        ensures { (first : Cells) (root_line : ℕ) (D : List Departure) → Legal first (events_of D) → IsState first root_line D self.now →
+            IsTrue (is_unended (events_of D) name.now) → (IsTrue result ↔ (in_the_way (events_of D) name.now action.now ≡ None)) }
+    {
+        !self.is_excluded(name, action) && self.in_the_way(name, action).is_none()
+    }
+
+    /// Whether the action is the first start of a task that a sibling under way excludes.
+    fn is_excluded(&self, name: &TaskName, action: &Action) -> bool
+        ensures { (first : Cells) (root_line : ℕ) (D : List Departure) → Legal first (events_of D) → IsState first root_line D self.now →
+            IsTrue (is_unended (events_of D) name.now) → IsTrue result → in_the_way (events_of D) name.now action.now ≢ None }
+    {
+        let Action::Start = action else {
+            return false;
+        };
+        let Some(own) = self.rows.get(name) else {
+            return false;
+        };
+        let Some(n) = name.numbers().first() else {
+            return false;
+        };
+        let Some(parent) = self.rows.get(&own.parent) else {
+            return false;
+        };
+        own.steps == 0
+            && parent
+                .holders
+                .busy_number(parent.children.items(*n as usize))
+                .is_some()
     }
 
     /// What keeps the task from its start: a sibling on which it depends, else one that excludes

@@ -64,6 +64,7 @@ fn a_refused_growth_changes_nothing(rt: HostRuntime) -> Result<(), Fail> {
     assert_eq!(rt; again.at, 3);
     assert_eq!(rt; again.number, Some(5));
     assert!(rt; tables.store.cells() == [7].as_slice());
+    assert!(rt; tables.is_clear(&TaskName::root(alloc), &Action::End));
     let Tables {
         alloc: _,
         store: _,

@@ -21,10 +21,14 @@ pub fn is_held(row: &Row) -> bool
     }
 }
 
-/// The least of the parent's children that isn't over and on which the nth depends.
+/// The least of the parent's children that isn't over and on which the nth depends. A child with no
+/// items depends on none, at no cost.
 pub fn next_before(waits: &Wait, siblings: &Siblings, parent: &TaskName, n: u32) -> Option<u32>
     ensures { IsLeastNumber (IsUnendedWhere waits.now.tasks parent.now (depends siblings.now.siblings n)) result }
 {
+    if siblings.items(n as usize).is_empty() {
+        return None;
+    }
     let mut low = 0;
     'walk: while let Some(m) = waits.next_unended(parent, low) {
         if m >= n {

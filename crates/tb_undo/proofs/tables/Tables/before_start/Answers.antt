@@ -25,7 +25,7 @@ returns-in-Some c first root_line D legal state unended free =
     let mine = ap (λ s. row s.rows c.args.name.now) c.self.view_is ∙ c.requires in
     let number = ap (λ xs. slice_get xs 0) (sym c.numbers.ensures) ∙ sym c.first.ensures.value ∙ ap option_copied c.in_ok-n.was in
     let found = sym c.get.ensures.value ∙ ap option_copied c.in_ok-parent.was in
-    tells_waiting first root_line D _ legal st c.args.name.now c.in_ok-n.field-0.now c.args.own.now c.in_ok-parent.parent.now unended free mine number found c.next_before.result c.in-Some.sibling c.in-Some.is c.next_before.ensures
+    tells_waiting first root_line D _ legal st c.args.name.now c.in_ok-n.field-0.now c.args.own.now c.in_ok-parent.parent.now unended mine number found free c.next_before.result c.in-Some.sibling c.in-Some.is c.next_before.ensures
 
 pub returns-then-own-gt0 : goal.returns-then-own-gt0
 returns-then-own-gt0 c first root_line D legal state unended free =
@@ -33,7 +33,7 @@ returns-then-own-gt0 c first root_line D legal state unended free =
     let mine = ap (λ s. row s.rows c.args.name.now) c.self.view_is ∙ c.requires in
     let number = ap (λ xs. slice_get xs 0) (sym c.numbers.ensures) ∙ sym c.first.ensures.value ∙ ap option_copied c.in_ok-n.was in
     let found = sym c.get.ensures.value ∙ ap option_copied c.in_ok-parent.was in
-    tells_started first root_line D _ legal st c.args.name.now c.in_ok-n.field-0.now c.args.own.now c.in_ok-parent.parent.now unended free mine number found c.next_before.result c.in_default.is c.next_before.ensures c.if-own-gt0.true
+    tells_started first root_line D _ legal st c.args.name.now c.in_ok-n.field-0.now c.args.own.now c.in_ok-parent.parent.now unended mine number found free c.next_before.result c.in_default.is c.next_before.ensures c.if-own-gt0.true
 
 pub returns-in_err-sibling : goal.returns-in_err-sibling
 returns-in_err-sibling c first root_line D legal state unended free =
@@ -41,7 +41,7 @@ returns-in_err-sibling c first root_line D legal state unended free =
     let mine = ap (λ s. row s.rows c.args.name.now) c.self.view_is ∙ c.requires in
     let number = ap (λ xs. slice_get xs 0) (sym c.numbers.ensures) ∙ sym c.first.ensures.value ∙ ap option_copied c.in_ok-n.was in
     let found = sym c.get.ensures.value ∙ ap option_copied c.in_ok-parent.was in
-    tells_free first root_line D _ legal st c.args.name.now c.in_ok-n.field-0.now c.args.own.now c.in_ok-parent.parent.now unended free mine number found c.next_before.result c.in_default.is c.next_before.ensures c.if-own-gt0.false c.busy_number.result c.in_err-sibling.was
+    tells_free first root_line D _ legal st c.args.name.now c.in_ok-n.field-0.now c.args.own.now c.in_ok-parent.parent.now unended mine number found free c.next_before.result c.in_default.is c.next_before.ensures c.if-own-gt0.false c.busy_number.result c.in_err-sibling.was
     (subst (λ items. IsLeastNumber (Excludes c.in_ok-parent.parent.now.holders items) c.busy_number.result) c.items.ensures c.busy_number.ensures)
     ∙ sym (ap (option_map (hindrance_by c.args.name.now)) c.from_residual-in_err-sibling.ensures)
 
@@ -51,5 +51,5 @@ returns c first root_line D legal state unended free =
     let mine = ap (λ s. row s.rows c.args.name.now) c.self.view_is ∙ c.requires in
     let number = ap (λ xs. slice_get xs 0) (sym c.numbers.ensures) ∙ sym c.first.ensures.value ∙ ap option_copied c.in_ok-n.was in
     let found = sym c.get.ensures.value ∙ ap option_copied c.in_ok-parent.was in
-    tells_excluded first root_line D _ legal st c.args.name.now c.in_ok-n.field-0.now c.args.own.now c.in_ok-parent.parent.now unended free mine number found c.next_before.result c.in_default.is c.next_before.ensures c.if-own-gt0.false c.busy_number.result c.in_ok-sibling.sibling c.in_ok-sibling.was
+    tells_excluded first root_line D _ legal st c.args.name.now c.in_ok-n.field-0.now c.args.own.now c.in_ok-parent.parent.now unended mine number found free c.next_before.result c.in_default.is c.next_before.ensures c.if-own-gt0.false c.busy_number.result c.in_ok-sibling.sibling c.in_ok-sibling.was
     (subst (λ items. IsLeastNumber (Excludes c.in_ok-parent.parent.now.holders items) c.busy_number.result) c.items.ensures c.busy_number.ensures)
