@@ -11,14 +11,10 @@ mod claim;
 mod claim_refusal;
 mod claims;
 mod commit_refusal;
-#[cfg(test)]
-mod commit_tests;
 mod committing;
 mod control;
 mod live;
 mod mode;
-#[cfg(test)]
-mod move_tests;
 mod moves;
 mod newest;
 mod paused_by;
@@ -27,11 +23,7 @@ mod prepared;
 mod ready;
 mod rolling;
 mod same_instr;
-#[cfg(test)]
-mod seat_tests;
 mod stepping;
-#[cfg(test)]
-mod tests;
 mod work;
 
 pub use answer::Answer;

@@ -25,8 +25,6 @@ mod program;
 mod reader;
 mod reading;
 mod stack;
-#[cfg(test)]
-mod tests;
 mod text;
 mod ways;
 mod word;

@@ -14,15 +14,9 @@ mod step_line;
 mod step_text;
 mod steps;
 mod task_text;
-#[cfg(test)]
-mod task_view_tests;
 mod tasks;
-#[cfg(test)]
-mod tests;
 mod view;
 mod view_refusal;
-#[cfg(test)]
-mod view_tests;
 mod waits;
 
 pub use showing::{line, text};

@@ -1,10 +1,10 @@
 //! What no clause says: that the calls succeed, and lines from outside.
 
-use crate::write_step;
 use std::cmp::Ordering;
 use std::hash::{DefaultHasher, Hash, Hasher};
 use std::process::Abort;
 use tb_model::{Action, Args, Item, Items, Kind, NameRefusal, Place, StepId, TaskName};
+use tb_view::write_step;
 
 fn name(rt: &(impl Abort + AllocGlobal), text: &str) -> TaskName {
     TaskName::parse(rt.alloc(), text.as_bytes()).expect(rt, "a name")

@@ -2,10 +2,10 @@
 
 ghost use Rattle.std.specs.Prelude.{◌≤◌};
 
-use crate::{Live, StepRefusal, UndoRefusal};
 use std::alloc::{AllocGlobal, Global};
 use std::process::Abort;
 use std::test::Fail;
+use tb_live::{Live, StepRefusal, UndoRefusal};
 use tb_model::{Action, StepId, TaskName};
 use tb_read::read;
 

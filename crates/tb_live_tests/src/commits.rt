@@ -2,10 +2,10 @@
 
 ghost use Rattle.std.specs.Prelude.{◌≤◌};
 
-use crate::Live;
-use crate::seat_tests::{SPAWNED, gone, opened, step_all, task};
+use crate::seats::{SPAWNED, gone, opened, step_all, task};
 use std::alloc::AllocGlobal;
 use std::process::Abort;
+use tb_live::Live;
 use tb_model::StepId;
 use tb_read::{Plan, plan};
 

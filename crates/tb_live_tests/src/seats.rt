@@ -2,9 +2,9 @@
 
 ghost use Rattle.std.specs.Prelude.{◌≤◌};
 
-use crate::{Break, Claim, Live, Mode, PausedBy};
 use std::alloc::{AllocGlobal, Global};
 use std::process::Abort;
+use tb_live::{Break, Claim, Live, Mode, PausedBy};
 use tb_model::{StepId, TaskName};
 use tb_read::read;
 

@@ -2,12 +2,12 @@
 
 ghost use Rattle.std.specs.Prelude.{◌≤◌};
 
-use crate::{View, ViewRefusal, line, text};
 use std::alloc::{AllocGlobal, Global};
 use std::process::Abort;
 use tb_live::Live;
 use tb_model::{StepId, TaskName};
 use tb_read::read;
+use tb_view::{View, ViewRefusal, line, text};
 
 const STORED: &[u8] = b"cells 2\nbody main 0\nstore 1 7\nload r3 1\nprint r3\nend\n";
 

@@ -1,8 +1,8 @@
 //! The lines that follow each statement of programs with blocks.
 
-use crate::read;
 use std::process::Abort;
 use std::test::Fail;
+use tb_read::read;
 
 /// Asks for the positions of a text, each with the lines that follow it: behind a test that says
 /// yes or another statement, and behind a test that says no.

@@ -1,9 +1,9 @@
 //! One statement of each kind, evaluated.
 
-use crate::{Config, Plan, plan, read};
 use std::process::Abort;
 use std::test::Fail;
 use tb_model::{Action, TaskName};
+use tb_read::{Config, Plan, plan, read};
 
 /// The plan of a line of a program with two cells and this statement on line 3, for task `0`. Its
 /// registers are 0, 5, -1, the greatest and the least number, and zeros.

@@ -2,13 +2,13 @@
 
 ghost use Rattle.std.specs.Prelude.{◌≤◌};
 
-use crate::View;
-use crate::view_tests::{refusal, shows};
+use crate::views::{refusal, shows};
 use std::alloc::{AllocGlobal, Global};
 use std::process::Abort;
 use tb_live::{Break, Live};
 use tb_model::TaskName;
 use tb_read::read;
+use tb_view::View;
 
 const PROGRAM: &[u8] = b"cells 3
 body main 0

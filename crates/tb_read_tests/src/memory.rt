@@ -1,9 +1,9 @@
 //! What is refused for memory.
 
-use crate::{Config, FaultKind, Program, ReadFault, plan, read};
 use std::process::Abort;
 use std::test::Fail;
 use tb_model::{Action, TaskName};
+use tb_read::{Config, FaultKind, Program, ReadFault, plan, read};
 
 const TEXT: &[u8] =
     b"cells 2\ncell 1 5\nbody main 0\nif r0 == 0\ntask b r0 7 depend in r0 depend out all if 1 < 2\nelse\ntaskwait\nend\nend\nbody b 2\nend\n";

@@ -1,8 +1,8 @@
 //! Accepted texts and their programs.
 
-use crate::{Program, read};
 use std::test::Fail;
 use tb_model::Statement;
+use tb_read::{Program, read};
 
 #[test]
 fn an_accepted_text_is_a_program(rt: HostRuntime) -> Result<(), Fail> {

@@ -2,8 +2,8 @@
 
 ghost use Rattle.std.specs.Prelude.{◌≤◌};
 
-use crate::{Answer, Live, Move};
 use std::alloc::Global;
+use tb_live::{Answer, Live, Move};
 use tb_model::{StepId, TaskName};
 use tb_read::read;
 

@@ -1,0 +1,14 @@
+//! Tests of the reader and of the evaluation of statements, by the calls of `tb_read`.
+//! They stand apart from it, so that its proofs are not checked once more with them.
+#![tactic(auto)]
+
+#[cfg(test)]
+mod flow;
+#[cfg(test)]
+mod limits;
+#[cfg(test)]
+mod memory;
+#[cfg(test)]
+mod plans;
+#[cfg(test)]
+mod programs;
