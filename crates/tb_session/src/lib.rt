@@ -25,8 +25,6 @@ mod spelling;
 mod stop;
 mod stopping;
 mod target;
-#[cfg(test)]
-mod tests;
 mod verbs;
 mod word;
 mod writing;

@@ -2,10 +2,10 @@
 
 ghost use Rattle.std.specs.Prelude.{◌≡◌, ◌≤◌, ◌<◌, ◌-◌, ◌^◌};
 
-use crate::{Failed, Halt, Settings, Sink, Source, run};
 use std::alloc::Global;
 use std::sync::Wait;
 use std::test::Fail;
+use tb_session::{Failed, Halt, Settings, Sink, Source, run};
 
 /// A source that hands out so many bytes at a time, of which the call with the number `fails_at`
 /// fails, counted from 1.

@@ -1,32 +1,15 @@
 //! How sessions end.
 
-use crate::Halt;
-use crate::tests::fakes::{FailsAt, is_session, whole, with_commands};
+use crate::fakes::{FailsAt, is_session, whole, with_commands};
 use std::test::Fail;
 use tb_read::{FaultKind, ReadFault};
+use tb_session::Halt;
 
 #[test]
 fn programs_that_are_refused(rt: HostRuntime) -> Result<(), Fail> {
     let alloc = rt.alloc();
-    let rows: [(&[u8], u32, FaultKind); 7] = [
+    let rows: [(&[u8], u32, FaultKind); 2] = [
         (b"", 1, FaultKind::NoCells),
-        (b"cells 65537\nbody main 0\nend\n", 1, FaultKind::TooLarge),
-        (
-            b"cells 1\nbody main 0\nprint r16\nend\n",
-            3,
-            FaultKind::Register,
-        ),
-        (b"cells 1", 2, FaultKind::NoMain),
-        (
-            b"cells 1\nbody main 0\nif 1 == 1\nend\n",
-            5,
-            FaultKind::Nesting,
-        ),
-        (
-            b"cells 1\nbody main 0\ntask main 1 depend in 0\nend\n---\nstep 0\n",
-            3,
-            FaultKind::Arity,
-        ),
         (
             b"cells 1\nbody main 0\nend\nfaulty\n---\nstep 0\n",
             4,
@@ -38,6 +21,27 @@ fn programs_that_are_refused(rt: HostRuntime) -> Result<(), Fail> {
         assert!(rt; is_session(&rt, alloc, whole(text), 10_000, 100, "", halt));
     }
     Ok(())
+}
+
+/// A session is the same however the reader cuts its lines.
+#[test]
+fn lines_come_whole_from_pieces(rt: HostRuntime) {
+    let text =
+        b"cells 1\r\n# c\n\nbody main 0\nstore 0 7\nend\n---\r\nstep 0\n\nstep 0 # x\nstep 0";
+    let want = "0#1 start\n0#2 store 0 7\n0#3 end\n";
+    for piece in [1usize, 2, 3, 5, 100] {
+        let source = FailsAt {
+            bytes: text,
+            piece,
+            calls: 0,
+            fails_at: 0,
+            failed: 0,
+        };
+        assert!(rt;
+            is_session(&rt, rt.alloc(), source, 10_000, 100, want, None),
+            "{piece}"
+        );
+    }
 }
 
 #[test]

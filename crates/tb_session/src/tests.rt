@@ -1,9 +1,0 @@
-//! Sessions over memory.
-
-mod breakpoints;
-mod endings;
-mod fakes;
-mod lines;
-mod replies;
-mod rollbacks;
-mod views;

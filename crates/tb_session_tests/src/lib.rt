@@ -1,0 +1,8 @@
+//! Tests of a session over readers and writers that fail, by the calls of `tb_session`.
+//! They stand apart from it, so that its proofs are not checked once more with them.
+#![tactic(auto)]
+
+#[cfg(test)]
+mod endings;
+#[cfg(test)]
+mod fakes;
