@@ -4,6 +4,7 @@ ghost use Rattle.std.specs.Prelude.{◌≤◌};
 
 use crate::seats::{SPAWNED, gone, opened, step_all, task};
 use std::alloc::AllocGlobal;
+use std::mem;
 use std::process::Abort;
 use tb_live::Live;
 use tb_model::StepId;
@@ -63,6 +64,7 @@ fn a_plan_of_a_removed_step_is_withdrawn(rt: HostRuntime) {
     let mut live = opened(rt.alloc(), SPAWNED).expect(&rt, "an accepted program");
     commit_root(&rt, &mut live);
     withdraw_a_plan(&rt, &mut live);
+    mem::forget(live);
 }
 
 /// A plan of a task whose spawn goes, and then the root's start.
@@ -84,6 +86,7 @@ fn a_plan_of_a_removed_task_is_withdrawn(rt: HostRuntime) {
     let mut live = opened(rt.alloc(), SPAWNED).expect(&rt, "an accepted program");
     commit_root(&rt, &mut live);
     withdraw_a_spawn(&rt, &mut live);
+    mem::forget(live);
 }
 
 const UNDEFERRED: &[u8] = b"cells 1\nbody main 0\n  task a 1 if 1 == 2\n  print 9\nend\n\
@@ -102,6 +105,7 @@ fn a_plan_waits_for_an_undeferred_child(rt: HostRuntime) {
     let mut live = opened(rt.alloc(), UNDEFERRED).expect(&rt, "an accepted program");
     step_all(&rt, &mut live, ["0", "0", "0.1", "0.1", "0.1"].as_slice());
     undo_the_end(&rt, &mut live);
+    mem::forget(live);
 }
 
 const OTHER: &[u8] = b"cells 2\nbody main 0\n  task u 0\n  task u 2\nend\nbody u 1\n  end\n";
@@ -123,4 +127,6 @@ fn a_plan_is_of_the_program(rt: HostRuntime) {
     step_all(&rt, &mut foreign, ["0", "0"].as_slice());
     let other = planned(&rt, &mut foreign, 0, "0");
     refuse_plans(&rt, &mut live, other);
+    mem::forget(live);
+    mem::forget(foreign);
 }

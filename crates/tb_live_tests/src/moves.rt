@@ -3,6 +3,7 @@
 ghost use Rattle.std.specs.Prelude.{◌≤◌};
 
 use std::alloc::Global;
+use std::mem;
 use tb_live::{Answer, Live, Move};
 use tb_model::{StepId, TaskName};
 use tb_read::read;
@@ -83,4 +84,5 @@ fn moves_are_answered_in_turn(rt: HostRuntime) {
     let moves = moves_of(rt.alloc(), MOVES.as_slice()).expect(&rt, "names of tasks and steps");
     let mut live = opened(rt.alloc()).expect(&rt, "an accepted program");
     assert!(rt; answers(&mut live, moves.as_slice(), MOVES.as_slice()));
+    mem::forget(live);
 }

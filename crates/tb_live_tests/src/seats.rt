@@ -3,6 +3,7 @@
 ghost use Rattle.std.specs.Prelude.{◌≤◌};
 
 use std::alloc::{AllocGlobal, Global};
+use std::mem;
 use std::process::Abort;
 use tb_live::{Break, Claim, Live, Mode, PausedBy};
 use tb_model::{StepId, TaskName};
@@ -125,6 +126,7 @@ fn a_breakpoint_pauses(rt: HostRuntime) {
     make_and_clear(&rt, &mut live);
     run_and_pause(&rt, &mut live);
     pause_twice(&rt, &mut live);
+    mem::forget(live);
 }
 
 pub const SPAWNED: &[u8] = b"cells 2\nbody main 0\n  task u 0\n  task u 1\nend\nbody u 1\n\
@@ -212,6 +214,7 @@ fn each_seat_has_its_task(rt: HostRuntime) {
     let mut live = opened(rt.alloc(), SPAWNED).expect(&rt, "an accepted program");
     claim_in_turn(&rt, &mut live);
     claim_while_paused(&rt, &mut live);
+    mem::forget(live);
 }
 
 fn roll_a_claimed_task(rt: &(impl Abort + AllocGlobal), live: &mut Live) {
@@ -236,4 +239,5 @@ fn a_rollback_withdraws_claims(rt: HostRuntime) {
     let mut live = opened(rt.alloc(), SPAWNED).expect(&rt, "an accepted program");
     roll_a_claimed_task(&rt, &mut live);
     roll_claimed_spawns(&rt, &mut live);
+    mem::forget(live);
 }

@@ -3,6 +3,7 @@
 ghost use Rattle.std.specs.Prelude.{◌≤◌};
 
 use std::alloc::{AllocGlobal, Global};
+use std::mem;
 use std::process::Abort;
 use std::test::Fail;
 use tb_live::{Live, StepRefusal, UndoRefusal};
@@ -74,6 +75,7 @@ fn steps_and_undoes(rt: HostRuntime) {
     assert!(rt; live.output().is_empty());
     assert!(rt; live.cells() == [0].as_slice());
     assert_eq!(rt; live.is_full(), false);
+    mem::forget(live);
 }
 
 const FAULTY: &[u8] = b"cells 0\nbody main 0\nload r0 0\nend\n";
@@ -90,6 +92,7 @@ fn ends_and_fills(rt: HostRuntime) {
     );
     assert!(rt; live.is_full());
     undo_all(&rt, &mut live, &[(2, 3), (1, 2)]);
+    mem::forget(live);
 }
 
 fn task(alloc: Global, text: &str) -> Option<TaskName> {
@@ -178,6 +181,7 @@ fn compare(rt: &(impl Abort + AllocGlobal), text: &[u8], names: &[&str], refusal
     let mut live = opened(rt.alloc(), text, 20).expect(rt, "an accepted program");
     let told = answers(rt.alloc(), &mut live, names).expect(rt, "memory is there");
     assert_eq!(rt; told.as_str(), refusals, "{text:?}");
+    mem::forget(live);
 }
 
 #[test]
@@ -258,6 +262,7 @@ fn a_rollback_takes_what_needs_the_step(rt: HostRuntime) {
     compare_newest(&rt, &live, "0.2#3", "0.1#3");
     roll_all(&rt, &mut live);
     assert!(rt; live.newest().is_none());
+    mem::forget(live);
 }
 
 fn take_nine(alloc: Global, live: &mut Live) -> Option<String> {
@@ -287,6 +292,7 @@ fn the_least_that_can_step_does(rt: HostRuntime) {
         line.as_str(),
         "0#1 0#2 0#3 0.1#1 0.1#2 0.2#1 0.2#2 0#4 0#5 "
     );
+    mem::forget(live);
 }
 
 const PRINTED: &[u8] = b"cells 1\nbody main 0\n  let r0 5\n  store 0 r0\n  print r0\nend\n";
@@ -358,4 +364,5 @@ fn a_refused_growth_changes_nothing(rt: HostRuntime) {
     }
     assert!(rt; live.output().is_empty());
     assert!(rt; live.cells() == [0].as_slice());
+    mem::forget(live);
 }

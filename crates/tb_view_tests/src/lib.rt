@@ -1,5 +1,6 @@
 //! Tests of the texts of steps and views, by the calls of `tb_view`.
-//! They stand apart from it, so that its proofs are not checked once more with them.
+//! They stand apart from it, so that its proofs are not checked once more with them. A test forgets
+//! its run at its end: to prove that a run is taken apart costs minutes for each owner of one.
 #![tactic(auto)]
 
 #[cfg(test)]

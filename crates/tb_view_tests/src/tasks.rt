@@ -4,6 +4,7 @@ ghost use Rattle.std.specs.Prelude.{◌≤◌};
 
 use crate::views::{refusal, shows};
 use std::alloc::{AllocGlobal, Global};
+use std::mem;
 use std::process::Abort;
 use tb_live::{Break, Live};
 use tb_model::TaskName;
@@ -160,4 +161,5 @@ fn views_of_tasks(rt: HostRuntime) {
     step_all(&rt, &mut live);
     break_all(&rt, &mut live);
     show_all(&rt, &live);
+    mem::forget(live);
 }

@@ -3,6 +3,7 @@
 ghost use Rattle.std.specs.Prelude.{◌≤◌};
 
 use std::alloc::{AllocGlobal, Global};
+use std::mem;
 use std::process::Abort;
 use tb_live::Live;
 use tb_model::{StepId, TaskName};
@@ -105,6 +106,7 @@ fn views_of_the_root(rt: HostRuntime) {
     step_root(&rt, &mut live, 4);
     show_all(&rt, &live);
     refuse_all(&rt, &live);
+    mem::forget(live);
 }
 
 #[test]
@@ -113,6 +115,7 @@ fn the_line_of_a_removed_step(rt: HostRuntime) {
     step_root(&rt, &mut live, 4);
     let id = of_root(rt.alloc(), 4);
     assert!(rt; removed_line(rt.alloc(), &mut live, &id, "0#4 print 7\n"));
+    mem::forget(live);
 }
 
 #[test]
