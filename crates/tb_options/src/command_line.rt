@@ -10,6 +10,41 @@ use clap::{Arg, ArgAction, Command, Error};
 use std::alloc::Global;
 use std::convert::AsStr;
 
+/// What stands below the options in the help.
+const EXAMPLES: &str = "\
+A session comes on standard input: a program, a line `---`, and commands.
+Each reply is written before the next command is read.
+
+Examples:
+  taskback < examples/race.session          a stored session
+  taskback --limit 50 < examples/race.session
+                                            with room for 50 entries
+  taskback                                  typed: the program, `---`, commands
+
+A session, and its replies:
+  cells 1
+  body main 0
+    store 0 7
+  end
+  ---
+  step 0                                    0#1 start
+  run 9                                     0#2 store 0 7 / 0#3 end / ran 2 done
+  undo 0#3                                  undone 0#3
+  cells                                     cells 1 / 0 7
+
+Commands:
+  step T, run N, go 1 N                     take steps: of task T, of the least
+                                            that can, and so up to a breakpoint
+  undo ID                                   take a step back that nothing needs
+  roll ID, rolltask T, rollcell C, rollprint
+                                            take a step back with all that need it
+  cells, out, hist, tasks, task T, ready, waits, deps T, why ID, who ID, breaks
+                                            show what stands
+  break task T, break cell C, break body B, break print, break fault, clear K
+                                            stop `go` behind such a step
+
+docs/NOTATION.md has the programs, docs/COMMANDS.md the commands.";
+
 /// The settings that these words ask for. The first word is the program's name. `--help` and
 /// `--version` are answered as an error whose text goes to standard output.
 pub fn settings<'a, S: AsStr>(alloc: Global, words: &'a [S]) -> Result<Settings, Error>
@@ -33,6 +68,7 @@ pub fn settings<'a, S: AsStr>(alloc: Global, words: &'a [S]) -> Result<Settings,
     let command = Command::new(alloc, "taskback")
         .version("0.1.0")
         .about("Runs a task program step by step, and takes back any step with all that need it")
+        .after_help(EXAMPLES)
         .arg(workers)?
         .arg(limit)?;
     let matches = command.try_get_matches_from(words)?;

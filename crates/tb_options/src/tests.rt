@@ -45,3 +45,17 @@ fn faults_of_usage_and_help(rt: HostRuntime) -> Result<(), Fail> {
     }
     Ok(())
 }
+
+#[test]
+fn the_help_has_examples(rt: HostRuntime) -> Result<(), Fail> {
+    let words: [&str; 2] = ["taskback", "--help"];
+    match settings(rt.alloc(), words.as_slice()) {
+        Ok(_) => panic!(rt; "accepted"),
+        Err(error) => {
+            let text = format!(in rt.alloc(); "{error}")?;
+            assert!(rt; text.as_str().contains("taskback < examples/race.session"));
+            assert!(rt; text.as_str().contains("roll ID"));
+        }
+    }
+    Ok(())
+}
