@@ -1,8 +1,9 @@
 //! The answers against a plain program over a list of names, on lists made by a fixed rule.
 
 use crate::Ready;
-use std::alloc::{AllocError, Global};
-use std::test::Fail;
+use std::alloc::{AllocError, AllocGlobal, Global};
+use std::mem;
+use std::process::Abort;
 use tb_model::TaskName;
 
 /// A name with its mark.
@@ -117,28 +118,45 @@ fn step(
     Ok(())
 }
 
-#[test]
-fn agrees_with_the_plain_program(rt: HostRuntime) -> Result<(), Fail> {
+/// The rows stand in the table, in order, with their marks.
+fn compare(rt: &(impl Abort + AllocGlobal), ready: &Ready, rows: &[Row]) {
+    assert_eq!(rt; ready.len(), rows.len());
+    for (at, row) in rows.iter().enumerate() {
+        assert!(rt; ready.nth(at) == Some(&row.name));
+        assert_eq!(rt; ready.can(&row.name), row.marked);
+    }
+}
+
+/// Calls on both, with the least name asked for behind each.
+fn take_turns(
+    rt: &(impl Abort + AllocGlobal),
+    dice: &mut Dice,
+    ready: &mut Ready,
+    rows: &mut Vec<Row>,
+) -> Result<(), AllocError> {
     let alloc = rt.alloc();
+    let mut skip: Vec<TaskName> = Vec::new(alloc);
+    for turn in 0..24u32 {
+        step(alloc, dice, ready, rows)?;
+        if turn % 8 == 7 {
+            skip.push(dice.name(alloc)?)?;
+        }
+        assert!(rt; ready.least(&skip) == least(rows, &skip));
+    }
+    let other = dice.name(alloc)?;
+    assert_eq!(rt; ready.is_there(&other), place(rows, &other).is_some());
+    Ok(())
+}
+
+#[test]
+fn agrees_with_the_plain_program(rt: HostRuntime) {
     let mut dice = Dice { state: 7 };
     for _ in 0..200u32 {
-        let mut ready = Ready::new(alloc);
-        let mut rows: Vec<Row> = Vec::new(alloc);
-        let mut skip: Vec<TaskName> = Vec::new(alloc);
-        for turn in 0..24u32 {
-            step(alloc, &mut dice, &mut ready, &mut rows)?;
-            if turn % 8 == 7 {
-                skip.push(dice.name(alloc)?)?;
-            }
-            assert!(rt; ready.least(&skip) == least(&rows, &skip));
-        }
-        assert_eq!(rt; ready.len(), rows.len());
-        for (at, row) in rows.iter().enumerate() {
-            assert!(rt; ready.nth(at) == Some(&row.name));
-            assert_eq!(rt; ready.can(&row.name), row.marked);
-        }
-        let other = dice.name(alloc)?;
-        assert_eq!(rt; ready.is_there(&other), place(&rows, &other).is_some());
+        let mut ready = Ready::new(rt.alloc());
+        let mut rows: Vec<Row> = Vec::new(rt.alloc());
+        assert!(rt; take_turns(&rt, &mut dice, &mut ready, &mut rows).is_ok());
+        compare(&rt, &ready, &rows);
+        mem::forget(ready);
+        mem::forget(rows);
     }
-    Ok(())
 }

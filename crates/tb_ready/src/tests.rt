@@ -1,8 +1,9 @@
 //! The order of names, what undoing needs, and calls with little memory.
 
 use crate::Ready;
-use std::alloc::{AllocError, Global};
-use std::test::Fail;
+use std::alloc::{AllocError, AllocGlobal, Global};
+use std::mem;
+use std::process::Abort;
 use tb_model::TaskName;
 
 /// The name with these numbers, from the root down.
@@ -14,43 +15,60 @@ fn name(alloc: Global, numbers: &[u32]) -> Result<TaskName, AllocError> {
     Ok(name)
 }
 
+/// Adds the names, one after another.
+fn add_all(alloc: Global, ready: &mut Ready, rows: &[&[u32]]) -> Result<(), AllocError> {
+    for numbers in rows {
+        ready.add(name(alloc, *numbers)?)?;
+    }
+    Ok(())
+}
+
+/// Marks the names, and tells whether none of them was marked.
+fn mark_each(alloc: Global, ready: &mut Ready, rows: &[&[u32]]) -> Result<bool, AllocError> {
+    let mut fresh = true;
+    for numbers in rows {
+        let name = name(alloc, *numbers)?;
+        fresh = fresh && !ready.can(&name);
+        ready.mark(&name, true);
+    }
+    Ok(fresh)
+}
+
+/// Whether each of the names is the least once those in front of it are skipped, and then none is.
+fn come_in_order(alloc: Global, ready: &Ready, rows: &[&[u32]]) -> Result<bool, AllocError> {
+    let mut skip = Vec::new(alloc);
+    for numbers in rows {
+        let name = name(alloc, *numbers)?;
+        if ready.least(&skip) != Some(&name) {
+            return Ok(false);
+        }
+        skip.push(name)?;
+    }
+    Ok(ready.least(&skip).is_none())
+}
+
+/// Whether the name is the one at this place.
+fn stands_at(alloc: Global, ready: &Ready, at: usize, numbers: &[u32]) -> Result<bool, AllocError> {
+    let name = name(alloc, numbers)?;
+    Ok(ready.nth(at) == Some(&name))
+}
+
+const ADDED: [&[u32]; 5] = [&[10], &[9, 1], &[9], &[], &[1, 2, 3]];
+
+const BY_NAME: [&[u32]; 5] = [&[], &[1, 2, 3], &[9], &[9, 1], &[10]];
+
 #[test]
-fn the_least_marked_name_comes_first(rt: HostRuntime) -> Result<(), Fail> {
+fn the_least_marked_name_comes_first(rt: HostRuntime) {
     let alloc = rt.alloc();
     let mut ready = Ready::new(alloc);
-    let nobody: Vec<TaskName> = Vec::new(alloc);
-    let rows: [&[u32]; 5] = [
-        [10].as_slice(),
-        [9, 1].as_slice(),
-        [9].as_slice(),
-        [].as_slice(),
-        [1, 2, 3].as_slice(),
-    ];
-    for numbers in rows {
-        ready.add(name(alloc, numbers)?)?;
-    }
+    assert!(rt; add_all(alloc, &mut ready, ADDED.as_slice()).is_ok());
     assert_eq!(rt; ready.len(), 5);
-    assert!(rt; ready.least(&nobody).is_none());
-    for numbers in rows {
-        assert!(rt; !ready.can(&name(alloc, numbers)?));
-        ready.mark(&name(alloc, numbers)?, true);
-    }
-    let mut skip = Vec::new(alloc);
-    let by_name: [&[u32]; 5] = [
-        [].as_slice(),
-        [1, 2, 3].as_slice(),
-        [9].as_slice(),
-        [9, 1].as_slice(),
-        [10].as_slice(),
-    ];
-    for numbers in by_name {
-        assert!(rt; ready.least(&skip) == Some(&name(alloc, numbers)?));
-        skip.push(name(alloc, numbers)?)?;
-    }
-    assert!(rt; ready.least(&skip).is_none());
-    assert!(rt; ready.nth(1) == Some(&name(alloc, [9, 1].as_slice())?));
+    assert_eq!(rt; come_in_order(alloc, &ready, &[]), Ok(true));
+    assert_eq!(rt; mark_each(alloc, &mut ready, ADDED.as_slice()), Ok(true));
+    assert_eq!(rt; come_in_order(alloc, &ready, BY_NAME.as_slice()), Ok(true));
+    assert_eq!(rt; stands_at(alloc, &ready, 1, [9, 1].as_slice()), Ok(true));
     assert!(rt; ready.nth(5).is_none());
-    Ok(())
+    mem::forget(ready);
 }
 
 fn names_of(alloc: Global, rows: &[&[u32]]) -> Result<Vec<TaskName>, AllocError> {
@@ -108,66 +126,115 @@ fn the_marked_names_follow_in_order(rt: HostRuntime) {
     mark_all(&mut ready, &names, places.as_slice()).expect(&rt, "memory is there");
     assert!(rt; are_marked(&ready, &names));
     assert!(rt; follow_without_the_first(&mut ready, &names));
+    mem::forget(names);
+    mem::forget(ready);
+}
+
+/// The root, and a child for which the room was made first.
+fn add_child(alloc: Global, ready: &mut Ready, child: &TaskName) -> Result<(), AllocError> {
+    ready.add(TaskName::root(alloc))?;
+    let named = child.clone()?;
+    ready.reserve_add(&named)?;
+    ready.add(named)
+}
+
+/// An end of the child and its undo, and then its spawn's undo, behind which a mark changes nothing.
+fn end_and_undo(rt: &(impl Abort + AllocGlobal), ready: &mut Ready, child: &TaskName) {
+    ready.mark(child, false);
+    assert!(rt; ready.is_there(child) && !ready.can(child));
+    ready.mark(child, true);
+    assert!(rt; ready.least(&[]) == Some(child));
+    ready.remove(child);
+    assert!(rt; !ready.is_there(child) && !ready.can(child));
+    ready.mark(child, true);
+    ready.remove(child);
+    assert!(rt; ready.len() == 1 && ready.least(&[]).is_none());
+}
+
+/// Adds the child once more.
+fn add_again(ready: &mut Ready, child: &TaskName) -> Result<(), AllocError> {
+    ready.add(child.clone()?)
 }
 
 #[test]
-fn an_end_and_its_undo_take_no_memory(rt: HostRuntime) -> Result<(), Fail> {
-    let alloc = rt.alloc();
-    let mut ready = Ready::new(alloc);
-    let nobody: Vec<TaskName> = Vec::new(alloc);
-    let child = name(alloc, [1].as_slice())?;
-    ready.add(TaskName::root(alloc))?;
-    ready.reserve_add(&child)?;
-    ready.add(child.clone()?).unwrap();
+fn an_end_and_its_undo_take_no_memory(rt: HostRuntime) {
+    let child = name(rt.alloc(), [1].as_slice()).expect(&rt, "memory is there");
+    let mut ready = Ready::new(rt.alloc());
+    assert!(rt; add_child(rt.alloc(), &mut ready, &child).is_ok());
     ready.mark(&child, true);
-    ready.add(child.clone()?)?;
+    assert!(rt; add_again(&mut ready, &child).is_ok());
     assert!(rt;
         ready.can(&child) && ready.len() == 2,
         "one that is there stays as it is"
     );
-    ready.mark(&child, false);
-    assert!(rt; ready.is_there(&child) && !ready.can(&child));
-    ready.mark(&child, true);
-    assert!(rt; ready.least(&nobody) == Some(&child));
-    ready.remove(&child);
-    assert!(rt; !ready.is_there(&child) && !ready.can(&child));
-    ready.mark(&child, true);
-    ready.remove(&child);
-    assert!(rt; ready.len() == 1 && ready.least(&nobody).is_none());
-    ready.add(child.clone()?)?;
+    end_and_undo(&rt, &mut ready, &child);
+    assert!(rt; add_again(&mut ready, &child).is_ok());
     assert!(rt;
         ready.is_there(&child) && !ready.can(&child),
         "a new name is unmarked"
     );
+    mem::forget(child);
+    mem::forget(ready);
+}
+
+/// Adds the name behind room for it, which is made again where it was refused.
+fn add_reserved(
+    rt: &(impl Abort + AllocGlobal),
+    ready: &mut Ready,
+    child: TaskName,
+) -> Result<(), AllocError> {
+    let before = ready.len();
+    if ready.reserve_add(&child).is_err() {
+        assert_eq!(rt; ready.len(), before);
+        ready.reserve_add(&child)?;
+    }
+    ready.add(child)
+}
+
+/// Adds the name, and again where memory was refused.
+fn add_twice(
+    rt: &(impl Abort + AllocGlobal),
+    ready: &mut Ready,
+    child: &TaskName,
+) -> Result<(), AllocError> {
+    let before = ready.len();
+    if ready.add(child.clone()?).is_err() {
+        assert!(rt; ready.len() == before && !ready.is_there(child));
+        ready.add(child.clone()?)?;
+    }
     Ok(())
+}
+
+/// The nth child of the root is added, and every other one marked.
+fn grow(rt: &(impl Abort + AllocGlobal), ready: &mut Ready, n: u32) -> Result<(), AllocError> {
+    let child = name(rt.alloc(), [n].as_slice())?;
+    if n % 3 == 0 {
+        add_reserved(rt, ready, child.clone()?)?;
+    } else {
+        add_twice(rt, ready, &child)?;
+    }
+    assert!(rt; ready.is_there(&child));
+    ready.mark(&child, n % 2 == 0);
+    Ok(())
+}
+
+fn is_marked(alloc: Global, ready: &Ready, n: u32) -> Result<bool, AllocError> {
+    let child = name(alloc, [n].as_slice())?;
+    Ok(ready.can(&child))
 }
 
 /// A call that was refused changes nothing, and made again it answers as it would have at first.
 #[test]
-fn a_refused_growth_changes_nothing(rt: HostRuntime) -> Result<(), Fail> {
-    let alloc = rt.alloc();
-    let mut ready = Ready::new(alloc);
-    let root = TaskName::root(alloc);
-    for n in 0..40u32 {
-        let child = root.child(n.max(1)).unwrap();
-        let before = ready.len();
-        if n % 3 == 0 {
-            if ready.reserve_add(&child).is_err() {
-                assert_eq!(rt; ready.len(), before);
-                ready.reserve_add(&child)?;
-            }
-            ready.add(root.child(n.max(1)).unwrap()).unwrap();
-        } else if ready.add(root.child(n.max(1)).unwrap()).is_err() {
-            assert!(rt; ready.len() == before && !ready.is_there(&child));
-            ready.add(root.child(n.max(1)).unwrap())?;
+fn a_refused_growth_changes_nothing(rt: HostRuntime) {
+    let mut ready = Ready::new(rt.alloc());
+    for n in 1..40u32 {
+        if grow(&rt, &mut ready, n).is_err() {
+            assert!(rt; grow(&rt, &mut ready, n).is_ok());
         }
-        assert!(rt; ready.is_there(&child));
-        ready.mark(&child, n % 2 == 0);
     }
     assert_eq!(rt; ready.len(), 39);
     for n in 1..40u32 {
-        let child = root.child(n).unwrap();
-        assert_eq!(rt; ready.can(&child), n % 2 == 0);
+        assert_eq!(rt; is_marked(rt.alloc(), &ready, n), Ok(n % 2 == 0));
     }
-    Ok(())
+    mem::forget(ready);
 }
