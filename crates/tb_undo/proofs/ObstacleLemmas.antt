@@ -145,7 +145,7 @@ module _ (cells : Cells) (H : History) (p : Name) (n : ℕ) (legal : Legal cells
   abbrev t : Name
   t = n ∷ p
 
-  under_way : (u : Name) → is_excluding H t u ≡ true → IsTrue (apart H u t) × HasStarted H u × (HasEnded H u → ⊥)
+  pub under_way : (u : Name) → is_excluding H t u ≡ true → IsTrue (apart H u t) × HasStarted H u × (HasEnded H u → ⊥)
   under_way u h =
       let o = and_parts (apart H u t) (list_any (starts u) H && not (list_any (ends u) H)) h in
       let q = and_parts (list_any (starts u) H) (not (list_any (ends u) H)) o.1 in

@@ -1,19 +1,15 @@
 -- What keeps a task from an action, from the least of each kind.
 use Rattle.std.proofs.Common.{◌≡◌, ◌↔◌, List, Bool, true, false, not, Option, Some, None, is_some, option_map, refl, sym, ◌∙◌, subst, IsTrue}
-use Rattle.std.specs.List.{list_any}
-use Rattle.std.specs.Option.{option_or}
-use Rattle.std.proofs.lemmas.Bool.{and_parts, false≢true}
+use Rattle.std.proofs.lemmas.Bool.{false≢true}
 use Rattle.tb_model.specs.declared.item.Item.{Item}
 use Rattle.tb_model.specs.declared.action.Action.{Action}
 use Rattle.tb_model.specs.declared.action.Action.TheVariants.{Start, Wait, Close}
 use Rattle.tb_model.specs.Names.{Name}
-use Rattle.tb_model.specs.Facts.{History, IsSpawned, apart, is_of, is_start, starts}
+use Rattle.tb_model.specs.Facts.{History}
 use Rattle.tb_model.specs.State.{is_unended_covered, is_unended_member, is_unended_undeferred}
-use Rattle.tb_model.specs.Legal.{Cells, Legal}
-use Rattle.tb_model.specs.Hindrances.{IsLeast, IsFree, least_as, is_waited_for, is_excluding, in_the_way, Hindrance, Hinders, Undeferred, Waiting, Excluded, Children, Group}
-use Rattle.tb_model.proofs.FactsLemmas.{acted_spawned, not_started}
+use Rattle.tb_model.specs.Hindrances.{IsLeast, IsFree, is_waited_for, is_excluding, in_the_way, Hindrance, Hinders, Undeferred, Waiting, Excluded, Children, Group}
 use Rattle.tb_model.proofs.HindranceLemmas.{in_the_way_hinders}
-use Rattle.tb_model.proofs.LeastNameLemmas.{one_least, least_found}
+use Rattle.tb_model.proofs.LeastNameLemmas.{one_least}
 
 not_both : (p : Name → Bool) (u : Name) → IsLeast p None → IsLeast p (Some u) → ⊥
 not_both p u none some = let same = one_least (λ w. IsTrue (p w)) None (Some u) none some in cc
@@ -79,29 +75,6 @@ module _ (H : History) (t : Name) where
         at (Excluded u) k = not_start k.1
         at (Children u) k = not_wait k.1 k.2
         at (Group u) k = not_close k.1
-
--- ---- exclusion is found behind whatever comes first
-
-or_none : {A : Type 0} (o q : Option A) → option_or o q ≡ None → (o ≡ None) × (q ≡ None)
-or_none None q e = (refl, e)
-or_none (Some x) q e = cc
-
-map_none : {A B : Type 0} (f : A → B) (o : Option A) → option_map f o ≡ None → o ≡ None
-map_none f None e = refl
-map_none f (Some x) e = cc
-
--- who is under way was generated
-excluding_spawned : (cells : Cells) (H : History) (t u : Name) → Legal cells H → is_excluding H t u ≡ true → IsSpawned H u
-excluding_spawned cells H t u legal h =
-    let started = (and_parts (list_any (starts u) H) _ (and_parts (apart H u t) _ h).1).0 in
-    acted_spawned cells H u legal (λ none. not_started u H (starts u) (λ v s. (and_parts (is_of u v) (is_start v.action) s).0) none started)
-
-pub excluded_kept : (cells : Cells) (H : History) (t u : Name) → Legal cells H → is_excluding H t u ≡ true → in_the_way H t Start ≡ None → ⊥
-excluded_kept cells H t u legal h e =
-    let behind = (or_none (least_as Undeferred (is_unended_undeferred H t) H) _ e).1 in
-    let none = map_none Excluded _ (or_none (least_as Waiting (is_waited_for H t) H) _ behind).1 in
-    let found = (least_found H (is_excluding H t) (λ w. excluding_spawned cells H t w legal)).least u h in
-    cc
 
 -- nothing is found where the name of nothing is, and the other way
 pub clear_by : {A : Type 0} (f : A → Hindrance) (o : Option A) (b : Bool) (w : Option Hindrance) → is_some o ≡ not b → w ≡ option_map f o → IsTrue b ↔ (w ≡ None)

@@ -11,6 +11,7 @@ use Rattle.tb_model.specs.Legal.{Cells, Legal, spawn_count}
 use Rattle.tb_model.specs.Lines.{Departure, events_of}
 use Rattle.tb_model.specs.Hindrances.{IsLeast, IsFree, is_waited_for, is_excluding, in_the_way, Waiting, Excluded}
 use Rattle.tb_model.proofs.FactsLemmas.{acted_spawned}
+use Rattle.tb_model.proofs.HindranceLemmas.{nothing_in_the_way}
 use Rattle.tb_model.proofs.StateLemmas.{children_numbered}
 use Rattle.tb_depend.specs.Relations.{items_at, depends}
 use Rattle.tb_excl.specs.Holders.{IsLeastNumber, Excludes}
@@ -18,8 +19,8 @@ use Rattle.tb_undo.specs.declared.row.Row.{Row}
 use Rattle.tb_undo.specs.Tasks.{Task, row, seen_row}
 use Rattle.tb_undo.specs.State.{Seen, IsState, known_task}
 use Rattle.tb_undo.specs.Obstacles.{IsUnendedWhere, IsKnown, sibling}
-use Rattle.tb_undo.proofs.ObstacleLemmas.{waited_least, none_excluding, excluding_least}
-use Rattle.tb_undo.proofs.ReasonLemmas.{waits, starts_when, excluded_kept}
+use Rattle.tb_undo.proofs.ObstacleLemmas.{waited_least, under_way, none_excluding, excluding_least}
+use Rattle.tb_undo.proofs.ReasonLemmas.{waits, starts_when}
 
 pub headed : (t : Name) (n : ℕ) → slice_get t 0 ≡ Some n → t ≡ n ∷ drop 1 t
 headed [] n e = cc
@@ -137,8 +138,13 @@ module _ (first : Cells) (root_line : ℕ) (D : List Departure) (s : Seen) (lega
 
     -- who is excluded is kept back, also where something else is in the way first
     pub keeps_excluded : (b : Option ℕ) → IsTrue (is_some b) → r.steps ≡ 0 → IsLeastNumber (Excludes q.holders (items_at q.children.siblings n)) b → in_the_way H t Start ≡ None → ⊥
-    keeps_excluded None some e x = absurd (false≢true some)
-    keeps_excluded (Some m) some e x = excluded_kept first H t (m ∷ p) legal ((excluding (Some m) (omega (arith, e)) x).found (m ∷ p) refl)
+    keeps_excluded None some e x none = absurd (false≢true some)
+    keeps_excluded (Some m) some e x none =
+        let few : r.steps ≤ 0 = omega (arith, e) in
+        let excludes = subst (λ u. is_excluding H u (m ∷ p) ≡ true) name ((excluding (Some m) few x).found (m ∷ p) refl) in
+        let u = under_way first H p n legal here (m ∷ p) excludes in
+        let follows = (nothing_in_the_way first H (n ∷ p) Start (was_spawned (n ∷ p) here) (not_begun few) refl).0 (subst (λ u. in_the_way H u Start ≡ None) name none) in
+        u.2 (follows.timely.alone (m ∷ p) u.0 u.1)
 
     module _ (free : IsFree H t) where
       pub tells_waiting : (o : Option ℕ) (m : ℕ) → o ≡ Some m → Earlier o → in_the_way H t Start ≡ Some (Waiting (sibling t m))

@@ -3,7 +3,6 @@ use Rattle.std.specs.Option.{option_copied}
 use Rattle.tb_model.specs.Lines.{events_of}
 use Rattle.tb_model.specs.Hindrances.{in_the_way}
 use Rattle.tb_excl.specs.Holders.{IsLeastNumber, Excludes}
-use Rattle.tb_undo.specs.Tasks.{row}
 use Rattle.tb_undo.specs.State.{IsState}
 use Rattle.tb_undo.proofs.StartLemmas.{keeps_excluded}
 use Rattle.tb_undo.proofs.tables.Tables.is_excluded.Goals as goal
