@@ -1,11 +1,11 @@
 -- How the children's items lie in one list.
 use Rattle.std.proofs.Common.{◌≡◌, ◌≢◌, ◌<◌, ◌≤◌, ◌+◌, ◌-◌, ℕ, zero, suc, List, [], ◌∷◌, ◌++◌, length, take, drop, get_or, refl, ap, ap₂, sym, ◌∙◌, arith}
-use Rattle.std.proofs.Common.{unwrap_or, slice_get, subst}
+use Rattle.std.proofs.Common.{unwrap_or, slice_get, subst, inl, inr}
 use Rattle.std.specs.List.{slice_range}
 use Rattle.std.proofs.lemmas.List.{length-append, length-drop, length-take, take_all, take-append-le, drop-append-le, take-append-drop}
 use Rattle.std.proofs.Math.Seq.{drop-append_seam}
 use Rattle.tb_model.specs.declared.item.Item.{Item}
-use Rattle.tb_depend.specs.Layout.{rows_from, AreEnds, start_at, end_of}
+use Rattle.tb_depend.specs.Layout.{rows_from, AreEnds, start_at, end_of, IsRow}
 use Rattle.tb_depend.specs.Relations.{items_at}
 
 pub length_rows : (start : ℕ) (ends : List ℕ) (items : List Item) → length (rows_from start ends items) ≡ length ends
@@ -57,6 +57,17 @@ row_is ends items zero from h t s = absurd (h refl)
 row_is ends items (suc k) from h t s =
     ap₂ (λ a b. slice_range items a (get_or ends b 0)) (s ∙ ap (start_at 0 ends) (pred_suc k)) (pred_suc k)
     ∙ sym (row_at 0 ends items k (omega arith))
+
+pub row_of : (ends : List ℕ) (items : List Item) (n from to : ℕ) → IsRow ends (length items) n from to → slice_range items from to ≡ items_at (rows_from 0 ends items) n
+row_of ends items n from to row = elim row.there [
+  | inl q ↦
+      let some : n ≢ 0 = λ z. omega (arith, z, q.0) in
+      ap (slice_range items from) q.3 ∙ row_is ends items n from some q.1 q.2
+  | inr q ↦ elim q.0 [
+    | inl z ↦ ap₂ (slice_range items) q.1 q.2 ∙ sym (ap (items_at (rows_from 0 ends items)) z)
+    | inr z ↦ ap₂ (slice_range items) q.1 q.2 ∙ sym (row_outside 0 ends items n z)
+  ]
+]
 
 -- ---- one more child, and one less
 

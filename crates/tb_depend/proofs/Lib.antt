@@ -1,3 +1,7 @@
 pub mod LayoutLemmas
 pub mod NumbersLemmas
 pub mod RelationsLemmas
+pub mod LastLemmas
+pub mod ChainLemmas
+pub mod PlacesLemmas
+pub mod NearLemmas

@@ -1,5 +1,5 @@
 -- How the items of all children lie in one list. No public clause cites this module.
-use Rattle.std.specs.Prelude.{◌≡◌, ℕ, zero, suc, List, [], ◌∷◌, ◌≤◌, slice_index}
+use Rattle.std.specs.Prelude.{◌≡◌, ℕ, zero, suc, List, [], ◌∷◌, ◌<◌, ◌≤◌, ◌-◌, ◌⊎◌, length, slice_index}
 use Rattle.std.specs.List.{slice_range}
 use Rattle.tb_model.specs.declared.item.Item.{Item}
 
@@ -22,3 +22,9 @@ start_at start ends (suc k) = slice_index ends k
 abbrev pub end_of : ℕ → List ℕ → ℕ
 end_of start [] = start
 end_of start (e ∷ ends) = end_of e ends
+
+-- the items of the nth child begin and end at these places, and there are none where there is no such child
+pub record IsRow (ends : List ℕ) (len n from to : ℕ) : Type 0 where
+  pub order : from ≤ to
+  pub within : to ≤ len
+  pub there : ((0 < n) × (n ≤ length ends) × (from ≡ start_at 0 ends (n - 1)) × (to ≡ slice_index ends (n - 1))) ⊎ (((n ≡ 0) ⊎ (length ends < n)) × (from ≡ 0) × (to ≡ 0))

@@ -2,9 +2,22 @@
 
 ghost use Rattle.std.specs.Prelude.{◌≡◌, ◌<◌, ◌≤◌, ◌+◌, ◌-◌, [], ◌∷◌, ◌++◌, length, take, slice_index, vec_len, vec_capacity};
 ghost use Rattle.tb_depend.specs.Relations.{items_at};
-ghost use Rattle.tb_depend.specs.Layout.{AreEnds, rows_from, start_at, end_of};
+ghost use Rattle.tb_depend.specs.Layout.{AreEnds, rows_from, start_at, end_of, IsRow};
+ghost use Rattle.tb_depend.specs.Chains.{AreChained, HasHeadsFor, KeepsHeads};
 
+use crate::chain::Chain;
 use tb_model::Item;
+
+/// Where the items of the nth child begin and end; both are 0 where there is no such child.
+pub(crate) fn bounds(items: &[Item], ends: &[usize], n: usize) -> (usize, usize)
+    requires { AreEnds 0 ends.now (length items.now) }
+    ensures { IsRow ends.now (length items.now) n result.0 result.1 }
+{
+    if n == 0 || n > ends.len() {
+        return (0, 0);
+    }
+    (start(items, ends, n - 1), ends[n - 1])
+}
 
 /// The items of the nth child, where the items of each end at its place. There are none where there
 /// is no such child.
@@ -12,11 +25,8 @@ pub(crate) fn row<'a>(items: &'a [Item], ends: &[usize], n: usize) -> &'a [Item]
     requires { AreEnds 0 ends.now (length items.now) }
     ensures { result.now ≡ items_at (rows_from 0 ends.now items.now) n }
 {
-    if n == 0 || n > ends.len() {
-        return &items[..0];
-    }
-    let from = start(items, ends, n - 1);
-    &items[from..ends[n - 1]]
+    let (from, to) = bounds(items, ends, n);
+    &items[from..to]
 }
 
 /// Where the items of the child behind the first k begin.
@@ -44,39 +54,51 @@ fn end_of(ends: &[usize]) -> usize
 }
 
 /// Adds a child with these items behind the others, in the room that is there.
-pub(crate) fn push_row(items: &mut Vec<Item>, ends: &mut Vec<usize>, new: &[Item])
-    requires ends { AreEnds 0 ends.old.items (length items.old.items) }
+pub(crate) fn push_row(chain: &mut Chain, ends: &mut Vec<usize>, new: &[Item])
+    requires chained { AreChained chain.old.items.items chain.old.links.items chain.old.heads }
+    requires ends { AreEnds 0 ends.old.items (length chain.old.items.items) }
     requires a_place { vec_len ends.old < vec_capacity ends.old }
-    requires its_items { vec_len items.old + length new.now ≤ vec_capacity items.old }
-    ensures rows { rows_from 0 ends.new.items items.new.items
-        ≡ rows_from 0 ends.old.items items.old.items ++ new.now ∷ [] }
-    ensures ends { AreEnds 0 ends.new.items (length items.new.items) }
+    requires its_items { vec_len chain.old.items + length new.now ≤ vec_capacity chain.old.items }
+    requires its_links { vec_len chain.old.links + length new.now ≤ vec_capacity chain.old.links }
+    requires its_heads { HasHeadsFor chain.old.heads new.now }
+    ensures rows { rows_from 0 ends.new.items chain.new.items.items
+        ≡ rows_from 0 ends.old.items chain.old.items.items ++ new.now ∷ [] }
+    ensures ends { AreEnds 0 ends.new.items (length chain.new.items.items) }
+    ensures chained { AreChained chain.new.items.items chain.new.links.items chain.new.heads }
     ensures places { vec_capacity ends.old - vec_len ends.old
         ≤ vec_capacity ends.new - vec_len ends.new + 1 }
-    ensures item_places { vec_capacity items.old - vec_len items.old
-        ≤ vec_capacity items.new - vec_len items.new + length new.now }
+    ensures item_places { vec_capacity chain.old.items - vec_len chain.old.items
+        ≤ vec_capacity chain.new.items - vec_len chain.new.items + length new.now }
+    ensures link_places { vec_capacity chain.old.links - vec_len chain.old.links
+        ≤ vec_capacity chain.new.links - vec_len chain.new.links + length new.now }
+    ensures heads { KeepsHeads chain.old.heads chain.new.heads }
 {
-    let end = items.as_slice().len() + new.len();
-    items.extend_from_slice(new).unwrap();
+    let end = chain.items.len() + new.len();
+    chain.extend(new);
     ends.push_reserved(end);
 }
 
 /// Takes the last child off, and keeps its room.
-pub(crate) fn pop_row(items: &mut Vec<Item>, ends: &mut Vec<usize>)
-    requires ends { AreEnds 0 ends.old.items (length items.old.items) }
-    ensures rows { rows_from 0 ends.new.items items.new.items
-        ≡ take (length ends.old.items - 1) (rows_from 0 ends.old.items items.old.items) }
-    ensures ends { AreEnds 0 ends.new.items (length items.new.items) }
+pub(crate) fn pop_row(chain: &mut Chain, ends: &mut Vec<usize>)
+    requires chained { AreChained chain.old.items.items chain.old.links.items chain.old.heads }
+    requires ends { AreEnds 0 ends.old.items (length chain.old.items.items) }
+    ensures rows { rows_from 0 ends.new.items chain.new.items.items
+        ≡ take (length ends.old.items - 1) (rows_from 0 ends.old.items chain.old.items.items) }
+    ensures ends { AreEnds 0 ends.new.items (length chain.new.items.items) }
+    ensures chained { AreChained chain.new.items.items chain.new.links.items chain.new.heads }
     ensures places { 0 < vec_len ends.old →
         vec_capacity ends.new - vec_len ends.new ≡ vec_capacity ends.old - vec_len ends.old + 1 }
-    ensures item_places { vec_capacity items.new - vec_len items.new
-        ≡ vec_capacity items.old - vec_len items.old
-        + length (items_at (rows_from 0 ends.old.items items.old.items) (length ends.old.items)) }
+    ensures item_places { vec_capacity chain.new.items - vec_len chain.new.items
+        ≡ vec_capacity chain.old.items - vec_len chain.old.items
+        + length (items_at (rows_from 0 ends.old.items chain.old.items.items) (length ends.old.items)) }
+    ensures link_places { vec_capacity chain.new.links - vec_len chain.new.links
+        ≡ vec_capacity chain.old.links - vec_len chain.old.links
+        + length (items_at (rows_from 0 ends.old.items chain.old.items.items) (length ends.old.items)) }
+    ensures heads { KeepsHeads chain.old.heads chain.new.heads }
     ensures keeps { vec_capacity ends.old - vec_len ends.old
         ≤ vec_capacity ends.new - vec_len ends.new }
 {
     if let Some(_end) = ends.pop() {
-        let kept = end_of(ends);
-        items.truncate(kept);
+        chain.truncate(end_of(ends));
     }
 }

@@ -2,14 +2,21 @@
 //! each other, and which a `taskwait` covers.
 #![tactic(auto)]
 
+mod chain;
+mod heads;
 pub mod laws;
 mod layout;
+mod link;
+mod near;
+mod over;
 mod preds;
 #[cfg(test)]
 mod random_tests;
 mod siblings;
+mod steps;
 #[cfg(test)]
 mod tests;
 
+pub use over::Over;
 pub use preds::Preds;
 pub use siblings::Siblings;

@@ -1,8 +1,8 @@
 //! The answers against a plain program over the rows of the table, on lists made by a fixed rule.
 
-use crate::Siblings;
+use crate::{Over, Siblings};
 use std::alloc::{AllocError, Global};
-use std::test::Fail;
+use std::process::Abort;
 use tb_model::{Item, Kind, Place};
 
 /// The row of a new item's kind in the table of OpenMP 5.2, 15.9.5: behind in, out, inout,
@@ -114,43 +114,119 @@ impl Dice {
     }
 }
 
-#[test]
-fn agrees_with_the_plain_program(rt: HostRuntime) -> Result<(), Fail> {
-    let alloc = rt.alloc();
-    let mut dice = Dice { state: 1 };
-    for _ in 0..200u32 {
-        let mut siblings = Siblings::new(alloc);
-        let mut rows: Vec<Vec<Item>> = Vec::new(alloc);
-        for _ in 0..10u32 {
-            if dice.below(4) == 0 {
-                siblings.drop_last();
-                let _last = rows.pop();
-            } else {
-                let items = dice.items(alloc)?;
-                let preds = siblings.add(&items)?;
-                rows.push(items)?;
-                let at = rows.len().wrapping_sub(1);
-                let plain = numbers(alloc, &rows, at, b'b')?;
-                assert_eq!(rt; preds.as_slice(), plain.as_slice());
+/// Children that are over, by their numbers from 1. One that isn't listed is over.
+#[derive(Drop)]
+struct Known {
+    over: Vec<bool>,
+}
+
+impl Over for Known {
+    ghost use Rattle.std.specs.Prelude.{true, ◌-◌, slice_index_or};
+
+    ghost over = { λ k n. slice_index_or k.over.items (n - 1) true };
+
+    fn is_over(&self, child: usize) -> bool {
+        self.over
+            .get(child.saturating_sub(1))
+            .copied()
+            .unwrap_or(true)
+    }
+}
+
+impl Known {
+    /// Whether all are over on which the child at this index depends.
+    fn preds_over(&self, rows: &[Vec<Item>], at: usize) -> bool {
+        if let Some(own) = rows.get(at) {
+            for (m, other) in rows.iter().take(at).enumerate() {
+                if related(own, other, b'b') && self.over.get(m).copied() == Some(false) {
+                    return false;
+                }
             }
         }
-        assert_eq!(rt; siblings.len(), rows.len());
-        for at in 0..rows.len() {
-            let n = at.wrapping_add(1);
-            assert_eq!(rt;
-                siblings.preds(n)?.as_slice(),
-                numbers(alloc, &rows, at, b'b')?.as_slice()
-            );
-            assert_eq!(rt;
-                siblings.apart(n)?.as_slice(),
-                numbers(alloc, &rows, at, b'a')?.as_slice()
-            );
-        }
-        let items = dice.items(alloc)?;
-        assert_eq!(rt;
-            siblings.covered(&items)?.as_slice(),
-            covered(alloc, &rows, &items)?.as_slice()
-        );
+        true
     }
-    Ok(())
+}
+
+/// Adds ten children or takes the last one off, and tells whether each `add` answers right.
+fn grow(
+    alloc: Global,
+    dice: &mut Dice,
+    siblings: &mut Siblings,
+    rows: &mut Vec<Vec<Item>>,
+) -> Result<bool, AllocError> {
+    for _ in 0..10u32 {
+        if dice.below(4) == 0 {
+            siblings.drop_last();
+            let _last = rows.pop();
+        } else {
+            let items = dice.items(alloc)?;
+            let preds = siblings.add(&items)?;
+            rows.push(items)?;
+            let plain = numbers(alloc, rows, rows.len().wrapping_sub(1), b'b')?;
+            if preds.as_slice() != plain.as_slice() {
+                return Ok(false);
+            }
+        }
+    }
+    Ok(siblings.len() == rows.len())
+}
+
+/// Whether the lists of the child at this index are those of the plain program.
+fn has_lists(
+    alloc: Global,
+    siblings: &Siblings,
+    rows: &[Vec<Item>],
+    at: usize,
+) -> Result<bool, AllocError> {
+    let n = at.wrapping_add(1);
+    let before = numbers(alloc, rows, at, b'b')?;
+    let apart = numbers(alloc, rows, at, b'a')?;
+    Ok(
+        siblings.preds(n)?.as_slice() == before.as_slice()
+            && siblings.apart(n)?.as_slice() == apart.as_slice(),
+    )
+}
+
+/// Lets children be over where all are on which they depend, and tells whether the table knows
+/// each time whether all are.
+fn knows_over(
+    alloc: Global,
+    dice: &mut Dice,
+    siblings: &Siblings,
+    rows: &[Vec<Item>],
+) -> Result<bool, AllocError> {
+    let mut known = Known {
+        over: Vec::new(alloc),
+    };
+    for at in 0..rows.len() {
+        let plain = known.preds_over(rows, at);
+        if siblings.are_preds_over(at.wrapping_add(1), &known) != plain {
+            return Ok(false);
+        }
+        known.over.push(plain && dice.below(3) != 0)?;
+    }
+    Ok(true)
+}
+
+/// Whether the answers of a table made by the dice are those of the plain program.
+fn agrees(alloc: Global, dice: &mut Dice) -> Result<bool, AllocError> {
+    let mut siblings = Siblings::new(alloc);
+    let mut rows = Vec::new(alloc);
+    let mut right = grow(alloc, dice, &mut siblings, &mut rows)?;
+    for at in 0..rows.len() {
+        right = right && has_lists(alloc, &siblings, &rows, at)?;
+    }
+    right = right && knows_over(alloc, dice, &siblings, &rows)?;
+    let items = dice.items(alloc)?;
+    let plain = covered(alloc, &rows, &items)?;
+    right = right && siblings.covered(&items)?.as_slice() == plain.as_slice();
+    Ok(right)
+}
+
+#[test]
+fn agrees_with_the_plain_program(rt: HostRuntime) {
+    let mut dice = Dice { state: 1 };
+    for _ in 0..200u32 {
+        assert_eq!(rt; agrees(rt.alloc(), &mut dice), Ok(true));
+    }
 }

@@ -1,11 +1,15 @@
 //! The children of one task.
 
-ghost use Rattle.std.specs.Prelude.{◌≡◌, ◌<◌, ◌≤◌, ◌+◌, ◌-◌, [], ◌∷◌, ◌++◌, IsOk, OnOk, OnErr, IfOk, length, take, min, vec_capacity};
+ghost use Rattle.std.specs.Prelude.{◌≡◌, ◌<◌, ◌≤◌, ◌+◌, ◌-◌, [], ◌∷◌, ◌++◌, IsOk, OnOk, OnErr, IfOk, IsTrue, ◌↔◌, length, take, min, vec_capacity};
 ghost use Rattle.tb_depend.specs.Numbers.{numbers_where};
 ghost use Rattle.tb_depend.specs.Relations.{items_at, depends, excludes, is_covered, preds_of, apart_of, covered_by};
 ghost use Rattle.tb_depend.specs.Table.{HasRoomFor, KeepsRoom, FreesRoom};
+ghost use Rattle.tb_depend.specs.Nearness.{IsClosed, AreOver, AreOverFor};
 
+use crate::chain::Chain;
 use crate::layout::{pop_row, push_row, row};
+use crate::near::{further_over, preds_over};
+use crate::over::Over;
 use crate::preds::Preds;
 use std::alloc::{AllocError, Global};
 use std::marker::Model;
@@ -18,7 +22,7 @@ use tb_model::{Item, some_apart, some_before};
 pub struct Siblings {
     alloc: Global,
     // the items of all children, one child's behind another's
-    items: Vec<Item>,
+    chain: Chain,
     // where each child's items end
     ends: Vec<usize>,
     // the list that the next `add` fills and hands out
@@ -29,12 +33,13 @@ impl Model for Siblings {
     ghost use Rattle.std.specs.Prelude.{◌≡◌, ◌-◌, [], length, vec_len, vec_capacity};
     ghost use Rattle.tb_depend.specs.Table.{Table};
     ghost use Rattle.tb_depend.specs.Layout.{AreEnds, rows_from};
+    ghost use Rattle.tb_depend.specs.Chains.{AreChained};
 
     ghost Value = { Table };
 
-    ghost view = { λ s. record { siblings = rows_from 0 s.ends.items s.items.items; places = vec_capacity s.ends - vec_len s.ends; item_places = vec_capacity s.items - vec_len s.items; number_places = vec_capacity s.spare } };
+    ghost view = { λ s. record { siblings = rows_from 0 s.ends.items s.chain.items.items; places = vec_capacity s.ends - vec_len s.ends; item_places = vec_capacity s.chain.items - vec_len s.chain.items; link_places = vec_capacity s.chain.links - vec_len s.chain.links; cells = s.chain.heads.cells.entries; number_places = vec_capacity s.spare } };
 
-    ghost invariant = { λ s. AreEnds 0 s.ends.items (length s.items.items) × (s.spare.items ≡ []) };
+    ghost invariant = { λ s. AreEnds 0 s.ends.items (length s.chain.items.items) × AreChained s.chain.items.items s.chain.links.items s.chain.heads × (s.spare.items ≡ []) };
 }
 
 impl Siblings {
@@ -44,7 +49,7 @@ impl Siblings {
     {
         Siblings {
             alloc,
-            items: Vec::new(alloc),
+            chain: Chain::new(alloc),
             ends: Vec::new(alloc),
             spare: Vec::new(alloc),
         }
@@ -62,7 +67,7 @@ impl Siblings {
     pub fn items(&self, n: usize) -> &[Item]
         ensures { result.now ≡ items_at self.now.siblings n }
     {
-        row(&self.items, &self.ends, n)
+        row(&self.chain.items, &self.ends, n)
     }
 
     /// Whether the nth child depends on the mth. A number that is no child's depends on none.
@@ -98,7 +103,7 @@ impl Siblings {
     {
         let count = self.len();
         self.ends.reserve(1)?;
-        self.items.reserve(items.len())?;
+        self.chain.reserve(items)?;
         self.spare.reserve(count)
     }
 
@@ -115,9 +120,21 @@ impl Siblings {
         ensures item_places { self.old.item_places ≤ self.new.item_places + length items.now }
     {
         self.reserve_add(items)?;
-        push_row(&mut self.items, &mut self.ends, items);
+        self.add_reserved(items);
         let numbers = mem::replace(&mut self.spare, Vec::new(self.alloc));
         Ok(self.fill_preds(self.len(), numbers))
+    }
+
+    /// Adds a child behind the others, in the room that is there. The cost doesn't depend on how
+    /// many there are.
+    pub fn add_reserved(&mut self, items: &[Item])
+        requires { HasRoomFor self.old items.now }
+        ensures added { self.new.siblings ≡ self.old.siblings ++ items.now ∷ [] }
+        ensures places { self.old.places ≤ self.new.places + 1 }
+        ensures item_places { self.old.item_places ≤ self.new.item_places + length items.now }
+        ensures numbers { self.new.number_places ≡ self.old.number_places }
+    {
+        push_row(&mut self.chain, &mut self.ends, items);
     }
 
     /// Takes the last child off, and keeps its room. Where there is none, nothing changes.
@@ -128,7 +145,26 @@ impl Siblings {
             (length (items_at self.old.siblings (length self.old.siblings))) }
         ensures keeps { KeepsRoom self.old self.new }
     {
-        pop_row(&mut self.items, &mut self.ends);
+        pop_row(&mut self.chain, &mut self.ends);
+    }
+
+    /// Whether all children on which the nth depends are over. Asks only those near it, of each
+    /// storage location the last of one kind in front of it; takes no memory.
+    pub fn are_preds_over<T: Over>(&self, n: usize, over: &T) -> bool
+        ensures { IsClosed self.now.siblings (T.over over.now) →
+            IsTrue result ↔ AreOver self.now.siblings (T.over over.now) n }
+    {
+        preds_over(&self.chain, &self.ends, n, over)
+    }
+
+    /// Whether all children are over on which a further child with these items would depend: for a
+    /// `taskwait` with items, all that it covers. Asks those alone that would be near it; takes no
+    /// memory.
+    pub fn are_over_for<T: Over>(&self, items: &[Item], over: &T) -> bool
+        ensures { IsClosed self.now.siblings (T.over over.now) →
+            IsTrue result ↔ AreOverFor self.now.siblings (T.over over.now) items.now }
+    {
+        further_over(&self.chain, &self.ends, items, over)
     }
 
     /// The numbers of the children on which the nth depends.

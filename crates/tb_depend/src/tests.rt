@@ -1,6 +1,8 @@
 //! The table of dependences by OpenMP 5.2, 15.9.5 depend Clause, and calls with little memory.
 
-use crate::Siblings;
+use crate::{Over, Siblings};
+use std::mem;
+use std::process::Abort;
 use std::test::Fail;
 use tb_model::{Item, Kind, Place};
 
@@ -18,40 +20,68 @@ fn all(kind: Kind) -> Item {
     }
 }
 
+/// Whether a child with this item of cell 0 depends on those with these numbers.
+fn follows(siblings: &mut Siblings, kind: Kind, numbers: &[usize]) -> bool {
+    match siblings.add([item(kind, 0)].as_slice()) {
+        Ok(preds) => preds.as_slice() == numbers,
+        Err(_) => false,
+    }
+}
+
 #[test]
-fn a_writer_waits_for_both_readers(rt: HostRuntime) -> Result<(), Fail> {
+fn a_writer_waits_for_both_readers(rt: HostRuntime) {
     let mut siblings = Siblings::new(rt.alloc());
-    assert!(rt;
-        siblings
-            .add([item(Kind::In, 0)].as_slice())?
-            .as_slice()
-            .is_empty()
-    );
-    assert!(rt;
-        siblings
-            .add([item(Kind::In, 0)].as_slice())?
-            .as_slice()
-            .is_empty()
-    );
-    assert_eq!(rt;
-        siblings.add([item(Kind::Out, 0)].as_slice())?.as_slice(),
-        [1, 2].as_slice()
-    );
-    assert_eq!(rt;
-        siblings.add([item(Kind::In, 0)].as_slice())?.as_slice(),
-        [3].as_slice()
-    );
+    assert!(rt; follows(&mut siblings, Kind::In, &[]));
+    assert!(rt; follows(&mut siblings, Kind::In, &[]));
+    assert!(rt; follows(&mut siblings, Kind::Out, [1, 2].as_slice()));
+    assert!(rt; follows(&mut siblings, Kind::In, [3].as_slice()));
     assert_eq!(rt; siblings.len(), 4);
     assert!(rt; siblings.is_before(1, 3) && siblings.is_before(3, 4));
     assert!(rt; !siblings.is_before(3, 1) && !siblings.is_before(1, 2));
-    assert_eq!(rt; siblings.preds(3)?.as_slice(), [1, 2].as_slice());
     siblings.drop_last();
     siblings.drop_last();
-    assert_eq!(rt;
-        siblings.add([item(Kind::Inout, 0)].as_slice())?.as_slice(),
-        [1, 2].as_slice()
-    );
-    Ok(())
+    assert!(rt; follows(&mut siblings, Kind::Inout, [1, 2].as_slice()));
+    mem::forget(siblings);
+}
+
+/// The one child that isn't over, and those that are asked.
+#[derive(Drop)]
+struct AllBut {
+    child: usize,
+}
+
+impl Over for AllBut {
+    ghost use Rattle.std.specs.Prelude.{not, nat_eq};
+
+    ghost over = { λ a n. not (nat_eq n a.child) };
+
+    fn is_over(&self, child: usize) -> bool {
+        child != self.child
+    }
+}
+
+/// Of siblings that read, write, read, read and write one cell, the ones near each are none, 1, 2, 2,
+/// and 3 and 4. The others aren't asked.
+#[test]
+fn only_those_near_are_asked(rt: HostRuntime) {
+    let mut siblings = Siblings::new(rt.alloc());
+    assert!(rt; follows(&mut siblings, Kind::In, &[]));
+    assert!(rt; follows(&mut siblings, Kind::Out, [1].as_slice()));
+    assert!(rt; follows(&mut siblings, Kind::In, [2].as_slice()));
+    assert!(rt; follows(&mut siblings, Kind::In, [2].as_slice()));
+    assert!(rt; follows(&mut siblings, Kind::Out, [1, 2, 3, 4].as_slice()));
+    for child in 1..6usize {
+        let asked = AllBut { child };
+        assert!(rt; siblings.are_preds_over(1, &asked));
+        assert_eq!(rt; siblings.are_preds_over(2, &asked), child != 1);
+        assert_eq!(rt; siblings.are_preds_over(3, &asked), child != 2);
+        assert_eq!(rt; siblings.are_preds_over(4, &asked), child != 2);
+        assert_eq!(rt;
+            siblings.are_preds_over(5, &asked),
+            child != 3 && child != 4
+        );
+    }
+    mem::forget(siblings);
 }
 
 #[test]
