@@ -12,6 +12,7 @@ pub mod RunLemmas
 pub mod WalkLemmas
 pub mod UndeferredLemmas
 pub mod ObstacleLemmas
+pub mod OverLemmas
 pub mod ReasonLemmas
 pub mod StartLemmas
 pub mod ReadingLemmas

@@ -34,10 +34,10 @@ pub least_name_by : (P Q : Name → Type 0) (o : Option Name) → ((u : Name) �
 least_name_by P Q o f g l = record { found = λ u e. f u (l.found u e); least = λ u q. l.least u (g u q) }
 
 -- who was generated and hasn't ended is unended
-ended_not : (H : History) (u : Name) → is_unended H u ≡ true → list_any (ends u) H ≡ false
+pub ended_not : (H : History) (u : Name) → is_unended H u ≡ true → list_any (ends u) H ≡ false
 ended_not H u h = not-true (list_any (ends u) H) (and_parts (is_spawned H u) (not (list_any (ends u) H)) h).1
 
-unended_from : (H : History) (u : Name) → IsSpawned H u → list_any (ends u) H ≡ false → is_unended H u ≡ true
+pub unended_from : (H : History) (u : Name) → IsSpawned H u → list_any (ends u) H ≡ false → is_unended H u ≡ true
 unended_from H u s e = and_from (is_spawned H u) (not (list_any (ends u) H)) s (not_from_false (list_any (ends u) H) e)
 
 -- who has no items meets nobody
@@ -108,6 +108,16 @@ module _ (cells : Cells) (H : History) (tasks : Waits) (t : Name) (legal : Legal
         at false e =
             let met = (and_parts (is_elder (m ∷ t) (n ∷ t)) (some_meet is_before (items_of (n ∷ t) H) (items_of (m ∷ t) H)) h).1 in
             sym (none_meet is_before (items_of (n ∷ t) H)) ∙ ap (some_meet is_before (items_of (n ∷ t) H)) (sym (no_items (m ∷ t) H e)) ∙ met
+
+    -- and so was who comes behind another
+    pub before_generated : (m : ℕ) → before H (m ∷ t) (n ∷ t) ≡ true → IsSpawned H (n ∷ t)
+    before_generated m h = at (list_any (spawns (n ∷ t)) H) refl
+      where
+        at : (b : Bool) → list_any (spawns (n ∷ t)) H ≡ b → b ≡ true
+        at true e = refl
+        at false e =
+            let met = (and_parts (is_elder (m ∷ t) (n ∷ t)) (some_meet is_before (items_of (n ∷ t) H) (items_of (m ∷ t) H)) h).1 in
+            ap (λ items. some_meet is_before items (items_of (m ∷ t) H)) (sym (no_items (n ∷ t) H e)) ∙ met
 
     waited_back : (m : ℕ) → is_waited_for H (n ∷ t) (m ∷ t) ≡ true → IsUnendedWhere tasks t (depends children n) m
     waited_back m h =

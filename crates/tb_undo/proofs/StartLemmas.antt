@@ -14,11 +14,13 @@ use Rattle.tb_model.proofs.FactsLemmas.{acted_spawned}
 use Rattle.tb_model.proofs.HindranceLemmas.{nothing_in_the_way}
 use Rattle.tb_model.proofs.StateLemmas.{children_numbered}
 use Rattle.tb_depend.specs.Relations.{items_at, depends}
+use Rattle.tb_depend.specs.Nearness.{IsClosed}
 use Rattle.tb_excl.specs.Holders.{IsLeastNumber, Excludes}
 use Rattle.tb_undo.specs.declared.row.Row.{Row}
 use Rattle.tb_undo.specs.Tasks.{Task, row, seen_row}
 use Rattle.tb_undo.specs.State.{Seen, IsState, known_task}
-use Rattle.tb_undo.specs.Obstacles.{IsUnendedWhere, IsKnown, sibling}
+use Rattle.tb_undo.specs.Obstacles.{IsUnendedWhere, is_child_over, IsKnown, sibling}
+use Rattle.tb_undo.proofs.OverLemmas.{over_closed}
 use Rattle.tb_undo.proofs.ObstacleLemmas.{waited_least, under_way, none_excluding, excluding_least}
 use Rattle.tb_undo.proofs.ReasonLemmas.{waits, starts_when}
 
@@ -108,6 +110,10 @@ module _ (first : Cells) (root_line : ℕ) (D : List Departure) (s : Seen) (lega
 
     parent_known : IsKnown (own p H) (seen_row q)
     parent_known = is_known p q (parent_spawned n p (was_spawned (n ∷ p) here)) found
+
+    -- with each sibling that is over, all are on which it depends
+    pub siblings_closed : IsClosed q.children.siblings (is_child_over s.waits.tasks p)
+    siblings_closed = subst (λ rows. IsClosed rows (is_child_over s.waits.tasks p)) (sym parent_known.children) (over_closed first H s.waits.tasks p legal state.waiting)
 
     earlier : (o : Option ℕ) → Earlier o → IsLeast (is_waited_for H t) (option_map (child p) o)
     earlier o l =

@@ -1,11 +1,11 @@
 -- What keeps a task from an action, with numbers in place of the names of its children and siblings.
-use Rattle.std.specs.Prelude.{◌≡◌, ◌<◌, ◌==◌, ℕ, Bool, false, IsTrue, List, [], ◌∷◌, drop, length}
+use Rattle.std.specs.Prelude.{◌≡◌, ◌<◌, ◌==◌, ℕ, zero, suc, Bool, true, false, Option, Some, None, IsTrue, List, [], ◌∷◌, drop, length}
 use Rattle.tb_model.specs.declared.action.Action.{Action}
 use Rattle.tb_model.specs.Names.{Name, child}
 use Rattle.tb_model.specs.Hindrances.{Hindrance}
 use Rattle.tb_model.specs.Hindrances as hindrance
 use Rattle.tb_depend.specs.Relations.{spawned_items}
-use Rattle.tb_wait.specs.Kin.{Tasks as Waits, IsUnendedChild}
+use Rattle.tb_wait.specs.Kin.{Tasks as Waits, Kin, kin, IsUnendedChild}
 use Rattle.tb_undo.specs.declared.obstacle.Obstacle.{Obstacle}
 use Rattle.tb_undo.specs.declared.obstacle.Obstacle.TheVariants as obstacle
 use Rattle.tb_undo.specs.Tasks.{Task}
@@ -22,6 +22,16 @@ hindrance_by t (obstacle.Waiting m) = hindrance.Waiting (sibling t m)
 hindrance_by t (obstacle.Excluded m) = hindrance.Excluded (sibling t m)
 hindrance_by t (obstacle.Children n) = hindrance.Children (child t n)
 hindrance_by t (obstacle.Group m) = hindrance.Group m.now
+
+-- what is kept of a task says that it is over, or there is no such task
+abbrev pub is_kin_over : Option Kin → Bool
+is_kin_over None = true
+is_kin_over (Some k) = k.over
+
+-- the nth child of t is over, or there is no such child
+abbrev pub is_child_over : Waits → Name → ℕ → Bool
+is_child_over tasks t zero = true
+is_child_over tasks t (suc k) = is_kin_over (kin tasks (child t (suc k)))
 
 -- the nth child of t isn't over, and passes the test
 pub record IsUnendedWhere (tasks : Waits) (t : Name) (test : ℕ → Bool) (n : ℕ) : Type 0 where

@@ -5,6 +5,7 @@ mod asking;
 mod copies;
 pub mod laws;
 mod obstacle;
+mod over;
 mod reading;
 mod row;
 mod rows;

@@ -75,7 +75,7 @@ impl Row {
                 deferred,
                 ..
             } => {
-                let _preds = self.children.add(items.as_slice()).unwrap();
+                self.children.add_reserved(items.as_slice());
                 if !*deferred {
                     self.undeferred.push_reserved(self.steps);
                 }

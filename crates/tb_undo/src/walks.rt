@@ -2,10 +2,12 @@
 
 ghost use Rattle.std.specs.Prelude.{◌≡◌};
 ghost use Rattle.tb_depend.specs.Relations.{depends, is_covered};
+ghost use Rattle.tb_depend.specs.Nearness.{IsClosed};
 ghost use Rattle.tb_excl.specs.Holders.{IsLeastNumber};
 ghost use Rattle.tb_undo.specs.Tasks.{seen_row};
-ghost use Rattle.tb_undo.specs.Obstacles.{IsUnendedWhere, is_first};
+ghost use Rattle.tb_undo.specs.Obstacles.{IsUnendedWhere, is_child_over, is_first};
 
+use crate::over::ChildrenOver;
 use crate::row::Row;
 use tb_depend::Siblings;
 use tb_model::{Item, TaskName};
@@ -21,12 +23,13 @@ pub fn is_held(row: &Row) -> bool
     }
 }
 
-/// The least of the parent's children that isn't over and on which the nth depends. A child with no
-/// items depends on none, at no cost.
+/// The least of the parent's children that isn't over and on which the nth depends. Whether there is
+/// one is asked of those near it alone; only its number costs a walk.
 pub fn next_before(waits: &Wait, siblings: &Siblings, parent: &TaskName, n: u32) -> Option<u32>
-    ensures { IsLeastNumber (IsUnendedWhere waits.now.tasks parent.now (depends siblings.now.siblings n)) result }
+    ensures { IsClosed siblings.now.siblings (is_child_over waits.now.tasks parent.now) →
+        IsLeastNumber (IsUnendedWhere waits.now.tasks parent.now (depends siblings.now.siblings n)) result }
 {
-    if siblings.items(n as usize).is_empty() {
+    if siblings.are_preds_over(n as usize, &ChildrenOver { waits, parent }) {
         return None;
     }
     let mut low = 0;
@@ -43,15 +46,24 @@ pub fn next_before(waits: &Wait, siblings: &Siblings, parent: &TaskName, n: u32)
 }
 
 /// The least of the task's children that isn't over and for which a `taskwait` with these items
-/// waits.
+/// waits. With items, whether there is one is asked of those alone that would be near a further
+/// child; only its number costs a walk.
 pub fn next_covered(
     waits: &Wait,
     children: &Siblings,
     task: &TaskName,
     items: &[Item],
 ) -> Option<u32>
-    ensures { IsLeastNumber (IsUnendedWhere waits.now.tasks task.now (is_covered children.now.siblings items.now)) result }
+    ensures { IsClosed children.now.siblings (is_child_over waits.now.tasks task.now) →
+        IsLeastNumber (IsUnendedWhere waits.now.tasks task.now (is_covered children.now.siblings items.now)) result }
 {
+    let over = ChildrenOver {
+        waits,
+        parent: task,
+    };
+    if !items.is_empty() && children.are_over_for(items, &over) {
+        return None;
+    }
     let mut low = 0;
     'walk: while let Some(m) = waits.next_unended(task, low) {
         if children.covers(items, m as usize) {

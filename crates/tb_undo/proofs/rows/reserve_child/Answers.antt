@@ -8,3 +8,7 @@ returns-in-Some-clause-rows c =
     let found = sym c.get_mut.ensures.value ∙ ap option_copied_mut c.in-Some.is in
     let written = c.get_mut.follows.holds c.reserve_child.new.self in
     reserves_row _ _ c.args.name.now _ c.reserve_child.new.self found (written.3 (subst IsSome (sym found) refl)).0 c.reserve_child.ensures.task c.reserve_child.ensures.holders
+
+pub returns-in-Some-clause-succeeds : goal.returns-in-Some-clause-succeeds
+returns-in-Some-clause-succeeds c room =
+    c.reserve_child.ensures.succeeds (room c.in-Some.row.now (sym c.get_mut.ensures.value ∙ ap option_copied_mut c.in-Some.is))

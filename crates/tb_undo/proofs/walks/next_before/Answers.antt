@@ -4,7 +4,7 @@ use Rattle.tb_undo.proofs.WalkLemmas.{none_next, none_behind, later_free}
 use Rattle.tb_undo.proofs.walks.next_before.Goals as goal
 
 pub returns-then-m-n : goal.returns-then-m-n
-returns-then-m-n c =
+returns-then-m-n c closed =
     let children = c.args.siblings.now.siblings in
     none_behind c.args.waits.now.tasks c.args.parent.now (depends children c.args.n) c.walk.low c.walk.invariant c.in-Some.m c.args.n c.in-Some.ensures c.if-m-n.true (later_free children c.args.n)
 

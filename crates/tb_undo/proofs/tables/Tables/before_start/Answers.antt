@@ -4,7 +4,7 @@ use Rattle.tb_excl.specs.Holders.{IsLeastNumber, Excludes}
 use Rattle.tb_undo.specs.Tasks.{row}
 use Rattle.tb_undo.specs.State.{IsState}
 use Rattle.tb_undo.specs.Obstacles.{hindrance_by}
-use Rattle.tb_undo.proofs.StartLemmas.{parent_kept, root_starts, tells_waiting, tells_started, tells_excluded, tells_free}
+use Rattle.tb_undo.proofs.StartLemmas.{parent_kept, root_starts, siblings_closed, tells_waiting, tells_started, tells_excluded, tells_free}
 use Rattle.tb_undo.proofs.tables.Tables.before_start.Goals as goal
 
 pub returns-in_err-n : goal.returns-in_err-n
@@ -25,7 +25,8 @@ returns-in-Some c first root_line D legal state unended free =
     let mine = ap (λ s. row s.rows c.args.name.now) c.self.view_is ∙ c.requires in
     let number = ap (λ xs. slice_get xs 0) (sym c.numbers.ensures) ∙ sym c.first.ensures.value ∙ ap option_copied c.in_ok-n.was in
     let found = sym c.get.ensures.value ∙ ap option_copied c.in_ok-parent.was in
-    tells_waiting first root_line D _ legal st c.args.name.now c.in_ok-n.field-0.now c.args.own.now c.in_ok-parent.parent.now unended mine number found free c.next_before.result c.in-Some.sibling c.in-Some.is c.next_before.ensures
+    let closed = siblings_closed first root_line D _ legal st c.args.name.now c.in_ok-n.field-0.now c.args.own.now c.in_ok-parent.parent.now unended mine number found in
+    tells_waiting first root_line D _ legal st c.args.name.now c.in_ok-n.field-0.now c.args.own.now c.in_ok-parent.parent.now unended mine number found free c.next_before.result c.in-Some.sibling c.in-Some.is (c.next_before.ensures closed)
 
 pub returns-then-own-gt0 : goal.returns-then-own-gt0
 returns-then-own-gt0 c first root_line D legal state unended free =
@@ -33,7 +34,8 @@ returns-then-own-gt0 c first root_line D legal state unended free =
     let mine = ap (λ s. row s.rows c.args.name.now) c.self.view_is ∙ c.requires in
     let number = ap (λ xs. slice_get xs 0) (sym c.numbers.ensures) ∙ sym c.first.ensures.value ∙ ap option_copied c.in_ok-n.was in
     let found = sym c.get.ensures.value ∙ ap option_copied c.in_ok-parent.was in
-    tells_started first root_line D _ legal st c.args.name.now c.in_ok-n.field-0.now c.args.own.now c.in_ok-parent.parent.now unended mine number found free c.next_before.result c.in_default.is c.next_before.ensures c.if-own-gt0.true
+    let closed = siblings_closed first root_line D _ legal st c.args.name.now c.in_ok-n.field-0.now c.args.own.now c.in_ok-parent.parent.now unended mine number found in
+    tells_started first root_line D _ legal st c.args.name.now c.in_ok-n.field-0.now c.args.own.now c.in_ok-parent.parent.now unended mine number found free c.next_before.result c.in_default.is (c.next_before.ensures closed) c.if-own-gt0.true
 
 pub returns-in_err-sibling : goal.returns-in_err-sibling
 returns-in_err-sibling c first root_line D legal state unended free =
@@ -41,7 +43,8 @@ returns-in_err-sibling c first root_line D legal state unended free =
     let mine = ap (λ s. row s.rows c.args.name.now) c.self.view_is ∙ c.requires in
     let number = ap (λ xs. slice_get xs 0) (sym c.numbers.ensures) ∙ sym c.first.ensures.value ∙ ap option_copied c.in_ok-n.was in
     let found = sym c.get.ensures.value ∙ ap option_copied c.in_ok-parent.was in
-    tells_free first root_line D _ legal st c.args.name.now c.in_ok-n.field-0.now c.args.own.now c.in_ok-parent.parent.now unended mine number found free c.next_before.result c.in_default.is c.next_before.ensures c.if-own-gt0.false c.busy_number.result c.in_err-sibling.was
+    let closed = siblings_closed first root_line D _ legal st c.args.name.now c.in_ok-n.field-0.now c.args.own.now c.in_ok-parent.parent.now unended mine number found in
+    tells_free first root_line D _ legal st c.args.name.now c.in_ok-n.field-0.now c.args.own.now c.in_ok-parent.parent.now unended mine number found free c.next_before.result c.in_default.is (c.next_before.ensures closed) c.if-own-gt0.false c.busy_number.result c.in_err-sibling.was
     (subst (λ items. IsLeastNumber (Excludes c.in_ok-parent.parent.now.holders items) c.busy_number.result) c.items.ensures c.busy_number.ensures)
     ∙ sym (ap (option_map (hindrance_by c.args.name.now)) c.from_residual-in_err-sibling.ensures)
 
@@ -51,5 +54,6 @@ returns c first root_line D legal state unended free =
     let mine = ap (λ s. row s.rows c.args.name.now) c.self.view_is ∙ c.requires in
     let number = ap (λ xs. slice_get xs 0) (sym c.numbers.ensures) ∙ sym c.first.ensures.value ∙ ap option_copied c.in_ok-n.was in
     let found = sym c.get.ensures.value ∙ ap option_copied c.in_ok-parent.was in
-    tells_excluded first root_line D _ legal st c.args.name.now c.in_ok-n.field-0.now c.args.own.now c.in_ok-parent.parent.now unended mine number found free c.next_before.result c.in_default.is c.next_before.ensures c.if-own-gt0.false c.busy_number.result c.in_ok-sibling.sibling c.in_ok-sibling.was
+    let closed = siblings_closed first root_line D _ legal st c.args.name.now c.in_ok-n.field-0.now c.args.own.now c.in_ok-parent.parent.now unended mine number found in
+    tells_excluded first root_line D _ legal st c.args.name.now c.in_ok-n.field-0.now c.args.own.now c.in_ok-parent.parent.now unended mine number found free c.next_before.result c.in_default.is (c.next_before.ensures closed) c.if-own-gt0.false c.busy_number.result c.in_ok-sibling.sibling c.in_ok-sibling.was
     (subst (λ items. IsLeastNumber (Excludes c.in_ok-parent.parent.now.holders items) c.busy_number.result) c.items.ensures c.busy_number.ensures)

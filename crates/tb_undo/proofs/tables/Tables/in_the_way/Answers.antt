@@ -7,7 +7,9 @@ use Rattle.tb_model.specs.Hindrances.{IsLeast, in_the_way, Children, Group}
 use Rattle.tb_excl.specs.Holders.{IsLeastNumber}
 use Rattle.tb_depend.specs.Relations.{is_covered}
 use Rattle.tb_undo.specs.State.{IsState}
-use Rattle.tb_undo.specs.Obstacles.{hindrance_by, IsUnendedWhere}
+use Rattle.tb_undo.specs.Obstacles.{hindrance_by, IsUnendedWhere, is_child_over}
+use Rattle.tb_depend.specs.Nearness.{IsClosed}
+use Rattle.tb_undo.proofs.OverLemmas.{over_closed}
 use Rattle.tb_undo.proofs.ObstacleLemmas.{covered_least, member_least}
 use Rattle.tb_undo.proofs.ReasonLemmas.{stands, waits_for, closes_when, goes_on}
 use Rattle.tb_undo.proofs.StartLemmas.{kept, was_spawned, is_known}
@@ -48,7 +50,8 @@ returns-in_err-child-in-Wait c first root_line D legal state unended =
     let known = is_known first root_line D _ legal st name c.in_ok-row.row.now here mine in
     let held = c.undeferred.ensures first (events_of D) legal st.waiting here known in
     let free = subst (λ o. IsLeast (is_unended_undeferred (events_of D) name) (option_map (child name) o)) c.in_default.is held in
-    let covered = subst (λ items. IsLeastNumber (IsUnendedWhere c.self.inside.waits.tasks name (is_covered c.in_ok-row.row.now.children.siblings items)) c.next_covered.result) c.as_slice.ensures c.next_covered.ensures in
+    let closed = subst (λ rows. IsClosed rows (is_child_over c.self.inside.waits.tasks name)) (sym known.children) (over_closed first (events_of D) c.self.inside.waits.tasks name legal st.waiting) in
+    let covered = subst (λ items. IsLeastNumber (IsUnendedWhere c.self.inside.waits.tasks name (is_covered c.in_ok-row.row.now.children.siblings items)) c.next_covered.result) c.as_slice.ensures (c.next_covered.ensures closed) in
     let least = covered_least first (events_of D) c.self.inside.waits.tasks name legal st.waiting c.in-Wait.items c.in_ok-row.row.now.children.siblings c.next_covered.result known.children covered in
     ap (in_the_way (events_of D) name) c.in-Wait.is ∙ waits_for (events_of D) name free c.in-Wait.items _ least ∙ ap (λ o. option_map Children (option_map (child name) o)) c.in_err-child-in-Wait.was ∙ sym (ap (option_map (hindrance_by name)) c.from_residual-in_err-child-in-Wait.ensures)
 
@@ -61,7 +64,8 @@ returns-in_ok-child-in-Wait c first root_line D legal state unended =
     let known = is_known first root_line D _ legal st name c.in_ok-row.row.now here mine in
     let held = c.undeferred.ensures first (events_of D) legal st.waiting here known in
     let free = subst (λ o. IsLeast (is_unended_undeferred (events_of D) name) (option_map (child name) o)) c.in_default.is held in
-    let covered = subst (λ items. IsLeastNumber (IsUnendedWhere c.self.inside.waits.tasks name (is_covered c.in_ok-row.row.now.children.siblings items)) c.next_covered.result) c.as_slice.ensures c.next_covered.ensures in
+    let closed = subst (λ rows. IsClosed rows (is_child_over c.self.inside.waits.tasks name)) (sym known.children) (over_closed first (events_of D) c.self.inside.waits.tasks name legal st.waiting) in
+    let covered = subst (λ items. IsLeastNumber (IsUnendedWhere c.self.inside.waits.tasks name (is_covered c.in_ok-row.row.now.children.siblings items)) c.next_covered.result) c.as_slice.ensures (c.next_covered.ensures closed) in
     let least = covered_least first (events_of D) c.self.inside.waits.tasks name legal st.waiting c.in-Wait.items c.in_ok-row.row.now.children.siblings c.next_covered.result known.children covered in
     ap (in_the_way (events_of D) name) c.in-Wait.is ∙ waits_for (events_of D) name free c.in-Wait.items _ least ∙ ap (λ o. option_map Children (option_map (child name) o)) c.in_ok-child-in-Wait.was
 
