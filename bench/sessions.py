@@ -47,6 +47,8 @@ SESSIONS = [
     ('a counting loop of 1,000,000 steps', LOOP, b'run 999999\n'),
     ('10,000 siblings on 64 cells', siblings('inout', 64), b'run 1000000\n'),
     ('10,000 siblings that exclude each other', siblings('mutexinoutset', 1), b'run 1000000\n'),
+    ('10,000 siblings at cells of their own, spawned', siblings('out', 10000), b'run 50006\n'),
+    ('10,000 starts, the last sibling first', siblings('out', 10000) + b'run 50006\n', b''.join(b'step 0.%d\n' % n for n in range(10000, 0, -1))),
     ('a tree of groups, 8,191 tasks', TREE, b'run 1000000\n'),
     ('rollbacks of half of 100,000 steps', HALVES + b'run 100000\n', b'rolltask 0.2\nrun 100000\n' * 2),
     ('rollbacks of 12 of 100,000 steps', HALVES + b'run 100000\n', b'roll 0.2#49990\nrun 100\n' * 10),
