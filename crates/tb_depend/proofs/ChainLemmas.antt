@@ -11,23 +11,8 @@ use Rattle.tb_model.specs.declared.item.Item.{Item}
 use Rattle.tb_model.specs.Items.{relation, is_before, same_place, meets}
 use Rattle.tb_depend.specs.declared.link.Link.{Link}
 use Rattle.tb_depend.specs.declared.heads.Heads.{Heads}
-use Rattle.tb_depend.specs.Chains.{head, AreSameHeads, has_head, or_zero, is_place, is_of, is_met, IsLast, IsLink, AreChained}
-use Rattle.tb_depend.proofs.LastLemmas.{get_front, get_behind, get_either, last_none, last_all, last_front, last_back, last_is, last_stays, last_stayed, last_either, place_self, place_same, met_by, all_met, met_both, one_kind}
-
-pub chained_none : (heads : Heads) → ((p : Place) → head heads p ≡ 0) → AreChained [] [] heads
-chained_none heads z = record {
-  count = refl;
-  linked = λ n i l e. cc;
-  headed = λ p. subst (IsLast (is_of p) [] 0) (sym (z p)) (last_none (is_of p) []);
-}
-
--- where the heads are the same
-pub chained_same : (items items2 : List Item) (links links2 : List Link) (heads heads2 : Heads) → AreChained items links heads → items2 ≡ items → links2 ≡ links → AreSameHeads heads heads2 → AreChained items2 links2 heads2
-chained_same items items2 links links2 heads heads2 c i l s = rw (i, l) (record {
-  count = c.count;
-  linked = c.linked;
-  headed = λ p. subst (IsLast (is_of p) items (length items)) (sym (s p)) (c.headed p);
-})
+use Rattle.tb_depend.specs.Chains.{head, has_head, or_zero, is_place, is_of, is_met, IsLast, IsLink, AreChained}
+use Rattle.tb_depend.proofs.LastLemmas.{get_front, get_behind, get_either, last_all, last_front, last_back, last_is, last_stays, last_stayed, last_either, place_self, place_same, met_by, all_met, met_both, one_kind}
 
 link_front : (items ys : List Item) (n : ℕ) (i : Item) (l : Link) → n ≤ length items → IsLink items n i l → IsLink (items ++ ys) n i l
 link_front items ys n i l h k = record {

@@ -3,7 +3,7 @@ use Rattle.std.proofs.Common.{◌≡◌, ◌<◌, ◌≤◌, ℕ, zero, suc, Lis
 use Rattle.std.specs.Prelude.{IsTrue, max}
 use Rattle.std.proofs.lemmas.Bool.{cases_lt, or_cases, false≢true}
 use Rattle.std.proofs.lemmas.List.{length-append}
-use Rattle.std.proofs.lemmas.Option.{slice_get_within, slice_get_read, get_or_from_slice_get}
+use Rattle.std.proofs.lemmas.Option.{slice_get_within, slice_get_read}
 use Rattle.tb_model.specs.declared.kind.Kind.{Kind}
 use Rattle.tb_model.specs.declared.kind.Kind.TheVariants.{In, Out, Inout, Mutexinoutset, Inoutset}
 use Rattle.tb_model.specs.declared.place.Place.{Place}
@@ -34,17 +34,7 @@ get_either xs x y k e = elim (cases_lt k (length xs)) [
       inr (same, cc)
 ]
 
-pub at_index : {A : Type 0} (xs : List A) (k : ℕ) (x d : A) → k < length xs → slice_get xs k ≡ Some x → get_or xs k d ≡ x
-at_index xs k x d h e = get_or_from_slice_get xs k x d e
-
 -- ---- the last one
-
-pub last_none : (test : Item → Bool) (items : List Item) → IsLast test items 0 0
-last_none test items = record {
-  within = omega arith;
-  last = λ k i h e t. absurd (omega (arith, h));
-  passes = λ k i h e. absurd (omega (arith, h));
-}
 
 pub last_all : (test : Item → Bool) (items : List Item) (n : ℕ) → ((i : Item) → IsTrue (test i)) → IsLast test items n n
 last_all test items n all = record {
@@ -165,13 +155,6 @@ met_by new c e old = ap (λ p. same_place p old.place) e ∙ at old.place
 
 pub all_met : (new : Item) → new.place ≡ All → (old : Item) → IsTrue (is_met new old)
 all_met new e old = ap (λ p. same_place p old.place) e
-
-pub met_all : (new old : Item) → old.place ≡ All → IsTrue (is_met new old)
-met_all new old e = ap (same_place new.place) e ∙ at new.place
-  where
-    at : (p : Place) → same_place p All ≡ true
-    at (Cell c) = refl
-    at All = refl
 
 -- two that name a cell's storage location name each other's
 pub met_both : (new : Item) (c : ℕ) → new.place ≡ Cell c → (a b : Item) → IsTrue (is_met new a) → IsTrue (is_met new b) → IsTrue (is_met a b)

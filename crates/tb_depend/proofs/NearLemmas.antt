@@ -27,9 +27,6 @@ module _ (items : List Item) (over : ℕ → Bool) (new : Item) (from : ℕ) whe
   pub over_last : (at : ℕ) → IsLast (meets is_before new) items from at → AreOverFrom items over new from at
   over_last at l k old low high e t = absurd (omega (arith, low, l.last k old high e t))
 
-  pub over_first : AreOverFrom items over new from 0 → AreItemsOver items over new from
-  over_first all k old h e t = all k old (omega arith) h e t
-
   -- one more that is over, or doesn't come before the new one
   pub over_next : (at : ℕ) (here : Item) → AreOverFrom items over new from at → slice_get items (at - 1) ≡ Some here → (IsTrue (meets is_before new here) → IsTrue (over (at - 1))) → AreOverFrom items over new from (at - 1)
   over_next at here all e is k old low high f t = elim (cases_lt k at) [
@@ -89,11 +86,3 @@ over_met items over new from at next all none k old low high e t = elim (cases_l
   | inl q ↦ absurd (omega (arith, low, none k old (omega (arith, q)) e (and_parts (is_met new old) (is_before (relation new.kind old.kind)) t).0))
   | inr q ↦ all k old q high e t
 ]
-
--- of those in front of the new one's own, only the ones up to the last that is met
-pub over_front : (items : List Item) (over : ℕ → Bool) (new : Item) (from at : ℕ) → at ≤ from → ((k : ℕ) (old : Item) → k < from → slice_get items k ≡ Some old → IsTrue (is_met new old) → k < at) →
-    AreItemsOver items over new at → AreItemsOver items over new from
-over_front items over new from at within none all k old h e t = all k old (none k old h e (and_parts (is_met new old) (is_before (relation new.kind old.kind)) t).0) e t
-
-pub over_fewer : (items : List Item) (over : ℕ → Bool) (new : Item) (from at : ℕ) → at ≤ from → AreItemsOver items over new from → AreItemsOver items over new at
-over_fewer items over new from at within all k old h e t = all k old (omega (arith, h, within)) e t
