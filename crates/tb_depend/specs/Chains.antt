@@ -1,5 +1,5 @@
 -- What the table notes of each item: which items in front of it name its place, and which come before it. No public clause
--- cites this module but for the room.
+-- cites this module.
 use Rattle.std.specs.Prelude.{◌≡◌, ◌<◌, ◌≤◌, ℕ, suc, Bool, true, false, ◌==◌, List, Option, Some, None, IsTrue, Contains, nat_eq, slice_get, length}
 use Rattle.std.specs.Map.{lookup}
 use Rattle.tb_model.specs.declared.place.Place.{Place}
