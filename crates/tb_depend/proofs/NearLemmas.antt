@@ -49,6 +49,18 @@ module _ (items : List Item) (over : ℕ → Bool) (new : Item) (from : ℕ) whe
       | inr q ↦ all k old q h f t
     ]
 
+    -- the last one, where it comes behind all of its storage location
+    pub over_one : (c : ℕ) → new.place ≡ Cell c → (last : ℕ) (its : Item) → IsLast (meets is_before new) items from (suc last) → slice_get items last ≡ Some its → is_before (relation its.kind its.kind) ≡ true → IsTrue (over last) → AreItemsOver items over new from
+    over_one c p last its l e b o k old h f t = elim (cases_lt k last) [
+      | inl q ↦
+          let m = met_of new its (l.passes last its refl e) in
+          closed last k its old q e f (both its old (met_both new c p its old m (met_of new old t)) (behind_all its.kind old.kind b)) o
+      | inr q ↦
+          let w = l.last k old h f t in
+          let s : last ≡ k = omega (arith, q, w) in
+          subst (λ x. IsTrue (over x)) s o
+    ]
+
     -- the first item of another kind: with the last one, all in front are over
     pub over_run : (c : ℕ) → new.place ≡ Cell c → (last at : ℕ) (its here : Item) → slice_get items last ≡ Some its → IsTrue (is_met new its) → IsTrue (over last) → at - 1 < last → 0 < at →
         slice_get items (at - 1) ≡ Some here → IsTrue (is_met new here) → is_before (relation its.kind here.kind) ≡ true → AreOverFrom items over new from at → AreItemsOver items over new from

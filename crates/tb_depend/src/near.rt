@@ -12,7 +12,7 @@ ghost use Rattle.tb_depend.specs.Nearness.{IsClosed, AreOver, AreOverFor, child_
 use crate::chain::Chain;
 use crate::layout::bounds;
 use crate::over::Over;
-use crate::steps::{comes_behind, is_before, is_met};
+use crate::steps::{comes_behind, comes_behind_all, is_before, is_met};
 use tb_model::{Item, Place};
 
 /// The number of the child whose item stands at this place.
@@ -46,7 +46,7 @@ fn all_over<T: Over>(chain: &Chain, ends: &[usize], new: Item, from: usize, over
             if !is_over(over, ends, at) {
                 return false;
             }
-            if matches!(old.place, Place::All) && comes_behind(old.kind, old.kind) {
+            if matches!(old.place, Place::All) && comes_behind_all(old.kind) {
                 return true;
             }
         }
@@ -72,6 +72,9 @@ fn cell_over<T: Over>(chain: &Chain, ends: &[usize], new: Item, from: usize, ove
         return false;
     }
     let kind = chain.items[at - 1].kind;
+    if comes_behind_all(kind) {
+        return true;
+    }
     at = chain.next_met(new, at);
     while at > 0 {
         let old = chain.items[at - 1];

@@ -17,6 +17,13 @@ pub(crate) fn comes_behind(new: Kind, old: Kind) -> bool
     new != old || matches!(new, Kind::Out | Kind::Inout)
 }
 
+/// Whether an item of this kind comes behind every earlier one of its storage location.
+pub(crate) fn comes_behind_all(kind: Kind) -> bool
+    ensures { result ≡ is_before (relation kind kind) }
+{
+    comes_behind(kind, kind)
+}
+
 /// Whether the two are the very same place.
 fn is_place(p: Place, q: Place) -> bool
     ensures { result ≡ is_place p q }

@@ -44,7 +44,7 @@ fn a_writer_waits_for_both_readers(rt: HostRuntime) {
     mem::forget(siblings);
 }
 
-/// The one child that isn't over, and those that are asked.
+/// All children are over but this one, whatever depends on it: an answer tells whether it is asked.
 #[derive(Drop)]
 struct AllBut {
     child: usize,

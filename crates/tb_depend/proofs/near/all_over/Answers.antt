@@ -8,8 +8,8 @@ use Rattle.tb_depend.proofs.NearLemmas.{over_next, over_all}
 use Rattle.tb_depend.proofs.near.all_over.Goals as goal
 use Rattle.tb_depend.proofs.near.all_over.Goals.{in-All, in_default}
 
-pub returns-then-comes_behind : goal.returns-then-comes_behind
-returns-then-comes_behind g c closed =
+pub returns-then-comes_behind_all : goal.returns-then-comes_behind_all
+returns-then-comes_behind_all g c closed =
     let items = c.args.chain.now.items.items in
     let over = λ (k : ℕ). g.T.Over.over c.args.over.now (child_at c.args.ends.now k) in
     let at = c.loop-at.at - 1 in
@@ -21,7 +21,7 @@ returns-then-comes_behind g c closed =
       | in-All w ↦ w.in-All.is
       | in_default w ↦ absurd (false≢true (sym w.matches-is ∙ c.if-matches.true))
     ] in
-    (λ t. over_all items over c.args.new c.args.from closed at c.index-old.result.now all e all_memory (sym c.comes_behind.ensures ∙ c.if-comes_behind.true) o, λ x. refl)
+    (λ t. over_all items over c.args.new c.args.from closed at c.index-old.result.now all e all_memory (sym c.comes_behind_all.ensures ∙ c.if-comes_behind_all.true) o, λ x. refl)
 
 pub loop-at-preserved : goal.loop-at-preserved
 loop-at-preserved g c =

@@ -1,11 +1,11 @@
-use Rattle.std.proofs.Common.{◌≡◌, ◌-◌, ◌<◌, ℕ, suc, length, refl, sym, ◌∙◌, arith}
+use Rattle.std.proofs.Common.{◌≡◌, ◌-◌, ◌<◌, ℕ, suc, length, refl, sym, ◌∙◌, subst, arith}
 use Rattle.std.specs.Prelude.{IsTrue}
 use Rattle.std.proofs.lemmas.Bool.{false≢true}
 use Rattle.tb_model.specs.Items.{is_before, meets}
-use Rattle.tb_depend.specs.Chains.{is_met}
+use Rattle.tb_depend.specs.Chains.{is_met, IsLast}
 use Rattle.tb_depend.specs.Nearness.{child_at}
 use Rattle.tb_depend.proofs.LastLemmas.{read, there}
-use Rattle.tb_depend.proofs.NearLemmas.{over_last, over_next, over_run, over_met, not_over, of_run, met_of}
+use Rattle.tb_depend.proofs.NearLemmas.{over_last, over_next, over_one, over_run, over_met, not_over, of_run, met_of}
 use Rattle.tb_depend.proofs.near.cell_over.Goals as goal
 use Rattle.tb_depend.proofs.near.cell_over.Goals.{then-is_met+else-comes_behind+else-not-is_over-2, else-is_met}
 
@@ -93,3 +93,15 @@ returns-then-comes_behind g c closed =
           e (met_of c.args.new c.index.result.now t) o few (omega (arith, c.loop-at-test.true)) f (sym c.is_met.ensures ∙ c.if-is_met.true) (sym c.comes_behind.ensures ∙ c.if-comes_behind.true) c.loop-at.invariant.over,
       λ x. refl,
     )
+
+pub returns-then-comes_behind_all : goal.returns-then-comes_behind_all
+returns-then-comes_behind_all g c closed =
+    let items = c.args.chain.now.items.items in
+    let over = λ (k : ℕ). g.T.Over.over c.args.over.now (child_at c.args.ends.now k) in
+    let last = c.last_before-at.result in
+    let some : last ≡ suc (last - 1) = omega (arith, c.if-at-eq0.false) in
+    let here : last - 1 < length items = omega (arith, some, c.last_before-at.ensures.within, c.requires.from) in
+    let e = read items (last - 1) c.index.result.now here c.index.ensures in
+    let l = subst (IsLast (meets is_before c.args.new) items c.args.from) some c.last_before-at.ensures in
+    let o : IsTrue (over (last - 1)) = sym c.is_over.ensures ∙ c.if-not-is_over.false in
+    (λ t. over_one items over c.args.new c.args.from closed c.requires.a_cell.0 c.requires.a_cell.1 (last - 1) c.index.result.now l e (sym c.comes_behind_all.ensures ∙ c.if-comes_behind_all.true) o, λ x. refl)
