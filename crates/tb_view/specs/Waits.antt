@@ -5,8 +5,6 @@ use Rattle.tb_model.specs.Facts.{History}
 use Rattle.tb_model.specs.Hindrances.{Hindrance, Refusal, By, refusal_of, can_step}
 use Rattle.tb_model.specs.Hindrances.{NoSuchTask as IsMissing, Ended as IsOver}
 use Rattle.tb_model.specs.Hindrances.{Undeferred as TheUndeferred, Waiting as IsWaiting, Excluded as IsExcluded, Children as TheChildren, Group as TheGroup}
-use Rattle.tb_core.specs.declared.step_refusal.StepRefusal.{StepRefusal}
-use Rattle.tb_core.specs.declared.step_refusal.StepRefusal.TheVariants.{Memory, NoSuchTask, Ended, Waiting, Excluded, Children, Group, Full, Stale, Undeferred}
 use Rattle.tb_model.specs.Program.{Program}
 use Rattle.tb_model.specs.Spelling.{name_text}
 use Rattle.tb_view.specs.Listing.{listed, lines_of}
@@ -32,19 +30,6 @@ hindrance_text (IsWaiting u) = codes "Waiting " ++ name_text u
 hindrance_text (IsExcluded u) = codes "Excluded " ++ name_text u
 hindrance_text (TheChildren u) = codes "Children " ++ name_text u
 hindrance_text (TheGroup u) = codes "Group " ++ name_text u
-
--- what a refusal tells of the task that it keeps from its step
-abbrev pub told_by : StepRefusal → Option Refusal
-told_by NoSuchTask = Some IsMissing
-told_by Ended = Some IsOver
-told_by (Undeferred u) = Some (By (TheUndeferred u))
-told_by (Waiting u) = Some (By (IsWaiting u))
-told_by (Excluded u) = Some (By (IsExcluded u))
-told_by (Children u) = Some (By (TheChildren u))
-told_by (Group u) = Some (By (TheGroup u))
-told_by Memory = None
-told_by Full = None
-told_by (Stale now) = None
 
 -- a task that has ended waits for nothing
 abbrev pub wait_by : Name → Option Refusal → List (List ℕ)

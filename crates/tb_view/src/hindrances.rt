@@ -4,7 +4,8 @@ ghost use Rattle.std.specs.Prelude.{◌≡◌, ◌≤◌, ◌++◌, IfOk, OnOk, 
 ghost use Rattle.tb_model.specs.Spelling.{name_text};
 ghost use Rattle.tb_view.specs.Lines.{line};
 ghost use Rattle.tb_view.specs.Listing.{joined};
-ghost use Rattle.tb_view.specs.Waits.{told_by, wait_by};
+ghost use Rattle.tb_core.specs.Refusals.{told_by};
+ghost use Rattle.tb_view.specs.Waits.{wait_by};
 
 use std::alloc::AllocError;
 use tb_core::StepRefusal;
