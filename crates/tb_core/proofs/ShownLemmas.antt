@@ -1,5 +1,5 @@
 -- What a core tells of a task, and why a plan is refused.
-use Rattle.std.proofs.Common.{◌≡◌, ◌≢◌, ◌↔◌, inl, inr, List, [], ◌∷◌, Bool, true, false, cond, length, refl, sym, ap, ◌∙◌, arith, Option, Some, None, unwrap_or, nat_lt, nat_le}
+use Rattle.std.proofs.Common.{◌≡◌, ◌≢◌, ◌↔◌, inl, inr, List, [], ◌∷◌, Bool, true, false, cond, length, refl, sym, ap, ◌∙◌, subst, arith, Option, Some, None, unwrap_or, nat_lt, nat_le}
 use Rattle.std.specs.List.{AllByRecursion, list_all}
 use Rattle.std.specs.Option.{option_map}
 use Rattle.std.proofs.lemmas.Bool.{false≢true, true≢false, and_parts}
@@ -14,7 +14,8 @@ use Rattle.tb_model.specs.Facts.{History, own, is_start, is_spawned, groups}
 use Rattle.tb_model.specs.Legal.{Cells, Legal, MayFollow, Continues, IsRunning, IsPlace}
 use Rattle.tb_model.specs.State.{status_of, is_over}
 use Rattle.tb_model.specs.Program.{loaded}
-use Rattle.tb_model.specs.Hindrances.{Hindrance, in_the_way, number_read}
+use Rattle.tb_model.specs.Hindrances.{Hindrance, Refusal, By, in_the_way, number_read}
+use Rattle.tb_model.specs.Hindrances.{NoSuchTask as TheTaskIsMissing, Ended as TheTaskIsOver}
 use Rattle.tb_model.proofs.HindranceLemmas.{nothing_in_the_way}
 use Rattle.tb_model.proofs.StateLemmas.{over_ended}
 use Rattle.tb_read.specs.declared.planned.Plan.{Plan}
@@ -24,12 +25,13 @@ use Rattle.tb_undo.specs.declared.standing.Standing.{Standing}
 use Rattle.tb_undo.specs.State.{known_task, task_of}
 use Rattle.tb_undo.specs.Readings.{standing_of}
 use Rattle.tb_core.specs.declared.step_refusal.StepRefusal.{StepRefusal}
-use Rattle.tb_core.specs.declared.step_refusal.StepRefusal.TheVariants.{Memory, NoSuchTask, Ended, Waiting, Excluded, Children, Group, Full, Stale, Undeferred}
+use Rattle.tb_core.specs.declared.step_refusal.StepRefusal.TheVariants.{Memory, Full, Stale}
 use Rattle.tb_core.specs.Seen.{Seen, history}
 use Rattle.tb_core.specs.Situation.{config_of}
 use Rattle.tb_core.specs.Filling.{completed}
+use Rattle.tb_core.specs.Refusals.{told_by}
 use Rattle.tb_core.specs.Naming.{config_with, IsStaleAnswer, IsNamed}
-use Rattle.tb_core.specs.Outcomes.{IsKept, Fits, IsCurrent, IsOpen, IsStale, IsHindered, Refuses, hindrance_of, has_ended, event_of}
+use Rattle.tb_core.specs.Outcomes.{IsKept, IsTold, Fits, IsCurrent, IsOpen, IsStale, IsHindered, Refuses, hindrance_of, has_ended, event_of}
 
 -- ---- where a task stands
 
@@ -160,39 +162,32 @@ pub stale_refuses : (s : Seen) (p : Plan) (now : Config) (r : StepRefusal) → i
     → IsStaleAnswer now r → IsKept s p r
 stale_refuses s p now (Stale c) there going e n h = record { spawned = there; going = going; now_is = h ∙ sym e; elsewhere = λ z. n (z ∙ h) }
 stale_refuses s p now Memory there going e n h = inl (now, record { spawned = there; going = going; now_is = sym e; elsewhere = n })
-stale_refuses s p now NoSuchTask there going e n h = absurd h
-stale_refuses s p now Ended there going e n h = absurd h
-stale_refuses s p now (Waiting u) there going e n h = absurd h
-stale_refuses s p now (Excluded u) there going e n h = absurd h
-stale_refuses s p now (Children u) there going e n h = absurd h
-stale_refuses s p now (Group u) there going e n h = absurd h
-stale_refuses s p now Full there going e n h = absurd h
-stale_refuses s p now (Undeferred u) there going e n h = absurd h
+stale_refuses s p now _ there going e n h = absurd h
+
+-- a refusal is right by what it tells
+told_refuses : (s : Seen) (p : Plan) (r : StepRefusal) (k : Refusal) → told_by r ≡ Some k → IsTold s p (Some k) → IsKept s p r
+told_refuses s p Memory k e w = absurd (none e)
+  where
+    none : ◌≡◌ {A = Option Refusal} None (Some k) → ⊥
+    none z = cc
+told_refuses s p Full k e w = absurd (none e)
+  where
+    none : ◌≡◌ {A = Option Refusal} None (Some k) → ⊥
+    none z = cc
+told_refuses s p (Stale now) k e w = absurd (none e)
+  where
+    none : ◌≡◌ {A = Option Refusal} None (Some k) → ⊥
+    none z = cc
+told_refuses s p _ k e w = subst (IsTold s p) (sym e) w
 
 pub hindered_refuses : (s : Seen) (p : Plan) (h : Hindrance) (r : StepRefusal) → IsCurrent s p → hindrance_of s p ≡ Some h → IsNamed h r → IsKept s p r
 hindered_refuses s p h Memory c e n = inr (h, record { current = c; hindrance = e })
-hindered_refuses s p h (Undeferred u) c e n = record { current = c; hindrance = e ∙ ap Some n }
-hindered_refuses s p h (Waiting u) c e n = record { current = c; hindrance = e ∙ ap Some n }
-hindered_refuses s p h (Excluded u) c e n = record { current = c; hindrance = e ∙ ap Some n }
-hindered_refuses s p h (Children u) c e n = record { current = c; hindrance = e ∙ ap Some n }
-hindered_refuses s p h (Group u) c e n = record { current = c; hindrance = e ∙ ap Some n }
-hindered_refuses s p h NoSuchTask c e n = absurd n
-hindered_refuses s p h Ended c e n = absurd n
-hindered_refuses s p h Full c e n = absurd n
-hindered_refuses s p h (Stale now) c e n = absurd n
+hindered_refuses s p h r c e n = told_refuses s p r (By h) n (record { current = c; hindrance = e })
 
 -- what is kept is refused
 pub kept_refuses : (s : Seen) (p : Plan) (r : StepRefusal) → IsKept s p r → Refuses s p r
 kept_refuses s p Memory k = inr k
-kept_refuses s p NoSuchTask k = k
-kept_refuses s p Ended k = k
-kept_refuses s p (Waiting u) k = k
-kept_refuses s p (Excluded u) k = k
-kept_refuses s p (Children u) k = k
-kept_refuses s p (Group u) k = k
-kept_refuses s p Full k = k
-kept_refuses s p (Stale now) k = k
-kept_refuses s p (Undeferred u) k = k
+kept_refuses s p _ k = k
 
 hindered_closed : (s : Seen) (p : Plan) (h : Hindrance) → IsHindered s p h → IsOpen s p → ⊥
 hindered_closed s p h k o = none (sym o.clear ∙ k.hindrance)
@@ -203,19 +198,19 @@ hindered_closed s p h k o = none (sym o.clear ∙ k.hindrance)
 stale_closed : (s : Seen) (p : Plan) (now : Config) → IsStale s p now → IsOpen s p → ⊥
 stale_closed s p now k o = k.elsewhere (o.current.here ∙ sym k.now_is)
 
+told_closed : (s : Seen) (p : Plan) (q : Option Refusal) → IsTold s p q → IsOpen s p → ⊥
+told_closed s p (Some TheTaskIsMissing) k o = false≢true (sym k ∙ o.current.spawned)
+told_closed s p (Some TheTaskIsOver) k o = false≢true (sym o.current.going ∙ k.1)
+told_closed s p (Some (By h)) k o = hindered_closed s p h k o
+told_closed s p None k o = absurd k
+
 -- and only where the step isn't open
 pub kept_closed : (s : Seen) (p : Plan) (r : StepRefusal) → IsKept s p r → IsOpen s p → ⊥
 kept_closed s p Memory (inl k) o = stale_closed s p k.0 k.1 o
 kept_closed s p Memory (inr k) o = hindered_closed s p k.0 k.1 o
-kept_closed s p NoSuchTask k o = false≢true (sym k ∙ o.current.spawned)
-kept_closed s p Ended k o = false≢true (sym o.current.going ∙ k.1)
-kept_closed s p (Waiting u) k o = hindered_closed s p _ k o
-kept_closed s p (Excluded u) k o = hindered_closed s p _ k o
-kept_closed s p (Children u) k o = hindered_closed s p _ k o
-kept_closed s p (Group u) k o = hindered_closed s p _ k o
 kept_closed s p Full k o = omega (arith, k.2, o.room)
 kept_closed s p (Stale now) k o = stale_closed s p now k o
-kept_closed s p (Undeferred u) k o = hindered_closed s p _ k o
+kept_closed s p r k o = told_closed s p (told_by r) k o
 
 -- a step that is open wants memory
 pub open_refuses : (s : Seen) (p : Plan) → IsOpen s p → Refuses s p Memory

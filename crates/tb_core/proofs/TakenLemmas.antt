@@ -1,5 +1,6 @@
 -- A step of a plan that isn't refused, and the room for it.
-use Rattle.std.proofs.Common.{◌≡◌, ◌<◌, ◌≤◌, ◌+◌, ℕ, suc, List, [], ◌∷◌, ◌++◌, Bool, true, false, length, map, reverse, refl, sym, ap, ap₂, ◌∙◌, subst, arith, Option, Some, None, IsTrue, unwrap_or, nat_lt}
+use Rattle.std.proofs.Common.{◌≡◌, ◌<◌, ◌≤◌, ◌+◌, ℕ, suc, List, [], ◌∷◌, ◌++◌, Bool, true, false, length, map, reverse, refl, sym, ap, ap₂, ◌∙◌, subst, arith, Option, Some, None, IsTrue, unwrap_or, nat_lt, ◌||◌}
+use Rattle.std.specs.List.{list_any}
 use Rattle.std.proofs.lemmas.Bool.{and_parts}
 use Rattle.std.proofs.lemmas.Bool.Decides.{nat_tests}
 use Rattle.std.proofs.lemmas.List.{length-map, reverse-append}
@@ -8,11 +9,13 @@ use Rattle.tb_model.specs.declared.action.Action.TheVariants.{Start, Let, Load, 
 use Rattle.tb_model.specs.declared.event.Event.{Event}
 use Rattle.tb_model.specs.declared.step_id.StepId.{StepId}
 use Rattle.tb_model.specs.Names.{Name, child}
-use Rattle.tb_model.specs.Facts.{History, own, last, IsSpawned, is_spawned}
+use Rattle.tb_model.specs.Facts.{History, own, last, IsSpawned, is_spawned, prepend_if}
 use Rattle.tb_model.specs.Legal.{Cells, Legal, first_number, spawn_count}
-use Rattle.tb_model.specs.Lines.{Departure, events_of}
-use Rattle.tb_model.specs.Needs.{step_of}
-use Rattle.tb_model.proofs.RemovalLemmas.{without_newest}
+use Rattle.tb_model.specs.Lines.{Departure, events_of, without_lines}
+use Rattle.tb_model.specs.Needs.{step_of, needs, removed}
+use Rattle.tb_model.specs.Reordering.{IsUnneeded}
+use Rattle.tb_model.proofs.RemovalLemmas.{without_newest, its_step, removed_none}
+use Rattle.tb_undo.proofs.MiddleLemmas.{lines_kept}
 use Rattle.tb_read.specs.declared.planned.Plan.{Plan}
 use Rattle.tb_read.specs.Plans.{names_allowed, line_behind}
 use Rattle.tb_store.specs.declared.replaced.Replaced.{Replaced}
@@ -53,6 +56,12 @@ settled s t Close f g m n C D h j k p q = refl
 settled s t (Test b) f g m n C D h j k p q = refl
 settled s t End f g m n C D h j k p q = refl
 settled s t Fault f g m n C D h j k p q = refl
+
+-- nothing needs the newest event
+newest_unneeded : (H : History) (v : Event) → IsUnneeded (step_of H v) (v ∷ H)
+newest_unneeded H v =
+    ap (λ b. length (prepend_if (b || list_any (needs H v) (removed (step_of H v) H)) v (removed (step_of H v) H))) (its_step H v)
+    ∙ ap (λ l. length (v ∷ l)) (removed_none (step_of H v) H (omega arith))
 
 pub none_reserved : (o : Option Event) (room : ℕ) (s : Tables) → o ≡ None → HasReserved o room s
 none_reserved o room s e = record { entry = λ v h. absurd (none v (sym e ∙ h)); tables = λ v h. absurd (none v (sym e ∙ h)) }
@@ -157,6 +166,7 @@ module _ (first : Cells) (root_line limit : ℕ) (es : List Entry) (tables : Tab
           now = ap (λ x. seen first root_line limit x) all ∙ ap₂ (λ (w : Event) (n : ℕ). grown w n) same line;
           id = named i ∙ ap₂ (λ (t : Name) (n : ℕ). id_of t n) name (k ∙ counted_steps);
           back = ap (λ x. Rattle.tb_model.specs.Needs.without i (events_of (map departure x))) all ∙ removed_again;
+          lines = ap (λ x. without_lines i (map departure x)) all ∙ lines_again;
         });
       }
     where
@@ -179,6 +189,9 @@ module _ (first : Cells) (root_line limit : ℕ) (es : List Entry) (tables : Tab
 
       removed_again : Rattle.tb_model.specs.Needs.without i (v ∷ events_of D) ≡ events_of D
       removed_again = ap (λ j. Rattle.tb_model.specs.Needs.without j (v ∷ events_of D)) here ∙ without_newest (events_of D) v
+
+      lines_again : without_lines i (record { event = v; to = to } ∷ D) ≡ D
+      lines_again = ap (λ j. without_lines j (record { event = v; to = to } ∷ D)) here ∙ lines_kept [] D (record { event = v; to = to }) (newest_unneeded (events_of D) v)
 
   -- the event of copies of the plan's task and action
   pub filled_as : (t : Name) (a : Action) (v : Event) → t ≡ p.config.task → a ≡ p.action → Fills tables t a v → v ≡ event_of s p

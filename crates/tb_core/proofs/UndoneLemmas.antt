@@ -11,11 +11,11 @@ use Rattle.tb_model.specs.Alike.{Alike}
 use Rattle.tb_model.specs.Lines.{Departure, events_of}
 use Rattle.tb_model.specs.Needs.{step_of}
 use Rattle.tb_model.specs.Needers.{first_needer}
-use Rattle.tb_model.specs.Equivalent.{stands}
+use Rattle.tb_model.specs.Equivalent.{Equivalent, stands}
 use Rattle.tb_model.specs.Reordering.{IsUnneeded}
 use Rattle.tb_model.proofs.NeedersLemmas.{unneeded}
 use Rattle.tb_model.proofs.UndoLemmas.{AreFree, single}
-use Rattle.tb_model.proofs.LinesLemmas.{events_left}
+use Rattle.tb_model.proofs.LinesLemmas.{events_left, line_again}
 use Rattle.tb_model.proofs.RemovalLemmas.{removal}
 use Rattle.tb_model.proofs.ReorderingLemmas.{again}
 use Rattle.tb_undo.specs.State.{Seen as Tables, IsState}
@@ -60,6 +60,9 @@ module _ (cells : Cells) (root_line limit : ℕ) where
         id = refl;
         again = subst (λ H. MayFollow cells H d.event) (sym left) r.legal.1;
         alike = subst (λ H. Alike H (d.event ∷ events_of (later ++ front))) (sym whole) (subst (λ H. Alike (events_of later ++ d.event ∷ events_of front) (d.event ∷ H)) (sym left) r.alike);
+        equivalent = subst (λ H. Equivalent H (d.event ∷ events_of (later ++ front))) (sym whole) (subst (λ H. Equivalent (events_of later ++ d.event ∷ events_of front) (d.event ∷ H)) (sym left) r.equivalent);
+        line = d.to;
+        lines = λ body t. line_again body t later front d (subst (IsUnneeded i) whole u);
       }
 
   pub taken_back : (D C later front : List Departure) (d : Departure) (i : StepId) (m : Removed) → D ≡ later ++ d ∷ front → C ≡ later ++ front → step_of (events_of front) d.event ≡ i → m ≡ gone i d

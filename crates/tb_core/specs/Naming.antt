@@ -1,14 +1,14 @@
 -- What a refusal names.
-use Rattle.std.specs.Prelude.{◌≡◌, ◌<◌, ⊤}
+use Rattle.std.specs.Prelude.{◌≡◌, ◌<◌, ⊤, Some}
 use Rattle.tb_model.specs.Names.{Name}
-use Rattle.tb_model.specs.Hindrances.{Hindrance}
-use Rattle.tb_model.specs.Hindrances as hindrance
+use Rattle.tb_model.specs.Hindrances.{Hindrance, By}
 use Rattle.tb_read.specs.declared.config.Config.{Config}
 use Rattle.tb_undo.specs.declared.standing.Standing.{Standing}
 use Rattle.tb_undo.specs.declared.obstacle.Obstacle.{Obstacle}
 use Rattle.tb_undo.specs.declared.obstacle.Obstacle.TheVariants as obstacle
 use Rattle.tb_core.specs.declared.step_refusal.StepRefusal.{StepRefusal}
-use Rattle.tb_core.specs.declared.step_refusal.StepRefusal.TheVariants.{Memory, Waiting, Excluded, Children, Group, Stale, Undeferred}
+use Rattle.tb_core.specs.declared.step_refusal.StepRefusal.TheVariants.{Memory, Stale}
+use Rattle.tb_core.specs.Refusals.{told_by}
 
 abbrev pub config_with : Name → Standing → Config
 config_with t s = record { task = t; steps = s.steps; at = s.at; regs = s.regs }
@@ -22,12 +22,7 @@ IsStaleAnswer now _ = ⊥
 -- it names what keeps the task, or tells that there was no memory for the name
 abbrev pub IsNamed : Hindrance → StepRefusal → Type 0
 IsNamed h Memory = ⊤
-IsNamed h (Undeferred u) = h ≡ hindrance.Undeferred u
-IsNamed h (Waiting u) = h ≡ hindrance.Waiting u
-IsNamed h (Excluded u) = h ≡ hindrance.Excluded u
-IsNamed h (Children u) = h ≡ hindrance.Children u
-IsNamed h (Group u) = h ≡ hindrance.Group u
-IsNamed h _ = ⊥
+IsNamed h r = told_by r ≡ Some (By h)
 
 -- children are counted from 1
 abbrev pub IsNumbered : Obstacle → Type 0

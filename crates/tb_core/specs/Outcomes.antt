@@ -2,29 +2,30 @@
 use Rattle.std.specs.Prelude.{◌≡◌, ◌≢◌, ◌<◌, ◌≤◌, ◌↔◌, ◌⊎◌, ◌++◌, ℕ, List, [], Option, ◌∷◌, length, Bool, Some, None, Result, Ok, Err, IsTrue, IsFalse}
 use Rattle.std.specs.List.{list_any}
 use Rattle.tb_model.specs.declared.action.Action.TheVariants.{Close}
-use Rattle.tb_model.specs.Hindrances.{Hindrance, in_the_way}
-use Rattle.tb_model.specs.Hindrances.{Undeferred as TheUndeferred, Waiting as IsWaiting, Excluded as IsExcluded, Children as TheChildren, Group as TheGroup}
+use Rattle.tb_model.specs.Hindrances.{Hindrance, Refusal, By, in_the_way}
+use Rattle.tb_model.specs.Hindrances.{NoSuchTask as TheTaskIsMissing, Ended as TheTaskIsOver}
 use Rattle.tb_read.specs.declared.config.Config.{Config}
 use Rattle.tb_model.specs.declared.event.Event.{Event}
 use Rattle.tb_model.specs.declared.step_id.StepId.{StepId}
-use Rattle.tb_model.specs.Names.{Name, child}
+use Rattle.tb_model.specs.Names.{Name}
 use Rattle.tb_model.specs.Facts.{own, is_spawned, is_start, ends, groups}
 use Rattle.tb_model.specs.Legal.{MayFollow}
 use Rattle.tb_model.specs.Alike.{Alike}
 use Rattle.tb_model.specs.Needs.{step_of, without}
 use Rattle.tb_model.specs.Needers.{first_needer}
-use Rattle.tb_model.specs.Equivalent.{stands}
+use Rattle.tb_model.specs.Equivalent.{Equivalent, stands}
 use Rattle.tb_read.specs.declared.planned.Plan.{Plan}
 use Rattle.tb_read.specs.Plans.{line_behind}
 use Rattle.tb_core.specs.declared.removed.Removed.{Removed}
 use Rattle.tb_core.specs.declared.step_refusal.StepRefusal.{StepRefusal}
-use Rattle.tb_core.specs.declared.step_refusal.StepRefusal.TheVariants.{Memory, NoSuchTask, Ended, Waiting, Excluded, Children, Group, Full, Stale, Undeferred}
+use Rattle.tb_core.specs.declared.step_refusal.StepRefusal.TheVariants.{Memory, Full, Stale}
 use Rattle.tb_core.specs.declared.undo_refusal.UndoRefusal.{UndoRefusal}
 use Rattle.tb_core.specs.declared.undo_refusal.UndoRefusal.TheVariants.{Memory as NoMemory, NoSuchStep, Needed, Full as JournalFull}
-use Rattle.tb_model.specs.Lines.{Departure, events_of, without_lines}
+use Rattle.tb_model.specs.Lines.{Departure, events_of, line_of, without_lines}
 use Rattle.tb_core.specs.Seen.{Seen, history}
 use Rattle.tb_core.specs.Situation.{config_of}
 use Rattle.tb_core.specs.Filling.{completed}
+use Rattle.tb_core.specs.Refusals.{told_by}
 
 -- the event of a plan, and the same with the line at which it leaves its task
 abbrev pub event_of : Seen → Plan → Event
@@ -49,7 +50,7 @@ pub record IsCurrent (s : Seen) (p : Plan) : Type 0 where
   pub going : IsFalse (has_ended s p.config.task)
   pub here : p.config ≡ config_of s p.config.task
 
--- the event stands behind the others, which it may follow, and its undo leaves them as they were
+-- the event stands after the others, which it may follow, and its undo leaves them as they were, each with its line
 pub record Steps (s : Seen) (p : Plan) (new : Seen) (i : StepId) : Type 0 where
   pub current : IsCurrent s p
   pub room : length s.steps < s.limit
@@ -57,6 +58,7 @@ pub record Steps (s : Seen) (p : Plan) (new : Seen) (i : StepId) : Type 0 where
   pub now : new ≡ record s { steps = departure_of s p ∷ s.steps }
   pub id : i ≡ step_of (history s) (event_of s p)
   pub back : without i (history new) ≡ history s
+  pub lines : without_lines i new.steps ≡ s.steps
 
 -- what keeps the plan's task from its action, where the plan is of its situation
 abbrev pub hindrance_of : Seen → Plan → Option Hindrance
@@ -84,18 +86,19 @@ pub record IsHindered (s : Seen) (p : Plan) (h : Hindrance) : Type 0 where
 abbrev pub WantsMemory : Seen → Plan → Type 0
 WantsMemory s p = IsOpen s p ⊎ (((now : Config) × IsStale s p now) ⊎ ((h : Hindrance) × IsHindered s p h))
 
+-- what is so where a refusal tells this of the plan's task
+abbrev pub IsTold : Seen → Plan → Option Refusal → Type 0
+IsTold s p (Some TheTaskIsMissing) = IsFalse (is_spawned (history s) p.config.task)
+IsTold s p (Some TheTaskIsOver) = IsTrue (is_spawned (history s) p.config.task) × IsTrue (has_ended s p.config.task)
+IsTold s p (Some (By h)) = IsHindered s p h
+IsTold s p None = ⊥
+
 -- when a plan isn't taken; want of memory comes last
 abbrev pub Refuses : Seen → Plan → StepRefusal → Type 0
-Refuses s p NoSuchTask = IsFalse (is_spawned (history s) p.config.task)
-Refuses s p Ended = IsTrue (is_spawned (history s) p.config.task) × IsTrue (has_ended s p.config.task)
 Refuses s p (Stale now) = IsStale s p now
-Refuses s p (Undeferred child) = IsHindered s p (TheUndeferred child)
-Refuses s p (Waiting pred) = IsHindered s p (IsWaiting pred)
-Refuses s p (Excluded by) = IsHindered s p (IsExcluded by)
-Refuses s p (Children first) = IsHindered s p (TheChildren first)
-Refuses s p (Group first) = IsHindered s p (TheGroup first)
 Refuses s p Full = IsCurrent s p × (hindrance_of s p ≡ None) × (s.limit ≤ length s.steps)
 Refuses s p Memory = WantsMemory s p
+Refuses s p r = IsTold s p (told_by r)
 
 -- why a plan isn't taken, where memory may be wanted for what the refusal names, but not for the step
 abbrev pub IsKept : Seen → Plan → StepRefusal → Type 0
@@ -121,7 +124,8 @@ pub record IsPlaceOf (s : Seen) (i : StepId) (at : ℕ) : Type 0 where
   pub place : at ≡ length front
   pub id : step_of (events_of front) step.event ≡ i
 
--- the step is gone, and nothing else; it may be taken again, and then all is as it was
+-- the step is gone, and nothing else; it may be taken again, and then all is as it was, each task's line too, and the
+-- histories are equivalent
 pub record TakesBack (s : Seen) (i : StepId) (new : Seen) (removed : Removed) : Type 0 where
   pub free : IsFree s i
   pub cells : new.cells ≡ s.cells
@@ -132,6 +136,9 @@ pub record TakesBack (s : Seen) (i : StepId) (new : Seen) (removed : Removed) : 
   pub id : removed.id ≡ i
   pub again : MayFollow s.cells (history new) (record { task = i.task; action = removed.action })
   pub alike : Alike (history s) (record { task = i.task; action = removed.action } ∷ history new)
+  pub equivalent : Equivalent (history s) (record { task = i.task; action = removed.action } ∷ history new)
+  pub line : ℕ
+  pub lines : (body : ℕ) (t : Name) → line_of body t s.steps ≡ line_of body t (record { event = record { task = i.task; action = removed.action }; to = line } ∷ new.steps)
 
 -- when a step stays: memory is wanted for the name of what needs it alone
 abbrev pub Keeps : Seen → StepId → UndoRefusal → Type 0

@@ -6,6 +6,7 @@ mod tests;
 ghost use Rattle.std.specs.Prelude.{◌≡◌, ◌≢◌, ◌<◌, ◌≤◌, ◌+◌, ◌↔◌, [], ◌∷◌, OnOk, IfOk, IfErr, OnErr, IfSome, IfNone, IsOk, IsSome, IsErrOf, IsTrue, length, reverse, slice_get, Some, None, if◌then◌else◌, map};
 ghost use Rattle.std.specs.Option.{option_copied, option_map};
 ghost use Rattle.tb_model.specs.Facts.{is_spawned, own, items_of, before, apart};
+ghost use Rattle.tb_model.specs.Legal.{Legal};
 ghost use Rattle.tb_model.specs.State.{printed, open_groups};
 ghost use Rattle.tb_model.specs.LeastNames.{IsLeastName};
 ghost use Rattle.tb_core.specs.Soundness.{departure};
@@ -82,6 +83,16 @@ impl Core {
             tables: Tables::open(alloc, cells, root_line)?,
             reserved: None,
         })
+    }
+
+    /// What always holds, for a caller to cite: the history is legal, and within its limit. What each
+    /// reader shows is said of that history by its own clause.
+    pub fn history_is_legal(&self)
+        ensures legal { Legal self.now.run.cells (history self.now.run) }
+        ensures within { length self.now.run.steps ≤ self.now.run.limit }
+        ensures bound { self.now.run.limit ≤ 1000000 }
+    {
+        let _limit = self.limit;
     }
 
     /// How many events the history has.
@@ -175,14 +186,6 @@ impl Core {
         }
     }
 
-    /// The steps that stand, from the oldest to the newest, each with the line at which it left its
-    /// task and what it replaced.
-    pub fn entries(&self) -> &[Entry]
-        ensures { map departure (reverse result.now) ≡ self.now.run.steps }
-    {
-        self.entries.as_slice()
-    }
-
     /// Whether nothing keeps the task of a plan from its action. It takes no memory.
     pub fn is_clear(&self, plan: &Plan) -> bool
         requires fits { Fits self.now.run plan.now }
@@ -250,6 +253,19 @@ impl Core {
         match self.take(plan) {
             Ok(id) => Ok(id),
             Err(_) => Err(StepRefusal::Memory),
+        }
+    }
+
+    /// The same right after a `reserve_step` of the plan that answered Ok: nothing is asked again.
+    pub fn step_reserved(&mut self, plan: Plan) -> StepId
+        requires fits { Fits self.old.run plan }
+        requires open { IsOpen self.old.run plan }
+        requires reserved { self.old.reserved ≡ Some (event_of self.old.run plan) }
+        ensures { Steps self.old.run plan self.new.run result }
+    {
+        match self.take(plan) {
+            Ok(id) => id,
+            Err(_) => unreachable!(),
         }
     }
 
@@ -374,7 +390,8 @@ impl Core {
         removed
     }
 
-    /// The steps that stand, as `entries` has them: they are a legal history.
+    /// The steps that stand, from the oldest to the newest, each with the line at which it left its
+    /// task and what it replaced: they are a legal history.
     pub fn legal_entries(&self) -> &[Entry]
         ensures steps { map departure (reverse result.now) ≡ self.now.run.steps }
         ensures legal { AreLegal result.now }
