@@ -1,8 +1,8 @@
 #!/usr/bin/env bash
 # Runs every example on the built program, and compares its output, standard error and exit status.
 #   tools/run_examples.sh [PROGRAM]
-# Beside NAME.session stand NAME.out and, where they are wanted, NAME.args (one word a line),
-# NAME.err (none: empty) and NAME.status (none: 0).
+# Beside NAME.session stand NAME.out, the session's program in NAME.task and, where they are wanted,
+# NAME.args (one word a line), NAME.err (none: empty) and NAME.status (none: 0).
 set -u
 top=$(cd "$(dirname "${BASH_SOURCE[0]}")/.." && pwd)
 program=${1:-$top/crates/taskback/out/taskback}
@@ -21,7 +21,11 @@ for session in "$top"/examples/*.session; do
     [ -f "$base.status" ] && want=$(cat "$base.status")
     err=/dev/null
     [ -f "$base.err" ] && err=$base.err
-    if [ "$status" = "$want" ] && cmp -s "$work/out" "$base.out" && cmp -s "$work/err" "$err"; then
+    sed '/^---/,$d' "$session" > "$work/task"
+    if ! cmp -s "$work/task" "$base.task"; then
+        failed=$((failed + 1))
+        echo "$(basename "$base"): its program isn't the one in $(basename "$base").task"
+    elif [ "$status" = "$want" ] && cmp -s "$work/out" "$base.out" && cmp -s "$work/err" "$err"; then
         passed=$((passed + 1))
     else
         failed=$((failed + 1))

@@ -1,7 +1,7 @@
 //! The program: options, standard streams and the exit status.
 
 use std::alloc::AllocError;
-use std::io::{Eprint, Input, Print};
+use std::io::{Eprint, ErrorKind, Input, Print};
 use std::rt::Env;
 use std::sync::Wait;
 use std::{env, io};
@@ -21,8 +21,10 @@ pub fn start<R: Env + Input + Print + Eprint + AllocGlobal + Wait>(rt: &R) -> u8
 
 /// The settings, or the exit status where there is nothing to run.
 fn read_options<R: Env + Print + Eprint + AllocGlobal>(rt: &R) -> Result<Settings, u8> {
-    let Ok(args) = env::args(rt) else {
-        return Err(told(rt, Halt::Memory));
+    let args = match env::args(rt) {
+        Ok(args) => args,
+        Err(error) if error.kind() == ErrorKind::InvalidData => return Err(no_text(rt)),
+        Err(_) => return Err(told(rt, Halt::Memory)),
     };
     let words: Result<Vec<String>, AllocError> = args.collect(rt.alloc());
     let Ok(words) = words else {
@@ -37,6 +39,15 @@ fn read_options<R: Env + Print + Eprint + AllocGlobal>(rt: &R) -> Result<Setting
             Err(if error.use_stderr() { USAGE } else { 0 })
         }
     }
+}
+
+/// Says that a word of the command line isn't text, as `clap` says what else is wrong with the words.
+fn no_text<R: Eprint>(rt: &R) -> u8 {
+    // There is nowhere else to tell it.
+    let _ = eprintln!(rt;
+        "error: invalid UTF-8 was detected in one or more arguments\n\nFor more information, try '--help'."
+    );
+    USAGE
 }
 
 fn serve_standard_streams<R: Input + Print + Eprint + AllocGlobal + Wait>(
