@@ -5,8 +5,6 @@ mod answers;
 mod entry;
 mod filling;
 mod needing;
-#[cfg(test)]
-mod needing_tests;
 mod places;
 mod removed;
 mod rollback;

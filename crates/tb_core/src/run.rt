@@ -1,8 +1,5 @@
 //! The history, step by step.
 
-#[cfg(test)]
-mod tests;
-
 ghost use Rattle.std.specs.Prelude.{◌≡◌, ◌≢◌, ◌<◌, ◌≤◌, ◌+◌, ◌↔◌, [], ◌∷◌, OnOk, IfOk, IfErr, OnErr, IfSome, IfNone, IsOk, IsSome, IsErrOf, IsTrue, length, reverse, slice_get, Some, None, if◌then◌else◌, map};
 ghost use Rattle.std.specs.Option.{option_copied, option_map};
 ghost use Rattle.tb_model.specs.Facts.{is_spawned, own, items_of, before, apart};
@@ -400,4 +397,23 @@ impl Core {
     {
         self.entries.as_slice()
     }
+}
+
+/// The patterns name every field: none is a program, and a step's record is all that is kept for its
+/// undo. They are compiled with the crate, so that a further field is refused until it stands here.
+fn name_every_field(core: &Core, entry: &Entry) {
+    let Core {
+        alloc: _,
+        first: _,
+        root_line: _,
+        limit: _,
+        entries: _,
+        tables: _,
+        reserved: _,
+    } = core;
+    let Entry {
+        event: _,
+        to: _,
+        replaced: _,
+    } = entry;
 }

@@ -10,12 +10,8 @@ mod link;
 mod near;
 mod over;
 mod preds;
-#[cfg(test)]
-mod random_tests;
 mod siblings;
 mod steps;
-#[cfg(test)]
-mod tests;
 
 pub use over::Over;
 pub use preds::Preds;

@@ -3,7 +3,5 @@
 
 mod holders;
 pub mod laws;
-#[cfg(test)]
-mod tests;
 
 pub use holders::Holders;

@@ -4,10 +4,6 @@
 pub mod laws;
 mod names;
 mod order;
-#[cfg(test)]
-mod random_tests;
 mod ready;
-#[cfg(test)]
-mod tests;
 
 pub use ready::Ready;

@@ -7,8 +7,6 @@ mod readied;
 mod roll_refusal;
 mod rolling;
 mod same_action;
-#[cfg(test)]
-mod tests;
 
 pub use comparing::same_run;
 pub use readied::Ready;

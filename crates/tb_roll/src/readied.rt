@@ -27,3 +27,16 @@ impl Ready {
         self.rollback.steps.as_slice()
     }
 }
+
+/// The patterns name every field: what is ready holds no program, and no copy of an earlier state.
+/// They are compiled with the crate, so that a further field is refused until it stands here.
+fn name_every_field(ready: &Ready) {
+    let Ready { rollback } = ready;
+    let Rollback {
+        step: _,
+        places: _,
+        steps: _,
+        kept: _,
+        removed: _,
+    } = rollback;
+}

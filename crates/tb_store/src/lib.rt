@@ -4,8 +4,6 @@
 pub mod laws;
 mod replaced;
 mod store;
-#[cfg(test)]
-mod tests;
 
 pub use replaced::Replaced;
 pub use store::Store;

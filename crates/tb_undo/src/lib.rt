@@ -4,6 +4,7 @@
 mod asking;
 mod copies;
 pub mod laws;
+mod made_of;
 mod obstacle;
 mod over;
 mod reading;
@@ -11,8 +12,6 @@ mod row;
 mod rows;
 mod standing;
 mod tables;
-#[cfg(test)]
-mod tests;
 mod walks;
 
 pub use obstacle::Obstacle;

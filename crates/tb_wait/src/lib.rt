@@ -8,8 +8,6 @@ mod row;
 mod rows;
 mod search;
 mod standing;
-#[cfg(test)]
-mod tests;
 mod tree;
 mod wait;
 

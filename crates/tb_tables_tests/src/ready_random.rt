@@ -1,10 +1,10 @@
 //! The answers against a plain program over a list of names, on lists made by a fixed rule.
 
-use crate::Ready;
 use std::alloc::{AllocError, AllocGlobal, Global};
 use std::mem;
 use std::process::Abort;
 use tb_model::TaskName;
+use tb_ready::Ready;
 
 /// A name with its mark.
 #[derive(Drop)]

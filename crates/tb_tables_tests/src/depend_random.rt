@@ -1,8 +1,8 @@
 //! The answers against a plain program over the rows of the table, on lists made by a fixed rule.
 
-use crate::{Over, Siblings};
 use std::alloc::{AllocError, Global};
 use std::process::Abort;
+use tb_depend::{Over, Siblings};
 use tb_model::{Item, Kind, Place};
 
 /// The row of a new item's kind in the table of OpenMP 5.2, 15.9.5: behind in, out, inout,

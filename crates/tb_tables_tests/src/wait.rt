@@ -1,9 +1,9 @@
 //! The table beside a plain list of the tasks with what each did.
 
-use crate::Wait;
 use std::alloc::AllocError;
 use std::test::Fail;
 use tb_model::TaskName;
+use tb_wait::Wait;
 
 #[derive(Clone, Copy, Drop, PartialEq, Eq)]
 enum Act {

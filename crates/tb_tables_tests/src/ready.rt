@@ -1,10 +1,10 @@
 //! The order of names, what undoing needs, and calls with little memory.
 
-use crate::Ready;
 use std::alloc::{AllocError, AllocGlobal, Global};
 use std::mem;
 use std::process::Abort;
 use tb_model::TaskName;
+use tb_ready::Ready;
 
 /// The name with these numbers, from the root down.
 fn name(alloc: Global, numbers: &[u32]) -> Result<TaskName, AllocError> {

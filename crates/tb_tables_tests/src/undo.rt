@@ -4,11 +4,11 @@ ghost use Rattle.std.specs.Prelude.{◌≡◌, [], ◌∷◌, ℤ, IfOk};
 ghost use Rattle.tb_model.specs.declared.action.Action.TheVariants.{Start, Store};
 ghost use Rattle.tb_undo.specs.State.{IsState};
 
-use crate::Tables;
 use std::alloc::{AllocError, Global};
 use std::mem;
 use tb_model::{Action, Event, TaskName};
 use tb_store::Replaced;
+use tb_undo::Tables;
 
 fn start(alloc: Global) -> Event
     ensures { result ≡ record { task = []; action = Start } }
@@ -62,15 +62,7 @@ fn a_refused_growth_changes_nothing(rt: HostRuntime) {
     assert_eq!(rt; stored.number, Some(5));
     assert_eq!(rt; again.at, 3);
     assert_eq!(rt; again.number, Some(5));
-    assert!(rt; tables.store.cells() == [7].as_slice());
+    assert!(rt; tables.cells() == [7].as_slice());
     assert!(rt; tables.is_clear(&TaskName::root(rt.alloc()), &Action::End));
-    let Tables {
-        alloc: _,
-        store: _,
-        waits: _,
-        marks: _,
-        rows: _,
-        copies: _,
-    } = &tables;
     mem::forget(tables);
 }

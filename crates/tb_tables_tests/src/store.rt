@@ -1,7 +1,7 @@
 //! That calls succeed, and that what is taken back needs no memory.
 
-use crate::Store;
 use std::test::Fail;
+use tb_store::Store;
 
 #[test]
 fn writes_prints_and_takes_back(rt: HostRuntime) -> Result<(), Fail> {

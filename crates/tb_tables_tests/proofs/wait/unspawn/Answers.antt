@@ -1,6 +1,6 @@
 use Rattle.std.proofs.Common.{sym, ◌∙◌}
 use Rattle.tb_wait.proofs.SpawnLemmas.{last_from_children}
-use Rattle.tb_wait.proofs.tests.unspawn.Goals as goal
+use Rattle.tb_tables_tests.proofs.wait.unspawn.Goals as goal
 
 pub unspawned-requires : goal.unspawned-requires
 unspawned-requires c =

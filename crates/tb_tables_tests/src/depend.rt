@@ -1,9 +1,9 @@
 //! The table of dependences by OpenMP 5.2, 15.9.5 depend Clause, and calls with little memory.
 
-use crate::{Over, Siblings};
 use std::mem;
 use std::process::Abort;
 use std::test::Fail;
+use tb_depend::{Over, Siblings};
 use tb_model::{Item, Kind, Place};
 
 fn item(kind: Kind, cell: u32) -> Item {

@@ -3,13 +3,13 @@
 ghost use Rattle.std.specs.Prelude.{IsTrue};
 ghost use Rattle.tb_core.specs.Outcomes.{Fits};
 
-use crate::{finish, ready, roll, same_run};
 use std::alloc::AllocGlobal;
 use std::process::Abort;
 use tb_cause::{needed_by, needs};
 use tb_core::{Core, Removed};
 use tb_model::{Action, StepId, TaskName};
 use tb_read::{Plan, Program, plan, read};
+use tb_roll::{finish, ready, roll, same_run};
 
 /// Whether the plan is for the core's cells, starts a task exactly in front of its first step, and
 /// closes no group.

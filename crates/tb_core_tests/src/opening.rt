@@ -1,8 +1,8 @@
-//! That a core opens, and what it is made of.
+//! That a core opens.
 
-use super::Core;
 use std::alloc::AllocGlobal;
 use std::process::Abort;
+use tb_core::Core;
 use tb_model::{StepId, TaskName};
 
 fn opened(rt: &(impl Abort + AllocGlobal)) -> Core {
@@ -19,19 +19,4 @@ fn an_open_core_has_no_steps(rt: HostRuntime) {
     assert!(rt; core.cells() == [5].as_slice());
     assert!(rt; core.newest().is_none());
     assert!(rt; core.keeps(&StepId { task: root, k: 1 }).is_some());
-}
-
-/// The pattern names every field: none is a program, and a step's record is all that is kept for its
-/// undo.
-#[test]
-fn a_core_holds_no_program(rt: HostRuntime) {
-    let Core {
-        alloc: _,
-        first: _,
-        root_line: _,
-        limit: _,
-        entries: _,
-        tables: _,
-        reserved: _,
-    } = opened(&rt);
 }

@@ -1,5 +1,5 @@
 use Rattle.tb_undo.proofs.RunLemmas.{ahead_start, state_begun, ahead_store, stands, state_back}
-use Rattle.tb_undo.proofs.tests.run.Goals as goal
+use Rattle.tb_tables_tests.proofs.undo.run.Goals as goal
 
 pub apply-requires : goal.apply-requires
 apply-requires c = ahead_start c.args.tables.now c.start-start.result c.start-start.ensures c.requires

@@ -1,9 +1,8 @@
 //! Whose earliest needer is whose, in a history for each kind of need.
 
-use crate::entry::Entry;
-use crate::{first_needer, place_of, step_at};
 use std::alloc::AllocGlobal;
 use std::process::Abort;
+use tb_core::{Entry, first_needer, place_of, step_at};
 use tb_model::{Action, Args, Event, Item, Items, Kind, Place, StepId, TaskName};
 use tb_store::Replaced;
 

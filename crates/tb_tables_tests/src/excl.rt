@@ -1,8 +1,8 @@
 //! The table beside a plain list of the children that are under way.
 
-use crate::Holders;
 use std::alloc::{AllocError, Global};
 use std::test::Fail;
+use tb_excl::Holders;
 use tb_model::{Item, Kind, Place, TaskName};
 
 /// A child that was generated, and how far it is.

@@ -1,0 +1,10 @@
+//! Tests of the history, of needs and of rollbacks, by the calls that their crates export.
+//! They stand apart from these, so that no crate's proofs are checked once more with its tests.
+#![tactic(auto)]
+
+#[cfg(test)]
+mod needing;
+#[cfg(test)]
+mod opening;
+#[cfg(test)]
+mod roll;

@@ -1,0 +1,64 @@
+#!/usr/bin/env python3
+"""Prints the must-fail edits as a table: each with the function whose body it turns, and how.
+
+    tools/edit_table.py [GATE_LOG]
+
+With the log of a gate (tools/ci_times.sh > GATE_LOG) a last column has what the prover could not show.
+"""
+import glob
+import os
+import re
+import sys
+
+TOP = os.path.dirname(os.path.dirname(os.path.abspath(__file__)))
+
+
+def pairs_of(edit):
+    """The file and the first pair of texts of an edit."""
+    with open(edit, encoding="utf-8") as file:
+        lines = file.read().splitlines()
+    found = {}
+    for line in lines:
+        word, _, rest = line.partition(":")
+        found.setdefault(word, rest.strip())
+    return found["file"], found["old"], found["new"]
+
+
+def function_of(path, old):
+    """The function, or the definition, in which the text stands."""
+    with open(path, encoding="utf-8") as file:
+        before = file.read().partition(old)[0]
+    words = re.findall(r"^ *(?:pub(?:\([a-z]+\))? )?fn (\w+)", before, re.M)
+    names = re.findall(r"^(?:abbrev |pub |unfoldable |record |data )*(\w+) *:", before, re.M)
+    return words[-1] if path.endswith(".rt") and words else names[-1] if names else ""
+
+
+def refusals(log):
+    """What the gate's log says of each edit."""
+    said = {}
+    if log:
+        with open(log, encoding="utf-8", errors="replace") as file:
+            for crate, name, why in re.findall(r"must-fail (\w+)/([\w.-]+)\.edit: refused, as it must be:? ?(.*)", file.read()):
+                goal = re.search(r"`([\w-]+)`\)?$", why)
+                said[crate, name] = f"`{goal[1]}`" if goal else why.replace("|", "\\|")[:80]
+    return said
+
+
+def short(text):
+    text = text if len(text) <= 70 else text[:67] + "..."
+    return "`" + text.replace("|", "\\|") + "`"
+
+
+def main():
+    said = refusals(sys.argv[1] if len(sys.argv) > 1 else None)
+    print("| crate | edit | function | instead of | it has |" + (" not shown |" if said else ""))
+    print("|---|---|---|---|---|" + ("---|" if said else ""))
+    for edit in sorted(glob.glob(f"{TOP}/crates/*/must-fail/*.edit")):
+        crate, name = edit.split("/")[-3], os.path.basename(edit)[:-5]
+        path, old, new = pairs_of(edit)
+        row = [crate, name, f"`{function_of(f'{TOP}/crates/{crate}/{path}', old)}`", short(old), short(new)]
+        print("| " + " | ".join(row + ([said.get((crate, name), "")] if said else [])) + " |")
+
+
+if __name__ == "__main__":
+    main()
