@@ -59,10 +59,10 @@ module _ (s seen : Seen) (same : s ≡ seen) (t : Name) (r : Row) (mine : row s.
     by_wait items is o e same_items covered told =
         by_free (λ H. in_the_way H t a ≡ h)
         (λ cells H legal are known free.
-            let closed = subst (λ rows. IsClosed rows (is_child_over s.waits.tasks t)) (sym known.children) (over_closed cells H s.waits.tasks t legal are) in
-            let least = subst (λ is. IsLeastNumber (IsUnendedWhere s.waits.tasks t (is_covered r.children.siblings is)) o) same_items (covered closed) in
-            ap (in_the_way H t) e
-            ∙ waits_for H t free items (option_map (child t) o) (covered_least cells H s.waits.tasks t legal are items r.children.siblings o known.children least) ∙ told)
+        let closed = subst (λ rows. IsClosed rows (is_child_over s.waits.tasks t)) (sym known.children) (over_closed cells H s.waits.tasks t legal are) in
+        let least = subst (λ is. IsLeastNumber (IsUnendedWhere s.waits.tasks t (is_covered r.children.siblings is)) o) same_items (covered closed) in
+        ap (in_the_way H t) e
+        ∙ waits_for H t free items (option_map (child t) o) (covered_least cells H s.waits.tasks t legal are items r.children.siblings o known.children least) ∙ told)
 
     pub by_close : (o : Option Name) → a ≡ Close → IsLeastName (IsUnendedMember s.waits.tasks t) o → option_map Group o ≡ h → Told
     by_close o e least told =

@@ -10,7 +10,7 @@ ghost use Rattle.tb_model.specs.Legal.{first_number, spawn_count};
 ghost use Rattle.tb_model.specs.Lines.{events_of};
 ghost use Rattle.tb_undo.specs.State.{AreLast, task_of, ForState, ForHistory};
 ghost use Rattle.tb_undo.specs.Obstacles.{sibling};
-ghost use Rattle.tb_undo.specs.Readings.{standing_of, IsNthOf, IsUnendedBehind};
+ghost use Rattle.tb_undo.specs.Readings.{standing_of, IsNthOf, IsNextChild, IsUnendedBehind};
 
 use crate::row::Row;
 use crate::standing::Standing;
@@ -60,6 +60,14 @@ impl Tables {
             result ≡ (if is_spawned (events_of D) name.now then Some (spawn_count (own name.now (events_of D))) else None)) }
     {
         self.waits.children(name)
+    }
+
+    /// The least number above `low` of a child of the task that hasn't ended. So its unended
+    /// children can be listed in order, from 0 on. Takes no memory.
+    pub fn next_child(&self, name: &TaskName, low: u32) -> Option<u32>
+        ensures { ForState self.now (λ first root_line D. IsNextChild (events_of D) name.now low result) }
+    {
+        self.waits.next_unended(name, low)
     }
 
     /// How many groups of the task are open.
