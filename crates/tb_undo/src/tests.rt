@@ -1,10 +1,11 @@
-//! A short run on the joined tables: what a call requires is proved of this run.
+//! A short run on the joined tables: what a call requires is proved of this run. And what they keep.
 
 ghost use Rattle.std.specs.Prelude.{◌≡◌, [], ◌∷◌, ℤ, IfOk};
 ghost use Rattle.tb_model.specs.declared.action.Action.TheVariants.{Start, Store};
 ghost use Rattle.tb_undo.specs.State.{IsState};
 
 use crate::Tables;
+use crate::row::Row;
 use std::alloc::{AllocError, Global};
 use std::mem;
 use tb_model::{Action, Event, TaskName};
@@ -64,13 +65,37 @@ fn a_refused_growth_changes_nothing(rt: HostRuntime) {
     assert_eq!(rt; again.number, Some(5));
     assert!(rt; tables.store.cells() == [7].as_slice());
     assert!(rt; tables.is_clear(&TaskName::root(rt.alloc()), &Action::End));
+    mem::forget(tables);
+}
+
+/// These are all the fields, so there is no program among them, and no event or earlier state.
+fn take_apart(tables: &Tables) {
     let Tables {
         alloc: _,
         store: _,
         waits: _,
         marks: _,
-        rows: _,
+        rows,
         copies: _,
-    } = &tables;
+    } = tables;
+    if let Some((_, row)) = rows.get_index(0) {
+        let Row {
+            parent: _,
+            body: _,
+            at: _,
+            steps: _,
+            regs: _,
+            undeferred: _,
+            children: _,
+            holders: _,
+        } = row;
+    }
+}
+
+#[test]
+fn no_program_and_no_event_is_kept(rt: HostRuntime) {
+    let tables = opened(rt.alloc()).expect(&rt, "memory is there again");
+    take_apart(&tables);
+    assert_eq!(rt; tables.rows.len(), 1);
     mem::forget(tables);
 }
