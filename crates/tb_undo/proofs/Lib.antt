@@ -14,6 +14,7 @@ pub mod UndeferredLemmas
 pub mod ObstacleLemmas
 pub mod OverLemmas
 pub mod ReasonLemmas
+pub mod AskingLemmas
 pub mod StartLemmas
 pub mod ReadingLemmas
 pub mod MiddleLemmas

@@ -5,7 +5,7 @@ use Rattle.std.proofs.lemmas.Bool.{false_from_ne_true, false≢true}
 use Rattle.std.proofs.lemmas.List.{length-map, length-reverse}
 use Rattle.tb_model.specs.declared.item.Item.{Item}
 use Rattle.tb_model.specs.declared.action.Action.{Action}
-use Rattle.tb_model.specs.Names.{Name, is_elder}
+use Rattle.tb_model.specs.Names.{Name, child, is_elder}
 use Rattle.tb_model.specs.Items.{some_meet, is_before, is_apart}
 use Rattle.tb_model.specs.Facts.{History, own, ends, is_spawned, IsSpawned, spawns, items_of, before, apart, groups}
 use Rattle.tb_model.specs.State.{open_groups, children_since}
@@ -21,15 +21,16 @@ use Rattle.tb_model.specs.LeastNames.{IsLeastName}
 use Rattle.tb_ready.specs.Tasks.{IsMarkedBehind}
 use Rattle.tb_ready.specs.Histories.{AreMarks}
 use Rattle.tb_ready.proofs.HistoryLemmas.{marked_unended}
-use Rattle.tb_wait.specs.Kin.{Kin, Tasks as Waits, kin}
+use Rattle.tb_wait.specs.Kin.{Kin, Tasks as Waits, kin, IsNextUnended}
 use Rattle.tb_wait.specs.Rows.{groups_of}
 use Rattle.tb_wait.specs.Histories.{kin_from, AreKin}
 use Rattle.tb_wait.proofs.HistoryLemmas.{counted, depth, over_from}
+use Rattle.tb_wait.proofs.UnendedLemmas.{unended_child}
 use Rattle.tb_undo.specs.declared.row.Row.{Row}
 use Rattle.tb_undo.specs.Tasks.{row, seen_row}
 use Rattle.tb_undo.specs.State.{Seen, IsState, known_task}
 use Rattle.tb_undo.specs.Obstacles.{sibling}
-use Rattle.tb_undo.specs.Readings.{IsNthOf, IsUnendedBehind}
+use Rattle.tb_undo.specs.Readings.{IsNthOf, IsNextChild, IsUnendedBehind}
 use Rattle.tb_undo.proofs.ObstacleLemmas.{none_meet, least_name_by}
 use Rattle.tb_undo.proofs.StartLemmas.{kept, is_known, parent_spawned, named, headed, unheaded}
 
@@ -85,6 +86,13 @@ next_told H tasks after o are l =
     least_name_by (IsMarkedBehind tasks after) (IsUnendedBehind H after) o
     (λ u h. record { unended = sym (marked_unended H tasks u are) ∙ h.marked; behind = h.behind })
     (λ u h. record { marked = marked_unended H tasks u are ∙ h.unended; behind = h.behind }) l
+
+-- the next unended child by the table is so by the history
+pub next_child_told : (H : History) (tasks : Waits) (t : Name) (low : ℕ) (o : Option ℕ) → AreKin H tasks → IsNextUnended tasks t low o → IsNextChild H t low o
+next_child_told H tasks t low o are next = record {
+  found = λ n e. let f = next.found n e in (f.0, (unended_child H tasks t (child t n) are).0 f.1);
+  least = λ n l u. next.least n l ((unended_child H tasks t (child t n) are).1 u);
+}
 
 -- ---- a task and its siblings
 

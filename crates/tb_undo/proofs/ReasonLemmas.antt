@@ -29,52 +29,35 @@ module _ (H : History) (t : Name) where
     pub waits : (u : Name) → IsLeast (is_waited_for H t) (Some u) → in_the_way H t Start ≡ Some (Waiting u)
     waits u l = (in_the_way_hinders H t Start (Waiting u)).1 (free, refl, l)
 
-    pub starts_when : (o : Option Name) → IsLeast (is_waited_for H t) None → IsLeast (is_excluding H t) o → in_the_way H t Start ≡ option_map Excluded o
-    starts_when (Some u) none l = (in_the_way_hinders H t Start (Excluded u)).1 (free, refl, none, l)
-    starts_when None none l = kept_by_none H t Start at
-      where
-        at : (h : Hindrance) → Hinders H t Start h → ⊥
-        at (Undeferred u) k = not_both (is_unended_undeferred H t) u free k
-        at (Waiting u) k = not_both (is_waited_for H t) u none k.2
-        at (Excluded u) k = not_both (is_excluding H t) u l k.3
-        at (Children u) k = let other = k.2 in cc
-        at (Group u) k = let other = k.1 in cc
-
-    pub waits_for : (items : List Item) (o : Option Name) → IsLeast (is_unended_covered H t items) o → in_the_way H t (Wait items) ≡ option_map Children o
-    waits_for items (Some u) l = (in_the_way_hinders H t (Wait items) (Children u)).1 (free, items, refl, l)
-    waits_for items None l = kept_by_none H t (Wait items) at
-      where
-        at : (h : Hindrance) → Hinders H t (Wait items) h → ⊥
-        at (Undeferred u) k = not_both (is_unended_undeferred H t) u free k
-        at (Waiting u) k = let other = k.1 in cc
-        at (Excluded u) k = let other = k.1 in cc
-        at (Children u) k =
-            let same : Wait items ≡ Wait k.1 = k.2 in
-            let is : items ≡ k.1 = cc in
-            not_both (is_unended_covered H t k.1) u (subst (λ is. IsLeast (is_unended_covered H t is) None) is l) k.3
-        at (Group u) k = let other = k.1 in cc
-
-    pub closes_when : (o : Option Name) → IsLeast (is_unended_member H t) o → in_the_way H t Close ≡ option_map Group o
-    closes_when (Some u) l = (in_the_way_hinders H t Close (Group u)).1 (free, refl, l)
-    closes_when None l = kept_by_none H t Close at
-      where
-        at : (h : Hindrance) → Hinders H t Close h → ⊥
-        at (Undeferred u) k = not_both (is_unended_undeferred H t) u free k
-        at (Waiting u) k = let other = k.1 in cc
-        at (Excluded u) k = let other = k.1 in cc
-        at (Children u) k = let other = k.2 in cc
-        at (Group u) k = not_both (is_unended_member H t) u l k.2
-
-    -- nothing else keeps a task
-    pub goes_on : (a : Action) → (a ≡ Start → ⊥) → ((items : List Item) → a ≡ Wait items → ⊥) → (a ≡ Close → ⊥) → in_the_way H t a ≡ None
-    goes_on a not_start not_wait not_close = kept_by_none H t a at
+    -- nothing keeps the task where there is nobody for whom this action waits
+    none_by : (a : Action) → (a ≡ Start → IsLeast (is_waited_for H t) None × IsLeast (is_excluding H t) None) → ((items : List Item) → a ≡ Wait items → IsLeast (is_unended_covered H t items) None) → (a ≡ Close → IsLeast (is_unended_member H t) None)
+        → in_the_way H t a ≡ None
+    none_by a starts waits closes = kept_by_none H t a at
       where
         at : (h : Hindrance) → Hinders H t a h → ⊥
         at (Undeferred u) k = not_both (is_unended_undeferred H t) u free k
-        at (Waiting u) k = not_start k.1
-        at (Excluded u) k = not_start k.1
-        at (Children u) k = not_wait k.1 k.2
-        at (Group u) k = not_close k.1
+        at (Waiting u) k = not_both (is_waited_for H t) u (starts k.1).0 k.2
+        at (Excluded u) k = not_both (is_excluding H t) u (starts k.1).1 k.3
+        at (Children u) k = not_both (is_unended_covered H t k.1) u (waits k.1 k.2) k.3
+        at (Group u) k = not_both (is_unended_member H t) u (closes k.1) k.2
+
+    pub starts_when : (o : Option Name) → IsLeast (is_waited_for H t) None → IsLeast (is_excluding H t) o → in_the_way H t Start ≡ option_map Excluded o
+    starts_when (Some u) none l = (in_the_way_hinders H t Start (Excluded u)).1 (free, refl, none, l)
+    starts_when None none l = none_by Start (λ e. (none, l)) (λ items e. cc) (λ e. cc)
+
+    pub waits_for : (items : List Item) (o : Option Name) → IsLeast (is_unended_covered H t items) o → in_the_way H t (Wait items) ≡ option_map Children o
+    waits_for items (Some u) l = (in_the_way_hinders H t (Wait items) (Children u)).1 (free, items, refl, l)
+    waits_for items None l =
+        none_by (Wait items) (λ e. cc)
+        (λ others e. let same : items ≡ others = cc in subst (λ is. IsLeast (is_unended_covered H t is) None) same l) (λ e. cc)
+
+    pub closes_when : (o : Option Name) → IsLeast (is_unended_member H t) o → in_the_way H t Close ≡ option_map Group o
+    closes_when (Some u) l = (in_the_way_hinders H t Close (Group u)).1 (free, refl, l)
+    closes_when None l = none_by Close (λ e. cc) (λ items e. cc) (λ e. l)
+
+    -- nothing else keeps a task
+    pub goes_on : (a : Action) → (a ≡ Start → ⊥) → ((items : List Item) → a ≡ Wait items → ⊥) → (a ≡ Close → ⊥) → in_the_way H t a ≡ None
+    goes_on a not_start not_wait not_close = none_by a (λ e. absurd (not_start e)) (λ items e. absurd (not_wait items e)) (λ e. absurd (not_close e))
 
 -- nothing is found where the name of nothing is, and the other way
 pub clear_by : {A : Type 0} (f : A → Hindrance) (o : Option A) (b : Bool) (w : Option Hindrance) → is_some o ≡ not b → w ≡ option_map f o → IsTrue b ↔ (w ≡ None)

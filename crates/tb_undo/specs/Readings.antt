@@ -1,9 +1,9 @@
 -- What the tables tell of a task: where it stands, and which parent and siblings it has.
-use Rattle.std.specs.Prelude.{◌≡◌, ℕ, List, ◌∷◌, Option, IsTrue, drop}
+use Rattle.std.specs.Prelude.{◌≡◌, ◌<◌, ◌≤◌, ℕ, List, ◌∷◌, Option, Some, IsTrue, drop}
 use Rattle.tb_model.specs.declared.item.Item.{Item}
-use Rattle.tb_model.specs.Names.{Name}
+use Rattle.tb_model.specs.Names.{Name, child}
 use Rattle.tb_model.specs.Facts.{History, own}
-use Rattle.tb_model.specs.State.{is_unended}
+use Rattle.tb_model.specs.State.{is_unended, is_unended_child}
 use Rattle.tb_depend.specs.Relations.{spawned_items}
 use Rattle.tb_ready.specs.Tasks.{IsBehind}
 use Rattle.tb_undo.specs.declared.standing.Standing.{Standing}
@@ -21,3 +21,8 @@ pub record IsNthOf (H : History) (t : Name) (n : ℕ) (children : List (List Ite
 pub record IsUnendedBehind (H : History) (after : Option Name) (t : Name) : Type 0 where
   pub unended : IsTrue (is_unended H t)
   pub behind : IsBehind after t
+
+-- the least number above `low` of an unended child of t, and None exactly where there is none
+pub record IsNextChild (H : History) (t : Name) (low : ℕ) (o : Option ℕ) : Type 0 where
+  pub found : (n : ℕ) → o ≡ Some n → (low < n) × IsTrue (is_unended_child H t (child t n))
+  pub least : (n : ℕ) → low < n → IsTrue (is_unended_child H t (child t n)) → (m : ℕ) × (o ≡ Some m) × (m ≤ n)

@@ -1,11 +1,11 @@
 -- What the joined tables hold of a history that keeps its lines: its state, table by table.
-use Rattle.std.specs.Prelude.{◌≡◌, ◌<◌, ℕ, suc, ℤ, List, [], ◌∷◌, Option, Some, None, drop, length, reverse, if◌then◌else◌}
+use Rattle.std.specs.Prelude.{◌≡◌, ◌<◌, ℕ, suc, ℤ, List, [], ◌∷◌, Option, Some, None, IsTrue, drop, length, reverse, if◌then◌else◌}
 use Rattle.tb_model.specs.declared.action.Action.{Action}
 use Rattle.tb_model.specs.declared.action.Action.TheVariants.{Spawn}
 use Rattle.tb_model.specs.Names.{Name}
 use Rattle.tb_model.specs.Facts.{History, own, last, is_spawned}
-use Rattle.tb_model.specs.Legal.{Cells, first_number}
-use Rattle.tb_model.specs.State.{printed, spawn_of, called_by}
+use Rattle.tb_model.specs.Legal.{Cells, Legal, first_number}
+use Rattle.tb_model.specs.State.{printed, spawn_of, called_by, is_unended}
 use Rattle.tb_model.specs.Lines.{Departure, events_of, line_of}
 use Rattle.tb_model.specs.Records.{args_in}
 use Rattle.tb_store.specs.Contents.{Contents, number_at}
@@ -68,3 +68,17 @@ pub record IsState (first : Cells) (root_line : ℕ) (D : List Departure) (s : S
   pub marked : AreMarks (events_of D) s.marks.tasks
   pub tasks : (t : Name) → task s.rows t ≡ task_of root_line D t
   pub holders : (p : Name) (h : Holders) → holders_of s.rows p ≡ Some h → AreHolders (events_of D) p h
+
+-- ---- whatever history the tables are of
+
+-- this holds of its first numbers, of the line of the root's body, and of the history with the lines of its steps
+abbrev pub ForState : Seen → (Cells → ℕ → List Departure → Type 0) → Type 0
+ForState s P = (first : Cells) (root_line : ℕ) (D : List Departure) → IsState first root_line D s → P first root_line D
+
+-- this holds of its events, where it is legal
+abbrev pub ForHistory : Seen → (History → Type 0) → Type 0
+ForHistory s P = (first : Cells) (root_line : ℕ) (D : List Departure) → Legal first (events_of D) → IsState first root_line D s → P (events_of D)
+
+-- and where t was generated and hasn't ended
+abbrev pub ForUnended : Seen → Name → (History → Type 0) → Type 0
+ForUnended s t P = ForHistory s (λ H. IsTrue (is_unended H t) → P H)

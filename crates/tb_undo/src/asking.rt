@@ -1,16 +1,15 @@
 //! What keeps a task from an action.
 
-ghost use Rattle.std.specs.Prelude.{◌≡◌, ◌≢◌, ◌↔◌, ℕ, List, Some, None, IsTrue, option_map};
+ghost use Rattle.std.specs.Prelude.{◌≡◌, ◌≢◌, ◌↔◌, Some, None, IsTrue, option_map};
 ghost use Rattle.tb_model.specs.declared.action.Action.TheVariants.{Start};
 ghost use Rattle.tb_model.specs.Names.{child};
 ghost use Rattle.tb_model.specs.Facts.{History, own, IsSpawned};
-ghost use Rattle.tb_model.specs.State.{is_unended, is_unended_undeferred};
+ghost use Rattle.tb_model.specs.State.{is_unended_undeferred};
 ghost use Rattle.tb_model.specs.Legal.{Cells, Legal};
-ghost use Rattle.tb_model.specs.Lines.{Departure, events_of};
 ghost use Rattle.tb_model.specs.Hindrances.{in_the_way, IsLeast, IsFree};
 ghost use Rattle.tb_wait.specs.Histories.{AreKin};
 ghost use Rattle.tb_undo.specs.Tasks.{row, seen_row};
-ghost use Rattle.tb_undo.specs.State.{IsState};
+ghost use Rattle.tb_undo.specs.State.{ForUnended};
 ghost use Rattle.tb_undo.specs.Obstacles.{hindrance_by, IsKnown};
 
 use crate::obstacle::Obstacle;
@@ -24,8 +23,7 @@ impl Tables {
     /// What keeps the task from the action: the undeferred child at which it stands, else what the
     /// action waits for. Takes no memory.
     pub fn in_the_way(&self, name: &TaskName, action: &Action) -> Option<Obstacle<'_>>
-        ensures { (first : Cells) (root_line : ℕ) (D : List Departure) → Legal first (events_of D) → IsState first root_line D self.now →
-            IsTrue (is_unended (events_of D) name.now) → in_the_way (events_of D) name.now action.now ≡ option_map (hindrance_by name.now) result }
+        ensures { ForUnended self.now name.now (λ H. in_the_way H name.now action.now ≡ option_map (hindrance_by name.now) result) }
     {
         let row = self.rows.get(name)?;
         if let Some(child) = undeferred(&self.waits, name, row) {
@@ -48,16 +46,14 @@ impl Tables {
     /// Whether nothing keeps the task from the action, as `in_the_way` tells what does. Takes no
     /// memory. Who is excluded is asked first, since it costs no walk over the siblings.
     pub fn is_clear(&self, name: &TaskName, action: &Action) -> bool
-        ensures { (first : Cells) (root_line : ℕ) (D : List Departure) → Legal first (events_of D) → IsState first root_line D self.now →
-            IsTrue (is_unended (events_of D) name.now) → (IsTrue result ↔ (in_the_way (events_of D) name.now action.now ≡ None)) }
+        ensures { ForUnended self.now name.now (λ H. IsTrue result ↔ (in_the_way H name.now action.now ≡ None)) }
     {
         !self.is_excluded(name, action) && self.in_the_way(name, action).is_none()
     }
 
     /// Whether the action is the first start of a task that a sibling under way excludes.
     fn is_excluded(&self, name: &TaskName, action: &Action) -> bool
-        ensures { (first : Cells) (root_line : ℕ) (D : List Departure) → Legal first (events_of D) → IsState first root_line D self.now →
-            IsTrue (is_unended (events_of D) name.now) → IsTrue result → in_the_way (events_of D) name.now action.now ≢ None }
+        ensures { ForUnended self.now name.now (λ H. IsTrue result → in_the_way H name.now action.now ≢ None) }
     {
         let Action::Start = action else {
             return false;
@@ -82,8 +78,7 @@ impl Tables {
     /// it. One that has started excludes those itself.
     fn before_start(&self, name: &TaskName, own: &Row) -> Option<Obstacle<'_>>
         requires { row self.now.rows name.now ≡ Some own.now }
-        ensures { (first : Cells) (root_line : ℕ) (D : List Departure) → Legal first (events_of D) → IsState first root_line D self.now →
-            IsTrue (is_unended (events_of D) name.now) → IsFree (events_of D) name.now → in_the_way (events_of D) name.now Start ≡ option_map (hindrance_by name.now) result }
+        ensures { ForUnended self.now name.now (λ H. IsFree H name.now → in_the_way H name.now Start ≡ option_map (hindrance_by name.now) result) }
     {
         let n = *name.numbers().first()?;
         let parent = self.rows.get(&own.parent)?;

@@ -1,10 +1,11 @@
 //! What the tables are made of.
 
+use crate::row::Row;
 use crate::tables::Tables;
 
-/// The pattern names every field: none is a program, and none is a copy of an earlier state. It is
-/// compiled with the crate, so that a further field is refused until it stands here.
-fn name_every_field(tables: &Tables) {
+/// The patterns name every field: none is a program or an event, and none a copy of an earlier state.
+/// They are compiled with the crate, so that a further field is refused until it stands here.
+fn name_every_field(tables: &Tables, row: &Row) {
     let Tables {
         alloc: _,
         store: _,
@@ -13,4 +14,14 @@ fn name_every_field(tables: &Tables) {
         rows: _,
         copies: _,
     } = tables;
+    let Row {
+        parent: _,
+        body: _,
+        at: _,
+        steps: _,
+        regs: _,
+        undeferred: _,
+        children: _,
+        holders: _,
+    } = row;
 }

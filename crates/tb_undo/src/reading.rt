@@ -6,11 +6,11 @@ ghost use Rattle.std.specs.Option.{option_copied};
 ghost use Rattle.tb_model.specs.LeastNames.{IsLeastName};
 ghost use Rattle.tb_model.specs.Facts.{own, ends, last, before, apart, is_spawned, items_of};
 ghost use Rattle.tb_model.specs.State.{open_groups, printed};
-ghost use Rattle.tb_model.specs.Legal.{Cells, Legal, first_number, spawn_count};
-ghost use Rattle.tb_model.specs.Lines.{Departure, events_of};
-ghost use Rattle.tb_undo.specs.State.{IsState, AreLast, task_of};
+ghost use Rattle.tb_model.specs.Legal.{first_number, spawn_count};
+ghost use Rattle.tb_model.specs.Lines.{events_of};
+ghost use Rattle.tb_undo.specs.State.{AreLast, task_of, ForState, ForHistory};
 ghost use Rattle.tb_undo.specs.Obstacles.{sibling};
-ghost use Rattle.tb_undo.specs.Readings.{standing_of, IsNthOf, IsUnendedBehind};
+ghost use Rattle.tb_undo.specs.Readings.{standing_of, IsNthOf, IsNextChild, IsUnendedBehind};
 
 use crate::row::Row;
 use crate::standing::Standing;
@@ -20,15 +20,14 @@ use tb_model::{Item, TaskName};
 impl Tables {
     /// Whether the task was generated.
     pub fn is_there(&self, name: &TaskName) -> bool
-        ensures { (first : Cells) (root_line : ℕ) (D : List Departure) → IsState first root_line D self.now → result ≡ is_spawned (events_of D) name.now }
+        ensures { ForState self.now (λ first root_line D. result ≡ is_spawned (events_of D) name.now) }
     {
         self.rows.get(name).is_some()
     }
 
     /// Whether the task is over.
     pub fn has_ended(&self, name: &TaskName) -> bool
-        ensures { (first : Cells) (root_line : ℕ) (D : List Departure) → Legal first (events_of D) → IsState first root_line D self.now →
-            result ≡ list_any (ends name.now) (events_of D) }
+        ensures { ForHistory self.now (λ H. result ≡ list_any (ends name.now) H) }
     {
         self.waits.is_over(name).unwrap_or(false)
     }
@@ -36,16 +35,15 @@ impl Tables {
     /// The least unended task behind this one, or the least of all where none is given. So the
     /// unended tasks can be listed in order, each found by a binary search.
     pub fn next_unended(&self, after: Option<&TaskName>) -> Option<&TaskName>
-        ensures { (first : Cells) (root_line : ℕ) (D : List Departure) → IsState first root_line D self.now →
-            IsLeastName (IsUnendedBehind (events_of D) (option_copied after.entry)) (option_copied result) }
+        ensures { ForState self.now (λ first root_line D.
+            IsLeastName (IsUnendedBehind (events_of D) (option_copied after.entry)) (option_copied result)) }
     {
         self.marks.next_marked(after)
     }
 
     /// Where the task stands.
     pub fn standing(&self, name: &TaskName) -> Option<Standing>
-        ensures { (first : Cells) (root_line : ℕ) (D : List Departure) → IsState first root_line D self.now →
-            result ≡ option_map standing_of (task_of root_line D name.now) }
+        ensures { ForState self.now (λ first root_line D. result ≡ option_map standing_of (task_of root_line D name.now)) }
     {
         let row = self.rows.get(name)?;
         Some(Standing {
@@ -58,24 +56,30 @@ impl Tables {
 
     /// How many children the task generated.
     pub fn children(&self, name: &TaskName) -> Option<u32>
-        ensures { (first : Cells) (root_line : ℕ) (D : List Departure) → IsState first root_line D self.now →
-            result ≡ (if is_spawned (events_of D) name.now then Some (spawn_count (own name.now (events_of D))) else None) }
+        ensures { ForState self.now (λ first root_line D.
+            result ≡ (if is_spawned (events_of D) name.now then Some (spawn_count (own name.now (events_of D))) else None)) }
     {
         self.waits.children(name)
     }
 
+    /// The least number above `low` of a child of the task that hasn't ended. So its unended
+    /// children can be listed in order, from 0 on. Takes no memory.
+    pub fn next_child(&self, name: &TaskName, low: u32) -> Option<u32>
+        ensures { ForState self.now (λ first root_line D. IsNextChild (events_of D) name.now low result) }
+    {
+        self.waits.next_unended(name, low)
+    }
+
     /// How many groups of the task are open.
     pub fn groups(&self, name: &TaskName) -> usize
-        ensures { (first : Cells) (root_line : ℕ) (D : List Departure) → Legal first (events_of D) → IsState first root_line D self.now →
-            result ≡ length (open_groups (own name.now (events_of D))) }
+        ensures { ForHistory self.now (λ H. result ≡ length (open_groups (own name.now H))) }
     {
         self.waits.groups(name).len()
     }
 
     /// The items of the task.
     pub fn items(&self, name: &TaskName) -> &[Item]
-        ensures { (first : Cells) (root_line : ℕ) (D : List Departure) → Legal first (events_of D) → IsState first root_line D self.now →
-            result.now ≡ items_of name.now (events_of D) }
+        ensures { ForHistory self.now (λ H. result.now ≡ items_of name.now H) }
     {
         match self.family(name) {
             Some((n, parent)) => parent.children.items(n as usize),
@@ -85,8 +89,7 @@ impl Tables {
 
     /// Whether the task depends on its sibling with this number.
     pub fn is_before(&self, number: u32, name: &TaskName) -> bool
-        ensures { (first : Cells) (root_line : ℕ) (D : List Departure) → Legal first (events_of D) → IsState first root_line D self.now →
-            result ≡ before (events_of D) (sibling name.now number) name.now }
+        ensures { ForHistory self.now (λ H. result ≡ before H (sibling name.now number) name.now) }
     {
         match self.family(name) {
             Some((n, parent)) => parent.children.is_before(number as usize, n as usize),
@@ -96,8 +99,7 @@ impl Tables {
 
     /// Whether the task and its sibling with this number exclude each other.
     pub fn is_apart(&self, number: u32, name: &TaskName) -> bool
-        ensures { (first : Cells) (root_line : ℕ) (D : List Departure) → Legal first (events_of D) → IsState first root_line D self.now →
-            result ≡ apart (events_of D) (sibling name.now number) name.now }
+        ensures { ForHistory self.now (λ H. result ≡ apart H (sibling name.now number) name.now) }
     {
         match self.family(name) {
             Some((n, parent)) => parent.children.is_apart(number as usize, n as usize),
@@ -107,14 +109,14 @@ impl Tables {
 
     /// The numbers of the cells, in order.
     pub fn cells(&self) -> &[i64]
-        ensures { (first : Cells) (root_line : ℕ) (D : List Departure) → IsState first root_line D self.now → AreLast first (events_of D) result.now }
+        ensures { ForState self.now (λ first root_line D. AreLast first (events_of D) result.now) }
     {
         self.store.cells()
     }
 
     /// The printed numbers, in order.
     pub fn output(&self) -> &[i64]
-        ensures { (first : Cells) (root_line : ℕ) (D : List Departure) → IsState first root_line D self.now → result.now ≡ reverse (printed (events_of D)) }
+        ensures { ForState self.now (λ first root_line D. result.now ≡ reverse (printed (events_of D))) }
     {
         self.store.output()
     }
@@ -122,18 +124,15 @@ impl Tables {
     /// The number of a cell.
     pub fn get(&self, cell: u32) -> i64
         requires { cell < length self.now.store.cells }
-        ensures { (first : Cells) (root_line : ℕ) (D : List Departure) → IsState first root_line D self.now →
-            result ≡ last (first_number first cell) cell (events_of D) }
+        ensures { ForState self.now (λ first root_line D. result ≡ last (first_number first cell) cell (events_of D)) }
     {
         self.store.get(cell)
     }
 
     /// The task's number among its parent's children, and the parent. The root has none.
     fn family(&self, name: &TaskName) -> Option<(u32, &Row)>
-        ensures some { IfSome result (λ r. (first : Cells) (root_line : ℕ) (D : List Departure) → Legal first (events_of D) → IsState first root_line D self.now →
-            IsNthOf (events_of D) name.now r.0 r.1.now.children.siblings) }
-        ensures none { result ≡ None → (first : Cells) (root_line : ℕ) (D : List Departure) → Legal first (events_of D) → IsState first root_line D self.now →
-            items_of name.now (events_of D) ≡ [] }
+        ensures some { IfSome result (λ r. ForHistory self.now (λ H. IsNthOf H name.now r.0 r.1.now.children.siblings)) }
+        ensures none { result ≡ None → ForHistory self.now (λ H. items_of name.now H ≡ []) }
     {
         let n = *name.numbers().first()?;
         let row = self.rows.get(name)?;

@@ -1,10 +1,10 @@
 use Rattle.std.proofs.Common.{option_map, slice_get, sym, ap, ◌∙◌, subst}
 use Rattle.std.specs.Option.{option_copied}
-use Rattle.tb_excl.specs.Holders.{IsLeastNumber, Excludes}
 use Rattle.tb_undo.specs.Tasks.{row}
 use Rattle.tb_undo.specs.State.{IsState}
 use Rattle.tb_undo.specs.Obstacles.{hindrance_by}
-use Rattle.tb_undo.proofs.StartLemmas.{parent_kept, root_starts, siblings_closed, tells_waiting, tells_started, tells_excluded, tells_free}
+use Rattle.tb_undo.proofs.StartLemmas.{parent_kept, root_starts}
+use Rattle.tb_undo.proofs.AskingLemmas.{by_waiting, by_started, by_excluded, by_nobody}
 use Rattle.tb_undo.proofs.tables.Tables.before_start.Goals as goal
 
 pub returns-in_err-n : goal.returns-in_err-n
@@ -16,44 +16,21 @@ pub returns-in_err-parent : goal.returns-in_err-parent
 returns-in_err-parent c first root_line D legal state unended free =
     let st = subst (IsState first root_line D) (sym c.self.view_is) state in
     let mine = ap (λ s. row s.rows c.args.name.now) c.self.view_is ∙ c.requires in
-    let number = ap (λ xs. slice_get xs 0) (sym c.numbers.ensures) ∙ sym c.first.ensures.value ∙ ap option_copied c.in_ok-n.was in
-    absurd (parent_kept first root_line D _ legal st c.args.name.now c.in_ok-n.field-0.now c.args.own.now unended mine number (sym c.get.ensures.value ∙ ap option_copied c.in_err-parent.was))
+    absurd (parent_kept first root_line D _ legal st c.args.name.now c.in_ok-n.field-0.now c.args.own.now unended mine (ap (λ xs. slice_get xs 0) (sym c.numbers.ensures) ∙ sym c.first.ensures.value ∙ ap option_copied c.in_ok-n.was) (sym c.get.ensures.value ∙ ap option_copied c.in_err-parent.was))
 
 pub returns-in-Some : goal.returns-in-Some
-returns-in-Some c first root_line D legal state unended free =
-    let st = subst (IsState first root_line D) (sym c.self.view_is) state in
-    let mine = ap (λ s. row s.rows c.args.name.now) c.self.view_is ∙ c.requires in
-    let number = ap (λ xs. slice_get xs 0) (sym c.numbers.ensures) ∙ sym c.first.ensures.value ∙ ap option_copied c.in_ok-n.was in
-    let found = sym c.get.ensures.value ∙ ap option_copied c.in_ok-parent.was in
-    let closed = siblings_closed first root_line D _ legal st c.args.name.now c.in_ok-n.field-0.now c.args.own.now c.in_ok-parent.parent.now unended mine number found in
-    tells_waiting first root_line D _ legal st c.args.name.now c.in_ok-n.field-0.now c.args.own.now c.in_ok-parent.parent.now unended mine number found free c.next_before.result c.in-Some.sibling c.in-Some.is (c.next_before.ensures closed)
+returns-in-Some c =
+    by_waiting _ c.args.self.now c.self.view_is c.args.name.now c.in_ok-n.field-0.now c.args.own.now c.in_ok-parent.parent.now c.requires (ap (λ xs. slice_get xs 0) (sym c.numbers.ensures) ∙ sym c.first.ensures.value ∙ ap option_copied c.in_ok-n.was) (sym c.get.ensures.value ∙ ap option_copied c.in_ok-parent.was) c.next_before.result c.next_before.ensures c.in-Some.sibling c.in-Some.is
 
 pub returns-then-own-gt0 : goal.returns-then-own-gt0
-returns-then-own-gt0 c first root_line D legal state unended free =
-    let st = subst (IsState first root_line D) (sym c.self.view_is) state in
-    let mine = ap (λ s. row s.rows c.args.name.now) c.self.view_is ∙ c.requires in
-    let number = ap (λ xs. slice_get xs 0) (sym c.numbers.ensures) ∙ sym c.first.ensures.value ∙ ap option_copied c.in_ok-n.was in
-    let found = sym c.get.ensures.value ∙ ap option_copied c.in_ok-parent.was in
-    let closed = siblings_closed first root_line D _ legal st c.args.name.now c.in_ok-n.field-0.now c.args.own.now c.in_ok-parent.parent.now unended mine number found in
-    tells_started first root_line D _ legal st c.args.name.now c.in_ok-n.field-0.now c.args.own.now c.in_ok-parent.parent.now unended mine number found free c.next_before.result c.in_default.is (c.next_before.ensures closed) c.if-own-gt0.true
+returns-then-own-gt0 c =
+    by_started _ c.args.self.now c.self.view_is c.args.name.now c.in_ok-n.field-0.now c.args.own.now c.in_ok-parent.parent.now c.requires (ap (λ xs. slice_get xs 0) (sym c.numbers.ensures) ∙ sym c.first.ensures.value ∙ ap option_copied c.in_ok-n.was) (sym c.get.ensures.value ∙ ap option_copied c.in_ok-parent.was) c.next_before.result c.next_before.ensures c.in_default.is c.if-own-gt0.true
 
 pub returns-in_err-sibling : goal.returns-in_err-sibling
-returns-in_err-sibling c first root_line D legal state unended free =
-    let st = subst (IsState first root_line D) (sym c.self.view_is) state in
-    let mine = ap (λ s. row s.rows c.args.name.now) c.self.view_is ∙ c.requires in
-    let number = ap (λ xs. slice_get xs 0) (sym c.numbers.ensures) ∙ sym c.first.ensures.value ∙ ap option_copied c.in_ok-n.was in
-    let found = sym c.get.ensures.value ∙ ap option_copied c.in_ok-parent.was in
-    let closed = siblings_closed first root_line D _ legal st c.args.name.now c.in_ok-n.field-0.now c.args.own.now c.in_ok-parent.parent.now unended mine number found in
-    tells_free first root_line D _ legal st c.args.name.now c.in_ok-n.field-0.now c.args.own.now c.in_ok-parent.parent.now unended mine number found free c.next_before.result c.in_default.is (c.next_before.ensures closed) c.if-own-gt0.false c.busy_number.result c.in_err-sibling.was
-    (subst (λ items. IsLeastNumber (Excludes c.in_ok-parent.parent.now.holders items) c.busy_number.result) c.items.ensures c.busy_number.ensures)
-    ∙ sym (ap (option_map (hindrance_by c.args.name.now)) c.from_residual-in_err-sibling.ensures)
+returns-in_err-sibling c =
+    let told = by_nobody _ c.args.self.now c.self.view_is c.args.name.now c.in_ok-n.field-0.now c.args.own.now c.in_ok-parent.parent.now c.requires (ap (λ xs. slice_get xs 0) (sym c.numbers.ensures) ∙ sym c.first.ensures.value ∙ ap option_copied c.in_ok-n.was) (sym c.get.ensures.value ∙ ap option_copied c.in_ok-parent.was) c.next_before.result c.next_before.ensures c.in_default.is c.if-own-gt0.false _ c.items.ensures c.busy_number.result c.busy_number.ensures c.in_err-sibling.was in
+    λ first root_line D legal state unended free. told first root_line D legal state unended free ∙ sym (ap (option_map (hindrance_by c.args.name.now)) c.from_residual-in_err-sibling.ensures)
 
 pub returns : goal.returns
-returns c first root_line D legal state unended free =
-    let st = subst (IsState first root_line D) (sym c.self.view_is) state in
-    let mine = ap (λ s. row s.rows c.args.name.now) c.self.view_is ∙ c.requires in
-    let number = ap (λ xs. slice_get xs 0) (sym c.numbers.ensures) ∙ sym c.first.ensures.value ∙ ap option_copied c.in_ok-n.was in
-    let found = sym c.get.ensures.value ∙ ap option_copied c.in_ok-parent.was in
-    let closed = siblings_closed first root_line D _ legal st c.args.name.now c.in_ok-n.field-0.now c.args.own.now c.in_ok-parent.parent.now unended mine number found in
-    tells_excluded first root_line D _ legal st c.args.name.now c.in_ok-n.field-0.now c.args.own.now c.in_ok-parent.parent.now unended mine number found free c.next_before.result c.in_default.is (c.next_before.ensures closed) c.if-own-gt0.false c.busy_number.result c.in_ok-sibling.sibling c.in_ok-sibling.was
-    (subst (λ items. IsLeastNumber (Excludes c.in_ok-parent.parent.now.holders items) c.busy_number.result) c.items.ensures c.busy_number.ensures)
+returns c =
+    by_excluded _ c.args.self.now c.self.view_is c.args.name.now c.in_ok-n.field-0.now c.args.own.now c.in_ok-parent.parent.now c.requires (ap (λ xs. slice_get xs 0) (sym c.numbers.ensures) ∙ sym c.first.ensures.value ∙ ap option_copied c.in_ok-n.was) (sym c.get.ensures.value ∙ ap option_copied c.in_ok-parent.was) c.next_before.result c.next_before.ensures c.in_default.is c.if-own-gt0.false _ c.items.ensures c.busy_number.result c.busy_number.ensures c.in_ok-sibling.sibling c.in_ok-sibling.was
