@@ -81,6 +81,15 @@ class Shell(Walking, cmd.Cmd):
         elif told[0] == "ran" and told[-1] == "full":
             self.note("the journal is full; `limit N` gives it more room")
 
+    def do_races(self, words):
+        """The races, each with what would order the two steps."""
+        reply = self.session.do(" ".join(["races"] + words))
+        for line in reply:
+            self.show([line])
+            if STEP.match(line):
+                self.note(texts.race_words(line, self.session.places.spawned))
+        self.explain("races", reply[0])
+
     def clauses(self, task, other):
         """The clauses for which one task waits for another, and the lines that generated the two."""
         items = []
@@ -188,8 +197,14 @@ class Shell(Walking, cmd.Cmd):
         if name == "info":
             words = words[1:]
             name = words[0] if words else "info"
-        found = self.fitting(name, words)
-        return [word for word in found if word.startswith(text)]
+        # Ctrl-C would cut a reply in two.
+        self.busy = True
+        try:
+            return [word for word in self.fitting(name, words) if word.startswith(text)]
+        except Ended:
+            return []
+        finally:
+            self.busy = False
 
     def fitting(self, name, words):
         """The words that can follow these."""

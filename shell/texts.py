@@ -135,6 +135,28 @@ def refusal_words(command, reply):
     }.get(name, name)
 
 
+def race_words(line, spawned):
+    """What would order the two steps of a race, `E F cell C` or `E F print`; `spawned` has tasks' lines."""
+    words = line.split(" ")
+    if words[-1] == "apart":
+        return "never at the same time, but in either order: their tasks exclude each other"
+    first, second = (word.split("#")[0].split(".") for word in words[:2])
+    level = next((at for at, pair in enumerate(zip(first, second)) if pair[0] != pair[1]), None)
+    if level is None:
+        longer = max(first, second, key=len)
+        child = ".".join(longer[:min(len(first), len(second)) + 1])
+        wait = "taskwait" if child == ".".join(longer) else "taskgroup"
+        place = "after" if wait == "taskwait" else "around"
+        return f"a `{wait}` {place} line {spawned.get(child, '?')} would order them"
+    left, right = (".".join(task[:level + 1]) for task in (first, second))
+    lines = sorted({spawned.get(left), spawned.get(right)} - {None})
+    if (left, right) != (".".join(first), ".".join(second)):
+        return f"a `taskgroup` around line {lines[0] if lines else '?'} would order them"
+    where = "line " + str(lines[0]) if len(lines) == 1 else "lines " + " and ".join(map(str, lines))
+    clause = f"`depend inout {words[3]}`" if words[2] == "cell" else "`depend inout` of one cell"
+    return f"{clause} on {where} would order them, or a `taskwait` between"
+
+
 def is_number(word):
     """Whether a word is a number."""
     return re.fullmatch(r"-?[0-9]+", word) is not None

@@ -168,11 +168,13 @@ class Walking:
     def do_source(self, words):
         """Plays commands from a file, or the next of the opened session."""
         if not words:
-            self.last_step = "source"
             if not self.queue:
                 self.say("no commands are left")
                 return False
-            return self.play(self.queue.pop(0))
+            ends = self.play(self.queue.pop(0))
+            # Enter plays the next one, also after a step.
+            self.last_step = "source"
+            return ends
         try:
             with open(words[0], encoding="utf-8", errors="surrogateescape", newline="\n") as file:
                 text = file.read()
