@@ -53,7 +53,7 @@ class TerminalTest(unittest.TestCase):
         shell = self.open(RACE)
         shell.type("run 2")
         shell.type("step 0.1")
-        for typed, wanted in (("fini\t", "finish "), ("deps 0.\t", "deps 0.1"), ("break bo\tm\t", "break body main"),
+        for typed, wanted in (("fini\t", "finish "), ("deps 0.\t", "deps 0.1"), ("break bo\t m\t", "break body main"),
                               ("undo 0.\t", "undo 0.1#1"), ("i wa\t", "i waits"), ("rollcell \t", "rollcell 0")):
             shell.send(typed)
             shell.read_until(wanted)
@@ -132,7 +132,7 @@ class TerminalTest(unittest.TestCase):
 
     def test_session_file_is_played(self):
         shell = self.open(os.path.join(EXAMPLES, "right_sum.session"), NO_COLOR="1")
-        for typed, wanted in (("source", "ran 16 done\r\n(taskback) "), ("source", "(taskback) out\r\nout 1\r\n3\r\n(taskback) "),
+        for typed, wanted in (("source", "ran 17 done\r\n(taskback) "), ("source", "(taskback) out\r\nout 1\r\n3\r\n(taskback) "),
                               ("", "rolled 10\r\n"), ("", "0.2#2 load r1 0 0 "), ("", "ran 9 done\r\n"),
                               ("", "out 1\r\n2\r\n"), ("", "no commands are left")):
             shell.send(typed + "\n")
