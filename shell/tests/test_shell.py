@@ -57,7 +57,7 @@ class TerminalTest(unittest.TestCase):
                               ("undo 0.\t", "undo 0.1#1"), ("i wa\t", "i waits"), ("rollcell \t", "rollcell 0")):
             shell.send(typed)
             shell.read_until(wanted)
-            shell.send("\x15\n")
+            shell.send("\x15# Enter alone would step\n")
             shell.read_until("(taskback) ")
 
     def test_interrupt_keeps_the_session(self):
