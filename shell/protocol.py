@@ -1,0 +1,151 @@
+"""The program as a child: commands go in one at a time, and each reply is read by its own counts."""
+
+import re
+import subprocess
+import tempfile
+
+LONGEST_LINE = 1024
+BLANKS = re.compile(r"[ \t\r]+")
+
+
+class Refused(Exception):
+    """The program text was refused: its first faulty line, and the name of the fault."""
+
+    def __init__(self, line, kind):
+        super().__init__(f"line {line}: {kind}")
+        self.line = line
+        self.kind = kind
+
+
+class Ended(Exception):
+    """The program ended, or couldn't be started: its status, and what it wrote on standard error."""
+
+    def __init__(self, status, said):
+        super().__init__(said or f"the program ended with status {status}")
+        self.status = status
+        self.said = said
+
+
+def words_of(line):
+    """The words of a line in front of its comment."""
+    words = []
+    for word in BLANKS.split(line):
+        if word.startswith("#"):
+            break
+        if word:
+            words.append(word)
+    return words
+
+
+def has_reply(line):
+    """Whether the program answers this line: an empty one has no reply, too long a one has."""
+    return bool(words_of(line)) or len(line.encode("utf-8", "surrogateescape")) > LONGEST_LINE
+
+
+def count_of(line, word):
+    """K where the line is `word K`, else None."""
+    parts = line.split(" ")
+    if len(parts) == 2 and parts[0] == word and parts[1].isdigit():
+        return int(parts[1])
+    return None
+
+
+class Program:
+    """One running program, which has accepted its text."""
+
+    def __init__(self, path, text, options=()):
+        self._said = tempfile.TemporaryFile()
+        try:
+            # A session of its own: Ctrl-C at the terminal is for the shell alone.
+            self._child = subprocess.Popen(
+                [path, *options], stdin=subprocess.PIPE, stdout=subprocess.PIPE,
+                stderr=self._said, start_new_session=True)
+        except OSError as fault:
+            self._said.close()
+            raise Ended(3, f"can't start {path}: {fault.strerror}") from fault
+        if text and not text.endswith("\n"):
+            text += "\n"
+        try:
+            self._write(text + "---\n")
+            self.ask("tasks")
+        except Ended as ended:
+            told = re.match(r"taskback: line (\d+): (\w+)", ended.said)
+            if ended.status == 1 and told:
+                raise Refused(int(told[1]), told[2]) from None
+            raise
+
+    def ask(self, command):
+        """The lines of the reply to one command; none where the line is empty."""
+        if not has_reply(command):
+            return []
+        words = words_of(command)
+        word = words[0] if words else ""
+        if word == "cells":
+            return self._ask_cells(command)
+        self._write(command + "\n")
+        first = self._read()
+        lines = [first]
+        if first.startswith(("error ", "refused ")):
+            return lines
+        if word in ("run", "go"):
+            while not lines[-1].startswith("ran "):
+                lines.append(self._read())
+        elif word == "task":
+            while count_of(lines[-1], "items") is None:
+                lines.append(self._read())
+            self._read_more(lines, count_of(lines[-1], "items"))
+        elif word in ("roll", "rolltask", "rollcell", "rollprint"):
+            self._read_more(lines, count_of(first, "rolled") or 0)
+        elif word not in ("step", "undo", "break", "clear"):
+            self._read_more(lines, count_of(first, word) or 0)
+        return lines
+
+    def _ask_cells(self, command):
+        """The reply counts the program's cells and not its own lines: a faulty command ends it."""
+        self._write(command + "\nstep\n")
+        lines = [self._read()]
+        while True:
+            line = self._read()
+            if line == "error count":
+                return lines
+            lines.append(line)
+
+    def _read_more(self, lines, count):
+        for _ in range(count):
+            lines.append(self._read())
+
+    def _write(self, text):
+        try:
+            self._child.stdin.write(text.encode("utf-8", "surrogateescape"))
+            self._child.stdin.flush()
+        except (OSError, ValueError):
+            raise self._ended() from None
+
+    def _read(self):
+        line = self._child.stdout.readline()
+        if not line.endswith(b"\n"):
+            raise self._ended()
+        return line[:-1].decode("utf-8", "surrogateescape")
+
+    def _ended(self):
+        status = self.close()
+        return Ended(status, self._last_words)
+
+    def close(self):
+        """Ends the child, and returns its status."""
+        if self._said.closed:
+            return self._child.returncode
+        for stream in (self._child.stdin, self._child.stdout):
+            try:
+                stream.close()
+            except OSError:
+                pass
+        try:
+            status = self._child.wait(timeout=5)
+        except subprocess.TimeoutExpired:
+            self._child.kill()
+            status = self._child.wait()
+        self._said.seek(0)
+        self._last_words = self._said.read().decode("utf-8", "replace").strip()
+        self._said.close()
+        return status

@@ -1,0 +1,99 @@
+"""What the front end's tests share: where things are, and a terminal that a shell runs in."""
+
+import os
+import pty
+import select
+import signal
+import sys
+import tempfile
+import time
+import unittest
+
+TOP = os.path.dirname(os.path.dirname(os.path.dirname(os.path.abspath(__file__))))
+sys.path.insert(0, TOP)
+EXAMPLES = os.path.join(TOP, "examples")
+MAIN = os.path.join(TOP, "shell", "main.py")
+PROGRAM = os.environ.get("TASKBACK_PROGRAM", os.path.join(TOP, "crates", "taskback", "out", "taskback"))
+needs_program = unittest.skipUnless(os.access(PROGRAM, os.X_OK),
+                                    f"no program at {PROGRAM}; TASKBACK_PROGRAM names another")
+
+LOOP = "cells 1\nbody main 0\n  while 0 == 0\n    store 0 1\n  end\nend\n"
+
+
+def example(name):
+    """The text of a file in examples/."""
+    with open(os.path.join(EXAMPLES, name), encoding="utf-8") as file:
+        return file.read()
+
+
+def write_file(test, text, name="loop.task"):
+    """A file with this text, for the time of the test."""
+    folder = tempfile.TemporaryDirectory()
+    test.addCleanup(folder.cleanup)
+    path = os.path.join(folder.name, name)
+    with open(path, "w", encoding="utf-8") as file:
+        file.write(text)
+    return path
+
+
+class Terminal:
+    """A shell on a terminal of its own, with a home of its own."""
+
+    def __init__(self, test, words, **changes):
+        if "HOME" not in changes:
+            home = tempfile.TemporaryDirectory()
+            test.addCleanup(home.cleanup)
+            changes["HOME"] = home.name
+        environment = {name: value for name, value in os.environ.items() if name != "NO_COLOR"}
+        environment.update({"TERM": "xterm", "TASKBACK_PROGRAM": PROGRAM, "INPUTRC": "/dev/null"}, **changes)
+        self.child, self.end = pty.fork()
+        if self.child == 0:
+            os.execve(sys.executable, [sys.executable, MAIN, *words], environment)
+        self.seen = ""
+        self.status = None
+        test.addCleanup(self.close)
+
+    def send(self, text):
+        """Types this."""
+        os.write(self.end, text.encode())
+
+    def read_until(self, wanted, seconds=30):
+        """What is shown up to and with `wanted`; fails where it doesn't come."""
+        limit = time.monotonic() + seconds
+        while wanted not in self.seen:
+            if not select.select([self.end], [], [], max(0, limit - time.monotonic()))[0]:
+                raise AssertionError(f"{wanted!r} didn't come: {self.seen[-2000:]!r}")
+            try:
+                part = os.read(self.end, 65536)
+            except OSError:
+                part = b""
+            if not part:
+                raise AssertionError(f"the shell ended before {wanted!r}: {self.seen[-2000:]!r}")
+            self.seen += part.decode("utf-8", "replace")
+        at = self.seen.index(wanted) + len(wanted)
+        shown, self.seen = self.seen[:at], self.seen[at:]
+        return shown
+
+    def type(self, line):
+        """Types a line at the prompt, and returns what is shown up to the next prompt."""
+        self.send(line + "\n")
+        return self.read_until("(taskback) ").replace("\r\n", "\n")
+
+    def wait(self):
+        """Reads to the end; returns the status."""
+        while self.status is None:
+            try:
+                if not os.read(self.end, 65536):
+                    break
+            except OSError:
+                break
+        if self.status is None:
+            self.status = os.waitstatus_to_exitcode(os.waitpid(self.child, 0)[1])
+        return self.status
+
+    def close(self):
+        """Ends the shell where it hasn't ended."""
+        if self.status is None:
+            os.kill(self.child, signal.SIGKILL)
+            self.wait()
+        os.close(self.end)

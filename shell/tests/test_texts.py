@@ -1,0 +1,61 @@
+"""The words of the shell, which need no program."""
+
+import unittest
+
+import support
+from shell import texts
+
+
+class FaultTest(unittest.TestCase):
+    def show(self, line, kind):
+        return texts.fault_lines("a.task", f"cells 1\n  {line}\n", 2, kind)
+
+    def test_mark_and_form(self):
+        shown = self.show("let r1 = r0 + 1", "BadNumber")
+        self.assertEqual(shown[0], "a.task:2: let r1 = r0 + 1")
+        self.assertEqual(shown[1].index("^"), shown[0].index("="))
+        self.assertEqual(shown[3], "  it should look like: let r1 r0 + 1")
+
+    def test_word_at_fault(self):
+        for line, kind, word in (("stroe 0 1", "UnknownWord", "stroe"), ("store x 1", "BadNumber", "x"),
+                                 ("task nobody", "UnknownBody", "nobody"), ("print r16", "Register", "r16"),
+                                 ("task t depend readonly 0", "DependType", "readonly"), ("cell 7 1", "CellRange", "7"),
+                                 ("task t x depend in 0", "BadNumber", "x"), ("task t depend in y", "BadNumber", "y"),
+                                 ("if r0 = 1", "UnknownWord", "="), ("load 3 r1", "Register", "3"), ("else", "Nesting", "else")):
+            words = line.split(" ")
+            place = texts.word_at_fault(words, kind)
+            self.assertEqual(None if place is None else words[place], word, line)
+        self.assertIsNone(texts.word_at_fault(["print"], "Arity"))
+
+    def test_forms(self):
+        self.assertEqual(texts.should_be(["stroe", "0", "1"]), "store ADDR VAL")
+        self.assertIn("print VAL", self.show("print", "Arity")[-1])
+        self.assertEqual(texts.fault_lines("a.task", "cells 1\n", 2, "NoMain"), ["a.task:2: no body is named main (NoMain)"])
+
+
+class WordsTest(unittest.TestCase):
+    def test_every_refusal_has_words(self):
+        for reply, wanted in (("refused 3 Waiting 0.1", "0.3 waits for 0.1"), ("refused 2 Ended", "0.3 has ended"),
+                              ("refused 5 Children 0.3.1", "its child 0.3.1"), ("refused 2 Needed 0.1#4", "0.1#4 needs it")):
+            self.assertIn(wanted, texts.refusal_words("step 0.3", reply))
+
+    def test_items(self):
+        for new, old, wanted in (("in 0", "in 0", None), ("in 0", "out 0", "after"), ("in 0", "out 1", None),
+                                 ("inout all", "in 5", "after"), ("mutexinoutset 0", "mutexinoutset 0", "apart"),
+                                 ("inoutset 0", "inoutset 0", None), ("in 0", "inoutset 0", "after")):
+            self.assertEqual(texts.needs_order(new, old), wanted, (new, old))
+
+    def test_races(self):
+        spawned = {"0.1": 4, "0.2": 5, "0.1.1": 9}
+        for line, wanted in (("0.1#2 0.2#4 cell 0", "`depend inout 0` on lines 4 and 5"), ("0.1#4 0#4 cell 0", "`taskwait` after line 4"),
+                             ("0.1.1#2 0.2#2 cell 0", "`taskgroup` around line 4"), ("0.1#2 0.2#4 cell 0 apart", "exclude"),
+                             ("0.1#2 0.2#4 print", "`depend inout` of one cell on lines 4 and 5")):
+            self.assertIn(wanted, texts.race_words(line, spawned))
+
+    def test_every_command_has_help(self):
+        for name in texts.HELP:
+            self.assertIn("for example: ", texts.help_of(name)[2])
+
+
+if __name__ == "__main__":
+    unittest.main()
