@@ -1,0 +1,156 @@
+#!/usr/bin/env python3
+"""Measures how the cost of a session grows with its size, on the built program.
+
+    bench/growth.py [--program P] [--seconds S] [--most N] [WORD]
+
+Each row is a kind of session of a size N, which is doubled until a session takes more than S seconds
+of processor time (2) or N is at its most (64,000). Printed are time and memory of each size, and the
+growth: how much longer the last size took than the one before it. With a word, only the rows in whose
+name it is.
+"""
+import argparse
+import os
+import subprocess
+import tempfile
+
+from steps import TOP
+
+
+def program(*lines):
+    return '\n'.join(lines).encode() + b'\n---\n'
+
+
+def loop(count, *body):
+    """Lines that do `body` count times, with r0 from 0 on."""
+    return ['let r0 0', 'while r0 < %d' % count, *body, 'let r0 r0 + 1', 'end']
+
+
+def siblings(n, task, body, cells=1):
+    """A root that generates n tasks and ends, and what each does."""
+    return program('cells %d' % cells, 'body main 0', *loop(n, task), 'end', 'body t 0', *body, 'end')
+
+
+def over(n):
+    """n siblings without items whose run is over."""
+    return siblings(n, 'task t', ['store 0 1']) + b'run 1000000\n'
+
+
+def across(statement, *more):
+    """A root that does `statement` n times between its first store and its last load."""
+    def session(n):
+        return program('cells 1', 'body main 0', 'store 0 1', *loop(n, statement), 'load r1 0', 'end', *more) + b'run 1000000\nwhy 0#%d\n' % (5 + 3 * n)
+    return session
+
+
+def deep(task, *around):
+    """A task that generates one like itself, n deep."""
+    def session(n):
+        inner = [*around, task, *(['end'] if around else ['taskwait'])]
+        return program('cells 0', 'body main 0', 'task t %d' % n, 'end', 'body t 1', 'if 0 < r0', 'let r1 r0 - 1', *inner, 'end', 'end') + b'run 1000000\n'
+    return session
+
+
+def kept(n):
+    """n steps of the least task that can step, after n that it excludes."""
+    text = program('cells 1', 'body main 0', *loop(n, 'task t depend mutexinoutset 0'), 'end', 'body t 0', *loop(10 * n), 'end')
+    return text + b'run %d\nstep 0.%d\nrun %d\n' % (3 * n + 3 + 1, n, n)
+
+
+def waiting(n):
+    """n steps of one task, after n parents that wait for a child."""
+    text = program('cells 0', 'body main 0', *loop(n, 'task p'), 'task c', 'end', 'body p 0', 'task c', 'taskwait', 'end', 'body c 0', *loop(10 * n), 'end')
+    starts = b''.join(b'step 0.%d\nstep 0.%d\n' % (k, k) for k in range(1, n + 1))
+    return text + b'run %d\n' % (3 * n + 5) + starts + b'step 0.%d\n' % (n + 1) + b'step 0.%d\n' % (n + 1) * n
+
+
+def runs(first, second):
+    """n siblings with one type of item on a cell, and n with another."""
+    def session(n):
+        return program('cells 1', 'body main 0', *loop(n, 'task t depend %s 0' % first), *loop(n, 'task t depend %s 0' % second),
+                       'end', 'body t 0', 'end') + b'run 1000000\n'
+    return session
+
+
+def waits(n):
+    """n waits with items among n siblings that have ended."""
+    return program('cells 1', 'body main 0', *loop(n, 'task t depend inout 0'), *loop(n, 'taskwait depend in 0'), 'end', 'body t 0', 'end') + b'run 1000000\n'
+
+
+def refused_waits(n):
+    """n refusals of one wait with an item, among n siblings that haven't ended."""
+    text = program('cells 1', 'body main 0', *loop(n, 'task t depend in 0'), 'taskwait depend inout 0', 'end', 'body t 0', 'end')
+    return text + b'run %d\n' % (3 * n + 3) + b'step 0\n' * n
+
+
+def nothing(command):
+    """A command that finds nothing to do, 100 times, after n steps."""
+    def session(n):
+        text = program('cells 2', 'body main 0', 'task t', *loop(n, 'store 0 1'), 'end', 'body t 0', 'end')
+        return text + b'step 0\nstep 0\nrun 2\nrun %d\n' % n + command * 100
+    return session
+
+
+ROWS = [
+    ('undo among siblings that are over', lambda n: over(n) + b'undo 0.%d#1\n' % n),
+    ('rolltask among siblings that are over', lambda n: over(n) + b'rolltask 0.%d\n' % n),
+    ('why among siblings that are over', lambda n: over(n) + b'why 0.%d#2\n' % n),
+    ('who among siblings that are over', lambda n: over(n) + b'who 0.1#1\n'),
+    ('why across waits', across('taskwait')),
+    ('why across prints', across('print 1')),
+    ('why across undeferred tasks', across('task u if 0 < 0', 'body u 0', 'end')),
+    ('recursion with taskwait', deep('task t r1')),
+    ('recursion with undeferred tasks', deep('task t r1 if 0 < 0')),
+    ('recursion with groups', deep('task t r1', 'taskgroup')),
+    ('steps after tasks that are excluded', kept),
+    ('steps after tasks that wait', waiting),
+    ('in then inoutset on one cell', runs('in', 'inoutset')),
+    ('in then mutexinoutset on one cell', runs('in', 'mutexinoutset')),
+    ('inoutset then in on one cell', runs('inoutset', 'in')),
+    ('taskwait with items among ended siblings', waits),
+    ('refusals of one taskwait with items', refused_waits),
+    ('undo that finds nothing', nothing(b'undo 0#999999\n')),
+    ('rollcell that finds nothing', nothing(b'rollcell 1\n')),
+    ('rollprint that finds nothing', nothing(b'rollprint\n')),
+    ('a counting loop', lambda n: program('cells 0', 'body main 0', *loop(16 * n), 'end') + b'run %d\n' % min(999999, 16 * n)),
+]
+
+
+def measure(command, text, folder, most):
+    """Seconds of processor time, and the most memory in MB, or nothing where it takes too long."""
+    path = os.path.join(folder, 'session')
+    with open(path, 'wb') as written:
+        written.write(text)
+    with open(path, 'rb') as given, open(os.devnull, 'wb') as taken:
+        child = subprocess.Popen(['timeout', str(most), *command, '--limit', '1000000'], stdin=given, stdout=taken, stderr=taken)
+        _, status, used = os.wait4(child.pid, 0)
+    return (used.ru_utime + used.ru_stime, used.ru_maxrss / 1024) if status == 0 else None
+
+
+def main():
+    args = argparse.ArgumentParser(description=__doc__, formatter_class=argparse.RawDescriptionHelpFormatter)
+    args.add_argument('--program', default=os.path.join(TOP, 'crates/taskback/out/taskback'))
+    args.add_argument('--seconds', type=float, default=2)
+    args.add_argument('--most', type=int, default=64000)
+    args.add_argument('word', nargs='?', default='')
+    given = args.parse_args()
+    with tempfile.TemporaryDirectory() as folder:
+        for name, session in ROWS:
+            if given.word not in name:
+                continue
+            n, before, said, growth = 1000, None, [], ''
+            while n <= given.most:
+                found = measure([os.path.abspath(given.program)], session(n), folder, 10 * given.seconds)
+                if not found:
+                    said.append('%d: more than %g s' % (n, 10 * given.seconds))
+                    break
+                said.append('%d: %.3f s %.0f MB' % (n, *found))
+                growth = ', growth %.1f' % (found[0] / before) if before and found[0] > 0.05 else growth
+                before = found[0]
+                if found[0] > given.seconds:
+                    break
+                n *= 2
+            print('%-42s %s%s' % (name, '; '.join(said), growth), flush=True)
+
+
+if __name__ == '__main__':
+    main()
