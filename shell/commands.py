@@ -105,6 +105,8 @@ class Shell(Walking, cmd.Cmd):
         lines = [self.session.places.spawned.get(name) for name in (other, task)]
         if None in lines:
             return text
+        if new == old:
+            lines.sort()
         return text + (f" on line {lines[0]}" if lines[0] == lines[1] else f" on lines {lines[0]} and {lines[1]}")
 
     # One line

@@ -17,6 +17,7 @@ PROGRAM = os.environ.get("TASKBACK_PROGRAM", os.path.join(TOP, "crates", "taskba
 needs_program = unittest.skipUnless(os.access(PROGRAM, os.X_OK),
                                     f"no program at {PROGRAM}; TASKBACK_PROGRAM names another")
 
+PROMPT = "(taskback) "
 LOOP = "cells 1\nbody main 0\n  while 0 == 0\n    store 0 1\n  end\nend\n"
 
 
@@ -78,6 +79,35 @@ class Terminal:
         """Types a line at the prompt, and returns what is shown up to the next prompt."""
         self.send(line + "\n")
         return self.read_until("(taskback) ").replace("\r\n", "\n")
+
+    def ask(self, line):
+        """Types a line at the prompt, and returns what is shown in front of the next prompt, without the echo.
+
+        A prompt that is shown in front of a played command isn't the last thing that is shown.
+        """
+        self.seen = ""
+        self.send(line + "\n")
+        shown = ""
+        while not shown.endswith("\n" + PROMPT):
+            shown += self.read_until(PROMPT)
+            shown, self.seen = shown + self.seen, ""
+        lines = shown.replace("\r\n", "\n")[:-len(PROMPT)].split("\n")
+        return [text for text in lines[1:] if text]
+
+    def interrupt(self):
+        """Presses Ctrl-C once the shell waits for a key: readline doesn't see one that comes just before."""
+        while not self.sleeps():
+            time.sleep(0.01)
+        self.send("\x03")
+
+    def sleeps(self):
+        """Whether the shell's process waits, as seen twice."""
+        for _ in range(2):
+            with open(f"/proc/{self.child}/stat", encoding="ascii") as file:
+                if file.read().rsplit(")", 1)[1].split()[0] != "S":
+                    return False
+            time.sleep(0.02)
+        return True
 
     def wait(self):
         """Reads to the end; returns the status."""

@@ -72,7 +72,7 @@ class TerminalTest(unittest.TestCase):
         self.assertIn(f"0#{taken + 1} ", shell.type("step 0"))
         shell.send("half a line")
         shell.read_until("half a line")
-        shell.send("\x03")
+        shell.interrupt()
         shell.read_until("(taskback) ")
         self.assertIn("ready 1\n0\n", shell.type("ready"))
 
