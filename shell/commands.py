@@ -86,9 +86,23 @@ class Shell(Walking, cmd.Cmd):
         reply = self.session.do(" ".join(["races"] + words))
         for line in reply:
             self.show([line])
-            if STEP.match(line):
+            if STEP.match(line) and not self.plain:
                 self.note(texts.race_words(line, self.session.places.spawned))
         self.explain("races", reply[0])
+
+    def do_causes(self, words):
+        """The steps that a step needs at once, each with why."""
+        command = " ".join(["causes"] + words)
+        reply = self.session.do(command)
+        for line in reply:
+            self.show([line])
+            if ": " in line and not self.plain:
+                text = texts.cause_words(line, words[0], self.session.places.line_of(words[0]))
+                kind, other = line.split("#")[0].split(": ")
+                if kind in ("before", "apart"):
+                    text += self.clauses(words[0].split("#")[0], other)
+                self.note(text)
+        self.explain(command, reply[0])
 
     def clauses(self, task, other):
         """The clauses for which one task waits for another, and the lines that generated the two."""

@@ -151,10 +151,31 @@ def race_words(line, spawned):
     left, right = (".".join(task[:level + 1]) for task in (first, second))
     lines = sorted({spawned.get(left), spawned.get(right)} - {None})
     if (left, right) != (".".join(first), ".".join(second)):
-        return f"a `taskgroup` around line {lines[0] if lines else '?'} would order them"
+        # The one that was generated first has to end with all that it generated.
+        older = min(left, right, key=lambda task: int(task.split(".")[-1]))
+        return f"a `taskgroup` around line {spawned.get(older, '?')} would order them"
     where = "line " + str(lines[0]) if len(lines) == 1 else "lines " + " and ".join(map(str, lines))
     clause = f"`depend inout {words[3]}`" if words[2] == "cell" else "`depend inout` of one cell"
     return f"{clause} on {where} would order them, or a `taskwait` between"
+
+
+def cause_words(line, step, wait_line):
+    """Why a step needs the one of this line, `KIND: LINE`; `wait_line` is the line of the step's own statement.
+
+    What clauses say of two tasks isn't told here.
+    """
+    kind, did = line.split(": ", 1)
+    task, other = step.split("#")[0], did.split("#")[0]
+    return {
+        "task": f"the step of {task} in front of it",
+        "spawn": f"this generated {task}",
+        "print": "prints have one order",
+        "before": f"{task} depends on {other}",
+        "apart": f"{task} and {other} exclude each other, and {other} was first",
+        "wait": f"the taskwait at line {wait_line} waits for {other}",
+        "group": f"the taskgroup that ends at line {wait_line} waits for {other}",
+        "undeferred": f"{task} waits for its undeferred child {other}",
+    }.get(kind) or f"both use {kind}, and this came first"
 
 
 def is_number(word):
