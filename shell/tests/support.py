@@ -40,7 +40,7 @@ def write_file(test, text, name="loop.task"):
 class Terminal:
     """A shell on a terminal of its own, with a home of its own."""
 
-    def __init__(self, test, words, **changes):
+    def __init__(self, test, words, start=(sys.executable, MAIN), **changes):
         if "HOME" not in changes:
             home = tempfile.TemporaryDirectory()
             test.addCleanup(home.cleanup)
@@ -49,7 +49,7 @@ class Terminal:
         environment.update({"TERM": "xterm", "TASKBACK_PROGRAM": PROGRAM, "INPUTRC": "/dev/null"}, **changes)
         self.child, self.end = pty.fork()
         if self.child == 0:
-            os.execve(sys.executable, [sys.executable, MAIN, *words], environment)
+            os.execve(start[0], [*start, *words], environment)
         self.seen = ""
         self.status = None
         test.addCleanup(self.close)

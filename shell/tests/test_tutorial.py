@@ -81,6 +81,20 @@ class Typed(unittest.TestCase):
         self.play("right_sum.task", blocks(page("README.md"))[0])
 
 
+@needs_program
+class FirstMinute(unittest.TestCase):
+    def test_the_readme_alone_leads_to_the_race_and_back(self):
+        command = re.search(r"^\./run (\S+\.session) .*`source`", page("README.md"), re.M)
+        shell = Terminal(self, [os.path.join(TOP, command[1])], (os.path.join(TOP, "run"),), NO_COLOR="1")
+        self.assertIn("`source` plays the next, Enter goes on", shell.read_until("(taskback) ", 300))
+        shown = [replies(shell, typed) for typed in ("source", "", "", "", "", "", "back")]
+        self.assertEqual(shown[0][-1], "ran 17 done")
+        self.assertEqual(shown[1][-2:], ["out 1", "3"])
+        self.assertEqual(shown[2][1], "rolled 10")
+        self.assertEqual(shown[5][-2:], ["out 1", "2"])
+        self.assertEqual(shown[6], ["undone 0#7"])
+
+
 class Rows(unittest.TestCase):
     def test_agrees(self):
         self.assertEqual(rows(["run 3           a", "                b  <- why", "out             c"]), [("run 3", ["a", "b"]), ("out", ["c"])])
