@@ -1,0 +1,87 @@
+/* Memory that the program takes, gives back and copies, by `ld --wrap`. */
+#include <malloc.h>
+#include <stdlib.h>
+#include <string.h>
+
+#include "recorder.h"
+
+void *__real_malloc(size_t);
+void *__real_calloc(size_t, size_t);
+void *__real_realloc(void *, size_t);
+void *__real_aligned_alloc(size_t, size_t);
+int __real_posix_memalign(void **, size_t, size_t);
+void __real_free(void *);
+void *__real_memcpy(void *, const void *, size_t);
+void *__real_memmove(void *, const void *, size_t);
+void *__real_memset(void *, int, size_t);
+
+void *taskback_taken(void *block, size_t size) {
+    if (block)
+        taskback_new_memory(own_state(), (uint64_t)block, size);
+    return block;
+}
+
+/* Giving back counts as a write of all of it: nobody may use it at the same time. */
+void taskback_given_back(void *block, uint64_t place) {
+    if (block)
+        taskback_access(WRITE, (uint64_t)block, (uint32_t)malloc_usable_size(block), place, FREED);
+}
+
+void *__wrap_malloc(size_t size) { return taskback_taken(__real_malloc(size), size); }
+void *__wrap_calloc(size_t count, size_t size) { return taskback_taken(__real_calloc(count, size), count * size); }
+void *__wrap_aligned_alloc(size_t align, size_t size) { return taskback_taken(__real_aligned_alloc(align, size), size); }
+
+int __wrap_posix_memalign(void **block, size_t align, size_t size) {
+    int status = __real_posix_memalign(block, align, size);
+    if (status == 0)
+        taskback_taken(*block, size);
+    return status;
+}
+
+void *__wrap_realloc(void *block, size_t size) {
+    taskback_given_back(block, PLACE);
+    return taskback_taken(__real_realloc(block, size), size);
+}
+
+void __wrap_free(void *block) {
+    taskback_given_back(block, PLACE);
+    __real_free(block);
+}
+
+static void copied(void *to, const void *from, size_t size, uint64_t place) {
+    if (size == 0)
+        return;
+    if (from)
+        taskback_access(READ, (uint64_t)from, (uint32_t)size, place, 0);
+    taskback_access(WRITE, (uint64_t)to, (uint32_t)size, place, 0);
+}
+
+void *__wrap_memcpy(void *to, const void *from, size_t size) {
+    copied(to, from, size, PLACE);
+    return __real_memcpy(to, from, size);
+}
+
+void *__wrap_memmove(void *to, const void *from, size_t size) {
+    copied(to, from, size, PLACE);
+    return __real_memmove(to, from, size);
+}
+
+void *__wrap_memset(void *to, int byte, size_t size) {
+    copied(to, 0, size, PLACE);
+    return __real_memset(to, byte, size);
+}
+
+void *__tsan_memcpy(void *to, const void *from, size_t size) {
+    copied(to, from, size, PLACE);
+    return __real_memcpy(to, from, size);
+}
+
+void *__tsan_memmove(void *to, const void *from, size_t size) {
+    copied(to, from, size, PLACE);
+    return __real_memmove(to, from, size);
+}
+
+void *__tsan_memset(void *to, int byte, size_t size) {
+    copied(to, 0, size, PLACE);
+    return __real_memset(to, byte, size);
+}

@@ -1,0 +1,213 @@
+/* The OMPT tool: which tasks there are, and when each starts, waits and ends. */
+#include <omp-tools.h>
+
+#include "recorder.h"
+
+enum { STARTED = 1 };
+
+static uint32_t task_count;
+static uint64_t region_count;
+
+static uint32_t number_of(const ompt_data_t *data) { return data ? (uint32_t)(data->value >> 1) : 0; }
+
+static void name_task(ompt_data_t *data, int started) {
+    uint64_t number = __atomic_add_fetch(&task_count, 1, __ATOMIC_RELAXED);
+    data->value = number << 1 | (uint64_t)started;
+}
+
+void taskback_new_memory(struct own *own, uint64_t address, uint64_t size) {
+    begin_part(own);
+    taskback_note(own, MEMORY, own->task, address, size, 0);
+}
+
+void taskback_push_task(struct own *own, uint32_t task) {
+    if (own->depth < RUNNING_MOST)
+        own->running[own->depth] = (struct running){task, 0};
+    else
+        taskback_note(own, NOTE, task, 0, NOTE_DEEP, 0);
+    own->depth++;
+}
+
+void taskback_pop_task(struct own *own, uint32_t task) {
+    if (own->depth == 0)
+        return;
+    if (own->depth > RUNNING_MOST) {
+        own->depth--;
+        return;
+    }
+    struct running *top = &own->running[own->depth - 1];
+    if (top->task != task)
+        return;
+    if (top->base)
+        taskback_new_memory(own, own->stack_low, top->base - own->stack_low);
+    own->depth--;
+}
+
+static void note_items(struct own *own, uint32_t child, int count, const void *items) {
+    const struct runtime_item *item = items;
+    for (int i = 0; i < count; i++)
+        taskback_note(own, ITEM, child, item[i].address, item[i].type, 0);
+}
+
+static void on_create(ompt_data_t *creator, const ompt_frame_t *frame, ompt_data_t *child, int flags, int depends,
+                      const void *place) {
+    (void)frame, (void)depends;
+    struct own *own = own_state();
+    if (flags & (ompt_task_initial | ompt_task_taskwait))
+        return;
+    begin_part(own);
+    name_task(child, 0);
+    uint64_t kept = (uint32_t)flags & ~(uint32_t)ompt_task_undeferred;
+    uint64_t where = (uint64_t)place;
+    if (own->caller && own->caller == number_of(creator)) {
+        where = own->caller_place;
+        if (own->undeferred)
+            kept |= ompt_task_undeferred;
+    }
+    taskback_note(own, CREATE, number_of(creator), number_of(child), kept, where);
+    note_items(own, number_of(child), own->item_count, own->items);
+    note_items(own, number_of(child), own->more_count, own->more_items);
+    own->item_count = own->more_count = 0;
+}
+
+static void finish(struct own *own, uint32_t task) {
+    taskback_note(own, END, task, 0, 0, 0);
+}
+
+static void go_on(struct own *own, ompt_data_t *next) {
+    own->task = number_of(next);
+    if (next->value & STARTED)
+        return;
+    next->value |= STARTED;
+    taskback_note(own, START, own->task, 0, 0, 0);
+    taskback_push_task(own, own->task);
+}
+
+static void on_schedule(ompt_data_t *prior, ompt_task_status_t status, ompt_data_t *next) {
+    struct own *own = own_state();
+    begin_part(own);
+    uint32_t before = number_of(prior);
+    switch (status) {
+    case ompt_task_complete:
+    case ompt_task_cancel:
+        taskback_pop_task(own, before);
+        finish(own, before);
+        break;
+    case ompt_task_detach:
+        taskback_pop_task(own, before);
+        break;
+    case ompt_task_late_fulfill:
+        finish(own, before);
+        return;
+    case ompt_task_early_fulfill:
+    case ompt_taskwait_complete:
+        return;
+    default:
+        break;
+    }
+    if (next)
+        go_on(own, next);
+}
+
+static void on_sync(ompt_sync_region_t kind, ompt_scope_endpoint_t end, ompt_data_t *region, ompt_data_t *task,
+                    const void *place) {
+    struct own *own = own_state();
+    begin_part(own);
+    uint32_t number = task && task->value ? number_of(task) : own->task;
+    uint64_t where = region ? region->value : 0;
+    switch (kind) {
+    case ompt_sync_region_taskwait:
+        if (end == ompt_scope_end)
+            taskback_note(own, WAIT, number, 0, 0, (uint64_t)place);
+        break;
+    case ompt_sync_region_taskgroup:
+        taskback_note(own, end == ompt_scope_begin ? GROUP_OPEN : GROUP_CLOSE, number, 0, 0, (uint64_t)place);
+        break;
+    case ompt_sync_region_reduction:
+        break;
+    default:
+        taskback_note(own, end == ompt_scope_begin ? BARRIER_BEGIN : BARRIER_END, number, where, 0, (uint64_t)place);
+        break;
+    }
+}
+
+static void on_region_begin(ompt_data_t *task, const ompt_frame_t *frame, ompt_data_t *region, unsigned int wanted,
+                            int flags, const void *place) {
+    (void)frame, (void)flags;
+    struct own *own = own_state();
+    begin_part(own);
+    region->value = __atomic_add_fetch(&region_count, 1, __ATOMIC_RELAXED);
+    taskback_note(own, REGION_BEGIN, number_of(task), region->value, wanted, (uint64_t)place);
+}
+
+static void on_region_end(ompt_data_t *region, ompt_data_t *task, int flags, const void *place) {
+    (void)flags;
+    struct own *own = own_state();
+    begin_part(own);
+    own->task = number_of(task);
+    taskback_note(own, REGION_END, own->task, region->value, 0, (uint64_t)place);
+}
+
+static void on_implicit(ompt_scope_endpoint_t end, ompt_data_t *region, ompt_data_t *task, unsigned int size,
+                        unsigned int index, int flags) {
+    (void)size;
+    struct own *own = own_state();
+    begin_part(own);
+    if (end == ompt_scope_end) {
+        taskback_pop_task(own, number_of(task));
+        return;
+    }
+    name_task(task, 1);
+    own->task = number_of(task);
+    uint64_t where = flags & ompt_task_initial || !region ? 0 : region->value;
+    taskback_note(own, IMPLICIT_BEGIN, own->task, where, index, 0);
+    if (where)
+        taskback_push_task(own, own->task);
+}
+
+static void note_lock(enum kind kind, ompt_wait_id_t lock, const void *place) {
+    struct own *own = own_state();
+    begin_part(own);
+    taskback_note(own, kind, own->task, lock, 0, (uint64_t)place);
+}
+
+static void on_lock(ompt_mutex_t kind, ompt_wait_id_t lock, const void *place) {
+    if (kind != ompt_mutex_ordered)
+        note_lock(LOCK, lock, place);
+}
+
+static void on_unlock(ompt_mutex_t kind, ompt_wait_id_t lock, const void *place) {
+    if (kind != ompt_mutex_ordered)
+        note_lock(UNLOCK, lock, place);
+}
+
+static void on_cancel(ompt_data_t *task, int flags, const void *place) {
+    (void)flags;
+    taskback_note(own_state(), NOTE, number_of(task), 0, NOTE_CANCEL, (uint64_t)place);
+}
+
+static int begin(ompt_function_lookup_t look_up, int device, ompt_data_t *data) {
+    (void)device, (void)data;
+    ompt_set_callback_t set = (ompt_set_callback_t)look_up("ompt_set_callback");
+    set(ompt_callback_task_create, (ompt_callback_t)on_create);
+    set(ompt_callback_task_schedule, (ompt_callback_t)on_schedule);
+    set(ompt_callback_sync_region, (ompt_callback_t)on_sync);
+    set(ompt_callback_parallel_begin, (ompt_callback_t)on_region_begin);
+    set(ompt_callback_parallel_end, (ompt_callback_t)on_region_end);
+    set(ompt_callback_implicit_task, (ompt_callback_t)on_implicit);
+    set(ompt_callback_mutex_acquired, (ompt_callback_t)on_lock);
+    set(ompt_callback_mutex_released, (ompt_callback_t)on_unlock);
+    set(ompt_callback_cancel, (ompt_callback_t)on_cancel);
+    return 1;
+}
+
+static void end(ompt_data_t *data) {
+    (void)data;
+    taskback_write_trace();
+}
+
+ompt_start_tool_result_t *ompt_start_tool(unsigned int version, const char *runtime) {
+    static ompt_start_tool_result_t result = {begin, end, {0}};
+    (void)version, (void)runtime;
+    return &result;
+}

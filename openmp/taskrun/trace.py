@@ -1,0 +1,50 @@
+"""A trace as the recorder wrote it: one line, and then its events, thread by thread."""
+
+import struct
+from typing import NamedTuple
+
+(CREATE, ITEM, START, END, WAIT, WAIT_ITEM, WAIT_ITEMS, GROUP_OPEN, GROUP_CLOSE, REGION_BEGIN, REGION_END,
+ IMPLICIT_BEGIN, BARRIER_BEGIN, BARRIER_END, READ, WRITE, MEMORY, LOCK, UNLOCK, NOTE, COPY) = range(1, 22)
+KINDS = ("", "create", "item", "start", "end", "wait", "wait item", "wait items", "group open", "group close",
+         "region begin", "region end", "implicit begin", "barrier begin", "barrier end", "read", "write", "memory",
+         "lock", "unlock", "note", "copy")
+NOTES = ("", "reduction", "detach", "priority", "cancel", "deep", "lost")
+ATOMIC, FREED = 1, 2
+UNDEFERRED, FINAL = 0x8000000, 0x20000000
+FORMAT = struct.Struct("<QQqQIIHHI")
+HEADER = b"taskback trace 1 "
+
+
+class Event(NamedTuple):
+    """One event; what its fields say depends on its kind (recorder.h)."""
+
+    stamp: int
+    address: int
+    value: int
+    place: int
+    task: int
+    size: int
+    kind: int
+    mark: int
+    unused: int
+
+
+class BadTrace(Exception):
+    """The file isn't a whole trace."""
+
+
+class Trace:
+    """The program's path, the address at which it was loaded, and the events in the order of their stamps."""
+
+    def __init__(self, path):
+        with open(path, "rb") as file:
+            data = file.read()
+        if not data.startswith(HEADER) or b"\n" not in data:
+            raise BadTrace(f"{path} is no trace")
+        first, _, rest = data.partition(b"\n")
+        words = first[len(HEADER):].split(b" ", 1)
+        if len(rest) % FORMAT.size or len(words) != 2:
+            raise BadTrace(f"{path} isn't whole")
+        self.base = int(words[0], 16)
+        self.program = words[1].decode("utf-8", "surrogateescape")
+        self.events = sorted(map(Event._make, FORMAT.iter_unpack(rest)))
