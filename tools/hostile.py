@@ -123,6 +123,9 @@ def streams(program, count, _):
         into = '' if '<' in words else '< "$1" '
         done = subprocess.run(['bash', '-c', '"$0" %s %s' % (into, words), program.path, session], capture_output=True, timeout=60)
         count.check(words, (done.returncode, done.stderr) == (status, said), done)
+    for word in ('--help', '--version'):
+        done = subprocess.run(['bash', '-c', '"$0" %s > /dev/full' % word, program.path], capture_output=True, timeout=60)
+        count.check(word + ' into a full disk', (done.returncode, done.stderr) == (3, b'taskback: write\n'), done)
     text = session_of('examples/race.session') + b'hist\n' * 20000
     with tempfile.NamedTemporaryFile() as long:
         long.write(text)

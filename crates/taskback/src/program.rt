@@ -34,9 +34,15 @@ fn read_options<R: Env + Print + Eprint + AllocGlobal>(rt: &R) -> Result<Setting
         Ok(settings) => Ok(settings),
         Err(error) if is_memory(&error) => Err(told(rt, Halt::Memory)),
         Err(error) => {
-            // There is nowhere else to tell it.
-            let _ = error.print(rt);
-            Err(if error.use_stderr() { USAGE } else { 0 })
+            let is_printed = error.print(rt);
+            if error.use_stderr() {
+                // There is nowhere else to say it.
+                return Err(USAGE);
+            }
+            Err(match is_printed {
+                Ok(()) => 0,
+                Err(fault) => unwritten(rt, fault.kind() == ErrorKind::BrokenPipe),
+            })
         }
     }
 }
@@ -61,10 +67,22 @@ fn serve_standard_streams<R: Input + Print + Eprint + AllocGlobal + Wait>(
     let mut sink = CountedWriter {
         inner: io::writer(rt),
         failed: 0,
+        is_unread: false,
     };
     match run(rt, rt.alloc(), &mut source, &mut sink, settings) {
         Ok(()) => 0,
+        Err(Halt::Write) => unwritten(rt, sink.is_unread),
         Err(halt) => told(rt, halt),
+    }
+}
+
+/// The exit status where the output can't be written, said on standard error but where nobody reads
+/// the output any more: who closed the pipe knows.
+fn unwritten<R: Eprint>(rt: &R, is_unread: bool) -> u8 {
+    if is_unread {
+        Halt::Write.status()
+    } else {
+        told(rt, Halt::Write)
     }
 }
 

@@ -3,7 +3,7 @@
 ghost use Rattle.std.specs.Prelude.{◌≡◌};
 
 use crate::ports::{Failed, Sink, Source};
-use std::io::{Read, Write};
+use std::io::{ErrorKind, Read, Write};
 
 /// A reader, and how many of its calls failed.
 #[derive(Drop)]
@@ -34,6 +34,8 @@ impl<R: Read> Source for CountedReader<R> {
 pub struct CountedWriter<W> {
     pub inner: W,
     pub failed: u64,
+    /// Whether a call failed because nobody reads any more what is written, as at a closed pipe.
+    pub is_unread: bool,
 }
 
 impl<W: Write> Sink for CountedWriter<W> {
@@ -44,8 +46,11 @@ impl<W: Write> Sink for CountedWriter<W> {
     fn write(&mut self, bytes: &[u8]) -> Result<usize, Failed> {
         match self.inner.write(bytes) {
             Ok(count) if count > 0 || bytes.is_empty() => Ok(count),
-            _ => {
+            outcome => {
                 self.failed += 1;
+                if let Err(error) = outcome {
+                    self.is_unread = error.kind() == ErrorKind::BrokenPipe;
+                }
                 Err(Failed)
             }
         }

@@ -17,6 +17,7 @@ pub fn outcome<R: AllocGlobal + Wait>(
     let mut sink = CountedWriter {
         inner: Vec::new(rt.alloc()),
         failed: 0,
+        is_unread: false,
     };
     let ended = run(rt, rt.alloc(), &mut source, &mut sink, settings);
     let mut written = sink.inner;
