@@ -1,6 +1,6 @@
 -- What is chained to a step, and the pass that finds it.
-use Rattle.std.proofs.Common.{◌≡◌, ◌<◌, ◌≤◌, ◌+◌, ℕ, suc, List, [], ◌∷◌, ◌++◌, Bool, true, false, ◌&&◌, ◌||◌, not, length, map, take, drop, reverse, refl, sym, ap, ap₂, ◌∙◌, subst, arith, Some, Option, get_or, ne_eqb}
-use Rattle.std.specs.List.{list_any, All}
+use Rattle.std.proofs.Common.{◌≡◌, ◌<◌, ◌≤◌, ◌+◌, ℕ, suc, List, [], ◌∷◌, ◌++◌, Bool, true, false, ◌&&◌, ◌||◌, not, length, take, drop, reverse, refl, sym, ap, ap₂, ◌∙◌, subst, arith, Some, get_or, ne_eqb}
+use Rattle.std.specs.List.{list_any}
 use Rattle.std.proofs.lemmas.Bool.{or_left, or_right, and_right}
 use Rattle.std.proofs.lemmas.List.{reverse-append, take_all}
 use Rattle.std.proofs.lemmas.List.Sorted.{list_any-IsPermutation, IsPermutation-reverse}
@@ -20,7 +20,7 @@ use Rattle.tb_core.proofs.ScanLemmas.{history_more, history_cut}
 use Rattle.tb_cause.specs.Chains.{events_at}
 use Rattle.tb_cause.proofs.ConeLemmas.{events_pushed, some_same, there}
 use Rattle.tb_races.specs.Immediate.{needing}
-use Rattle.tb_races.specs.Orders.{followers, comes_after}
+use Rattle.tb_races.specs.Orders.{followers}
 use Rattle.tb_order.specs.declared.relation.Relation.{Relation}
 use Rattle.tb_order.specs.declared.relation.Relation.TheVariants.{Needs, Order as InOrder}
 use Rattle.tb_order.specs.Linking.{is_linked, order_of, chained, beyond}

@@ -29,6 +29,7 @@ pub fn immediate(alloc: Global, front: &[Entry], v: &Event) -> Result<Vec<Cause>
     Ok(causes)
 }
 
+#[tactic(auto, using(crate::proofs::AnswerLemmas::no_kind, crate::proofs::AnswerLemmas::kind_by_way, crate::proofs::AnswerLemmas::kind_itself))]
 /// The entry at this place, where it is an immediate need of `v`.
 fn cause_at(
     alloc: Global,

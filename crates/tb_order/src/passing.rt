@@ -26,7 +26,7 @@ pub fn is_by_way(
     requires within { first < length front.now }
     ensures { IfOk result (λ b. (e : StepId) → step_at front.now first ≡ Some e →
         b ≡ list_any (is_linked relation (history_of front.now) v.now)
-            (beyond relation e (history_of front.now))) }
+        (beyond relation e (history_of front.now))) }
 {
     let mut places = Vec::new(alloc);
     places.push(first)?;

@@ -1,8 +1,10 @@
 //! Which steps race.
 
 ghost use Rattle.std.specs.Prelude.{◌≡◌, ◌<◌, ◌≤◌, IfOk, Some, length, take, reverse, slice_get};
+ghost use Rattle.tb_model.specs.declared.step_id.StepId.{StepId};
 ghost use Rattle.tb_core.specs.declared.entry.Entry.{Entry};
-ghost use Rattle.tb_core.specs.Scans.{AreLegal, history_of};
+ghost use Rattle.tb_core.specs.Scans.{AreLegal, history_of, step_at};
+ghost use Rattle.tb_races.specs.Orders.{comes_after};
 ghost use Rattle.tb_races.specs.Racing;
 ghost use Rattle.tb_order.specs.Linking.{order_of};
 
@@ -57,12 +59,18 @@ fn newest_race(
     requires within { at < length entries.now }
     ensures { IfOk result (λ o. (v : Entry) → slice_get entries.now at ≡ Some v →
         o ≡ Racing.newest_race (order_of exclusion) (history_of (take at entries.now)) v.event
-            (history_of (take at entries.now))) }
+        (history_of (take at entries.now))) }
 {
     let mut left = at;
     'back: while 0 < left {
         left -= 1;
-        if let Some(shares) = contested(alloc, exclusion, &entries[..at], &entries[at].event, left)? {
+        if let Some(shares) = contested(
+            alloc,
+            exclusion,
+            &entries[..at],
+            &entries[at].event,
+            left,
+        )? {
             return Ok(Some(Race {
                 earlier: step_at(entries, left)?,
                 later: step_at(entries, at)?,
@@ -74,6 +82,7 @@ fn newest_race(
     Ok(None)
 }
 
+#[tactic(auto, using(crate::proofs::AnswerLemmas::no_conflict, crate::proofs::AnswerLemmas::ordered_so, crate::proofs::AnswerLemmas::unordered_so))]
 /// What `v`, which stands behind these entries, and the entry at this place race over.
 fn contested(
     alloc: Global,
@@ -86,16 +95,34 @@ fn contested(
     requires within { first < length front.now }
     ensures { IfOk result (λ o. (u : Entry) → slice_get front.now first ≡ Some u →
         o ≡ Racing.contested (order_of exclusion) (history_of front.now) v.now
-            (history_of (take first front.now)) u.event) }
+        (history_of (take first front.now)) u.event) }
 {
     let Some(shares) = conflict(v, &front[first].event) else {
         return Ok(None);
     };
-    let order = Relation::Order { exclusion };
-    if is_linked(order, front, v, &front[first].event)
-        || is_by_way(alloc, order, front, v, first)?
-    {
+    if comes_after(alloc, exclusion, front, v, first)? {
         return Ok(None);
     }
     Ok(Some(shares))
+}
+
+#[tactic(auto, using(crate::proofs::AnswerLemmas::after_linked, crate::proofs::AnswerLemmas::after_by_way))]
+/// Whether `v`, which stands behind these entries, comes after the one at this place.
+fn comes_after(
+    alloc: Global,
+    exclusion: bool,
+    front: &[Entry],
+    v: &Event,
+    first: usize,
+) -> Result<bool, AllocError>
+    requires legal { AreLegal front.now }
+    requires within { first < length front.now }
+    ensures { IfOk result (λ b. (e : StepId) → step_at front.now first ≡ Some e →
+        b ≡ comes_after (order_of exclusion) e (history_of front.now) v.now) }
+{
+    let order = Relation::Order { exclusion };
+    if is_linked(order, front, v, &front[first].event) {
+        return Ok(true);
+    }
+    is_by_way(alloc, order, front, v, first)
 }

@@ -6,7 +6,5 @@ pub enum Relation {
     /// A direct need of any kind.
     Needs,
     /// A direct need of synchronisation. Exclusion may count as such or not.
-    Order {
-        exclusion: bool,
-    },
+    Order { exclusion: bool },
 }

@@ -1,11 +1,11 @@
-use Rattle.std.proofs.Common.{rules, sym, ◌∙◌, ap, subst, ◌≡◌, ◌<◌, ◌++◌, ◌∷◌, [], length, arith, take, get_or}
+use Rattle.std.proofs.Common.{rules, sym, ◌∙◌, ap, subst, ◌≡◌, ◌<◌, ◌++◌, ◌∷◌, [], length, take, get_or}
 use Rattle.std.specs.List.{All, list_any}
 use Rattle.tb_core.specs.Scans.{history_of}
 use Rattle.tb_core.proofs.FirstLemmas.{front_legal}
 use Rattle.tb_cause.specs.Chains.{events_at}
 use Rattle.tb_cause.proofs.ConeLemmas.{all_pushed}
 use Rattle.tb_order.specs.Linking.{is_linked}
-use Rattle.tb_order.proofs.ChainLemmas.{passed_first, passed_same, passed_more, passed_end, passed_all}
+use Rattle.tb_order.proofs.ChainLemmas.{passed_first, passed_same, passed_more, passed_end}
 use Rattle.tb_order.proofs.passing.is_by_way.Goals as goal
 use Rattle.tb_order.proofs.passing.is_by_way.Goals.{then-is_chained+else-is_linked+in_ok-push-2, else-is_chained}
 
