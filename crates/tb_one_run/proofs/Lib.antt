@@ -1,0 +1,3 @@
+pub mod SharedLemmas
+pub mod OnceLemmas
+pub mod AgreeLemmas

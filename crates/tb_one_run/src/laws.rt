@@ -1,0 +1,8 @@
+//! The laws of races.
+
+ghost use Rattle.std.specs.Prelude.{◌≡◌, true};
+
+/// A placeholder.
+pub fn one_outcome()
+    ensures { true ≡ true }
+{}
