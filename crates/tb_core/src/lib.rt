@@ -15,10 +15,11 @@ mod undo_refusal;
 mod unwinding;
 
 pub use entry::Entry;
-pub use needing::{first_needer, needs};
+pub use needing::{first_needer, is_apart, is_before, is_covered, needs};
 pub use places::{ordinal_of, place_of, step_at};
 pub use removed::Removed;
 pub use rollback::Rollback;
 pub use run::Core;
+pub use scans::{holds, is_member};
 pub use step_refusal::StepRefusal;
 pub use undo_refusal::UndoRefusal;

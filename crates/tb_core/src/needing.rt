@@ -62,14 +62,14 @@ fn waits_for(front: &[Entry], t: &TaskName, action: &Action, u: &TaskName) -> bo
 }
 
 /// Whether `u` is an elder sibling on which `t` depends.
-fn is_before(front: &[Entry], u: &TaskName, t: &TaskName) -> bool
+pub fn is_before(front: &[Entry], u: &TaskName, t: &TaskName) -> bool
     ensures { AreLegal front.now → result ≡ before (history_of front.now) u.now t.now }
 {
     u.is_elder_of(t) && some_before(items_of(front, t), items_of(front, u))
 }
 
 /// Whether the siblings `u` and `t` exclude each other.
-fn is_apart(front: &[Entry], u: &TaskName, t: &TaskName) -> bool
+pub fn is_apart(front: &[Entry], u: &TaskName, t: &TaskName) -> bool
     ensures { AreLegal front.now → result ≡ apart (history_of front.now) u.now t.now }
 {
     (u.is_elder_of(t) && some_apart(items_of(front, t), items_of(front, u)))
@@ -77,7 +77,7 @@ fn is_apart(front: &[Entry], u: &TaskName, t: &TaskName) -> bool
 }
 
 /// Whether a `taskwait` of `t` with these items waits for `u`.
-fn is_covered(front: &[Entry], t: &TaskName, items: &[Item], u: &TaskName) -> bool
+pub fn is_covered(front: &[Entry], t: &TaskName, items: &[Item], u: &TaskName) -> bool
     ensures { AreLegal front.now → result ≡ covers (history_of front.now) t.now items.now u.now }
 {
     t.is_parent_of(u) && (items.is_empty() || some_before(items, items_of(front, u)))

@@ -34,7 +34,7 @@ fn named_items<'a>(front: &'a [Entry], t: &TaskName) -> &'a [Item]
 
 /// Whether the newest action of `t` generated the undeferred child `u`.
 #[tactic(auto, using(crate::proofs::NeedsLemmas::held_within))]
-pub(crate) fn holds(front: &[Entry], t: &TaskName, u: &TaskName) -> bool
+pub fn holds(front: &[Entry], t: &TaskName, u: &TaskName) -> bool
     ensures { AreLegal front.now →
         result ≡ Facts.holds (Facts.own t.now (history_of front.now)) u.now }
 {
@@ -70,7 +70,7 @@ fn is_undeferred(action: &Action, u: &TaskName) -> bool
 
 /// Whether the task is a member of the innermost group that `t` has open.
 #[tactic(auto, using(crate::proofs::NeedsLemmas::member_within))]
-pub(crate) fn is_member(front: &[Entry], t: &TaskName, m: &TaskName) -> bool
+pub fn is_member(front: &[Entry], t: &TaskName, m: &TaskName) -> bool
     ensures { AreLegal front.now →
         result ≡ Facts.is_member (Facts.own t.now (history_of front.now)) m.now }
 {

@@ -1,0 +1,4 @@
+pub mod Kinds
+pub mod Orders
+pub mod Immediate
+pub mod Racing

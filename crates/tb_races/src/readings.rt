@@ -1,0 +1,13 @@
+//! What the definitions say in other words. Each is a sentence over the definitions alone, and a
+//! function's contract. A history is listed from its newest event.
+
+ghost use Rattle.std.specs.Prelude.{◌≡◌, is_some};
+ghost use Rattle.tb_model.specs.declared.event.Event.{Event};
+ghost use Rattle.tb_model.specs.Facts.{History};
+ghost use Rattle.tb_model.specs.Needs.{needs};
+ghost use Rattle.tb_races.specs.Kinds.{need_kind};
+
+/// A direct need is what has a kind.
+pub fn kinds_are_needs()
+    ensures { (H : History) (v u : Event) → is_some (need_kind H v u) ≡ needs H v u }
+{}
