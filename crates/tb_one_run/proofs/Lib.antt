@@ -1,3 +1,4 @@
 pub mod SharedLemmas
 pub mod OnceLemmas
 pub mod AgreeLemmas
+pub mod LinkLemmas
