@@ -1,5 +1,5 @@
 -- Why a later event directly needs an earlier one. Where several kinds hold, the first counts.
-use Rattle.std.specs.Prelude.{ℕ, Bool, Option, Some, None, option_map, if◌then◌else◌}
+use Rattle.std.specs.Prelude.{Bool, Option, Some, None, option_map, if◌then◌else◌}
 use Rattle.std.specs.Option.{option_or}
 use Rattle.tb_model.specs.declared.action.Action.{Action}
 use Rattle.tb_model.specs.declared.action.Action.TheVariants.{Start, Load, Store, Print, Wait, Close}

@@ -18,7 +18,7 @@ conflict v u = if is_of v.task u then None else shared v.action u.action
 -- with all in front of it
 pub data IsRace : Order → History → History → Type 0 where
   unordered : (o : Order) (v u : Event) (between front : History) (shares : Conflict) → conflict v u ≡ Some shares
-    → (ComesAfter o (v ∷ (between ++ u ∷ front)) (u ∷ front) → ⊥) → IsRace o (v ∷ (between ++ u ∷ front)) (u ∷ front)
+      → (ComesAfter o (v ∷ (between ++ u ∷ front)) (u ∷ front) → ⊥) → IsRace o (v ∷ (between ++ u ∷ front)) (u ∷ front)
 
 -- what v, behind H, and u, the newest event of the front part u ∷ K of H, race over: none where they don't
 abbrev pub contested : Order → History → Event → History → Event → Option Conflict

@@ -4,9 +4,7 @@
 #[derive(Clone, Copy, Debug, Drop, PartialEq, Eq)]
 pub enum Conflict {
     /// A cell, by its number from 0: both touch it, and at least one of them stores.
-    Cell {
-        cell: u32,
-    },
+    Cell { cell: u32 },
     /// The output: both print.
     Print,
 }

@@ -8,6 +8,7 @@ ghost use Rattle.tb_model.specs.Needs.{needs};
 ghost use Rattle.tb_races.specs.Kinds.{need_kind};
 
 /// A direct need is what has a kind.
+#[tactic(auto, using(crate::proofs::KindLemmas::kind_some))]
 pub fn kinds_are_needs()
     ensures { (H : History) (v u : Event) → is_some (need_kind H v u) ≡ needs H v u }
 {}
