@@ -111,6 +111,23 @@ own_older K t (v ∷ F) = at (is_of t v) (has K (v ∷ F)) refl refl (own_older 
     at true false o h rest = older_mine v.action rest
     at false d o h rest = subst (λ acts. Older acts (own t F)) (sym (own_put t d v (part K F) o)) rest
 
+-- of each task, what stands in front is the older part
+pub older_front : (t : Name) (b F : History) → Older (own t F) (own t (b ++ F))
+older_front t [] F = ([], refl)
+older_front t (v ∷ b) F = at (is_of t v) (older_front t b F)
+  where
+    at : (c : Bool) → Older (own t F) (own t (b ++ F)) → Older (own t F) (prepend_if c v.action (own t (b ++ F)))
+    at true o = older_mine v.action o
+    at false o = o
+
+-- which is all where all is no longer
+pub older_all : {acts all : List Action} → Older acts all → length all ≤ length acts → acts ≡ all
+older_all {acts} {all} o h = none o.0 o.1
+  where
+    none : (later : List Action) → all ≡ later ++ acts → acts ≡ all
+    none [] e = sym e
+    none (a ∷ later) e = absurd (omega (arith, h, ap length e ∙ length-append (a ∷ later) acts))
+
 -- ---- the place of a step
 
 -- the event of t in front of which t has n
