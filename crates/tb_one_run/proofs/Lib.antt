@@ -2,3 +2,5 @@ pub mod SharedLemmas
 pub mod OnceLemmas
 pub mod AgreeLemmas
 pub mod LinkLemmas
+pub mod NumberLemmas
+pub mod PlaceLemmas
