@@ -4,3 +4,4 @@ pub mod AgreeLemmas
 pub mod LinkLemmas
 pub mod NumberLemmas
 pub mod PlaceLemmas
+pub mod WalkLemmas
