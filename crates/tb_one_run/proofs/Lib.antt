@@ -5,3 +5,4 @@ pub mod LinkLemmas
 pub mod NumberLemmas
 pub mod PlaceLemmas
 pub mod WalkLemmas
+pub mod StepLemmas

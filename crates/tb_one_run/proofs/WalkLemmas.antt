@@ -38,7 +38,7 @@ pub record Walked (H K : History) : Type 0 where
   pub size : length (part K H) ≡ length K
 
 module _ (P : Program) (H K : History) (lh : LegalFor P H) (lk : LegalFor P K) (s : Walked H K) (v : Event) (nk : IsNext P K v) where
-  abbrev t : Name
+  abbrev pub t : Name
   t = v.task
 
   abbrev n : ℕ
@@ -49,21 +49,21 @@ module _ (P : Program) (H K : History) (lh : LegalFor P H) (lk : LegalFor P K) (
 
   -- the next event of the task in H, which stands there with X in front of it
   module _ (b : History) (w : Event) (X : History) (split : H ≡ b ++ w ∷ X) (mine : is_of t w ≡ true) (number : length (own t X) ≡ n) where
-    abbrev lx : LegalFor P (w ∷ X)
+    abbrev pub lx : LegalFor P (w ∷ X)
     lx = (legal_below P.cells b (w ∷ X) (subst (Legal P.cells) split lh.0), follow_below b (subst (AllFollow P) split lh.1))
       where
         follow_below : (d : History) → AllFollow P (d ++ w ∷ X) → AllFollow P (w ∷ X)
         follow_below [] f = f
         follow_below (x ∷ d) f = follow_below d f.0
 
-    abbrev same_task : w.task ≡ t
+    abbrev pub same_task : w.task ≡ t
     same_task = same_true w.task t mine
 
     abbrev spawned_x : IsSpawned X t
     spawned_x = subst (IsSpawned X) same_task (may_spawned P.cells X w lx.0.0 lx.0.1)
 
     -- the program gives the same to both
-    planned_same : (y : ℤ) → planned P X t y ≡ planned P K t y
+    pub planned_same : (y : ℤ) → planned P X t y ≡ planned P K t y
     planned_same y =
         ap₂ (λ acts k. action_of P.cells t (suc (spawn_count acts)) (config P k.line k.args acts).regs y (instr_at P (config P k.line k.args acts).line).statement)
         (own_at P.cells H K lh.0 lk.0 s.alike t b w X split mine number)
@@ -73,7 +73,7 @@ module _ (P : Program) (H K : History) (lh : LegalFor P H) (lk : LegalFor P K) (
     w_follows = lx.1.1 ∙ ap (λ u. planned P X u (loaded w.action)) same_task
 
     -- so the two differ in the number that a load reads, if at all
-    blind_same : {A : Type 0} (f : Action → A) → IsBlind f → (y : ℤ) → f w.action ≡ f (planned P K t y)
+    pub blind_same : {A : Type 0} (f : Action → A) → IsBlind f → (y : ℤ) → f w.action ≡ f (planned P K t y)
     blind_same f blind y =
         let c = situation P t K in
         ap f (w_follows ∙ planned_same (loaded w.action))
@@ -83,7 +83,7 @@ module _ (P : Program) (H K : History) (lh : LegalFor P H) (lk : LegalFor P K) (
     same_but_number f blind = blind_same f blind (loaded v.action) ∙ ap f (sym nk.follows)
 
     -- what a link leads to stands in K
-    link_stands : (m : History) (u : Event) (F : History) → X ≡ m ++ u ∷ F → links Synchronised X w u ≡ true → has (v ∷ K) (u ∷ F) ≡ true
+    pub link_stands : (m : History) (u : Event) (F : History) → X ≡ m ++ u ∷ F → links Synchronised X w u ≡ true → has (v ∷ K) (u ∷ F) ≡ true
     link_stands m u F e h =
         ⊎_elim own_event (λ a. ⊎_elim (λ q. has_still K v u F (its_spawn q)) (λ q. has_still K v u F (its_end q)) a) (linked X w u h)
       where
@@ -132,3 +132,10 @@ module _ (P : Program) (H K : History) (lh : LegalFor P H) (lk : LegalFor P K) (
         its_end q =
             end_stays P.cells K u.task c u F lu (and_from (is_of u.task u) (is_end u.action) (same_refl u.task) q.0)
             (ap (λ G. list_any (ends u.task) (part K G)) (sym at_u) ∙ s.alike.any (ends u.task) ∙ has_ended q.1)
+
+  -- with the next event K is still closed
+  pub closed_more : IsClosed Synchronised (has (v ∷ K)) H
+  closed_more b x X e h m u F e' l =
+      ⊎_elim (λ p. link_stands b x X e p.0 p.1 m u F e' l)
+      (λ q. has_still K v u F (s.closed b x X e q m u F e' l))
+      (has_back K v x X h)
