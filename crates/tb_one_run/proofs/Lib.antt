@@ -6,3 +6,4 @@ pub mod NumberLemmas
 pub mod PlaceLemmas
 pub mod WalkLemmas
 pub mod StepLemmas
+pub mod OutcomeLemmas
