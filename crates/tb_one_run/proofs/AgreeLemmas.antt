@@ -7,8 +7,8 @@ use Rattle.tb_model.specs.declared.action.Action.{Action}
 use Rattle.tb_model.specs.declared.action.Action.TheVariants.{Spawn}
 use Rattle.tb_model.specs.declared.event.Event.{Event}
 use Rattle.tb_model.specs.Names.{Name, same_name, is_child, is_elder}
-use Rattle.tb_model.specs.Items.{some_meet, is_before, has_no_items}
-use Rattle.tb_model.specs.Facts.{History, is_of, own, is_spawn_of, items_of, before, covers, spawns, prepend_if, IsSpawned}
+use Rattle.tb_model.specs.Items.{some_meet, is_before, is_apart, has_no_items}
+use Rattle.tb_model.specs.Facts.{History, is_of, own, is_spawn_of, items_of, before, apart, covers, spawns, prepend_if, IsSpawned}
 use Rattle.tb_model.specs.State.{spawn_of, spawn_or}
 use Rattle.tb_model.specs.Legal.{Cells, Continues, MayFollow, Legal, spawn_count}
 use Rattle.tb_model.specs.Siblings.{nth_items}
@@ -137,12 +137,19 @@ module _ (cells : Cells) (A B : History) (la : Legal cells A) (lb : Legal cells 
       items_at cells B n p lb ∙ ap (nth_items n) (r p).1
       ∙ nth_older n (r p).0 (own p A) ((children_numbered cells A p n la).0 s).1 ∙ sym (items_at cells A n p la)
 
-  -- so the same are before it
+  -- so the same are before it, and apart from it
   pub before_too : (u t : Name) → IsSpawned A u → IsSpawned A t → before B u t ≡ before A u t
   before_too [] t su st = refl
   before_too (m ∷ u) [] su st = refl
   before_too (m ∷ u) (n ∷ t) su st =
       ap₂ (λ i j. is_elder (m ∷ u) (n ∷ t) && some_meet is_before i j) (items_too n t st) (items_too m u su)
+
+  pub apart_too : (u t : Name) → IsSpawned A u → IsSpawned A t → apart B u t ≡ apart A u t
+  apart_too [] [] su st = refl
+  apart_too [] (n ∷ t) su st = refl
+  apart_too (m ∷ u) [] su st = refl
+  apart_too (m ∷ u) (n ∷ t) su st =
+      ap₂ (λ i j. (is_elder (m ∷ u) (n ∷ t) && some_meet is_apart i j) || (is_elder (n ∷ t) (m ∷ u) && some_meet is_apart j i)) (items_too n t st) (items_too m u su)
 
   -- and a `taskwait` covers the same
   pub covers_too : (t : Name) (items : List Item) (u : Name) → IsSpawned A u → covers B t items u ≡ covers A t items u

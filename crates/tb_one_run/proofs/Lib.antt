@@ -7,3 +7,4 @@ pub mod PlaceLemmas
 pub mod WalkLemmas
 pub mod StepLemmas
 pub mod OutcomeLemmas
+pub mod TwinLemmas

@@ -128,6 +128,19 @@ older_all {acts} {all} o h = none o.0 o.1
     none [] e = sym e
     none (a ∷ later) e = absurd (omega (arith, h, ap length e ∙ length-append (a ∷ later) acts))
 
+pub older_trans : {a b c : List Action} → Older a b → Older b c → Older a c
+older_trans {a} o p = (p.0 ++ o.0, p.1 ∙ ap (λ xs. p.0 ++ xs) o.1 ∙ sym (append_assoc p.0 o.0 a))
+
+-- older parts of one length are one
+pub older_same : {a b : List Action} (all : List Action) → Older a all → Older b all → length a ≡ length b → a ≡ b
+older_same {a} {b} all o p n = at o.0 p.0 (sym o.1 ∙ p.1)
+  where
+    at : (x y : List Action) → x ++ a ≡ y ++ b → a ≡ b
+    at [] [] e = e
+    at [] (z ∷ y) e = absurd (omega (arith, n, ap length e ∙ length-append (z ∷ y) b))
+    at (z ∷ x) [] e = absurd (omega (arith, n, sym (ap length e) ∙ length-append (z ∷ x) a))
+    at (z ∷ x) (k ∷ y) e = at x y (cc)
+
 -- ---- the place of a step
 
 -- the event of t in front of which t has n
