@@ -8,3 +8,4 @@ pub mod WalkLemmas
 pub mod StepLemmas
 pub mod OutcomeLemmas
 pub mod TwinLemmas
+pub mod TransferLemmas
