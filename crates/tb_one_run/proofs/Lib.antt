@@ -9,3 +9,4 @@ pub mod StepLemmas
 pub mod OutcomeLemmas
 pub mod TwinLemmas
 pub mod TransferLemmas
+pub mod PassLemmas

@@ -44,7 +44,8 @@ module _ (cells : Cells) (t : Name) (u : Event) (F : History) where
       (λ a. both_ways (spawns t x) (not_again cells (b ++ u ∷ F) l.0 x l.1 t (spawned_later t b (u ∷ F) (spawned_by t (u ∷ F) (or_left (spawns t u) _ e)))) a)
       (λ a. both_ways (list_any (spawns t) b) (no_spawn_after b l.0 e) a) (or_cases (spawns t x) (list_any (spawns t) b) h))
 
-any_put : {A : Type 0} (p : A → Bool) (b : Bool) (x : A) (xs : List A) → list_any p (prepend_if b x xs) ≡ true → ((b ≡ true) × (p x ≡ true)) ⊎ (list_any p xs ≡ true)
+-- one that passes is the first, where that was put in front, or one of the rest
+pub any_put : {A : Type 0} (p : A → Bool) (b : Bool) (x : A) (xs : List A) → list_any p (prepend_if b x xs) ≡ true → ((b ≡ true) × (p x ≡ true)) ⊎ (list_any p xs ≡ true)
 any_put p true x xs h = ⊎_elim (λ a. inl (refl, a)) (λ a. inr a) (or_cases (p x) (list_any p xs) h)
 any_put p false x xs h = inr h
 
