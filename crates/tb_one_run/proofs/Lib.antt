@@ -1,0 +1,12 @@
+pub mod SharedLemmas
+pub mod OnceLemmas
+pub mod AgreeLemmas
+pub mod LinkLemmas
+pub mod NumberLemmas
+pub mod PlaceLemmas
+pub mod WalkLemmas
+pub mod StepLemmas
+pub mod OutcomeLemmas
+pub mod TwinLemmas
+pub mod TransferLemmas
+pub mod PassLemmas

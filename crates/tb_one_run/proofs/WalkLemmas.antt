@@ -1,0 +1,141 @@
+-- A walk over any run K of a program, beside a finished run H without a race: what stands in K says of every task, cell and
+-- output what H says of it.
+use Rattle.std.proofs.Common.{◌≡◌, ◌≤◌, ◌<◌, ℕ, suc, ℤ, List, [], ◌∷◌, ◌++◌, length, Bool, true, false, ◌&&◌, ◌||◌, not, ◌⊎◌, inl, inr, ⊎_elim, refl, sym, ap, ap₂, ◌∙◌, subst, arith, nat_lt, append_assoc, length-append}
+use Rattle.std.specs.List.{list_any, AllByRecursion}
+use Rattle.std.proofs.lemmas.Bool.{or_cases, or_left, or_right, or_parts, and_from, both_ways, cases_Bool, false≢true, false_from_ne_true, le-ltb}
+use Rattle.tb_model.specs.declared.action.Action.{Action}
+use Rattle.tb_model.specs.declared.action.Action.TheVariants.{Load}
+use Rattle.tb_model.specs.declared.event.Event.{Event}
+use Rattle.tb_model.specs.Names.{Name}
+use Rattle.tb_model.specs.Facts.{History, is_of, is_end, is_store_to, own, prepend_if, ends, spawns, holds, last, HasEnded, IsSpawned}
+use Rattle.tb_model.specs.State.{called_by}
+use Rattle.tb_model.specs.Legal.{Cells, first_number, spawn_count, MayFollow, Legal}
+use Rattle.tb_model.specs.Needs.{conflicts}
+use Rattle.tb_model.specs.Alike.{Alike}
+use Rattle.tb_model.specs.Program.{Program, zero_ℤ, config, instr_at, action_of, situation, planned, loaded, AllFollow, LegalFor, IsNext}
+use Rattle.tb_model.specs.Hindrances.{number_read, next_event}
+use Rattle.tb_model.proofs.TestLemmas.{same_true, same_refl}
+use Rattle.tb_model.proofs.FactsLemmas.{own_mine, grown, acted_spawned, not_again, spawn_names, spawned_by}
+use Rattle.tb_model.proofs.NeighboursLemmas.{legal_below}
+use Rattle.tb_model.proofs.PartsLemmas.{stores_to, last_same}
+use Rattle.tb_model.proofs.SettledLemmas.{spawned_later}
+use Rattle.tb_model.proofs.NeedsLemmas.{may_spawned}
+use Rattle.tb_model.proofs.NextStepLemmas.{next_computed}
+use Rattle.tb_model.proofs.AlikeLemmas.{alike_trans, alike_cons}
+use Rattle.tb_races.specs.Orders.{Synchronised, links}
+use Rattle.tb_one_run.specs.Outcomes.{HasRace}
+use Rattle.tb_one_run.proofs.LinkLemmas.{awaits, linked, IsClosed, clash, tame}
+use Rattle.tb_one_run.proofs.SharedLemmas.{has, part, gone, late, part_split, part_gone, has_mine, own_longer, place, Place, Changes, to_end, has_same, has_now, has_back, has_still, part_same, late_same}
+use Rattle.tb_one_run.proofs.OnceLemmas.{end_stays, spawn_stays}
+use Rattle.tb_one_run.proofs.AgreeLemmas.{spawned_too}
+use Rattle.tb_one_run.proofs.NumberLemmas.{IsBlind, blind_statement, blind_conflicts, conflict_load, number_same, last_skip}
+use Rattle.tb_one_run.proofs.PlaceLemmas.{own_at, reaches_front, awaited, spawn_here}
+
+-- so far K is a part of H in another order: closed under the order of H, alike, and as long
+pub record Walked (H K : History) : Type 0 where
+  pub closed : IsClosed Synchronised (has K) H
+  pub alike : Alike (part K H) K
+  pub size : length (part K H) ≡ length K
+
+module _ (P : Program) (H K : History) (lh : LegalFor P H) (lk : LegalFor P K) (s : Walked H K) (v : Event) (nk : IsNext P K v) where
+  abbrev pub t : Name
+  t = v.task
+
+  abbrev n : ℕ
+  n = length (own t K)
+
+  abbrev spawned_k : IsSpawned K t
+  spawned_k = may_spawned P.cells K v lk.0 nk.may
+
+  -- the next event of the task in H, which stands there with X in front of it
+  module _ (b : History) (w : Event) (X : History) (split : H ≡ b ++ w ∷ X) (mine : is_of t w ≡ true) (number : length (own t X) ≡ n) where
+    abbrev pub lx : LegalFor P (w ∷ X)
+    lx = (legal_below P.cells b (w ∷ X) (subst (Legal P.cells) split lh.0), follow_below b (subst (AllFollow P) split lh.1))
+      where
+        follow_below : (d : History) → AllFollow P (d ++ w ∷ X) → AllFollow P (w ∷ X)
+        follow_below [] f = f
+        follow_below (x ∷ d) f = follow_below d f.0
+
+    abbrev pub same_task : w.task ≡ t
+    same_task = same_true w.task t mine
+
+    abbrev spawned_x : IsSpawned X t
+    spawned_x = subst (IsSpawned X) same_task (may_spawned P.cells X w lx.0.0 lx.0.1)
+
+    -- the program gives the same to both
+    pub planned_same : (y : ℤ) → planned P X t y ≡ planned P K t y
+    planned_same y =
+        ap₂ (λ acts k. action_of P.cells t (suc (spawn_count acts)) (config P k.line k.args acts).regs y (instr_at P (config P k.line k.args acts).line).statement)
+        (own_at P.cells H K lh.0 lk.0 s.alike t b w X split mine number)
+        (ap (called_by P.root_line) (spawn_here P.cells H K lh.0 lk.0 s.alike t b w X split mine number spawned_x spawned_k))
+
+    w_follows : w.action ≡ planned P X t (loaded w.action)
+    w_follows = lx.1.1 ∙ ap (λ u. planned P X u (loaded w.action)) same_task
+
+    -- so the two differ in the number that a load reads, if at all
+    pub blind_same : {A : Type 0} (f : Action → A) → IsBlind f → (y : ℤ) → f w.action ≡ f (planned P K t y)
+    blind_same f blind y =
+        let c = situation P t K in
+        ap f (w_follows ∙ planned_same (loaded w.action))
+        ∙ blind_statement f blind P.cells t (suc (spawn_count (own t K))) c.regs (loaded w.action) y (instr_at P c.line).statement
+
+    same_but_number : {A : Type 0} (f : Action → A) → IsBlind f → f w.action ≡ f v.action
+    same_but_number f blind = blind_same f blind (loaded v.action) ∙ ap f (sym nk.follows)
+
+    -- what a link leads to stands in K
+    pub link_stands : (m : History) (u : Event) (F : History) → X ≡ m ++ u ∷ F → links Synchronised X w u ≡ true → has (v ∷ K) (u ∷ F) ≡ true
+    link_stands m u F e h =
+        ⊎_elim own_event (λ a. ⊎_elim (λ q. has_still K v u F (its_spawn q)) (λ q. has_still K v u F (its_end q)) a) (linked X w u h)
+      where
+        c : History
+        c = b ++ w ∷ m
+
+        at_u : H ≡ c ++ u ∷ F
+        at_u = split ∙ ap (λ G. b ++ w ∷ G) e ∙ sym (append_assoc b (w ∷ m) (u ∷ F))
+
+        lu : Legal P.cells (c ++ u ∷ F)
+        lu = subst (Legal P.cells) at_u lh.0
+
+        own_event : is_of w.task u ≡ true → has (v ∷ K) (u ∷ F) ≡ true
+        own_event o =
+            let mine_u : is_of t u ≡ true = subst (λ z. is_of z u ≡ true) same_task o in
+            has_now K v u F mine_u
+            (omega (arith, number, ap (λ G. length (own t G)) e, own_longer t m (u ∷ F), ap length (own_mine t u F mine_u)))
+
+        its_spawn : spawns w.task u ≡ true → has K (u ∷ F) ≡ true
+        its_spawn q = at t spawned_k (subst (λ z. spawns z u ≡ true) same_task q)
+          where
+            at : (z : Name) → IsSpawned K z → spawns z u ≡ true → has K (u ∷ F) ≡ true
+            at [] sp q =
+                absurd (cc (spawn_names P.cells u.task [] (own u.task F) u.action (legal_below P.cells c (u ∷ F) lu).1.own q))
+            at (k ∷ p) sp q =
+                spawn_stays P.cells K (k ∷ p) c u F lu q
+                (ap (λ G. list_any (spawns (k ∷ p)) (part K G)) (sym at_u) ∙ s.alike.any (spawns (k ∷ p)) ∙ sp)
+
+        acted_u : IsSpawned X u.task
+        acted_u =
+            let l = legal_below P.cells c (u ∷ F) lu in
+            subst (λ G. IsSpawned G u.task) (sym e) (spawned_later u.task m (u ∷ F) (may_grow l))
+          where
+            may_grow : Legal P.cells (u ∷ F) → IsSpawned (u ∷ F) u.task
+            may_grow l = grown u.task u F (may_spawned P.cells F u l.0 l.1)
+
+        has_ended : (holds (own w.task X) u.task ≡ true) ⊎ (awaits X w.task w.action u.task ≡ true) → HasEnded K u.task
+        has_ended (inl q) =
+            nk.may.resumed u.task (ap (λ acts. holds acts u.task) (sym (own_at P.cells H K lh.0 lk.0 s.alike t b w X split mine number)) ∙ subst (λ z. holds (own z X) u.task ≡ true) same_task q)
+        has_ended (inr q) =
+            let q' : awaits X t w.action u.task ≡ true = subst (λ z. awaits X z w.action u.task ≡ true) same_task q in
+            awaited P.cells H K lh.0 lk.0 s.alike t b w X split mine number v.action nk.may.timely spawned_x u.task acted_u
+            (sym (same_but_number (λ a. awaits X t a u.task) (λ r d x y. refl)) ∙ q')
+
+        its_end : (is_end u.action ≡ true) × ((holds (own w.task X) u.task ≡ true) ⊎ (awaits X w.task w.action u.task ≡ true)) → has K (u ∷ F) ≡ true
+        its_end q =
+            end_stays P.cells K u.task c u F lu (and_from (is_of u.task u) (is_end u.action) (same_refl u.task) q.0)
+            (ap (λ G. list_any (ends u.task) (part K G)) (sym at_u) ∙ s.alike.any (ends u.task) ∙ has_ended q.1)
+
+  -- with the next event K is still closed
+  pub closed_more : IsClosed Synchronised (has (v ∷ K)) H
+  closed_more b x X e h m u F e' l =
+      ⊎_elim (λ p. link_stands b x X e p.0 p.1 m u F e' l)
+      (λ q. has_still K v u F (s.closed b x X e q m u F e' l))
+      (has_back K v x X h)

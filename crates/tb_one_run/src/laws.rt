@@ -1,0 +1,21 @@
+//! The laws of races: what one finished run says of all runs. Each is a sentence over the
+//! definitions of `tb_model` and `tb_races` alone, and a function's contract, since what no contract
+//! says stays unproved. A history is listed from its newest event.
+
+ghost use Rattle.std.specs.Prelude.{◌≤◌, length};
+ghost use Rattle.tb_model.specs.Facts.{History};
+ghost use Rattle.tb_model.specs.SameState.{SameState};
+ghost use Rattle.tb_model.specs.WellFormed.{WellFormed};
+ghost use Rattle.tb_model.specs.Program.{Program, LegalFor};
+ghost use Rattle.tb_races.specs.Orders.{Synchronised};
+ghost use Rattle.tb_one_run.specs.Outcomes.{IsFinished, HasRace};
+
+/// One outcome: where a run after which no task can step has no race, apart or not, every run of
+/// the program is no longer, and every one after which no task can step leaves the same state.
+pub fn one_outcome()
+    ensures no_longer { (P : Program) (H K : History) → WellFormed P → LegalFor P H →
+        IsFinished P H → (HasRace Synchronised H → ⊥) → LegalFor P K → length K ≤ length H }
+    ensures same_state { (P : Program) (H K : History) → WellFormed P → LegalFor P H →
+        IsFinished P H → (HasRace Synchronised H → ⊥) → LegalFor P K → IsFinished P K →
+        SameState H K }
+{}
