@@ -61,14 +61,10 @@ pub fn enter_readied(
     ensures control { control.new ≡ behind_step plan.config.at event control.old }
 {
     let line = plan.config.at;
-    match core.step(plan) {
-        Ok(id) => {
-            control.step_taken(line, &event);
-            journal.push_reserved(Entry::Stepped { seat, event });
-            id
-        }
-        Err(_) => unreachable!(),
-    }
+    let id = core.step_reserved(plan);
+    control.step_taken(line, &event);
+    journal.push_reserved(Entry::Stepped { seat, event });
+    id
 }
 
 /// Takes the step of a plan, and enters it for the seat.

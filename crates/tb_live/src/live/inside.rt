@@ -1,6 +1,8 @@
 //! What a live run is made of, for who reads it.
 
-ghost use Rattle.std.specs.Prelude.{◌≡◌, reverse};
+ghost use Rattle.std.specs.Prelude.{◌≡◌, ◌≤◌, length, reverse};
+ghost use Rattle.tb_model.specs.Journal.{Sound};
+ghost use Rattle.tb_model.specs.Program.{LegalFor};
 ghost use Rattle.tb_core.specs.Seen.{history as events};
 ghost use Rattle.tb_live.specs.Session.{history};
 ghost use Rattle.tb_live.specs.Soundness.{Fits};
@@ -24,6 +26,17 @@ impl Live {
         ensures { reverse result.now ≡ self.now.session.journal }
     {
         self.journal.as_slice()
+    }
+
+    /// What always holds, for a caller to cite: the journal is sound and within its limit, and the
+    /// history that it leaves, which is the core's, is legal for the program.
+    pub fn journal_is_sound(&self)
+        ensures sound { Sound self.now.session.program self.now.session.journal }
+        ensures legal { LegalFor self.now.session.program (history self.now.session) }
+        ensures within { length self.now.session.journal ≤ self.now.session.limit }
+        ensures bound { self.now.session.limit ≤ 1000000 }
+    {
+        let _limit = self.limit;
     }
 
     /// How many entries the journal may have.
