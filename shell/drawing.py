@@ -1,0 +1,66 @@
+"""The commands that draw: the graph of the tasks, the lanes of the history, and the page."""
+
+import os
+import shutil
+import sys
+
+from shell.lanes import lanes_of, text_rows
+from shell.lanes_svg import svg_of
+from shell.protocol import Ended, Refused
+from shell.session import Session
+from shell.source import Source, split_session
+
+TOP = os.path.dirname(os.path.dirname(os.path.abspath(__file__)))
+BUILT = os.path.join(TOP, "crates", "taskback", "out", "taskback")
+
+
+def play_file(path, program=None):
+    """A session whose commands have been carried out; ends with a status where it can't be."""
+    program = program or os.environ.get("TASKBACK_PROGRAM") or BUILT
+    try:
+        with open(path, encoding="utf-8", errors="surrogateescape", newline="\n") as file:
+            text, commands = split_session(file.read())
+        session = Session(program, Source(text, path))
+    except OSError as fault:
+        sys.exit(print(f"can't read {path}: {fault.strerror}", file=sys.stderr) or 2)
+    except (Refused, Ended) as fault:
+        sys.exit(print(fault, file=sys.stderr) or 1)
+    for command in commands or ():
+        session.do(command)
+    return session
+
+
+class Drawing:
+    """The part of the shell that draws."""
+
+    def write(self, path, text):
+        """Writes a picture, and says so; returns whether it could."""
+        try:
+            with open(path, "w", encoding="utf-8", errors="surrogateescape", newline="\n") as file:
+                file.write(text)
+        except OSError as fault:
+            self.say(f"can't write {path}: {fault.strerror}")
+            return False
+        return True
+
+    def do_lanes(self, words):
+        """The history in lanes, as text or to a file."""
+        chosen = next((word for word in words if "#" in word), None)
+        files = [word for word in words if word != chosen]
+        if len(files) > 1:
+            self.wrong("lanes")
+            return
+        lanes = lanes_of(self.session, chosen)
+        if lanes is None:
+            self.say(f"step {chosen} doesn't stand")
+        elif files:
+            if self.write(files[0], svg_of(lanes)):
+                self.say(f"drawn to {files[0]}, {len(lanes.steps)} steps in {len(lanes.tasks)} lanes")
+        else:
+            width = shutil.get_terminal_size((100, 24)).columns
+            for row in text_rows(lanes, width, self.shaded):
+                self.say(row)
+
+    def shaded(self, text):
+        """A line that is shaded, where the terminal can."""
+        return f"\x1b[7m{text}\x1b[0m" if self.colours else text
