@@ -4,6 +4,7 @@ import os
 import shutil
 import sys
 
+from shell.graph import graph_of, tree_of, write_graph
 from shell.lanes import lanes_of, text_rows
 from shell.lanes_svg import svg_of
 from shell.protocol import Ended, Refused
@@ -42,6 +43,21 @@ class Drawing:
             self.say(f"can't write {path}: {fault.strerror}")
             return False
         return True
+
+    def do_graph(self, words):
+        """The tasks as a graph, as text or to a file."""
+        if len(words) > 1:
+            self.wrong("graph")
+            return
+        graph = graph_of(self.session)
+        if not words:
+            for line in tree_of(graph):
+                self.say(line)
+            return
+        try:
+            self.say(write_graph(words[0], graph))
+        except OSError as fault:
+            self.say(f"can't write {words[0]}: {fault.strerror}")
 
     def do_lanes(self, words):
         """The history in lanes, as text or to a file."""

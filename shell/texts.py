@@ -35,6 +35,7 @@ HELP = {
     "who": ("who T#K", "the steps that need a step", "who 0.1#4"),
     "races": ("races", "accesses of one cell that nothing orders", "races"),
     "causes": ("causes T#K", "what a step's values come from", "causes 0#6"),
+    "graph": ("graph [FILE]", "the tasks as a tree with their order; to FILE as Graphviz draws it (.svg, .png), or .dot", "graph tasks.svg"),
     "lanes": ("lanes [T#K] [FILE]", "the history, a lane a task; what roll T#K would take is shaded; to FILE as SVG", "lanes 0.1#4"),
     "info": ("info VIEW", "as VIEW alone", "i tasks"),
     "save": ("save FILE", "writes the session so far, which gives the same replies", "save race.session"),
