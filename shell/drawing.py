@@ -7,6 +7,7 @@ import sys
 from shell.graph import graph_of, tree_of, write_graph
 from shell.lanes import lanes_of, text_rows
 from shell.lanes_svg import svg_of
+from shell.page import page_of
 from shell.protocol import Ended, Refused
 from shell.session import Session
 from shell.source import Source, split_session
@@ -80,3 +81,12 @@ class Drawing:
     def shaded(self, text):
         """A line that is shaded, where the terminal can."""
         return f"\x1b[7m{text}\x1b[0m" if self.colours else text
+
+    def do_page(self, words):
+        """All that was done, as one page."""
+        if len(words) != 1:
+            self.wrong("page")
+            return
+        page, commands, steps = page_of(self.session)
+        if self.write(words[0], page):
+            self.say(f"written to {words[0]}, {commands} commands and {steps} steps")

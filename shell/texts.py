@@ -37,6 +37,7 @@ HELP = {
     "causes": ("causes T#K", "what a step's values come from", "causes 0#6"),
     "graph": ("graph [FILE]", "the tasks as a tree with their order; to FILE as Graphviz draws it (.svg, .png), or .dot", "graph tasks.svg"),
     "lanes": ("lanes [T#K] [FILE]", "the history, a lane a task; what roll T#K would take is shaded; to FILE as SVG", "lanes 0.1#4"),
+    "page": ("page FILE", "all that was done, as one page for a browser: program, history, tasks, races", "page race.html"),
     "info": ("info VIEW", "as VIEW alone", "i tasks"),
     "save": ("save FILE", "writes the session so far, which gives the same replies", "save race.session"),
     "source": ("source [FILE]", "plays the commands of FILE; alone: the next command of the session file that was opened", "source more.session"),
