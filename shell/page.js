@@ -222,8 +222,8 @@
 
   function stepOf(step) {
     const [x, y] = placeOf(step.index), group = element("g", { class: "step", "data-step": step.name, "data-index": step.index, role: "option" });
-    const label = step.did.length > LETTERS ? step.did.slice(0, LETTERS - 1) + "…" : step.did;
-    const lit = view.lit && view.lit.get(step.index);
+    const lit = view.lit && view.lit.get(step.index), room = lit ? LETTERS - 3 : LETTERS;
+    const label = step.did.length > room ? step.did.slice(0, room - 1) + "…" : step.did;
     if (lit) group.classList.add(lit);
     if (step.index === view.chosen) group.setAttribute("aria-selected", "true");
     group.append(element("title", {}, step.name + " " + step.did + (step.line ? ", line " + step.line : "")),
@@ -303,7 +303,8 @@
   }
 
   function boxOf(task, [x, y], parts) {
-    const [, state, line, told] = latest(task.states);
+    const [, state, line, why] = latest(task.states), [word, other] = why.split(" ");
+    const told = { Waiting: "after " + other, Excluded: "not with " + other }[word] || (why && why !== "can step" ? "waits for " + other : why);
     const group = element("g", { "data-task": task.name });
     group.append(element("rect", { class: "box " + state + (told === "can step" ? " ready" : ""), x, y, width: 140, height: 58, rx: 5 }),
       element("text", { x: x + 8, y: y + 17, "font-weight": "bold" }, (task.name + " " + task.body).slice(0, 16)),
