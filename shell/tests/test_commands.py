@@ -47,6 +47,7 @@ RACE = (
     ("hist", ["hist 17", "0#1 start"]),
     ("lanes 0#7", ["  0 ", "* end"]),
     ("graph", ["0 main: ended"]),
+    ("page", ["page FILE, for example: page race.html"]),
     ("why 0.2#2", ["why 8", "0#1 start"]),
     ("why 0#9", ["refused 1 NoSuchStep", "  step 0#9 doesn't stand"]),
     ("who 0.1#4", ["who 9", "0.1#5 end", "0.2#2 load r1 0 1"]),
