@@ -4,6 +4,7 @@ import os
 import shutil
 import sys
 
+from shell.facts import Stopped
 from shell.graph import graph_of, tree_of, write_graph
 from shell.lanes import lanes_of, text_rows
 from shell.lanes_svg import svg_of
@@ -14,11 +15,18 @@ from shell.source import Source, split_session
 
 TOP = os.path.dirname(os.path.dirname(os.path.abspath(__file__)))
 BUILT = os.path.join(TOP, "crates", "taskback", "out", "taskback")
+UNPROVED = os.path.join(TOP, ".cache", "taskback")
+
+
+def program_here():
+    """The program that TASKBACK_PROGRAM names, else the proved one, else the unproved one that ./run has built."""
+    there = [path for path in (BUILT, UNPROVED) if os.access(path, os.X_OK)]
+    return os.environ.get("TASKBACK_PROGRAM") or (there or [BUILT])[0]
 
 
 def play_file(path, program=None):
     """A session whose commands have been carried out; ends with a status where it can't be."""
-    program = program or os.environ.get("TASKBACK_PROGRAM") or BUILT
+    program = program or program_here()
     try:
         with open(path, encoding="utf-8", errors="surrogateescape", newline="\n") as file:
             text, commands = split_session(file.read())
@@ -33,7 +41,15 @@ def play_file(path, program=None):
 
 
 class Drawing:
-    """The part of the shell that draws."""
+    """The part of the shell that draws; Ctrl-C stops it."""
+
+    def drawn(self, make, *words):
+        """What is to be drawn; None where Ctrl-C came first."""
+        try:
+            return make(self.session, *words, stop=lambda: self.interrupted)
+        except Stopped:
+            self.note("stopped by Ctrl-C; nothing is drawn")
+            return None
 
     def write(self, path, text):
         """Writes a picture, and says so; returns whether it could."""
@@ -50,7 +66,9 @@ class Drawing:
         if len(words) > 1:
             self.wrong("graph")
             return
-        graph = graph_of(self.session)
+        graph = self.drawn(graph_of)
+        if graph is None:
+            return
         if not words:
             for line in tree_of(graph):
                 self.say(line)
@@ -67,10 +85,13 @@ class Drawing:
         if len(files) > 1:
             self.wrong("lanes")
             return
-        lanes = lanes_of(self.session, chosen)
-        if lanes is None:
+        if chosen and not self.session.view(f"who {chosen}")[0].startswith("who "):
             self.say(f"step {chosen} doesn't stand")
-        elif files:
+            return
+        lanes = self.drawn(lanes_of, chosen)
+        if lanes is None:
+            return
+        if files:
             if self.write(files[0], svg_of(lanes)):
                 self.say(f"drawn to {files[0]}, {len(lanes.steps)} steps in {len(lanes.tasks)} lanes")
         else:
@@ -87,6 +108,9 @@ class Drawing:
         if len(words) != 1:
             self.wrong("page")
             return
-        page, commands, steps = page_of(self.session)
+        told = self.drawn(page_of)
+        if told is None:
+            return
+        page, commands, steps = told
         if self.write(words[0], page):
             self.say(f"written to {words[0]}, {commands} commands and {steps} steps")

@@ -69,14 +69,21 @@ def race_of(line):
     return Race(first, second, " ".join(rest[:-1] if apart else rest), apart)
 
 
-class Facts:
-    """Asks a session for what is drawn; what isn't asked for isn't fetched."""
+class Stopped(Exception):
+    """The user stopped a picture that was being drawn."""
 
-    def __init__(self, session):
+
+class Facts:
+    """Asks a session for what is drawn; what isn't asked for isn't fetched. `stop` ends it early."""
+
+    def __init__(self, session, stop=lambda: False):
         self.session = session
+        self.stop = stop
 
     def ask(self, command):
         """The lines of a view after its count; None where the program has no such view."""
+        if self.stop():
+            raise Stopped
         reply = self.session.view(command)
         return None if reply == NOT_THERE else reply[1:]
 

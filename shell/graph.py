@@ -79,9 +79,9 @@ def waits_of(facts, steps):
     return found
 
 
-def graph_of(session):
+def graph_of(session, stop=lambda: False):
     """The graph of a session at this moment."""
-    facts = Facts(session)
+    facts = Facts(session, stop)
     tasks, steps = facts.tasks(), facts.steps()
     spawns = [step for step in steps if step.word == "spawn"]
     waits = waits_of(facts, steps)

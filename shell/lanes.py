@@ -38,9 +38,9 @@ class Lanes:
         return [(early, late, kind) for late, needed in (self.causes or {}).items() for kind, early in needed if kind != "task"]
 
 
-def lanes_of(session, chosen=None):
+def lanes_of(session, chosen=None, stop=lambda: False):
     """The lanes of a session at this moment; the shaded steps are those that `roll` of the chosen one would take."""
-    facts = Facts(session)
+    facts = Facts(session, stop)
     steps = facts.steps()
     causes = {}
     for step in steps:

@@ -20,9 +20,9 @@ def part(name):
         return file.read()
 
 
-def page_of(session):
+def page_of(session, stop=lambda: False):
     """The page of all that a session did."""
-    story = Story(session)
+    story = Story(session, stop)
     data = story.data()
     # In a script only `</` could end the data, and bytes that are no text can't stand in a page.
     told = json.dumps(data, separators=(",", ":")).replace("</", "<\\/")

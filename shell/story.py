@@ -4,8 +4,8 @@ from shell.facts import Facts, by_name, label_of
 from shell.protocol import words_of
 from shell.session import CHANGES, Session, is_step
 
-# Without causes each step's needs are asked for whole, which grows with the square of the history.
-MOST_WHOLE = 2000
+# Without causes the needs of each step are asked for whole, which soon takes long.
+MOST_WHOLE = 500
 TAKES_BACK = ("undo", "roll", "rolltask", "rollcell", "rollprint")
 SHOWN_LINES = 60
 
@@ -17,21 +17,23 @@ class Story:
     went at `died` stood at the moments from the one up to the other, the other not among them.
     """
 
-    def __init__(self, session):
+    def __init__(self, session, stop=lambda: False):
         # A second program does it all again, so the one that is used stays as it is.
         self.session = Session(session.path, session.source, session.limit, session.options)
-        self.facts = Facts(self.session)
+        self.facts = Facts(self.session, stop)
         self.commands = []
         self.steps, self.standing, self.fresh = [], {}, []
         self.tasks, self.there, self.spawner = [], {}, {}
-        self.cells, self.shown = {}, {}
+        self.cells, self.shown, self.needed = {}, {}, {}
         self.out, self.printed = [], []
         self.has_causes = self.has_races = True
-        self.note(0)
-        for at, (command, _) in enumerate(session.log, 1):
-            self.play(at, command)
-        self.explain_steps()
-        self.session.close()
+        try:
+            self.note(0)
+            for at, (command, _) in enumerate(session.log, 1):
+                self.play(at, command)
+            self.explain_steps()
+        finally:
+            self.session.close()
 
     def play(self, at, command):
         """One command, and what changed by it."""
@@ -44,7 +46,7 @@ class Story:
             for line in filter(is_step, reply):
                 self.took(at, line)
         elif reply[0].split(" ")[0] == CHANGES.get(word) and word in TAKES_BACK:
-            gone = [command_step(command)] if word == "undo" else [line.split(" ")[0] for line in reply[1:]]
+            gone = reply[0].split(" ")[1:] if word == "undo" else [line.split(" ")[0] for line in reply[1:]]
             for name in gone:
                 self.steps[self.standing.pop(name)]["died"] = at
         else:
@@ -117,23 +119,15 @@ class Story:
             self.has_causes = False
         if len(self.steps) > MOST_WHOLE:
             return None
-        # Newest first: what a need needs is no immediate need.
-        found, covered = [], set()
+        # Newest first: what a need needs is no immediate need. Sets of steps are bits of numbers.
+        found, covered, needed = [], 0, 0
         for early in sorted((self.standing[early] for early in self.facts.needs(name)), reverse=True):
-            if early not in covered:
+            needed |= 1 << early
+            if not covered >> early & 1:
                 found.append(["", early])
-                covered |= self.needs_of(early)
-        return sorted(found, key=lambda pair: pair[1])
-
-    def needs_of(self, index):
-        """All that a step needs, by the causes that were found."""
-        found, left = set(), [index]
-        while left:
-            for _, early in self.steps[left.pop()]["causes"]:
-                if early not in found:
-                    found.add(early)
-                    left.append(early)
-        return found
+                covered |= self.needed[early]
+        self.needed[self.standing[name]] = needed
+        return found[::-1]
 
     def orders(self):
         """For each task the dependences that no other implies, and its exclusions, with their clauses."""
@@ -161,7 +155,7 @@ class Story:
             (self.has_causes, "causes: the program shows none, so needs have no kinds"),
             (self.has_races, "races: the program shows none")) if not there]
         if any(step["causes"] is None for step in self.steps):
-            left_out.append(f"needs: without causes only histories up to {MOST_WHOLE} steps have them")
+            left_out.append(f"needs: without causes only sessions up to {MOST_WHOLE} steps have them")
         source = self.session.source
         return {
             "title": source.name, "source": source.lines, "commands": self.commands, "leftOut": left_out,
@@ -169,8 +163,3 @@ class Story:
             "tasks": [[task["name"], task["body"], task["step"], task["born"], task["died"], task["states"], task["before"], task["apart"]]
                       for task in self.tasks],
             "cells": self.cells, "out": self.out}
-
-
-def command_step(command):
-    """The step that an undo names."""
-    return words_of(command)[1]

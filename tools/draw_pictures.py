@@ -3,7 +3,7 @@
 
     tools/draw_pictures.py [FOLDER]     draws to FOLDER (none: docs/pictures)
 
-TASKBACK_PROGRAM names the program, where it isn't the proved one. The shell's tests draw them too, and compare.
+TASKBACK_PROGRAM names the program; without it, it is the proved one, else the unproved one of ./run. The shell's tests draw them too, and compare.
 """
 import os
 import sys
@@ -11,7 +11,7 @@ import sys
 TOP = os.path.dirname(os.path.dirname(os.path.realpath(__file__)))
 sys.path.insert(0, TOP)
 
-from shell.drawing import BUILT  # noqa: E402
+from shell.drawing import program_here  # noqa: E402
 from shell.lanes import lanes_of  # noqa: E402
 from shell.lanes_svg import svg_of  # noqa: E402
 from shell.session import Session  # noqa: E402
@@ -43,11 +43,10 @@ def main(words):
         print(__doc__, file=sys.stderr)
         return 2
     folder = words[0] if words else os.path.join(TOP, "docs", "pictures")
-    program = os.environ.get("TASKBACK_PROGRAM") or BUILT
     os.makedirs(folder, exist_ok=True)
     for name in PICTURES:
         with open(os.path.join(folder, name + ".svg"), "w", encoding="utf-8") as file:
-            file.write(picture(name, program))
+            file.write(picture(name, program_here()))
     return 0
 
 

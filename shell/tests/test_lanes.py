@@ -6,7 +6,7 @@ import unittest
 import xml.etree.ElementTree as tree
 
 from programs import random_program
-from support import EXAMPLES, PROGRAM, Terminal, example, needs_program, write_file
+from support import EXAMPLES, PROGRAM, Terminal, contrast, example, needs_program, write_file
 from shell import lanes_svg
 from shell.lanes import NO_CAUSES, NO_RACES, lanes_of, text_rows
 from shell.lanes_svg import svg_of
@@ -86,13 +86,9 @@ class LanesTest(unittest.TestCase):
         self.assertIsNone(lanes_of(session, "0.9.9#9"))
 
     def test_contrast(self):
-        def light(colour):
-            parts = [int(colour[at:at + 2], 16) / 255 for at in (1, 3, 5)]
-            red, green, blue = (part / 12.92 if part <= 0.03928 else ((part + 0.055) / 1.055) ** 2.4 for part in parts)
-            return 0.2126 * red + 0.7152 * green + 0.0722 * blue
         for colour in [lanes_svg.INK, lanes_svg.RED] + [colour for colour, _, _ in lanes_svg.KINDS.values()]:
             for ground in ("#ffffff", "#ffe7a3"):
-                self.assertGreaterEqual((light(ground) + 0.05) / (light(colour) + 0.05), 4.5, (colour, ground))
+                self.assertGreaterEqual(contrast(colour, ground), 4.5, (colour, ground))
 
     def test_commands(self):
         shell = Terminal(self, [os.path.join(EXAMPLES, "race.task")], NO_COLOR="1")

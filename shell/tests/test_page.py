@@ -1,5 +1,6 @@
 """The page of a session: its data against the views, and the page itself in a real browser."""
 
+import io
 import json
 import os
 import re
@@ -8,7 +9,8 @@ import subprocess
 import tempfile
 import unittest
 
-from support import EXAMPLES, PROGRAM, Terminal, example, needs_program, write_file
+from support import EXAMPLES, PROGRAM, TOP, Terminal, contrast, example, needs_program, write_file
+from shell.commands import Shell
 from shell.drawing import play_file
 from shell.page import page_of
 from shell.session import Session
@@ -131,6 +133,33 @@ class DataTest(unittest.TestCase):
         self.assertEqual(shell.ask("page " + path), [f"written to {path}, 1 commands and 17 steps"])
         self.assertEqual(shell.ask("page"), ["page FILE, for example: page race.html"])
         self.assertEqual(shell.ask("page /no/file"), ["can't write /no/file: No such file or directory"])
+
+    def test_ctrl_c_stops_each_picture(self):
+        session, _ = walked(self, 1)
+        out = io.StringIO()
+        shell = Shell(session, out)
+        # As the handler of Ctrl-C sets it while a command is carried out.
+        shell.interrupted = True
+        path = write_file(self, "as before", "a.html")
+        for act, words in ((shell.do_lanes, []), (shell.do_graph, [path]), (shell.do_page, [path])):
+            act(words)
+        self.assertEqual(out.getvalue(), "  stopped by Ctrl-C; nothing is drawn\n" * 3)
+        with open(path, encoding="utf-8") as file:
+            self.assertEqual(file.read(), "as before")
+
+
+class ContrastTest(unittest.TestCase):
+    def test_words_can_be_read_on_each_ground(self):
+        with open(os.path.join(TOP, "shell", "page.css"), encoding="utf-8") as file:
+            colour = dict(re.findall(r"--(\w+): (#\w+);", file.read()))
+        for ground in ("paper", "pale", "chosen", "needs", "needers"):
+            self.assertGreaterEqual(contrast(colour["ink"], colour[ground]), 4.5)
+        for ground in ("#e4e4e4", "#ffd6d6"):
+            self.assertGreaterEqual(contrast(colour["ink"], ground), 4.5)
+        for word in ("race", "blue", "green", "faint"):
+            self.assertGreaterEqual(contrast(colour[word], colour["paper"]), 4.5, word)
+        # Lines that carry a meaning, and frames, need less.
+        self.assertGreaterEqual(contrast(colour["line"], colour["paper"]), 3)
 
 
 @needs_program
