@@ -4,6 +4,7 @@ import cmd
 import re
 
 from shell import texts
+from shell.drawing import Drawing
 from shell.protocol import Ended, words_of
 from shell.session import is_step
 from shell.walking import Walking
@@ -11,13 +12,13 @@ from shell.walking import Walking
 STEP = re.compile(r"(?<![\w.#])[0-9][0-9.]*#[0-9]+")
 MOST_STEPS = 1000000
 OWN = ("help", "quit", "list", "save", "restart", "limit", "source", "back", "finish", "until", "random",
-       "last", "info")
+       "last", "info", "graph", "lanes", "page")
 TAKES_TASK = ("step", "finish", "task", "deps", "rolltask", "list")
-TAKES_STEP = ("undo", "roll", "why", "who", "until", "causes")
+TAKES_STEP = ("undo", "roll", "why", "who", "until", "causes", "lanes")
 VIEWS = ("tasks", "task", "cells", "out", "ready", "waits", "deps", "breaks", "hist", "why", "who", "races", "causes")
 
 
-class Shell(Walking, cmd.Cmd):
+class Shell(Walking, Drawing, cmd.Cmd):
     """Commands as they are typed; `plain` leaves the program's lines as they are."""
 
     def __init__(self, session, out, plain=False, colours=False, typed=True, queue=()):

@@ -35,6 +35,9 @@ HELP = {
     "who": ("who T#K", "the steps that need a step", "who 0.1#4"),
     "races": ("races", "accesses of one cell that nothing orders", "races"),
     "causes": ("causes T#K", "what a step's values come from", "causes 0#6"),
+    "graph": ("graph [FILE]", "the tasks as a tree with their order; to FILE as Graphviz draws it (.svg, .png), or .dot", "graph tasks.svg"),
+    "lanes": ("lanes [T#K] [FILE]", "the history, a lane a task; what roll T#K would take is shaded; to FILE as SVG", "lanes 0.1#4"),
+    "page": ("page FILE", "all that was done, as one page for a browser: program, history, tasks, races", "page race.html"),
     "info": ("info VIEW", "as VIEW alone", "i tasks"),
     "save": ("save FILE", "writes the session so far, which gives the same replies", "save race.session"),
     "source": ("source [FILE]", "plays the commands of FILE; alone: the next command of the session file that was opened", "source more.session"),
@@ -103,13 +106,15 @@ def needs_order(new, old):
     return "apart" if kind == other == "mutexinoutset" else "after"
 
 
+def matching_pairs(new_items, old_items, how=None):
+    """The pairs of items of two siblings from which an order follows, or this one: `after` or `apart`."""
+    return [(new, old) for new in new_items for old in old_items
+            if needs_order(new, old) and how in (None, needs_order(new, old))]
+
+
 def matching_items(new_items, old_items):
     """The first pair of items of two siblings from which an order follows."""
-    for new in new_items:
-        for old in old_items:
-            if needs_order(new, old):
-                return new, old
-    return None
+    return next(iter(matching_pairs(new_items, old_items)), None)
 
 
 def refusal_words(command, reply):

@@ -1,0 +1,178 @@
+"""What a picture is drawn from: the program's replies at one moment, and nothing else."""
+
+from dataclasses import dataclass, field
+
+from shell.texts import matching_pairs
+
+NOT_THERE = ["error word"]
+
+
+@dataclass
+class Task:
+    """A task as `tasks`, `deps`, `task`, `ready` and `waits` show it."""
+
+    name: str
+    body: str
+    state: str
+    line: int | None = None
+    before: list = field(default_factory=list)
+    apart: list = field(default_factory=list)
+    items: list = field(default_factory=list)
+    ready: bool = False
+    waits: tuple | None = None
+
+    @property
+    def parent(self):
+        """The name of the task that generated this one; None for the root."""
+        return self.name.rpartition(".")[0] or None
+
+
+@dataclass
+class Step:
+    """A step that stands: its name, its task, what it did, and its line in the program."""
+
+    name: str
+    did: str
+    line: int | None
+
+    @property
+    def task(self):
+        """The task's name."""
+        return self.name.split("#")[0]
+
+    @property
+    def word(self):
+        """The first word of what it did."""
+        return self.did.split(" ")[0]
+
+
+@dataclass
+class Race:
+    """A line of `races`: two steps, `cell C` or `print`, and whether exclusion keeps them apart."""
+
+    first: str
+    second: str
+    over: str
+    apart: bool
+
+
+def step_of(line, places):
+    """The step of a line that shows one."""
+    name, _, did = line.partition(" ")
+    return Step(name, did, places.line_of(name))
+
+
+def race_of(line):
+    """The race of a line of `races`."""
+    first, second, *rest = line.split(" ")
+    apart = rest[-1] == "apart"
+    return Race(first, second, " ".join(rest[:-1] if apart else rest), apart)
+
+
+class Stopped(Exception):
+    """The user stopped a picture that was being drawn."""
+
+
+class Facts:
+    """Asks a session for what is drawn; what isn't asked for isn't fetched. `stop` ends it early."""
+
+    def __init__(self, session, stop=lambda: False):
+        self.session = session
+        self.stop = stop
+
+    def ask(self, command):
+        """The lines of a view after its count; None where the program has no such view."""
+        if self.stop():
+            raise Stopped
+        reply = self.session.view(command)
+        return None if reply == NOT_THERE else reply[1:]
+
+    def steps(self):
+        """The steps that stand, from the oldest."""
+        return [step_of(line, self.session.places) for line in self.ask("hist")]
+
+    def causes(self, step):
+        """The immediate needs of a step as pairs of kind and step; None where the program doesn't show them."""
+        lines = self.ask(f"causes {step}")
+        if lines is None:
+            return None
+        return [(kind, did.split(" ")[0]) for kind, did in (line.split(": ", 1) for line in lines)]
+
+    def needs(self, step):
+        """The steps that a step needs."""
+        return [line.split(" ")[0] for line in self.ask(f"why {step}")]
+
+    def taken_back(self, step):
+        """The steps that a rollback of this one would take, itself among them; None where it doesn't stand."""
+        reply = self.session.view(f"who {step}")
+        if not reply[0].startswith("who "):
+            return None
+        return {step} | {line.split(" ")[0] for line in reply[1:]}
+
+    def races(self):
+        """The races; None where the program doesn't show them."""
+        lines = self.ask("races")
+        return None if lines is None else [race_of(line) for line in lines]
+
+    def task_states(self):
+        """The tasks by names, with what they are doing."""
+        found = {}
+        for line in self.ask("tasks"):
+            name, body, state, *at = line.split(" ")
+            found[name] = Task(name, body, state, int(at[0]) if at else None)
+        for name in self.ask("ready"):
+            found[name].ready = True
+        for line in self.ask("waits"):
+            name, why, other = line.split(" ")
+            found[name].waits = (why, other)
+        return found
+
+    def order_of(self, task):
+        """Fills in a task's items, and the siblings on which it depends or that exclude it."""
+        for line in self.ask(f"deps {task.name}"):
+            other, how = line.split(" ")
+            (task.before if how == "before" else task.apart).append(other)
+        reply = self.session.view(f"task {task.name}")
+        at = next(place for place, line in enumerate(reply) if line.startswith("items "))
+        task.items = reply[at + 1:]
+
+    def tasks(self):
+        """All tasks by names, with items and order."""
+        found = self.task_states()
+        for task in found.values():
+            self.order_of(task)
+        return found
+
+
+def by_name(name):
+    """The order of tasks' names: number by number."""
+    return [int(part) for part in name.split(".")]
+
+
+def reduced(before):
+    """The dependences that no other implies: `before` has each task's earlier ones; returns those that are drawn."""
+    names = sorted(before, key=by_name)
+    bit = {name: 1 << at for at, name in enumerate(names)}
+    # All that come before a task, through others too; an earlier sibling is done first.
+    behind, drawn = {}, {}
+    for name in names:
+        through = 0
+        for other in before[name]:
+            through |= behind[other]
+        drawn[name] = [other for other in before[name] if not through & bit[other]]
+        behind[name] = through
+        for other in before[name]:
+            behind[name] |= bit[other]
+    return drawn
+
+
+def label_of(new, old, how):
+    """The cells and types for which two siblings are ordered, or kept apart: `cell 0: out, in`."""
+    pairs = []
+    for one, two in matching_pairs(new.items, old.items, how):
+        (kind, cell), (other, place) = one.split(" "), two.split(" ")
+        text = f"cell {place if cell == 'all' else cell}" if "all" not in (cell, place) or cell != place else "all cells"
+        pair = f"{text}: {other}, {kind}"
+        if pair not in pairs:
+            pairs.append(pair)
+    return pairs

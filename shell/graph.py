@@ -1,0 +1,224 @@
+"""The tasks as a graph: who generated whom, which dependences order them, who excludes whom, and who is waited for.
+
+    shell/graph.py SESSION [FILE]     plays the session and draws its tasks: FILE.dot as text, else by Graphviz
+                                      as FILE's ending says; without FILE, the dot language on standard output
+"""
+
+import os
+import shutil
+import subprocess
+import sys
+from dataclasses import dataclass
+
+if __name__ == "__main__":
+    sys.path.insert(0, os.path.dirname(os.path.dirname(os.path.abspath(__file__))))
+
+from shell.facts import Facts, by_name, label_of, reduced  # noqa: E402
+from shell.lanes import NO_CAUSES  # noqa: E402
+
+# Each state: its fill, its outline, and the style of the outline, so that it can be told without colour.
+STATES = {
+    "pending": ("#ffffff", "#5c5c5c", "dashed"),
+    "running": ("#cfe3ff", "#0b5cad", "solid"),
+    "ended": ("#e4e4e4", "#1b1b1b", "solid"),
+    "faulted": ("#ffd6d6", "#b00020", "diagonals"),
+}
+READY = "#11693d"
+
+
+@dataclass
+class Wait:
+    """A taskwait that is over, and the children whose ends it needs at once."""
+
+    step: str
+    line: int | None
+    children: list
+
+
+@dataclass
+class Graph:
+    """What is drawn."""
+
+    title: str
+    tasks: dict
+    drawn: dict
+    inside: dict
+    outer: dict
+    spawned: dict
+    undeferred: set
+    waits: list
+    left_out: list
+
+
+def groups_of(steps):
+    """The innermost group of each task, named by the step that opened it, and of each group the one around it."""
+    opened, inside, outer = {}, {"0": None}, {}
+    for step in steps:
+        stack = opened.setdefault(step.task, [])
+        # What a task generates outside of its own groups is where the task itself is.
+        here = stack[-1] if stack else inside[step.task]
+        if step.word == "open":
+            outer[step.name] = here
+            stack.append(step.name)
+        elif step.word == "close":
+            stack.pop()
+        elif step.word == "spawn":
+            inside[step.did.split(" ")[1]] = here
+    return inside, outer
+
+
+def waits_of(facts, steps):
+    """The waits that are over, by the causes of each; None where the program doesn't show them."""
+    found = []
+    for step in steps:
+        if step.word == "wait":
+            causes = facts.causes(step.name)
+            if causes is None:
+                return None
+            found.append(Wait(step.name, step.line, [early.split("#")[0] for kind, early in causes if kind == "wait"]))
+    return found
+
+
+def graph_of(session, stop=lambda: False):
+    """The graph of a session at this moment."""
+    facts = Facts(session, stop)
+    tasks, steps = facts.tasks(), facts.steps()
+    spawns = [step for step in steps if step.word == "spawn"]
+    waits = waits_of(facts, steps)
+    inside, outer = groups_of(steps)
+    return Graph(session.source.name, tasks, reduced({name: task.before for name, task in tasks.items()}), inside, outer,
+                 {step.did.split(" ")[1]: step.line for step in spawns},
+                 {step.did.split(" ")[1] for step in spawns if step.did.endswith(" undeferred")},
+                 waits or [], [NO_CAUSES] if waits is None else [])
+
+
+def quoted(text):
+    """A text as a word of the dot language."""
+    return '"' + text.replace("\\", "\\\\").replace('"', '\\"').replace("\n", "\\n") + '"'
+
+
+def note_of(task):
+    """What a task does or waits for."""
+    if task.ready:
+        return "can step"
+    if task.waits:
+        why, other = task.waits
+        return {"Waiting": f"depends on {other}", "Excluded": f"excluded by {other}"}.get(why, f"waits for {other}")
+    return task.state
+
+
+def state_of(task):
+    """The task's state with its line: `running at line 5`."""
+    return task.state + (f" at line {task.line}" if task.line else "")
+
+
+def node(task):
+    """A task's box."""
+    fill, outline, style = STATES[task.state]
+    rows = [f"{task.name}  {task.body}", state_of(task)] + ([note_of(task)] if note_of(task) != task.state else [])
+    wide = 3 if task.ready else 1.2
+    return (f"{quoted(task.name)} [label={quoted(chr(10).join(rows))}, style={quoted('filled,' + style)}, fillcolor={quoted(fill)}, "
+            f"color={quoted(READY if task.ready else outline)}, penwidth={wide}]")
+
+
+def boxes(graph):
+    """The groups in each group, where a task is in them."""
+    inner, seen = {}, set()
+    for group in graph.inside.values():
+        while group and group not in seen:
+            seen.add(group)
+            inner.setdefault(graph.outer[group], []).append(group)
+            group = graph.outer[group]
+    return inner
+
+
+def cluster(graph, group, inner, members, pad):
+    """The tasks of a group, and the groups in it, each in a box."""
+    lines = [pad + node(graph.tasks[name]) for name in members.get(group, ())]
+    for child in inner.get(group, ()):
+        lines += [f"{pad}subgraph {quoted('cluster ' + child)} {{",
+                  f'{pad}  label={quoted("taskgroup " + child)}; style=rounded; color="#11693d"',
+                  *cluster(graph, child, inner, members, pad + "  "), pad + "}"]
+    return lines
+
+
+def arrows(graph):
+    """The arrows: who generated whom, who comes before whom, who excludes whom, who was waited for."""
+    lines = []
+    for name, task in graph.tasks.items():
+        if task.parent is not None:
+            label = " undeferred" if name in graph.undeferred else ""
+            lines.append(f'{quoted(task.parent)} -> {quoted(name)} [class=spawn, color="#8c8c8c", arrowhead=open, label={quoted(label)}]')
+        for other in graph.drawn[name]:
+            label = "\n".join(label_of(task, graph.tasks[other], "after"))
+            lines.append(f"{quoted(other)} -> {quoted(name)} [class=before, penwidth=1.8, label={quoted(label)}]")
+        for other in task.apart:
+            if by_name(other) < by_name(name):
+                label = "\n".join(["not together"] + label_of(task, graph.tasks[other], "apart"))
+                lines.append(f'{quoted(other)} -> {quoted(name)} [class=apart, dir=none, style=dashed, color="#8a4b00", '
+                             f"constraint=false, label={quoted(label)}]")
+    for wait in graph.waits:
+        place = f"taskwait\nline {wait.line}" if wait.line else "taskwait"
+        lines.append(f'{quoted(wait.step)} [shape=diamond, fontsize=9, margin="0.02", label={quoted(place)}]')
+        lines.append(f'{quoted(wait.step.split("#")[0])} -> {quoted(wait.step)} [class=at, color="#8c8c8c", arrowhead=none]')
+        lines += [f'{quoted(child)} -> {quoted(wait.step)} [class=wait, color="#11693d", style=dotted]' for child in wait.children]
+    return lines
+
+
+def dot_of(graph):
+    """The graph in the dot language."""
+    members = {}
+    for name in graph.tasks:
+        members.setdefault(graph.inside.get(name), []).append(name)
+    title = "\n".join([f"The tasks of {graph.title}", *graph.left_out])
+    lines = ["digraph tasks {", f'  graph [fontname="monospace", bgcolor=white, labelloc=t, label={quoted(title)}]',
+             '  node [shape=box, fontname="monospace", fontsize=11, fontcolor="#1b1b1b"]',
+             '  edge [fontname="monospace", fontsize=9, fontcolor="#1b1b1b", color="#1b1b1b"]',
+             *cluster(graph, None, boxes(graph), members, "  "), *("  " + line for line in arrows(graph)), "}"]
+    return "\n".join(lines) + "\n"
+
+
+def tree_of(graph):
+    """The graph as text, a task a line, each below the one that generated it."""
+    lines = []
+    for name, task in graph.tasks.items():
+        parts = [state_of(task)] + ([note_of(task)] if note_of(task) != task.state else [])
+        parts += ["undeferred"] if name in graph.undeferred else []
+        pad = "  " * name.count(".")
+        lines.append(f"{pad}{name} {task.body}: {', '.join(parts)}")
+        for word, others, how in (("after", graph.drawn[name], "after"), ("apart from", task.apart, "apart")):
+            lines += [f"{pad}    {word} {other}, {', '.join(label_of(task, graph.tasks[other], how)[:3])}" for other in others]
+    return lines + graph.left_out
+
+
+def write_graph(path, graph):
+    """Writes the picture, by Graphviz where the file isn't a `.dot`; returns what to say of it."""
+    base, kind = os.path.splitext(path)
+    program = shutil.which("dot")
+    if kind != ".dot" and program:
+        done = subprocess.run([program, f"-T{kind[1:] or 'svg'}", "-o", path], input=dot_of(graph), text=True, capture_output=True, check=False)
+        return f"drawn to {path}, {len(graph.tasks)} tasks" if done.returncode == 0 else f"dot: {done.stderr.strip()}"
+    path = path if kind == ".dot" else base + ".dot"
+    with open(path, "w", encoding="utf-8") as file:
+        file.write(dot_of(graph))
+    return f"written to {path}, {len(graph.tasks)} tasks" + ("" if kind == ".dot" else "; Graphviz, which would draw it, isn't here")
+
+
+def main(words):
+    """Draws a session's tasks; returns the status."""
+    from shell.drawing import play_file
+    if not 1 <= len(words) <= 2:
+        print(__doc__, file=sys.stderr)
+        return 2
+    session = play_file(words[0])
+    graph = graph_of(session)
+    session.close()
+    if len(words) == 1:
+        sys.stdout.write(dot_of(graph))
+    else:
+        print(write_graph(words[1], graph))
+    return 0
+
+
+if __name__ == "__main__":
+    sys.exit(main(sys.argv[1:]))

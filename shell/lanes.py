@@ -1,0 +1,140 @@
+"""The history as a space-time picture: a lane for each task, the steps in order from the top, and why each is needed.
+
+    shell/lanes.py SESSION [T#K] [FILE]     plays the session, and draws its lanes as text, or to FILE as SVG;
+                                            what `roll T#K` would take is shaded
+"""
+
+import os
+import sys
+from dataclasses import dataclass
+
+if __name__ == "__main__":
+    sys.path.insert(0, os.path.dirname(os.path.dirname(os.path.abspath(__file__))))
+
+from shell.facts import Facts, by_name  # noqa: E402
+
+NO_CAUSES = "this program shows no causes: their arrows are left out"
+NO_RACES = "this program shows no races: they are left out"
+
+
+@dataclass
+class Lanes:
+    """What is drawn."""
+
+    title: str
+    tasks: list
+    steps: list
+    causes: dict | None
+    races: list | None
+    chosen: str | None = None
+    shaded: frozenset = frozenset()
+
+    def left_out(self):
+        """What isn't drawn, since the program has no such view."""
+        return [text for view, text in ((self.causes, NO_CAUSES), (self.races, NO_RACES)) if view is None]
+
+    def arrows(self):
+        """Each immediate need of another task's step: the earlier step, the later one, and the kind."""
+        return [(early, late, kind) for late, needed in (self.causes or {}).items() for kind, early in needed if kind != "task"]
+
+
+def lanes_of(session, chosen=None, stop=lambda: False):
+    """The lanes of a session at this moment; the shaded steps are those that `roll` of the chosen one would take."""
+    facts = Facts(session, stop)
+    steps = facts.steps()
+    causes = {}
+    for step in steps:
+        causes[step.name] = facts.causes(step.name)
+        if causes[step.name] is None:
+            causes = None
+            break
+    shaded = facts.taken_back(chosen) if chosen else frozenset()
+    tasks = sorted(facts.task_states().values(), key=lambda task: by_name(task.name))
+    return None if shaded is None else Lanes(session.source.name, tasks, steps, causes, facts.races(), chosen, frozenset(shaded))
+
+
+def note_of(lanes, step, races):
+    """What stands beside a step: the causes in other lanes, and its race."""
+    needed = [(kind, early) for kind, early in (lanes.causes or {}).get(step.name, ()) if kind != "task"]
+    parts = [f"{kind}: {early}" for kind, early in needed]
+    for race in races.get(step.name, ()):
+        parts.append(f"{'apart' if race.apart else 'RACE'} {race.over}: {race.first}")
+    return "<- " + ", ".join(parts) if parts else ""
+
+
+def by_later(races):
+    """The races by their later steps."""
+    found = {}
+    for race in races or ():
+        found.setdefault(race.second, []).append(race)
+    return found
+
+
+def lives(steps, names):
+    """From which step to which each task is there: the step that generated it, and the one that ended it."""
+    first, last = {"0": 0}, {}
+    for at, step in enumerate(steps):
+        if step.word == "spawn":
+            first[step.did.split(" ")[1]] = at
+        elif step.word in ("end", "fault"):
+            last[step.task] = at
+    return {name: (first.get(name, 0), last.get(name, len(steps))) for name in names}
+
+
+def cut(text, width):
+    """The text in this many places."""
+    return text if len(text) <= width else text[:max(0, width - 1)] + "~"
+
+
+def text_rows(lanes, width, shade=lambda text: text):
+    """The lines of the picture at a terminal of this width; `shade` marks a line beside its `*`."""
+    names = [task.name for task in lanes.tasks]
+    room = min([len(step.did) for step in lanes.steps] + [16])
+    room = max([min(len(step.did), 16) for step in lanes.steps] + [room, 5]) + 2
+    fit = max(1, min(len(names), (width - 2) // room))
+    hidden = names[fit:]
+    names = names[:fit]
+    there = lives(lanes.steps, names)
+    races = by_later(lanes.races)
+    rows = ["  " + "".join(cut(name, room - 1).ljust(room) for name in names).rstrip(),
+            "  " + "".join(cut(task.body, room - 1).ljust(room) for task in lanes.tasks[:fit]).rstrip()]
+    for at, step in enumerate(lanes.steps):
+        cells = [cut(step.did, room - 1) if name == step.task else "|" if there[name][0] < at < there[name][1] else ""
+                 for name in names]
+        mark = "* " if step.name in lanes.shaded else "  "
+        away = f"{step.name} {step.did} " if step.task in hidden else ""
+        row = mark + "".join(cell.ljust(room) for cell in cells) + away + note_of(lanes, step, races)
+        row = cut(row.rstrip(), width)
+        rows.append(shade(row) if step.name in lanes.shaded else row)
+    if hidden:
+        rows.append(cut(f"  no lane fits for {len(hidden)} more tasks, from {hidden[0]} to {hidden[-1]}", width))
+    if lanes.chosen:
+        rows.append(cut(f"  * roll {lanes.chosen} would take these {len(lanes.shaded)} steps", width))
+    return rows + [cut("  " + text, width) for text in lanes.left_out()]
+
+
+def main(words):
+    """Draws a session's lanes; returns the status."""
+    from shell.drawing import play_file
+    chosen = next((word for word in words[1:] if "#" in word), None)
+    files = [word for word in words[1:] if word != chosen]
+    if not words or len(files) > 1:
+        print(__doc__, file=sys.stderr)
+        return 2
+    session = play_file(words[0])
+    lanes = lanes_of(session, chosen)
+    session.close()
+    if lanes is None:
+        print(f"step {chosen} doesn't stand", file=sys.stderr)
+        return 2
+    if not files:
+        print("\n".join(text_rows(lanes, 100)))
+        return 0
+    from shell.lanes_svg import svg_of
+    with open(files[0], "w", encoding="utf-8") as file:
+        file.write(svg_of(lanes))
+    return 0
+
+
+if __name__ == "__main__":
+    sys.exit(main(sys.argv[1:]))

@@ -1,0 +1,161 @@
+"""Lanes as SVG: shapes and dashes beside colours, which all have enough contrast on white."""
+
+from xml.sax.saxutils import escape, quoteattr
+
+from shell.lanes import lives
+
+ROW = 28
+TOP = 76
+LEFT = 24
+LETTER = 7.3
+LONGEST = 26
+INK, RED = "#1b1b1b", "#b00020"
+# Each kind of cause: its colour, its dashes, and what the legend says.
+KINDS = {
+    "spawn": ("#5c5c5c", "", "generates"),
+    "cell": ("#0b5cad", "", "the same cell, and one stores"),
+    "print": ("#7a2ea0", "", "prints in order"),
+    "before": (INK, "", "comes before, by depend clauses"),
+    "apart": ("#8a4b00", "7 4", "excludes"),
+    "wait": ("#11693d", "", "is waited for by a taskwait"),
+    "group": ("#11693d", "7 4", "is waited for by a taskgroup"),
+    "undeferred": ("#5c5c5c", "2 4", "undeferred child of"),
+}
+SHAPES = {"start": "M-5 -6 L7 0 L-5 6 Z", "end": "M-6 -6 H6 V6 H-6 Z", "fault": "M-6 -6 L6 6 M6 -6 L-6 6"}
+ROUND = "M-5 0 A5 5 0 1 0 5 0 A5 5 0 1 0 -5 0 Z"
+STYLE = ("text{font:12px ui-monospace,Menlo,Consolas,'DejaVu Sans Mono',monospace;fill:#1b1b1b}"
+         ".name{font-weight:bold;font-size:14px}.on{paint-order:stroke;stroke:#fff;stroke-width:4px}.shaded{stroke:#ffe7a3}"
+         "path{fill:none}")
+
+
+def cut(text):
+    """A label that isn't too long."""
+    return text if len(text) <= LONGEST else text[:LONGEST - 1] + "…"
+
+
+class Drawing:
+    """Where the steps of some lanes stand, and what is drawn there."""
+
+    def __init__(self, lanes):
+        self.lanes = lanes
+        self.row = {step.name: at for at, step in enumerate(lanes.steps)}
+        self.x = {}
+        at = LEFT
+        labels = {}
+        for step in lanes.steps:
+            labels.setdefault(step.task, []).append(step.did)
+        for task in lanes.tasks:
+            self.x[task.name] = at
+            longest = max([len(cut(text)) for text in labels.get(task.name, ())] + [len(task.body), len(task.name), 8])
+            at += int(44 + LETTER * longest)
+        self.width = max(at + 8, 420)
+        self.bottom = TOP + ROW * len(lanes.steps)
+
+    def place(self, name):
+        """Where a step stands."""
+        return self.x[name.split("#")[0]], TOP + ROW * self.row[name]
+
+    def lane(self, task, there):
+        """A task's name, and its line from its generation to its end."""
+        x = self.x[task.name]
+        top, end = (TOP + ROW * at for at in there)
+        return [f'<text class="name" x="{x - 8}" y="24">{escape(task.name)}</text>',
+                f'<text x="{x - 8}" y="42">{escape(task.body)}</text>',
+                f'<path stroke="#8c8c8c" stroke-width="1.5" d="M{x} {top} V{min(end, self.bottom)}"/>']
+
+    def shade(self, step):
+        """The shade of a step that a rollback would take."""
+        x, y = self.place(step.name)
+        wide = int(30 + LETTER * len(cut(step.did)))
+        return (f'<rect class="shade" data-step={quoteattr(step.name)} x="{x - 12}" y="{y - 12}" width="{wide}" height="24" rx="5" '
+                'fill="#ffe7a3" stroke="#8a4b00" stroke-dasharray="3 2"/>')
+
+    def step(self, step):
+        """A step's mark and label."""
+        x, y = self.place(step.name)
+        line = f", line {step.line}" if step.line else ""
+        halo = "on shaded" if step.name in self.lanes.shaded else "on"
+        fill = INK if step.word in ("store", "print", "start", "end") else "#fff"
+        return (f'<g class="step" data-step={quoteattr(step.name)}><title>{escape(step.name + " " + step.did + line)}</title>'
+                f'<path transform="translate({x} {y})" style="fill:{fill}" stroke="{INK}" stroke-width="1.6" '
+                f'd="{SHAPES.get(step.word, ROUND)}"/>'
+                f'<text class="{halo}" x="{x + 13}" y="{y + 4}">{escape(cut(step.did))}</text></g>')
+
+    def curve(self, early, late, bow):
+        """A path from one step to another, and its middle."""
+        (x, y), (to_x, to_y) = self.place(early), self.place(late)
+        side = 1 if to_x > x else -1
+        x, to_x = x + side * 7, to_x - side * 9
+        lift = bow + (to_y - y) * 0.25
+        path = f"M{x} {y} C{x + side * 30} {y + lift:.0f} {to_x - side * 40} {to_y - lift * 0.3:.0f} {to_x} {to_y}"
+        return path, (x + to_x) / 2 + side * -3, (y + to_y) / 2 + bow * 0.4
+
+    def arrow(self, early, late, kind):
+        """An arrow for an immediate need."""
+        colour, dashes, _ = KINDS[kind.split(" ")[0]]
+        path, x, y = self.curve(early, late, 0)
+        dashed = f' stroke-dasharray="{dashes}"' if dashes else ""
+        word = kind.split(" ")[0]
+        label = "" if word == "spawn" else (f'<text class="on" x="{x:.0f}" y="{y:.0f}" text-anchor="middle" '
+                                            f'style="fill:{colour};font-size:11px">{escape(kind)}</text>')
+        return (f'<path class="cause" data-from={quoteattr(early)} data-to={quoteattr(late)} data-kind={quoteattr(kind)} '
+                f'stroke="{colour}" stroke-width="1.8"{dashed} marker-end="url(#{word})" d="{path}"/>' + label)
+
+    def race(self, race):
+        """A race, in red and thick, with a word beside its later step."""
+        path, _, _ = self.curve(race.first, race.second, -26)
+        (x, _), (to_x, y) = self.place(race.first), self.place(race.second)
+        word = ("apart: " if race.apart else "race: ") + race.over
+        did = self.lanes.steps[self.row[race.second]].did
+        at, anchor = (to_x - 12, "end") if to_x > x else (to_x + 24 + LETTER * len(cut(did)), "start")
+        dashes = ' stroke-dasharray="9 5"' if race.apart else ""
+        return (f'<path class="race" data-from={quoteattr(race.first)} data-to={quoteattr(race.second)} stroke="{RED}" '
+                f'stroke-width="3"{dashes} d="{path}"/>'
+                f'<text class="on" x="{at:.0f}" y="{y - 7}" text-anchor="{anchor}" style="fill:{RED};font-weight:bold">'
+                f'{escape(word)}</text>')
+
+    def legend(self):
+        """What the arrows and the shade mean, a line each."""
+        words = {kind.split(" ")[0] for _, _, kind in self.lanes.arrows()}
+        rows, y = [], self.bottom + 18
+        for word in (word for word in KINDS if word in words):
+            colour, dashes, text = KINDS[word]
+            dashed = f' stroke-dasharray="{dashes}"' if dashes else ""
+            rows.append(f'<path stroke="{colour}" stroke-width="1.8"{dashed} marker-end="url(#{word})" d="M{LEFT} {y - 4} h26"/>'
+                        f'<text x="{LEFT + 40}" y="{y}">{text}</text>')
+            y += 18
+        if self.lanes.races:
+            rows.append(f'<path stroke="{RED}" stroke-width="3" d="M{LEFT} {y - 4} h26"/>'
+                        f'<text x="{LEFT + 40}" y="{y}">nothing orders the two</text>')
+            y += 18
+        if self.lanes.chosen:
+            rows.append(f'<rect x="{LEFT}" y="{y - 11}" width="26" height="14" rx="4" fill="#ffe7a3" stroke="#8a4b00" '
+                        f'stroke-dasharray="3 2"/><text x="{LEFT + 40}" y="{y}">roll {escape(self.lanes.chosen)} '
+                        f'would take these {len(self.lanes.shaded)}</text>')
+            y += 18
+        for text in self.lanes.left_out():
+            rows.append(f'<text x="{LEFT}" y="{y}">{escape(text)}</text>')
+            y += 18
+        return rows, y
+
+
+def heads():
+    """The arrowheads, one a kind."""
+    return "".join(f'<marker id="{kind}" viewBox="0 0 8 8" refX="7" refY="4" markerWidth="6" markerHeight="6" orient="auto">'
+                   f'<path d="M0 0 L8 4 L0 8 Z" style="fill:{colour}"/></marker>' for kind, (colour, _, _) in KINDS.items())
+
+
+def svg_of(lanes):
+    """The whole picture."""
+    drawing = Drawing(lanes)
+    there = lives(lanes.steps, drawing.x)
+    legend, height = drawing.legend()
+    parts = [part for task in lanes.tasks for part in drawing.lane(task, there[task.name])]
+    parts += [drawing.shade(step) for step in lanes.steps if step.name in lanes.shaded]
+    parts += [drawing.arrow(*arrow) for arrow in lanes.arrows()]
+    parts += [drawing.step(step) for step in lanes.steps]
+    parts += [drawing.race(race) for race in lanes.races or ()]
+    title = f"The steps of {lanes.title} by tasks, and what they need"
+    return (f'<svg xmlns="http://www.w3.org/2000/svg" role="img" width="{drawing.width}" height="{height}" '
+            f'viewBox="0 0 {drawing.width} {height}">\n<title>{escape(title)}</title>\n<style>{STYLE}</style>\n'
+            f'<defs>{heads()}</defs>\n<rect width="100%" height="100%" fill="#fff"/>\n' + "\n".join(parts + legend) + "\n</svg>\n")

@@ -1,0 +1,142 @@
+"""The drawn graph against `deps`, `hist` and `causes`, on random sessions."""
+
+import os
+import re
+import shutil
+import subprocess
+import sys
+import unittest
+import xml.etree.ElementTree as tree
+
+from support import EXAMPLES, PROGRAM, TOP, Terminal, needs_program, write_file
+from shell.drawing import play_file
+from shell.graph import dot_of, graph_of, tree_of
+from shell.lanes import NO_CAUSES
+from test_lanes import walked
+from test_races import has_views
+
+EDGE = re.compile(r'^\s*"([^"]+)" -> "([^"]+)" \[class=(\w+)', re.M)
+needs_dot = unittest.skipUnless(shutil.which("dot"), "left out: Graphviz isn't here")
+
+
+def edges(dot, kind):
+    """The arrows of this class in a text of the dot language."""
+    return {(early, late) for early, late, found in EDGE.findall(dot) if found == kind}
+
+
+def closure(pairs):
+    """All pairs that a chain of these joins."""
+    found = set(pairs)
+    while True:
+        more = {(one, four) for one, two in found for three, four in pairs if two == three} - found
+        if not more:
+            return found
+        found |= more
+
+
+def boxes(dot):
+    """The boxes around each task, from the outermost."""
+    stack, found = [], {}
+    for line in dot.split("\n"):
+        opened = re.match(r'\s*subgraph "cluster ([^"]+)"', line)
+        named = re.match(r'\s*"([0-9.]+)" \[label', line)
+        if opened:
+            stack.append(opened[1])
+        elif line.strip() == "}" and stack:
+            stack.pop()
+        elif named:
+            found[named[1]] = tuple(stack)
+    return found
+
+
+@needs_program
+class GraphTest(unittest.TestCase):
+    def test_arrows(self):
+        views = has_views(self)
+        implied = 0
+        for seed in range(40):
+            session, _ = walked(self, seed)
+            dot = dot_of(graph_of(session))
+            names = [line.split(" ")[0] for line in session.view("tasks")[1:]]
+            told = [(line.split(" "), name) for name in names for line in session.view("deps " + name)[1:]]
+            before = {(other, name) for (other, how), name in told if how == "before"}
+            drawn = edges(dot, "before")
+            # Each arrow is a dependence that no chain of others gives, and all the others are given by chains.
+            self.assertTrue(drawn <= before)
+            for arrow in drawn:
+                self.assertNotIn(arrow, closure(before - {arrow}))
+            self.assertEqual(closure(drawn), closure(before))
+            implied += len(before) - len(drawn)
+            apart = {frozenset((other, name)) for (other, how), name in told if how == "apart"}
+            self.assertEqual({frozenset(pair) for pair in edges(dot, "apart")}, apart)
+            steps = session.view("hist")[1:]
+            spawned = {(line.split("#")[0], line.split(" ")[2]) for line in steps if line.split(" ")[1] == "spawn"}
+            self.assertEqual(edges(dot, "spawn"), spawned)
+            self.assertEqual(set(boxes(dot)), set(names))
+            if not views:
+                self.assertEqual(edges(dot, "wait"), set())
+                self.assertEqual(NO_CAUSES in dot, any(line.split(" ")[1] == "wait" for line in steps))
+                continue
+            waits = {(cause.split(" ")[1].split("#")[0], line.split(" ")[0]) for line in steps if line.split(" ")[1] == "wait"
+                     for cause in session.view("causes " + line.split(" ")[0])[1:] if cause.startswith("wait: ")}
+            self.assertEqual(edges(dot, "wait"), waits)
+        self.assertGreater(implied, 0)
+
+    def test_a_long_chain_of_siblings(self):
+        path = write_file(self, "cells 1\nbody main 0\n  while r0 < 300\n    task t depend inout 0\n    let r0 r0 + 1\n  end\nend\n"
+                          "body t 0\nend\n---\nrun 900\n", "chain.session")
+        session = play_file(path, PROGRAM)
+        self.addCleanup(session.close)
+        drawn = graph_of(session).drawn
+        self.assertEqual(len(drawn), 301)
+        self.assertEqual(sum(map(len, drawn.values())), len(drawn) - 2)
+
+    def test_boxes_labels_and_states(self):
+        session = play_file(os.path.join(EXAMPLES, "waits.session"), PROGRAM)
+        self.addCleanup(session.close)
+        dot = dot_of(graph_of(session))
+        self.assertEqual(boxes(dot), {"0": (), "0.1": (), "0.1.1": (), "0.2": ("0#4",), "0.2.1": ("0#4",)})
+        self.assertRegex(dot, r'"0.1.1" \[label="0.1.1  grandchild\\npending\\ncan step", style="filled,dashed".*penwidth=3\]')
+        session = play_file(os.path.join(EXAMPLES, "tasks.session"), PROGRAM)
+        self.addCleanup(session.close)
+        self.assertIn('"0.2" -> "0.3" [class=before, penwidth=1.8, label="cell 0: inout, in"]', dot_of(graph_of(session)))
+        self.assertIn("      after 0.2, cell 0: inout, in", tree_of(graph_of(session)))
+        session = play_file(os.path.join(EXAMPLES, "exclusion.session"), PROGRAM)
+        self.addCleanup(session.close)
+        self.assertIn("not together\\ncell 0: mutexinoutset, mutexinoutset", dot_of(graph_of(session)))
+
+    @needs_dot
+    def test_graphviz_draws_it(self):
+        for seed in range(4):
+            session, _ = walked(self, seed)
+            dot = dot_of(graph_of(session))
+            done = subprocess.run(["dot", "-Tsvg"], input=dot, capture_output=True, text=True, check=True)
+            root = tree.fromstring(done.stdout)
+            drawn = [group for group in root.iter("{http://www.w3.org/2000/svg}g") if group.get("class", "").startswith("edge")]
+            self.assertEqual(len(drawn), len(EDGE.findall(dot)))
+            self.assertEqual(done.stderr, "")
+
+    def test_commands(self):
+        shell = Terminal(self, [os.path.join(EXAMPLES, "order.task")], NO_COLOR="1")
+        shell.read_until("(taskback) ")
+        shell.ask("run 3")
+        shown = shell.ask("graph")
+        self.assertEqual(shown[:2], ["0 main: running at line 6, waits for 0.1", "  0.1 add: pending, can step"])
+        self.assertEqual(shown[2:4], ["  0.2 add: pending, depends on 0.1", "      after 0.1, cell 0: inout, inout"])
+        path = write_file(self, "", "a.dot")
+        self.assertEqual(shell.ask("graph " + path), [f"written to {path}, 3 tasks"])
+        self.assertEqual(shell.ask("graph a b"), ["graph [FILE], for example: graph tasks.svg"])
+        self.assertEqual(shell.ask("graph /no/file.dot"), ["can't write /no/file.dot: No such file or directory"])
+
+    def test_without_graphviz_the_text_is_written(self):
+        path = write_file(self, "", "a.svg")
+        done = subprocess.run([sys.executable, os.path.join(TOP, "shell", "graph.py"), os.path.join(EXAMPLES, "order.session"), path],
+                              capture_output=True, text=True, check=True, env={"TASKBACK_PROGRAM": PROGRAM, "PATH": "/nowhere"})
+        wanted = path.replace(".svg", ".dot")
+        self.assertEqual(done.stdout, f"written to {wanted}, 3 tasks; Graphviz, which would draw it, isn't here\n")
+        with open(wanted, encoding="utf-8") as file:
+            self.assertEqual(edges(file.read(), "before"), {("0.1", "0.2")})
+
+
+if __name__ == "__main__":
+    unittest.main()

@@ -1,0 +1,266 @@
+"""The page of a session: its data against the views, and the page itself in a real browser."""
+
+import io
+import json
+import os
+import re
+import shutil
+import subprocess
+import tempfile
+import unittest
+
+from support import EXAMPLES, PROGRAM, TOP, Terminal, contrast, example, needs_program, write_file
+from shell.commands import Shell
+from shell.drawing import play_file
+from shell.page import page_of
+from shell.session import Session
+from shell.source import Source
+from test_lanes import walked
+from test_races import has_views
+
+BROWSER = shutil.which("chromium") or shutil.which("chromium-browser") or shutil.which("google-chrome")
+needs_browser = unittest.skipUnless(BROWSER, "left out: no Chromium is here")
+WATCH = """<script>window.faults = []; window.addEventListener("error", (event) => faults.push(event.message));
+document.addEventListener("securitypolicyviolation", (event) => faults.push(event.violatedDirective));</script>"""
+TOOLS = """
+const find = (id) => document.getElementById(id), names = (query) => [...document.querySelectorAll(query)].map((found) => found.dataset.step);
+const move = (at) => { find("at").value = at; find("at").dispatchEvent(new Event("input")); };
+const point = (name) => document.querySelector('.step[data-step="' + name + '"]').dispatchEvent(new PointerEvent("pointerover", { bubbles: true }));
+const texts = (query) => [...document.querySelectorAll(query)].map((found) => found.textContent);
+const press = (key) => find("lanes").dispatchEvent(new KeyboardEvent("keydown", { key, bubbles: true }));
+"""
+EACH_MOMENT = """
+return [...Array(Number(find("at").max) + 1).keys()].map((at) => {
+  move(at);
+  const shown = { where: find("where").textContent, steps: names(".step"), cells: texts("#cells li"), out: texts("#out li"),
+    stand: texts("#program li").map((text) => (text.split("◀ ")[1] || "")), boxes: [...document.querySelectorAll("#graph [data-task]")].map((box) => box.dataset.task),
+    edges: [...document.querySelectorAll("#graph .edge.before")].map((edge) => [edge.dataset.from, edge.dataset.to]),
+    arrows: [...document.querySelectorAll("#drawn .arrow:not(.racing)")].map((arrow) => [arrow.dataset.from, arrow.dataset.to, arrow.dataset.kind]),
+    races: [...document.querySelectorAll("#race-list button")].map((button) => button.dataset.race), lit: {} };
+  for (const name of shown.steps) { point(name); shown.lit[name] = [names(".step.needs"), names(".step.needers")]; }
+  return shown;
+});"""
+
+
+def page_file(test, session):
+    """The page of a session, as a file."""
+    return write_file(test, page_of(session)[0], "page.html")
+
+
+def with_causes(page):
+    """The page of a program without causes, with those of a task's own steps and of spawns: enough to follow."""
+    head, data, tail = re.split(r'(?<=id="data">)(.*?)(?=</script>)', page, maxsplit=1, flags=re.S)
+    data = json.loads(data)
+    newest, spawned = {}, {}
+    for at, (name, did, *_) in enumerate(data["steps"]):
+        task = name.split("#")[0]
+        if data["steps"][at][5] is None:
+            early = newest.get(task, spawned.get(task))
+            data["steps"][at][5] = [] if early is None else [["task" if task in newest else "spawn", early]]
+        newest[task] = at
+        if did.startswith("spawn "):
+            spawned[did.split(" ")[1]] = at
+    return head + json.dumps(data) + tail
+
+
+def in_browser(path, script, size="1400,4000"):
+    """What a script that is added to the page returns, and the errors that came up."""
+    with open(path, encoding="utf-8") as file:
+        page = file.read()
+    told = f"<script>const result = (() => {{{TOOLS}{script}}})();\n" \
+           "document.body.replaceChildren(); document.body.textContent = JSON.stringify([faults, result]);</script></body>"
+    head, tail = page.split("<head>")
+    with open(path + ".tried.html", "w", encoding="utf-8") as file:
+        file.write(head + "<head>" + WATCH + tail.replace("</body>", told))
+    with tempfile.TemporaryDirectory() as home:
+        done = subprocess.run([BROWSER, "--headless", "--no-sandbox", "--disable-gpu", f"--user-data-dir={home}", f"--window-size={size}",
+                               "--dump-dom", "file://" + path + ".tried.html"], capture_output=True, text=True, timeout=180, check=True)
+    text = re.search(r"<body>(.*)</body>", done.stdout, re.S)[1]
+    for mark, sign in (("&lt;", "<"), ("&gt;", ">"), ("&amp;", "&")):
+        text = text.replace(mark, sign)
+    return json.loads(text)
+
+
+def views_of(session):
+    """What the views show: the steps with what each needs and who needs it, the cells, the output, where tasks stand."""
+    steps = [line.split(" ")[0] for line in session.view("hist")[1:]]
+    lit = {step: [[line.split(" ")[0] for line in session.view(f"{view} {step}")[1:]] for view in ("why", "who")] for step in steps}
+    stand = {}
+    for line in session.view("tasks")[1:]:
+        name, _, state, *at = line.split(" ")
+        if state == "running":
+            stand.setdefault(int(at[0]), []).append(name)
+    return {"steps": steps, "lit": lit, "cells": ["cell " + ": ".join(line.split(" ")) for line in session.view("cells")[1:]],
+            "out": session.view("out")[1:], "stand": stand, "boxes": [line.split(" ")[0] for line in session.view("tasks")[1:]],
+            "races": [" ".join(line.split(" ")[:2]) for line in session.view("races")[1:]]}
+
+
+@needs_program
+class DataTest(unittest.TestCase):
+    def data(self, session):
+        found = re.search(r'<script type="application/json" id="data">(.*?)</script>', page_of(session)[0], re.S)
+        return json.loads(found[1])
+
+    def test_the_page_needs_nothing_else(self):
+        session, _ = walked(self, 1)
+        page = page_of(session)[0]
+        for word in ("http:", "https:", "src=", "@import", "url(http", "fetch(", "XMLHttpRequest"):
+            self.assertNotIn(word, page.replace("http://www.w3.org/2000/svg", ""))
+
+    def test_what_was_left_out_is_told(self):
+        session, _ = walked(self, 2)
+        told = " ".join(self.data(session)["leftOut"])
+        self.assertEqual(has_views(self), "causes" not in told and "races" not in told)
+
+    def test_names_can_not_end_the_script(self):
+        session = Session(PROGRAM, Source("# </script><script>alert(1)</script>\n" + example("first.task"), "</script>.task"))
+        self.addCleanup(session.close)
+        session.do("step 0 # </script>")
+        self.assertEqual(self.data(session)["commands"][0][0], "step 0 # </script>")
+        self.assertEqual(page_of(session)[0].count("</script>"), 2)
+
+    def test_the_session_that_is_used_stays(self):
+        session, _ = walked(self, 3)
+        before = session.view("hist"), list(session.log)
+        page_of(session)
+        self.assertEqual((session.view("hist"), session.log), before)
+
+    def test_command(self):
+        shell = Terminal(self, [os.path.join(EXAMPLES, "race.task")], NO_COLOR="1")
+        shell.read_until("(taskback) ")
+        shell.ask("run")
+        path = write_file(self, "", "a.html")
+        self.assertEqual(shell.ask("page " + path), [f"written to {path}, 1 commands and 17 steps"])
+        self.assertEqual(shell.ask("page"), ["page FILE, for example: page race.html"])
+        self.assertEqual(shell.ask("page /no/file"), ["can't write /no/file: No such file or directory"])
+
+    def test_ctrl_c_stops_each_picture(self):
+        session, _ = walked(self, 1)
+        out = io.StringIO()
+        shell = Shell(session, out)
+        # As the handler of Ctrl-C sets it while a command is carried out.
+        shell.interrupted = True
+        path = write_file(self, "as before", "a.html")
+        for act, words in ((shell.do_lanes, []), (shell.do_graph, [path]), (shell.do_page, [path])):
+            act(words)
+        self.assertEqual(out.getvalue(), "  stopped by Ctrl-C; nothing is drawn\n" * 3)
+        with open(path, encoding="utf-8") as file:
+            self.assertEqual(file.read(), "as before")
+
+
+class ContrastTest(unittest.TestCase):
+    def test_words_can_be_read_on_each_ground(self):
+        with open(os.path.join(TOP, "shell", "page.css"), encoding="utf-8") as file:
+            colour = dict(re.findall(r"--(\w+): (#\w+);", file.read()))
+        for ground in ("paper", "pale", "chosen", "needs", "needers"):
+            self.assertGreaterEqual(contrast(colour["ink"], colour[ground]), 4.5)
+        for ground in ("#e4e4e4", "#ffd6d6"):
+            self.assertGreaterEqual(contrast(colour["ink"], ground), 4.5)
+        for word in ("race", "blue", "green", "faint"):
+            self.assertGreaterEqual(contrast(colour[word], colour["paper"]), 4.5, word)
+        # Lines that carry a meaning, and frames, need less.
+        self.assertGreaterEqual(contrast(colour["line"], colour["paper"]), 3)
+
+
+@needs_program
+@needs_browser
+class BrowserTest(unittest.TestCase):
+    def agree(self, session):
+        """The page at each command against the views after it."""
+        faults, moments = in_browser(page_file(self, session), EACH_MOMENT)
+        self.assertEqual(faults, [])
+        again = Session(PROGRAM, session.source)
+        self.addCleanup(again.close)
+        self.assertEqual(len(moments), len(session.log) + 1)
+        for at, shown in enumerate(moments):
+            if at:
+                again.do(session.log[at - 1][0])
+                self.assertEqual(shown["where"], f"{at} of {len(session.log)}: {session.log[at - 1][0]}")
+            wanted = views_of(again)
+            for key in ("steps", "boxes", "races"):
+                self.assertEqual(shown[key], wanted[key], (at, key))
+            self.assertEqual({name: [sorted(pair[0]), sorted(pair[1])] for name, pair in shown["lit"].items()},
+                             {name: [sorted(pair[0]), sorted(pair[1])] for name, pair in wanted["lit"].items()})
+            numbers = [text.split("  (")[0] for text in shown["cells"] if not text.endswith(": 0  (just changed)")]
+            self.assertEqual(numbers if wanted["cells"] else [], wanted["cells"])
+            self.assertEqual(shown["out"], wanted["out"] or ["nothing"])
+            for line, names in wanted["stand"].items():
+                for name in names:
+                    self.assertIn(name, shown["stand"][line - 1].split(", "))
+            self.agree_arrows(again, shown)
+
+    def agree_arrows(self, session, shown):
+        """The arrows between lanes are the causes of each kind, where the program shows them."""
+        if session.view("causes 0#1") == ["error word"]:
+            return
+        wanted = []
+        for step in shown["steps"]:
+            for line in session.view("causes " + step)[1:]:
+                kind, early = line.split(": ", 1)[0], line.split(": ", 1)[1].split(" ")[0]
+                if kind != "task":
+                    wanted.append([early, step, kind])
+        self.assertEqual(sorted(shown["arrows"]), sorted(wanted))
+
+    def test_the_slider_reaches_each_command_and_a_step_lights_what_the_views_list(self):
+        has_views(self)
+        for name in ("race", "exclusion", "tasks", "waits"):
+            session = play_file(os.path.join(EXAMPLES, name + ".session"), PROGRAM)
+            self.addCleanup(session.close)
+            self.agree(session)
+
+    def test_random_sessions(self):
+        for seed in (1, 4):
+            self.agree(walked(self, seed, 25)[0])
+
+    def test_keys_and_races(self):
+        session = play_file(os.path.join(EXAMPLES, "race.session"), PROGRAM)
+        self.addCleanup(session.close)
+        faults, told = in_browser(page_file(self, session), """
+          const told = [];
+          for (const key of ["ArrowDown", "ArrowDown", "End", "ArrowUp", "Home", "Escape"]) { press(key); told.push(names(".step.chosen")[0] || null); }
+          find("back").click(); told.push(find("where").textContent.split(":")[0]);
+          find("on").click(); find("on").click(); told.push(find("where").textContent.split(":")[0]);
+          const button = document.querySelector("#race-list button");
+          if (button) button.click();
+          told.push(texts("#program li.race").map((text) => text.trim()), names(".step.chosen"));
+          return told;""")
+        self.assertEqual(faults, [])
+        self.assertEqual(told[:8], ["0#1", "0#2", "0#7", "0#6", "0#1", None, "10 of 11", "11 of 11"])
+        if has_views(self):
+            self.assertEqual(told[8:], [["load r1 0", "store 0 r1"], ["0.2#2"]])
+
+    def test_three_sizes(self):
+        session = play_file(os.path.join(EXAMPLES, "tasks.session"), PROGRAM)
+        self.addCleanup(session.close)
+        path = page_file(self, session)
+        for size in ("1400,900", "800,1000", "500,900"):
+            faults, told = in_browser(path, "return [document.documentElement.scrollWidth, innerWidth, names('.step').length, find('lanes').clientWidth];", size)
+            self.assertEqual(faults, [])
+            self.assertLessEqual(told[0], told[1], size)
+            self.assertGreater(told[2], 5)
+            self.assertGreater(told[3], 250)
+
+    def test_ten_thousand_steps_stay_fluent(self):
+        text = "cells 8\nbody main 0\n  while r0 < 90\n    task t r0\n    let r0 r0 + 1\n  end\nend\nbody t 1\n  while r1 < 26\n" \
+               "    let r1 r1 + 1\n    load r2 0\n    store 1 r1\n    let r3 r2\n  end\nend\n"
+        many = Session(PROGRAM, Source(text.replace("store 1 r1", "let r4 r1").replace("load r2 0", "let r2 r0"), "many.task"))
+        self.addCleanup(many.close)
+        for _ in range(21):
+            many.do("run 500")
+        path = write_file(self, with_causes(page_of(many)[0]), "page.html")
+        faults, times = in_browser(path, """
+          const times = [], count = Number(find("at").max), box = find("lanes");
+          const time = (act) => { let best = 1e9; for (let k = 0; k < 5; k++) { const from = performance.now(); act(k); document.body.offsetHeight; best = Math.min(best, performance.now() - from); } return best; };
+          times.push(time((k) => move(count - 1 - k % 2)));
+          move(count);
+          times.push(time((k) => { const all = names(".step"); point(all[k]); }));
+          times.push(time((k) => { box.scrollTop = 50000 + 3000 * k; press(k % 2 ? "End" : "Home"); }));
+          return [document.querySelectorAll(".step").length, ...times];""", "1400,900")
+        self.assertEqual(faults, [])
+        self.assertGreater(len(many.view("hist")), 10000)
+        self.assertTrue(5 < times[0] < 200, times)
+        self.assertTrue(max(times[1:]) < 100, times)
+
+
+if __name__ == "__main__":
+    unittest.main()

@@ -1,0 +1,54 @@
+#!/usr/bin/env python3
+"""Draws the pictures of the README and the tutorial from the program's own replies.
+
+    tools/draw_pictures.py [FOLDER]     draws to FOLDER (none: docs/pictures)
+
+TASKBACK_PROGRAM names the program; without it, it is the proved one, else the unproved one of ./run. The shell's tests draw them too, and compare.
+"""
+import os
+import sys
+
+TOP = os.path.dirname(os.path.dirname(os.path.realpath(__file__)))
+sys.path.insert(0, TOP)
+
+from shell.drawing import program_here  # noqa: E402
+from shell.lanes import lanes_of  # noqa: E402
+from shell.lanes_svg import svg_of  # noqa: E402
+from shell.session import Session  # noqa: E402
+from shell.source import Source, split_session  # noqa: E402
+
+# Each picture: its session, how many of its commands are carried out first, and the step whose rollback is shaded.
+PICTURES = {
+    "right_sum": (1, "0.1#4"), "race": (6, "0.2#2"), "order": (5, None), "exclusion": (8, "0.2#1"), "waits": (16, None),
+    "undeferred": (5, "0.1#3"), "partial_wait": (5, None), "unrelated": (1, "0.1#1"), "needs": (6, "0.1#2"), "breakpoints": (8, "0.2#2"),
+}
+
+
+def picture(name, program):
+    """The lanes of a session after some of its commands."""
+    count, chosen = PICTURES[name]
+    with open(os.path.join(TOP, "examples", name + ".session"), encoding="utf-8") as file:
+        text, commands = split_session(file.read())
+    session = Session(program, Source(text, name + ".session"))
+    try:
+        for command in commands[:count]:
+            session.do(command)
+        return svg_of(lanes_of(session, chosen))
+    finally:
+        session.close()
+
+
+def main(words):
+    if len(words) > 1:
+        print(__doc__, file=sys.stderr)
+        return 2
+    folder = words[0] if words else os.path.join(TOP, "docs", "pictures")
+    os.makedirs(folder, exist_ok=True)
+    for name in PICTURES:
+        with open(os.path.join(folder, name + ".svg"), "w", encoding="utf-8") as file:
+            file.write(picture(name, program_here()))
+    return 0
+
+
+if __name__ == "__main__":
+    sys.exit(main(sys.argv[1:]))
