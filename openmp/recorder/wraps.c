@@ -36,13 +36,6 @@ void *__wrap___kmpc_omp_task_alloc(void *at, int32_t thread, int32_t flags, size
     return record;
 }
 
-static struct own *record_filled(void) {
-    struct own *own = own_state();
-    begin_part(own);
-    own->record_size = 0;
-    return own;
-}
-
 /* A call that creates children: who makes it and where, which another task's call within it may change. */
 struct call {
     struct own *own;
