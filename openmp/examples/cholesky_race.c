@@ -1,5 +1,5 @@
 /* Cholesky's factors in blocks, where the update forgot one `in`: it doesn't wait for the second block.
-   expect: race a[i][k] a[i][j] b[j][k] a[k][k] */
+   expect: race a b c */
 #include <math.h>
 #include <stdio.h>
 

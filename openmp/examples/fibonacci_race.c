@@ -1,5 +1,5 @@
 /* The sum is computed by a third task, which waits for one of the other two alone.
-   expect: race parts[1] */
+   expect: race parts */
 #include <stdio.h>
 #include <stdlib.h>
 

@@ -1,5 +1,5 @@
 /* The wait names an item that no child has: it waits for nothing.
-   expect: race data[0] */
+   expect: race data */
 #include <stdio.h>
 
 static void fill(int *data, int length) {

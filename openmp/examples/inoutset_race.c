@@ -1,6 +1,6 @@
 /* Two tasks of one set change the same half: a set orders its members not at all.
    Clang 14 doesn't know the word `inoutset`, but its runtime does: the type is put into a depend object.
-   expect: race halves[0] */
+   expect: race halves */
 #include <omp.h>
 #include <stdio.h>
 

@@ -1,5 +1,5 @@
-/* The loop goes on by a node that its task may have given back.
-   expect: race next */
+/* The parent still reads the node's value after the task that gives it back was made.
+   expect: race node */
 #include <stdio.h>
 #include <stdlib.h>
 
@@ -20,12 +20,11 @@ int main(void) {
     int last = 0;
 #pragma omp parallel
 #pragma omp single
-    for (struct node *node = list; node; node = node->next) {
-#pragma omp task firstprivate(node) shared(last) depend(inout: last)
-        {
-            last = node->value;
-            free(node);
-        }
+    for (struct node *node = list, *next; node; node = next) {
+        next = node->next;
+#pragma omp task firstprivate(node) depend(inout: last)
+        free(node);
+        last += node->value;
     }
     printf("%d\n", last);
     return 0;

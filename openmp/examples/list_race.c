@@ -1,5 +1,5 @@
 /* Each task also reads its neighbour's value, which the neighbour's task changes.
-   expect: race value */
+   expect: race node */
 #include <stdio.h>
 #include <stdlib.h>
 

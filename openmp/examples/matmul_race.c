@@ -1,5 +1,5 @@
 /* The tasks name another block than the one they add to.
-   expect: race c[i][j] */
+   expect: race c */
 #include <stdio.h>
 
 enum { N = 2 };

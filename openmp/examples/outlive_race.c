@@ -1,5 +1,5 @@
 /* A second task reads what a grandchild writes: the grandchild isn't its sibling.
-   expect: race box[1] */
+   expect: race box */
 #include <stdio.h>
 #include <stdlib.h>
 

@@ -1,5 +1,5 @@
 /* With `nogroup` nothing waits for the loop's tasks.
-   expect: race data[i] */
+   expect: race data */
 #include <stdio.h>
 
 int main(void) {

@@ -25,7 +25,7 @@ enum kind {
     READ,           /* task; address; value: the number read; size; place */
     WRITE,          /* task; address; value: the number written; size; place */
     MEMORY,         /* address, value: from here on this many bytes are new */
-    LOCK,           /* task; address: the lock */
+    LOCK,           /* task; address: the lock; value: 1 where it is a reduction's */
     UNLOCK,         /* task; address: the lock */
     NOTE,           /* task; value: one of enum note; place */
     COPY            /* address: a thread's copy of a reduced variable; value: the variable; with a size, its own */

@@ -164,7 +164,11 @@ void *__wrap___kmpc_taskred_modifier_init(void *at, int32_t thread, int32_t loop
 void *__wrap___kmpc_task_reduction_get_th_data(int32_t thread, void *group, void *item) {
     void *copy = __real___kmpc_task_reduction_get_th_data(thread, group, item);
     struct own *own = own_state();
-    if (copy != item)
+    begin_part(own);
+    /* A thread that is alone has no copies: what its tasks add up is kept apart by the reduction. */
+    if (copy == item)
+        taskback_note(own, LOCK, own->task, (uint64_t)item, 1, PLACE);
+    else
         taskback_note(own, COPY, own->task, (uint64_t)copy, (uint64_t)item, PLACE);
     return copy;
 }
@@ -174,7 +178,7 @@ static void lock_reduction(const void *lock, uint64_t place) {
     struct own *own = own_state();
     begin_part(own);
     taskback_note(own, NOTE, own->task, 0, NOTE_REDUCTION, place);
-    taskback_note(own, LOCK, own->task, (uint64_t)lock, 0, place);
+    taskback_note(own, LOCK, own->task, (uint64_t)lock, 1, place);
 }
 
 static void unlock_reduction(const void *lock, uint64_t place) {

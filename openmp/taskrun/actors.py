@@ -215,7 +215,7 @@ class Run:
         self.accesses.append(Access(event, actor, self._locks.get(event.task, frozenset())))
 
     def _lock(self, event):
-        self.counts["critical sections and locks"] += 1
+        self.counts["reductions" if event.value else "critical sections and locks"] += 1
         self._locks[event.task] = self._locks.get(event.task, frozenset()) | {event.address}
 
     def _unlock(self, event):

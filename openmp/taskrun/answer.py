@@ -155,8 +155,9 @@ def depend_words(session, race):
 
 
 def lines_kind(taken):
-    """The depend type for what a step did."""
-    return "inout" if taken.what == "store" else "in"
+    """The depend type for what the step's task does to that cell."""
+    stores = any(step.kind == "store" and step.cell is taken.step.cell for _, _, step in taken.actor.steps)
+    return "inout" if stores else "in"
 
 
 # ---- the whole answer
@@ -169,9 +170,6 @@ def answer(session, replies):
     lines = [f"not said by the notation: {name}: {count}" for name, count in session.unsaid()]
     if session.is_cut:
         return UNKNOWN, lines + ["events were lost: the run was longer than the recorder's room; nothing is answered"]
-    if session.unfinished:
-        return UNKNOWN, lines + [f"{len(session.unfinished)} tasks hadn't ended at the end of the trace; "
-                                 "nothing is answered"]
     if replies.races is None:
         return UNKNOWN, lines + ["the run was legal; this program doesn't know the command `races` (it answers "
                                  "`error word`), so nothing is said of races"]
@@ -185,6 +183,9 @@ def tell_outcome(session, races, lines):
     apart = [race for race in races if race.is_apart]
     if open_races:
         return RACES, lines + tell_races(session, open_races)
+    if session.unfinished:
+        return UNKNOWN, lines + [f"up to its end the trace is legal and has no race, but {len(session.unfinished)} tasks "
+                                 "hadn't ended: nothing is said of other schedules"]
     done = f"a legal run of {len(session.actors) - 1} tasks without a race"
     if locked:
         lines.append(f"{locked} pairs are kept apart by a lock, a critical section or atomic operations alone")

@@ -94,6 +94,9 @@ def expression_at(line, column):
     if not 0 < column <= len(line):
         return ""
     at = column - 1
+    freed = re.match(r"(?:free|realloc)\s*\(\s*|delete\s*(?:\[\s*\])?\s*", line[at:])
+    if freed:
+        at += freed.end()
     assigned = re.match(r"(?:[-+*/%&|^]|<<|>>)?=(?!=)|\+\+|--", line[at:])
     if assigned:
         before = expression_before(line[:at].rstrip())
@@ -122,7 +125,10 @@ def postfixed(line, at):
     name = IDENTIFIER.match(line, at)
     if not name or name[0] in ("return", "if", "while", "for"):
         return ""
-    return shortened(line[at:after_postfixes(line, name.end())])
+    end = after_postfixes(line, name.end())
+    if line[:at].rstrip().endswith(("->", ".")):
+        return shortened(expression_before(line[:name.end()]) + line[name.end():end])
+    return shortened(line[at:end])
 
 
 def after_postfixes(line, at):

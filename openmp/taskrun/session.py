@@ -14,8 +14,8 @@ REGISTERS = 15       # for parameters; the last one is for what is read
 TYPES = {1: "in", 2: "out", 3: "inout", 4: "mutexinoutset", 8: "inoutset"}
 ALL_MEMORY = 0x80
 WORDS = {"task": "makes a task", "taskwait": "has waited", "taskgroup": "opens a group", "end": "closes the group"}
-NOT_SAID = ("critical sections and locks", "reduction", "detach", "priority", "cancel", "accesses by atomic operations "
-            "alone", "accesses to copies of reduced variables")
+NOT_SAID = ("critical sections and locks", "reductions", "detach clauses", "cancellations",
+            "accesses by atomic operations alone", "accesses to copies of reduced variables")
 
 
 class TooLarge(Exception):
@@ -50,7 +50,7 @@ class Session:
         self._name_actors()
         self.taken = self._take_steps()
         self.identifiers = self._identify()
-        self.is_cut = self.run.counts["lost"] > 0 or self.run.counts["deep"] > 0
+        self.is_cut = self.run.counts["lost events"] > 0 or self.run.counts["tasks too deep to follow"] > 0
         self.unfinished = [actor for actor in self.actors if actor is not self.run.root and actor.ended is None]
 
     # ---- numbers and names

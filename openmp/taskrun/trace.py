@@ -8,7 +8,7 @@ from typing import NamedTuple
 KINDS = ("", "create", "item", "start", "end", "wait", "wait item", "wait items", "group open", "group close",
          "region begin", "region end", "implicit begin", "barrier begin", "barrier end", "read", "write", "memory",
          "lock", "unlock", "note", "copy")
-NOTES = ("", "reduction", "detach", "priority", "cancel", "deep", "lost")
+NOTES = ("", "reductions", "detach clauses", "priority clauses", "cancellations", "tasks too deep to follow", "lost events")
 ATOMIC, FREED = 1, 2
 UNDEFERRED, FINAL = 0x8000000, 0x20000000
 FORMAT = struct.Struct("<QQqQIIHHI")
