@@ -58,21 +58,21 @@ class Recorded(unittest.TestCase):
             file.write(text)
         return self.compile(source, name)
 
-    def record(self, program, threads):
+    def record(self, program, threads, words=()):
         """The path of the trace of one run, and what it wrote."""
         trace = self.path("trace")
-        done = subprocess.run([os.path.join(FOLDER, "record"), "run", "-o", trace, program], capture_output=True,
+        done = subprocess.run([os.path.join(FOLDER, "record"), "run", "-o", trace, program, *words], capture_output=True,
                               text=True, timeout=SECONDS, check=False,
                               env={**os.environ, "OMP_NUM_THREADS": str(threads)})
         self.assertEqual((done.returncode, done.stderr), (0, ""))
         return trace, done.stdout
 
-    def session(self, program, threads):
-        return Session(Trace(self.record(program, threads)[0]))
+    def session(self, program, threads, words=()):
+        return Session(Trace(self.record(program, threads, words)[0]))
 
-    def check(self, program, threads):
+    def check(self, program, threads, words=()):
         """(status, lines) as `openmp/check` has them."""
-        session = self.session(program, threads)
+        session = self.session(program, threads, words)
         return answer.answer(session, play.play(session.text(), len(session.taken)))
 
 
