@@ -9,7 +9,7 @@
 
 #include "recorder.h"
 
-enum { CHUNK_EVENTS = 8191 };
+enum { CHUNK_EVENTS = 8192 - 1 };
 
 struct chunk {
     struct chunk *before;
@@ -19,12 +19,13 @@ struct chunk {
 
 __thread struct own *taskback_own;
 static struct own *all_threads;
-static uint64_t counter;
+static uint32_t counter;
+static uint64_t program_base;
 static uint64_t chunks_left = 1 << 12;
 static int written;
 
 static void *pages(size_t size) {
-    void *found = mmap(0, size, PROT_READ | PROT_WRITE, MAP_PRIVATE | MAP_ANONYMOUS, -1, 0);
+    void *found = mmap(0, size, PROT_READ | PROT_WRITE, MAP_PRIVATE | MAP_ANONYMOUS | MAP_POPULATE, -1, 0);
     return found == MAP_FAILED ? 0 : found;
 }
 
@@ -76,25 +77,30 @@ static struct event *more_room(struct own *own) {
     return own->next;
 }
 
+static int base_of(struct dl_phdr_info *info, size_t size, void *base) {
+    (void)size;
+    *(uint64_t *)base = info->dlpi_addr;
+    return 1; /* the first one is the program */
+}
+
+__attribute__((constructor)) static void at_the_beginning(void) {
+    dl_iterate_phdr(base_of, &program_base);
+}
+
 struct event *taskback_note(struct own *own, enum kind kind, uint32_t task, uint64_t address, uint64_t value,
                             uint64_t place) {
     static __thread struct event none;
     if (own->next >= own->end && !more_room(own))
         return &none;
     struct event *event = own->next++;
+    int64_t offset = (int64_t)(place - program_base);
     event->stamp = __atomic_add_fetch(&counter, 1, __ATOMIC_ACQ_REL);
     event->address = address;
     event->value = value;
-    event->place = place;
+    event->place = offset > 0 && offset <= INT32_MAX ? (int32_t)offset : 0;
     event->task = task;
-    event->kind = kind;
+    event->kind = (uint8_t)kind;
     return event;
-}
-
-static int base_of(struct dl_phdr_info *info, size_t size, void *base) {
-    (void)size;
-    *(uint64_t *)base = info->dlpi_addr;
-    return 1; /* the first one is the program */
 }
 
 static void put(int file, const void *bytes, size_t size) {
@@ -114,17 +120,12 @@ static int add(char *line, int at, const char *words) {
     return at;
 }
 
-/* The first line names the program and where it was loaded; the events follow as they are, thread by thread. */
+/* The first line names the program; the events follow as they are, thread by thread. */
 static void put_header(int file) {
     char path[4096], line[4300];
-    uint64_t base = 0;
     ssize_t length = readlink("/proc/self/exe", path, sizeof path - 1);
     path[length > 0 ? length : 0] = 0;
-    dl_iterate_phdr(base_of, &base);
     int count = add(line, 0, "taskback trace 1 ");
-    for (int shift = 60; shift >= 0; shift -= 4)
-        line[count++] = "0123456789abcdef"[base >> shift & 15];
-    line[count++] = ' ';
     count = add(line, count, path);
     line[count++] = '\n';
     put(file, line, (size_t)count);

@@ -37,17 +37,25 @@ enum note { NOTE_REDUCTION = 1, NOTE_DETACH, NOTE_PRIORITY, NOTE_CANCEL, NOTE_DE
 /* Marks of a READ or WRITE. */
 enum mark { ATOMIC = 1, FREED = 2 };
 
+/* 32 bytes: what is written is most of what recording costs. */
 struct event {
-    uint64_t stamp;
     uint64_t address;
     uint64_t value;
-    uint64_t place;
+    uint32_t stamp;
     uint32_t task;
-    uint32_t size;
-    uint16_t kind;
-    uint16_t mark;
-    uint32_t unused;
+    int32_t place;  /* from where the program is loaded; 0: not in it */
+    uint16_t size;  /* LARGE: the size is the value */
+    uint8_t kind;
+    uint8_t mark;
 };
+
+enum { LARGE = 0xffff, LONGEST_NUMBER = 16 };
+
+static inline void set_size(struct event *event, uint64_t size) {
+    event->size = size <= LONGEST_NUMBER ? (uint16_t)size : LARGE;
+    if (size > LONGEST_NUMBER)
+        event->value = size;
+}
 
 enum { RUNNING_MOST = 1024, SEEN = 4096 };
 
@@ -109,7 +117,7 @@ static inline void begin_part(struct own *own) {
 }
 
 /* An access of `size` bytes by the thread's task. */
-void taskback_access(enum kind kind, uint64_t address, uint32_t size, uint64_t place, int mark);
+void taskback_access(enum kind kind, uint64_t address, uint64_t size, uint64_t place, int mark);
 
 /* An item of a task or of a taskwait, as the runtime's calls have it: `type` has bits. */
 struct runtime_item {

@@ -148,7 +148,7 @@ static void note_reduction(int count, const void *data, uint64_t place) {
     struct own *own = own_state();
     taskback_note(own, NOTE, own->task, 0, NOTE_REDUCTION, place);
     for (int i = 0; i < count; i++)
-        taskback_note(own, COPY, own->task, (uint64_t)reduced[i].shared, 0, place)->size = (uint32_t)reduced[i].size;
+        set_size(taskback_note(own, COPY, own->task, (uint64_t)reduced[i].shared, 0, place), reduced[i].size);
 }
 
 void *__wrap___kmpc_taskred_init(int32_t thread, int32_t count, void *data) {

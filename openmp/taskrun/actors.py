@@ -8,6 +8,9 @@ from collections import Counter
 
 from . import trace as t
 
+NO_LOCKS = frozenset()
+LARGE = 64   # bytes: an access of more is one of many places
+
 
 class Actor:
     """What becomes a task of the notation."""
@@ -79,20 +82,23 @@ class Region:
 
 
 class Access:
-    """A read or write, with who did it and the locks that were held."""
+    """A read or write, with who did it and the locks that were held; `low` to `high` are its places of eight bytes.
 
-    __slots__ = ("stamp", "actor", "is_write", "address", "size", "value", "place", "mark", "locks")
+    `home` is the actor that it belongs to in the end, `quiet` says that the root did it while it was alone, and
+    `segment` is the number of the actor's other steps in front of it."""
+
+    __slots__ = ("stamp", "actor", "is_write", "address", "size", "value", "place", "mark", "locks", "low", "high",
+                 "home", "quiet", "segment")
 
     def __init__(self, event, actor, locks):
-        self.stamp = event.stamp
+        self.address, self.value, self.stamp, _, self.place, self.size, kind, self.mark = event
+        if self.size == t.LARGE:
+            self.size, self.value = self.value, 0
         self.actor = actor
-        self.is_write = event.kind == t.WRITE
-        self.address = event.address
-        self.size = event.size
-        self.value = event.value
-        self.place = event.place
-        self.mark = event.mark
+        self.is_write = kind == t.WRITE
         self.locks = locks
+        self.low = self.address >> 3
+        self.high = self.address + (self.size or 1) + 7 >> 3
 
 
 class Run:
@@ -211,22 +217,22 @@ class Run:
     # ---- memory
 
     def _access(self, event):
-        actor = self.actor_of(event.task)
-        self.accesses.append(Access(event, actor, self._locks.get(event.task, frozenset())))
+        task = event.task
+        self.accesses.append(Access(event, self._now.get(task, self.root), self._locks.get(task, NO_LOCKS)))
 
     def _lock(self, event):
         self.counts["reductions" if event.value else "critical sections and locks"] += 1
-        self._locks[event.task] = self._locks.get(event.task, frozenset()) | {event.address}
+        self._locks[event.task] = self._locks.get(event.task, NO_LOCKS) | {event.address}
 
     def _unlock(self, event):
-        self._locks[event.task] = self._locks.get(event.task, frozenset()) - {event.address}
+        self._locks[event.task] = self._locks.get(event.task, NO_LOCKS) - {event.address}
 
     def _note(self, event):
         self.counts[t.NOTES[event.value]] += 1
 
     def _copy(self, event):
         if event.size:
-            self._sizes[event.address] = event.size
+            self._sizes[event.address] = event.value if event.size == t.LARGE else event.size
             return
         size = self._sizes.get(event.value, 8)
         self._sizes[event.address] = size
@@ -238,9 +244,9 @@ class Run:
         """A part that alone does something in its phase belongs to what met the region."""
         self.phases = [(region, phase) for region in self.regions.values() for phase in region.phases]
         busy = {access.actor for access in shared_accesses(self)}
+        busy |= {region.meeting for region in self.regions.values()}
         for region, phase in self.phases:
-            active = [part for part in phase.parts.values() if part.steps or part in busy
-                      or any(inner.meeting is part for inner in self.regions.values())]
+            active = [part for part in phase.parts.values() if part.steps or part in busy]
             phase.active = active
             for part in phase.parts.values():
                 if part not in active or len(active) == 1:
@@ -271,14 +277,13 @@ def shared_accesses(run):
     """The accesses to memory that two actors touch and one writes, eight bytes taken together."""
     first, shared, written = {}, set(), set()
     for access in run.accesses:
-        if access.actor is run.root or access.size > 64:
+        if access.actor is run.root or access.size > LARGE:
             continue
-        for granule in range(access.address >> 3, (access.address + max(access.size, 1) + 7) >> 3):
+        for granule in range(access.low, access.high):
             if first.setdefault(granule, access.actor) is not access.actor:
                 shared.add(granule)
             if access.is_write:
                 written.add(granule)
-    both = shared & written
-    return [access for access in run.accesses
-            if access.size > 64 or any(granule in both for granule in range(
-                access.address >> 3, (access.address + max(access.size, 1) + 7) >> 3))]
+    shared &= written
+    return [access for access in run.accesses if access.size > LARGE or access.low in shared
+            or access.high > access.low + 1 and not shared.isdisjoint(range(access.low, access.high))]

@@ -55,19 +55,6 @@ def all_homes(run):
     return [run.root, *run.tasks.values(), *parts]
 
 
-class Entry:
-    """An access to one granule."""
-
-    __slots__ = ("access", "actor", "mask", "quiet", "segment")
-
-    def __init__(self, access, actor, mask, quiet, segment):
-        self.access = access
-        self.actor = actor
-        self.mask = mask
-        self.quiet = quiet
-        self.segment = segment
-
-
 class Cell:
     """One cell: an address, how many others were touched alike, and its first number."""
 
@@ -90,87 +77,91 @@ class Memory:
         self._quiet = Quiet(run)
         self._stamps = {actor: sorted(stamp for stamp, _, _ in actor.steps) for actor in all_homes(run)}
         self._copies = {granule for address, size in run.copies.items() for granule in granules(address, size)}
-        entries = self._entries()
-        for lifetime in self._lifetimes(entries):
+        accesses = self._accesses()
+        for lifetime in self._lifetimes(accesses):
             for address, atom in atoms(lifetime):
                 self._take(address, atom)
         self._finish()
 
-    def _entries(self):
-        """The accesses that count, each with its actor, whether the root is alone, and its place among the steps."""
-        entries = []
+    def _accesses(self):
+        """The accesses that count, each with the actor that it belongs to."""
+        homes = {}
+        found = []
         root = self.run.root
         for access in self.run.accesses:
-            actor = access.actor.whose()
-            quiet = actor is root and self._quiet.at(access.stamp)
-            if access.address >> 3 in self._copies:
+            if access.low in self._copies:
                 self.counts["accesses to copies of reduced variables"] += 1
                 continue
-            segment = bisect_left(self._stamps.get(actor, ()), access.stamp)
-            entries.append(Entry(access, actor, 0, quiet, segment))
-        return entries
+            home = homes.get(access.actor)
+            if home is None:
+                home = homes[access.actor] = access.actor.whose()
+            access.home = home
+            access.quiet = home is root and self._quiet.at(access.stamp)
+            found.append(access)
+        return found
 
-    def _shared(self, entries):
+    def _shared(self, accesses):
         """The granules that two actors touch and one writes, sorted."""
         touched, written = {}, set()
-        for entry in entries:
-            access = entry.access
-            if entry.quiet or access.mark & t.FREED:
+        for access in accesses:
+            if access.quiet or access.mark & t.FREED:
                 continue
-            for granule in granules(access.address, access.size):
-                before = touched.setdefault(granule, entry.actor)
-                if before is not entry.actor:
+            for granule in range(access.low, access.high):
+                if touched.setdefault(granule, access.home) is not access.home:
                     touched[granule] = None
                 if access.is_write:
                     written.add(granule)
         known = sorted(touched)
-        for entry in entries:
-            if entry.access.mark & t.FREED and not entry.quiet:
-                for granule in between(known, entry.access.address, entry.access.size):
-                    if touched[granule] is not entry.actor:
+        for access in accesses:
+            if access.mark & t.FREED and not access.quiet:
+                for granule in between(known, access.low, access.high):
+                    if touched[granule] is not access.home:
                         touched[granule] = None
                     written.add(granule)
-        alone = sum(1 for actor in touched.values() if actor is not None)
         shared = [granule for granule in known if touched[granule] is None]
-        self.counts["places of eight bytes that one task alone touched"] = alone
+        self.counts["places of eight bytes that one task alone touched"] = len(known) - len(shared)
         self.counts["places of eight bytes that several tasks only read"] = \
             sum(1 for granule in shared if granule not in written)
         return [granule for granule in shared if granule in written]
 
-    def _lifetimes(self, entries):
-        """For each shared granule the lists of its entries, one for each time that the memory was new."""
-        shared = self._shared(entries)
+    def _lifetimes(self, accesses):
+        """For each shared granule its accesses, as (access, bytes) in lists, one for each time that it was new."""
+        shared = self._shared(accesses)
         member = set(shared)
         current, done = {}, []
-        memory = iter(self.run.memory + [(float("inf"), 0, 0)])
+        memory = iter([entry for entry in self.run.memory
+                       if between(shared, entry[1] >> 3, entry[1] + entry[2] + 7 >> 3)] + [(float("inf"), 0, 0)])
         stamp, address, size = next(memory)
-        for entry in entries:
-            while stamp < entry.access.stamp:
-                for granule in between(shared, address, size):
+        for access in accesses:
+            low, high = access.low, access.high
+            if high == low + 1:
+                touched = (low,) if low in member else ()
+            else:
+                touched = between(shared, low, high)
+            if not touched:
+                continue
+            while stamp < access.stamp:
+                for granule in between(shared, address >> 3, address + size + 7 >> 3):
                     if granule in current:
                         done.append((granule, current.pop(granule)))
                 stamp, address, size = next(memory)
-            access = entry.access
-            touched = between(shared, access.address, access.size) if access.size > 64 else \
-                [granule for granule in granules(access.address, access.size) if granule in member]
+            access.segment = bisect_left(self._stamps.get(access.home, ()), access.stamp)
             for granule in touched:
-                mask = mask_of(granule, access.address, access.size)
-                current.setdefault(granule, []).append(
-                    Entry(access, entry.actor, mask, entry.quiet, entry.segment))
+                current.setdefault(granule, []).append((access, mask_of(granule, access)))
         return done + list(current.items())
 
-    def _take(self, address, entries):
+    def _take(self, address, accesses):
         """Makes a cell of an atom, or one with those that were touched alike."""
-        loud = [entry for entry in entries if not entry.quiet]
-        if len({entry.actor for entry in loud}) < 2 or not any(entry.access.is_write for entry in loud):
+        loud = [access for access in accesses if not access.quiet]
+        if len({access.home for access in loud}) < 2 or not any(access.is_write for access in loud):
             return
-        if all(entry.access.mark & t.ATOMIC for entry in loud):
+        if all(access.mark & t.ATOMIC for access in loud):
             self.counts["accesses by atomic operations alone"] += len(loud)
             return
-        kept = without_repeats(entries)
-        self.counts["repeated accesses"] += len(entries) - len(kept)
-        key = tuple((id(entry.actor), entry.segment, entry.access.is_write, entry.access.place, entry.access.mark,
-                     entry.access.locks) for entry in kept)
+        kept = without_repeats(accesses)
+        self.counts["repeated accesses"] += len(accesses) - len(kept)
+        key = tuple((id(access.home), access.segment, access.is_write, access.place, access.mark, access.locks)
+                    for access in kept)
         cell, _ = self._alike.get(key, (None, None))
         if cell is None:
             cell = Cell(len(self.cells), address)
@@ -183,12 +174,11 @@ class Memory:
     def _finish(self):
         """Gives the actors their loads and stores."""
         for cell, kept in self._alike.values():
-            first = kept[0].access
+            first = kept[0]
             cell.first = 0 if first.is_write else first.value
-            for entry in kept:
-                access = entry.access
+            for access in kept:
                 kind = "store" if access.is_write else "load"
-                entry.actor.steps.append((access.stamp, 0, Step(
+                access.home.steps.append((access.stamp, 0, Step(
                     kind, access.place, cell=cell, value=access.value, mark=access.mark, locks=access.locks)))
         for actor in all_homes(self.run):
             actor.steps.sort(key=lambda step: step[:2])
@@ -196,34 +186,34 @@ class Memory:
 
 def granules(address, size):
     """The places of eight bytes that these bytes are in."""
-    return range(address >> 3, (address + max(size, 1) + GRANULE - 1) >> 3)
+    return range(address >> 3, address + size + GRANULE - 1 >> 3)
 
 
-def between(known, address, size):
-    """Those of the sorted granules that these bytes are in."""
-    touched = granules(address, size)
-    return known[bisect_left(known, touched.start):bisect_left(known, touched.stop)]
+def between(known, low, high):
+    """Those of the sorted granules from `low` on that are below `high`."""
+    first = bisect_left(known, low)
+    return known[first:bisect_left(known, high, first)]
 
 
-def mask_of(granule, address, size):
+def mask_of(granule, access):
     """Which bytes of the granule an access touches, as bits."""
-    low = max(address - granule * GRANULE, 0)
-    high = min(address + max(size, 1) - granule * GRANULE, GRANULE)
-    return (1 << high) - (1 << low)
+    begin = access.address - granule * GRANULE
+    end = begin + (access.size or 1)
+    return (1 << (end if end < GRANULE else GRANULE)) - (1 << (begin if begin > 0 else 0))
 
 
 def atoms(lifetime):
-    """The granule's pieces that each access touches whole or not at all: (address, entries)."""
+    """The granule's pieces that each access touches whole or not at all: (address, accesses)."""
     granule, entries = lifetime
-    masks = sorted({entry.mask for entry in entries})
+    masks = sorted({mask for _, mask in entries})
     if len(masks) == 1:
-        return [(granule * GRANULE + lowest(masks[0]), entries)]
-    found, pieces = {}, []
+        return [(granule * GRANULE + lowest(masks[0]), [access for access, _ in entries])]
+    found, pieces = set(), []
     for byte in range(GRANULE):
         touching = tuple(mask >> byte & 1 for mask in masks)
         if any(touching) and touching not in found:
-            found[touching] = byte
-            pieces.append((granule * GRANULE + byte, [entry for entry in entries if entry.mask >> byte & 1]))
+            found.add(touching)
+            pieces.append((granule * GRANULE + byte, [access for access, mask in entries if mask >> byte & 1]))
     return pieces
 
 
@@ -232,22 +222,21 @@ def lowest(mask):
     return (mask & -mask).bit_length() - 1
 
 
-def without_repeats(entries):
+def without_repeats(accesses):
     """One of each kind and place in a row of accesses by one actor between two of its other steps; the root's reads
     while it is alone go too. A store that is kept has the last number of those it stands for."""
     kept, row, seen = [], None, {}
-    for entry in entries:
-        access = entry.access
-        if entry.quiet and not access.is_write:
+    for access in accesses:
+        if access.quiet and not access.is_write:
             continue
-        here = (entry.actor, entry.segment)
+        here = (access.home, access.segment)
         if here != row:
             row, seen = here, {}
         key = (access.is_write, access.place)
         if key in seen:
             if access.is_write:
-                seen[key].access.value = access.value
+                seen[key].value = access.value
             continue
-        seen[key] = entry
-        kept.append(entry)
+        seen[key] = access
+        kept.append(access)
     return kept

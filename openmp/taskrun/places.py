@@ -60,15 +60,14 @@ class Sources:
     """The places of one program and the text that stands there."""
 
     def __init__(self, trace):
-        self._base = trace.base
-        places = {event.place - trace.base for event in trace.events if event.place}
+        places = {event.place for event in trace.events}
         self._places = find_places(trace.program, places)
         self._texts = {}
         self._names = {}
 
     def place(self, address):
-        """The Place of a return address of the run."""
-        return self._places.get(address - self._base, NOWHERE)
+        """The Place of a return address."""
+        return self._places.get(address, NOWHERE)
 
     def expression(self, address):
         """What is read or written there, in the words of the source; `memory` where that can't be told."""
