@@ -32,6 +32,10 @@ class Quiet:
             self._ends.append((begin, float("inf")))
         self._begins = [begin for begin, _ in self._ends]
 
+    def is_before_all(self, stamp):
+        """Whether it is in front of the first task: what was stored there is what cells begin with."""
+        return not self._begins or stamp < self._begins[0]
+
     def at(self, stamp):
         """Whether the root is alone then."""
         at = bisect_left(self._begins, stamp) - 1
@@ -174,8 +178,10 @@ class Memory:
     def _finish(self):
         """Gives the actors their loads and stores."""
         for cell, kept in self._alike.values():
-            first = kept[0]
-            cell.first = 0 if first.is_write else first.value
+            while kept[0].is_write and self._quiet.is_before_all(kept[0].stamp):
+                cell.first = kept.pop(0).value
+            if not kept[0].is_write and not cell.first:
+                cell.first = kept[0].value
             for access in kept:
                 kind = "store" if access.is_write else "load"
                 access.home.steps.append((access.stamp, 0, Step(

@@ -1,5 +1,6 @@
 """What the recorder's tests share: where things are, and a program compiled, run and checked."""
 
+import functools
 import os
 import re
 import subprocess
@@ -30,6 +31,12 @@ def has_program():
 
 needs_clang = unittest.skipUnless(building.has_runtime(), "no clang with OpenMP: apt-get install clang-14 libomp-14-dev")
 needs_program = unittest.skipUnless(has_program(), "no program is built; TASKBACK_PROGRAM names one")
+
+
+@functools.lru_cache(maxsize=1000)
+def replies_to(text, steps):
+    """The program's replies: to one session they are always the same."""
+    return play.play(text, steps)
 
 
 class Recorded(unittest.TestCase):
@@ -73,7 +80,7 @@ class Recorded(unittest.TestCase):
     def check(self, program, threads, words=()):
         """(status, lines) as `openmp/check` has them."""
         session = self.session(program, threads, words)
-        return answer.answer(session, play.play(session.text(), len(session.taken)))
+        return answer.answer(session, replies_to(session.text(), len(session.taken)))
 
 
 def names_told(lines):
