@@ -47,8 +47,6 @@ void taskback_access(enum kind kind, uint64_t address, uint64_t size, uint64_t p
         return;
     }
     event = taskback_note(own, kind, own->task, address, 0, place);
-    if (!event->stamp)
-        return; /* no room: that is noted */
     set_size(event, size);
     event->mark = (uint8_t)mark;
     *seen = (struct seen){address, place, own->epoch, kind, event};

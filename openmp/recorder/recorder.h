@@ -32,7 +32,7 @@ enum kind {
 };
 
 /* What the notation has no word for. */
-enum note { NOTE_REDUCTION = 1, NOTE_DETACH, NOTE_PRIORITY, NOTE_CANCEL, NOTE_DEEP, NOTE_LOST };
+enum note { NOTE_REDUCTION = 1, NOTE_DETACH, NOTE_PRIORITY, NOTE_CANCEL, NOTE_DEEP };
 
 /* Marks of a READ or WRITE. */
 enum mark { ATOMIC = 1, FREED = 2 };
@@ -57,7 +57,7 @@ static inline void set_size(struct event *event, uint64_t size) {
         event->value = size;
 }
 
-enum { RUNNING_MOST = 1024, SEEN = 4096 };
+enum { RUNNING_MOST = 1024, SEEN = 4096, BUFFER = 2048 };
 
 /* A task that runs on this thread, and where its part of the stack begins (0: not yet known). */
 struct running {
@@ -75,9 +75,9 @@ struct seen {
 };
 
 struct own {
-    struct event *next, *end;
-    struct chunk *chunks;
+    struct event *next;
     struct own *link;
+    uint32_t noted;            /* how many events it has written down */
     struct event *unread;      /* a write whose number is read at the thread's next call */
     uint32_t task;             /* the task that runs */
     uint32_t epoch;            /* rises at each call that isn't an access */
@@ -94,6 +94,7 @@ struct own {
     const void *more_items;
     struct running running[RUNNING_MOST];
     struct seen seen[SEEN];
+    struct event events[BUFFER];
 };
 
 extern __thread struct own *taskback_own;
@@ -137,7 +138,7 @@ void taskback_pop_task(struct own *own, uint32_t task);
 void *taskback_taken(void *block, size_t size);
 void taskback_given_back(void *block, uint64_t place);
 
-/* Writes all events to the file that TASKBACK_TRACE names, once. */
+/* Writes what is left to the file that TASKBACK_TRACE names, once. */
 void taskback_write_trace(void);
 
 #define PLACE ((uint64_t)__builtin_return_address(0))

@@ -169,7 +169,8 @@ def answer(session, replies):
         return FAULT, tell_fault(session, number, replies.steps[number])
     lines = [f"not said by the notation: {name}: {count}" for name, count in session.unsaid()]
     if session.is_cut:
-        return UNKNOWN, lines + ["events were lost: the run was longer than the recorder's room; nothing is answered"]
+        return UNKNOWN, lines + ["events are missing from the trace (no room for its file?), or tasks were too deep to follow: "
+                                 "nothing is answered"]
     if replies.races is None:
         return UNKNOWN, lines + ["the run was legal; this program doesn't know the command `races` (it answers "
                                  "`error word`), so nothing is said of races"]

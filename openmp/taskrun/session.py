@@ -50,7 +50,7 @@ class Session:
         self._name_actors()
         self.taken = self._take_steps()
         self.identifiers = self._identify()
-        self.is_cut = self.run.counts["lost events"] > 0 or self.run.counts["tasks too deep to follow"] > 0
+        self.is_cut = trace.is_cut or self.run.counts["tasks too deep to follow"] > 0
         self.unfinished = [actor for actor in self.actors if actor is not self.run.root and actor.ended is None]
 
     # ---- numbers and names

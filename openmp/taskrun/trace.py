@@ -9,7 +9,7 @@ from typing import NamedTuple
 KINDS = ("", "create", "item", "start", "end", "wait", "wait item", "wait items", "group open", "group close",
          "region begin", "region end", "implicit begin", "barrier begin", "barrier end", "read", "write", "memory",
          "lock", "unlock", "note", "copy")
-NOTES = ("", "reductions", "detach clauses", "priority clauses", "cancellations", "tasks too deep to follow", "lost events")
+NOTES = ("", "reductions", "detach clauses", "priority clauses", "cancellations", "tasks too deep to follow")
 ATOMIC, FREED = 1, 2
 UNDEFERRED, FINAL = 0x8000000, 0x20000000
 FORMAT = struct.Struct("<QqIIiHBB")
@@ -45,3 +45,5 @@ class Trace:
             raise BadTrace(f"{path} is no whole trace")
         self.program = first[len(HEADER):].decode("utf-8", "surrogateescape")
         self.events = sorted(map(Event._make, FORMAT.iter_unpack(rest)), key=attrgetter("stamp"))
+        # The stamps are the numbers from 1 on; where one is missing, an event couldn't be written.
+        self.is_cut = bool(self.events) and self.events[-1].stamp != len(self.events)
