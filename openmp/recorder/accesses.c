@@ -33,28 +33,27 @@ static struct event *seen_before(struct own *own, enum kind kind, uint64_t addre
     return 0;
 }
 
-void taskback_access(enum kind kind, uint64_t address, uint32_t size, uint64_t place, int mark) {
+void taskback_access(enum kind kind, uint64_t address, uint64_t size, uint64_t place, int mark) {
     struct own *own = own_state();
     taskback_settle(own);
     if (address - own->record < own->record_size && own->record_creator == own->task)
         return;
     struct seen *seen;
     struct event *event = seen_before(own, kind, address, place, &seen);
-    if (event && event->size == size) {
-        if (kind == WRITE && size && !(mark & FREED))
+    int is_number = size <= LONGEST_NUMBER && !(mark & FREED);
+    if (event && (is_number ? event->size == size : event->size == LARGE && event->value == size)) {
+        if (kind == WRITE && is_number)
             own->unread = event;
         return;
     }
     event = taskback_note(own, kind, own->task, address, 0, place);
-    if (!event->stamp)
-        return; /* no room: that is noted */
-    event->size = size;
-    event->mark = (uint16_t)mark;
+    set_size(event, size);
+    event->mark = (uint8_t)mark;
     *seen = (struct seen){address, place, own->epoch, kind, event};
-    if (mark & FREED)
+    if (!is_number)
         return;
     if (kind == READ)
-        event->value = number_at(address, size);
+        event->value = number_at(address, (uint32_t)size);
     else
         own->unread = event;
 }
@@ -104,8 +103,8 @@ void __tsan_vptr_update(void **address, void *value) {
 void __tsan_vptr_read(void **address) { taskback_access(READ, (uint64_t)address, 8, PLACE, 0); }
 
 void __tsan_read_range(void *address, size_t size) {
-    taskback_access(READ, (uint64_t)address, (uint32_t)size, PLACE, 0);
+    taskback_access(READ, (uint64_t)address, size, PLACE, 0);
 }
 void __tsan_write_range(void *address, size_t size) {
-    taskback_access(WRITE, (uint64_t)address, (uint32_t)size, PLACE, 0);
+    taskback_access(WRITE, (uint64_t)address, size, PLACE, 0);
 }

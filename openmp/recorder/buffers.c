@@ -1,32 +1,23 @@
-/* Each thread writes into chunks of its own; at the end they go to one file. */
+/* Each thread writes into a buffer of its own, and a full one goes to the file at once. */
 #define _GNU_SOURCE
 #include <fcntl.h>
 #include <link.h>
 #include <pthread.h>
+#include <sched.h>
 #include <stdlib.h>
 #include <sys/mman.h>
 #include <unistd.h>
 
 #include "recorder.h"
 
-enum { CHUNK_EVENTS = 8191 };
-
-struct chunk {
-    struct chunk *before;
-    uint64_t used;
-    struct event events[CHUNK_EVENTS];
-};
+enum { WAITS = 1000 };
 
 __thread struct own *taskback_own;
 static struct own *all_threads;
-static uint64_t counter;
-static uint64_t chunks_left = 1 << 12;
-static int written;
-
-static void *pages(size_t size) {
-    void *found = mmap(0, size, PROT_READ | PROT_WRITE, MAP_PRIVATE | MAP_ANONYMOUS, -1, 0);
-    return found == MAP_FAILED ? 0 : found;
-}
+static uint32_t counter;
+static uint64_t program_base;
+static int file = -1;
+static int is_over;
 
 static uint64_t lowest_of_stack(void) {
     pthread_attr_t attributes;
@@ -40,11 +31,13 @@ static uint64_t lowest_of_stack(void) {
 }
 
 struct own *taskback_adopt(void) {
-    struct own *own = pages(sizeof *own);
-    if (!own)
+    int way = MAP_PRIVATE | MAP_ANONYMOUS | MAP_POPULATE;
+    struct own *own = mmap(0, sizeof *own, PROT_READ | PROT_WRITE, way, -1, 0);
+    if (own == MAP_FAILED)
         abort();
     taskback_own = own;
     own->epoch = 1;
+    own->next = own->events;
     own->stack_low = lowest_of_stack();
     own->link = __atomic_load_n(&all_threads, __ATOMIC_ACQUIRE);
     while (!__atomic_compare_exchange_n(&all_threads, &own->link, own, 0, __ATOMIC_ACQ_REL, __ATOMIC_ACQUIRE))
@@ -52,42 +45,42 @@ struct own *taskback_adopt(void) {
     return own;
 }
 
-/* The chunk's last event stays free, for the note that events were lost where no further chunk can be had. */
-static struct event *more_room(struct own *own) {
-    uint64_t left = __atomic_load_n(&chunks_left, __ATOMIC_RELAXED);
-    struct chunk *chunk = left ? pages(sizeof *chunk) : 0;
-    if (own->chunks)
-        own->chunks->used = own->next - own->chunks->events;
-    if (!chunk) {
-        static struct event lost;
-        lost.kind = NOTE;
-        lost.value = NOTE_LOST;
-        if (own->chunks && own->next == own->end) {
-            *own->next++ = lost;
-            own->chunks->used++;
-        }
-        return 0;
+/* Where a write fails, the rest is left out: the trace's numbers show that some are missing. */
+static void put(const void *bytes, size_t size) {
+    const char *from = bytes;
+    while (size > 0 && file >= 0) {
+        ssize_t put = write(file, from, size);
+        if (put <= 0)
+            return;
+        from += put;
+        size -= (size_t)put;
     }
-    __atomic_fetch_sub(&chunks_left, 1, __ATOMIC_RELAXED);
-    chunk->before = own->chunks;
-    own->chunks = chunk;
-    own->next = chunk->events;
-    own->end = chunk->events + CHUNK_EVENTS - 1;
-    return own->next;
+}
+
+/* Makes room: the accesses in the buffer are no longer there to be compared with. */
+static void put_buffer(struct own *own) {
+    begin_part(own);
+    if (!__atomic_load_n(&is_over, __ATOMIC_ACQUIRE))
+        put(own->events, (size_t)((char *)own->next - (char *)own->events));
+    own->next = own->events;
 }
 
 struct event *taskback_note(struct own *own, enum kind kind, uint32_t task, uint64_t address, uint64_t value,
                             uint64_t place) {
-    static __thread struct event none;
-    if (own->next >= own->end && !more_room(own))
-        return &none;
-    struct event *event = own->next++;
-    event->stamp = __atomic_add_fetch(&counter, 1, __ATOMIC_ACQ_REL);
+    if (own->next == own->events + BUFFER)
+        put_buffer(own);
+    struct event *event = own->next;
+    int64_t offset = (int64_t)(place - program_base);
     event->address = address;
     event->value = value;
-    event->place = place;
+    event->stamp = __atomic_add_fetch(&counter, 1, __ATOMIC_ACQ_REL);
     event->task = task;
-    event->kind = kind;
+    event->place = offset > 0 && offset <= INT32_MAX ? (int32_t)offset : 0;
+    event->size = 0;
+    event->kind = (uint8_t)kind;
+    event->mark = 0;
+    __atomic_store_n(&own->noted, own->noted + 1, __ATOMIC_RELEASE);
+    own->next++;
     return event;
 }
 
@@ -97,58 +90,54 @@ static int base_of(struct dl_phdr_info *info, size_t size, void *base) {
     return 1; /* the first one is the program */
 }
 
-static void put(int file, const void *bytes, size_t size) {
-    const char *from = bytes;
-    while (size > 0) {
-        ssize_t put = write(file, from, size);
-        if (put <= 0)
-            _exit(3);
-        from += put;
-        size -= (size_t)put;
-    }
-}
-
 static int add(char *line, int at, const char *words) {
     while (*words)
         line[at++] = *words++;
     return at;
 }
 
-/* The first line names the program and where it was loaded; the events follow as they are, thread by thread. */
-static void put_header(int file) {
+/* The first line names the program; the events follow as they are, in pieces of one thread. */
+static void put_header(void) {
     char path[4096], line[4300];
-    uint64_t base = 0;
     ssize_t length = readlink("/proc/self/exe", path, sizeof path - 1);
     path[length > 0 ? length : 0] = 0;
-    dl_iterate_phdr(base_of, &base);
     int count = add(line, 0, "taskback trace 1 ");
-    for (int shift = 60; shift >= 0; shift -= 4)
-        line[count++] = "0123456789abcdef"[base >> shift & 15];
-    line[count++] = ' ';
     count = add(line, count, path);
     line[count++] = '\n';
-    put(file, line, (size_t)count);
+    put(line, (size_t)count);
+}
+
+__attribute__((constructor)) static void at_the_beginning(void) {
+    const char *name = getenv("TASKBACK_TRACE");
+    dl_iterate_phdr(base_of, &program_base);
+    if (!name)
+        return;
+    file = open(name, O_WRONLY | O_CREAT | O_TRUNC | O_APPEND | O_CLOEXEC, 0666);
+    put_header();
+}
+
+/* Another thread may have taken a number whose event isn't whole yet. */
+static void wait_for_threads(void) {
+    for (int i = 0; i < WAITS; i++) {
+        uint32_t noted = 0;
+        for (struct own *own = __atomic_load_n(&all_threads, __ATOMIC_ACQUIRE); own; own = own->link)
+            noted += __atomic_load_n(&own->noted, __ATOMIC_ACQUIRE);
+        if (noted == __atomic_load_n(&counter, __ATOMIC_ACQUIRE))
+            return;
+        sched_yield();
+    }
 }
 
 void taskback_write_trace(void) {
-    const char *name = getenv("TASKBACK_TRACE");
-    if (!name || __atomic_exchange_n(&written, 1, __ATOMIC_ACQ_REL))
+    static int begun;
+    if (__atomic_exchange_n(&begun, 1, __ATOMIC_ACQ_REL))
         return;
-    int file = open(name, O_WRONLY | O_CREAT | O_TRUNC | O_CLOEXEC, 0666);
-    if (file < 0)
-        _exit(3);
-    put_header(file);
-    for (struct own *own = __atomic_load_n(&all_threads, __ATOMIC_ACQUIRE); own; own = own->link) {
-        if (own->chunks)
-            own->chunks->used = own->next - own->chunks->events;
-        for (struct chunk *chunk = own->chunks; chunk; chunk = chunk->before)
-            put(file, chunk->events, chunk->used * sizeof chunk->events[0]);
-    }
-    close(file);
-}
-
-__attribute__((destructor)) static void at_the_end(void) {
     if (taskback_own)
         taskback_settle(taskback_own);
-    taskback_write_trace();
+    wait_for_threads();
+    for (struct own *own = __atomic_load_n(&all_threads, __ATOMIC_ACQUIRE); own; own = own->link)
+        put(own->events, (size_t)((char *)own->next - (char *)own->events));
+    __atomic_store_n(&is_over, 1, __ATOMIC_RELEASE);
 }
+
+__attribute__((destructor)) static void at_the_end(void) { taskback_write_trace(); }

@@ -24,7 +24,7 @@ void *taskback_taken(void *block, size_t size) {
 /* Giving back counts as a write of all of it: nobody may use it at the same time. */
 void taskback_given_back(void *block, uint64_t place) {
     if (block)
-        taskback_access(WRITE, (uint64_t)block, (uint32_t)malloc_usable_size(block), place, FREED);
+        taskback_access(WRITE, (uint64_t)block, malloc_usable_size(block), place, FREED);
 }
 
 void *__wrap_malloc(size_t size) { return taskback_taken(__real_malloc(size), size); }
@@ -52,8 +52,8 @@ static void copied(void *to, const void *from, size_t size, uint64_t place) {
     if (size == 0)
         return;
     if (from)
-        taskback_access(READ, (uint64_t)from, (uint32_t)size, place, 0);
-    taskback_access(WRITE, (uint64_t)to, (uint32_t)size, place, 0);
+        taskback_access(READ, (uint64_t)from, size, place, 0);
+    taskback_access(WRITE, (uint64_t)to, size, place, 0);
 }
 
 void *__wrap_memcpy(void *to, const void *from, size_t size) {

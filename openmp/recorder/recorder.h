@@ -25,31 +25,39 @@ enum kind {
     READ,           /* task; address; value: the number read; size; place */
     WRITE,          /* task; address; value: the number written; size; place */
     MEMORY,         /* address, value: from here on this many bytes are new */
-    LOCK,           /* task; address: the lock */
+    LOCK,           /* task; address: the lock; value: 1 where it is a reduction's */
     UNLOCK,         /* task; address: the lock */
     NOTE,           /* task; value: one of enum note; place */
     COPY            /* address: a thread's copy of a reduced variable; value: the variable; with a size, its own */
 };
 
 /* What the notation has no word for. */
-enum note { NOTE_REDUCTION = 1, NOTE_DETACH, NOTE_PRIORITY, NOTE_CANCEL, NOTE_DEEP, NOTE_LOST };
+enum note { NOTE_REDUCTION = 1, NOTE_DETACH, NOTE_PRIORITY, NOTE_CANCEL, NOTE_DEEP };
 
 /* Marks of a READ or WRITE. */
 enum mark { ATOMIC = 1, FREED = 2 };
 
+/* 32 bytes: what is written is most of what recording costs. */
 struct event {
-    uint64_t stamp;
     uint64_t address;
     uint64_t value;
-    uint64_t place;
+    uint32_t stamp;
     uint32_t task;
-    uint32_t size;
-    uint16_t kind;
-    uint16_t mark;
-    uint32_t unused;
+    int32_t place;  /* from where the program is loaded; 0: not in it */
+    uint16_t size;  /* LARGE: the size is the value */
+    uint8_t kind;
+    uint8_t mark;
 };
 
-enum { RUNNING_MOST = 1024, SEEN = 4096 };
+enum { LARGE = 0xffff, LONGEST_NUMBER = 16 };
+
+static inline void set_size(struct event *event, uint64_t size) {
+    event->size = size <= LONGEST_NUMBER ? (uint16_t)size : LARGE;
+    if (size > LONGEST_NUMBER)
+        event->value = size;
+}
+
+enum { RUNNING_MOST = 1024, SEEN = 4096, BUFFER = 2048 };
 
 /* A task that runs on this thread, and where its part of the stack begins (0: not yet known). */
 struct running {
@@ -67,9 +75,9 @@ struct seen {
 };
 
 struct own {
-    struct event *next, *end;
-    struct chunk *chunks;
+    struct event *next;
     struct own *link;
+    uint32_t noted;            /* how many events it has written down */
     struct event *unread;      /* a write whose number is read at the thread's next call */
     uint32_t task;             /* the task that runs */
     uint32_t epoch;            /* rises at each call that isn't an access */
@@ -86,6 +94,7 @@ struct own {
     const void *more_items;
     struct running running[RUNNING_MOST];
     struct seen seen[SEEN];
+    struct event events[BUFFER];
 };
 
 extern __thread struct own *taskback_own;
@@ -109,7 +118,7 @@ static inline void begin_part(struct own *own) {
 }
 
 /* An access of `size` bytes by the thread's task. */
-void taskback_access(enum kind kind, uint64_t address, uint32_t size, uint64_t place, int mark);
+void taskback_access(enum kind kind, uint64_t address, uint64_t size, uint64_t place, int mark);
 
 /* An item of a task or of a taskwait, as the runtime's calls have it: `type` has bits. */
 struct runtime_item {
@@ -129,7 +138,7 @@ void taskback_pop_task(struct own *own, uint32_t task);
 void *taskback_taken(void *block, size_t size);
 void taskback_given_back(void *block, uint64_t place);
 
-/* Writes all events to the file that TASKBACK_TRACE names, once. */
+/* Writes what is left to the file that TASKBACK_TRACE names, once. */
 void taskback_write_trace(void);
 
 #define PLACE ((uint64_t)__builtin_return_address(0))

@@ -1,5 +1,6 @@
 /* The OMPT tool: which tasks there are, and when each starts, waits and ends. */
 #include <omp-tools.h>
+#include <signal.h>
 
 #include "recorder.h"
 
@@ -186,9 +187,26 @@ static void on_cancel(ompt_data_t *task, int flags, const void *place) {
     taskback_note(own_state(), NOTE, number_of(task), 0, NOTE_CANCEL, (uint64_t)place);
 }
 
+/* A program that a signal ends leaves its trace too. */
+static void on_signal(int number) {
+    signal(number, SIG_DFL);
+    taskback_write_trace();
+    raise(number);
+}
+
+static void watch_signals(void) {
+    static const int numbers[] = {SIGSEGV, SIGBUS, SIGFPE, SIGILL, SIGABRT, SIGTERM, SIGINT};
+    for (size_t i = 0; i < sizeof numbers / sizeof numbers[0]; i++) {
+        void (*before)(int) = signal(numbers[i], on_signal);
+        if (before != SIG_DFL)
+            signal(numbers[i], before);
+    }
+}
+
 static int begin(ompt_function_lookup_t look_up, int device, ompt_data_t *data) {
     (void)device, (void)data;
     ompt_set_callback_t set = (ompt_set_callback_t)look_up("ompt_set_callback");
+    watch_signals();
     set(ompt_callback_task_create, (ompt_callback_t)on_create);
     set(ompt_callback_task_schedule, (ompt_callback_t)on_schedule);
     set(ompt_callback_sync_region, (ompt_callback_t)on_sync);

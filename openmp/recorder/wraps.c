@@ -36,13 +36,6 @@ void *__wrap___kmpc_omp_task_alloc(void *at, int32_t thread, int32_t flags, size
     return record;
 }
 
-static struct own *record_filled(void) {
-    struct own *own = own_state();
-    begin_part(own);
-    own->record_size = 0;
-    return own;
-}
-
 /* A call that creates children: who makes it and where, which another task's call within it may change. */
 struct call {
     struct own *own;
@@ -155,7 +148,7 @@ static void note_reduction(int count, const void *data, uint64_t place) {
     struct own *own = own_state();
     taskback_note(own, NOTE, own->task, 0, NOTE_REDUCTION, place);
     for (int i = 0; i < count; i++)
-        taskback_note(own, COPY, own->task, (uint64_t)reduced[i].shared, 0, place)->size = (uint32_t)reduced[i].size;
+        set_size(taskback_note(own, COPY, own->task, (uint64_t)reduced[i].shared, 0, place), reduced[i].size);
 }
 
 void *__wrap___kmpc_taskred_init(int32_t thread, int32_t count, void *data) {
@@ -171,7 +164,11 @@ void *__wrap___kmpc_taskred_modifier_init(void *at, int32_t thread, int32_t loop
 void *__wrap___kmpc_task_reduction_get_th_data(int32_t thread, void *group, void *item) {
     void *copy = __real___kmpc_task_reduction_get_th_data(thread, group, item);
     struct own *own = own_state();
-    if (copy != item)
+    begin_part(own);
+    /* A thread that is alone has no copies: what its tasks add up is kept apart by the reduction. */
+    if (copy == item)
+        taskback_note(own, LOCK, own->task, (uint64_t)item, 1, PLACE);
+    else
         taskback_note(own, COPY, own->task, (uint64_t)copy, (uint64_t)item, PLACE);
     return copy;
 }
@@ -181,7 +178,7 @@ static void lock_reduction(const void *lock, uint64_t place) {
     struct own *own = own_state();
     begin_part(own);
     taskback_note(own, NOTE, own->task, 0, NOTE_REDUCTION, place);
-    taskback_note(own, LOCK, own->task, (uint64_t)lock, 0, place);
+    taskback_note(own, LOCK, own->task, (uint64_t)lock, 1, place);
 }
 
 static void unlock_reduction(const void *lock, uint64_t place) {

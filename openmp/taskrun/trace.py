@@ -1,6 +1,7 @@
 """A trace as the recorder wrote it: one line, and then its events, thread by thread."""
 
 import struct
+from operator import attrgetter
 from typing import NamedTuple
 
 (CREATE, ITEM, START, END, WAIT, WAIT_ITEM, WAIT_ITEMS, GROUP_OPEN, GROUP_CLOSE, REGION_BEGIN, REGION_END,
@@ -8,25 +9,25 @@ from typing import NamedTuple
 KINDS = ("", "create", "item", "start", "end", "wait", "wait item", "wait items", "group open", "group close",
          "region begin", "region end", "implicit begin", "barrier begin", "barrier end", "read", "write", "memory",
          "lock", "unlock", "note", "copy")
-NOTES = ("", "reduction", "detach", "priority", "cancel", "deep", "lost")
+NOTES = ("", "reductions", "detach clauses", "priority clauses", "cancellations", "tasks too deep to follow")
 ATOMIC, FREED = 1, 2
 UNDEFERRED, FINAL = 0x8000000, 0x20000000
-FORMAT = struct.Struct("<QQqQIIHHI")
+FORMAT = struct.Struct("<QqIIiHBB")
+LARGE = 0xffff
 HEADER = b"taskback trace 1 "
 
 
 class Event(NamedTuple):
     """One event; what its fields say depends on its kind (recorder.h)."""
 
-    stamp: int
     address: int
     value: int
-    place: int
+    stamp: int
     task: int
+    place: int
     size: int
     kind: int
     mark: int
-    unused: int
 
 
 class BadTrace(Exception):
@@ -34,17 +35,15 @@ class BadTrace(Exception):
 
 
 class Trace:
-    """The program's path, the address at which it was loaded, and the events in the order of their stamps."""
+    """The program's path, and the events in the order of their stamps."""
 
     def __init__(self, path):
         with open(path, "rb") as file:
             data = file.read()
-        if not data.startswith(HEADER) or b"\n" not in data:
-            raise BadTrace(f"{path} is no trace")
         first, _, rest = data.partition(b"\n")
-        words = first[len(HEADER):].split(b" ", 1)
-        if len(rest) % FORMAT.size or len(words) != 2:
-            raise BadTrace(f"{path} isn't whole")
-        self.base = int(words[0], 16)
-        self.program = words[1].decode("utf-8", "surrogateescape")
-        self.events = sorted(map(Event._make, FORMAT.iter_unpack(rest)))
+        if not data.startswith(HEADER) or len(rest) % FORMAT.size:
+            raise BadTrace(f"{path} is no whole trace")
+        self.program = first[len(HEADER):].decode("utf-8", "surrogateescape")
+        self.events = sorted(map(Event._make, FORMAT.iter_unpack(rest)), key=attrgetter("stamp"))
+        # The stamps are the numbers from 1 on; where one is missing, an event couldn't be written.
+        self.is_cut = bool(self.events) and self.events[-1].stamp != len(self.events)

@@ -1,0 +1,289 @@
+"""Who took part in a run: the root, the tasks, and the parts of parallel regions between their barriers.
+
+A parallel region is a taskgroup of what met it. Between two barriers each thread's implicit task is a part of its
+own: a child in that group, or, where one part alone does something, as behind `single`, steps of what met the region.
+"""
+
+from collections import Counter
+
+from . import trace as t
+
+NO_LOCKS = frozenset()
+LARGE = 64   # bytes: an access of more is one of many places
+
+
+class Actor:
+    """What becomes a task of the notation."""
+
+    def __init__(self, number, place=0, parent=None):
+        self.number = number    # the recorder's number of its task
+        self.place = place      # the directive that made it
+        self.parent = parent
+        self.items = []         # (address, bits of the type)
+        self.deferred = True
+        self.final = False
+        self.started = None     # stamps
+        self.ended = None
+        self.steps = []         # (stamp, turn, Step)
+        self.home = None        # whom its steps belong to, where it has no task of its own
+        self.is_part = False    # of a parallel region
+        self.children = 0
+        self.name = None
+
+    def whose(self):
+        """The actor whose steps its steps are."""
+        actor = self
+        while actor.home is not None:
+            actor = actor.home
+        return actor
+
+    def is_under(self, other):
+        """Whether it is this one or a descendant of it."""
+        actor = self
+        while actor is not None and actor is not other:
+            actor = actor.parent.whose() if actor.parent else None
+        return actor is other
+
+
+class Step:
+    """One statement of an actor; `kind` is the notation's word."""
+
+    __slots__ = ("kind", "place", "child", "items", "cell", "value", "mark", "locks", "name")
+
+    def __init__(self, kind, place=0, child=None, items=(), cell=None, value=0, mark=0, locks=frozenset()):
+        self.kind = kind
+        self.place = place
+        self.child = child
+        self.items = items
+        self.cell = cell
+        self.value = value
+        self.mark = mark
+        self.locks = locks
+        self.name = None
+
+
+class Phase:
+    """A region from one barrier to the next."""
+
+    def __init__(self, opened):
+        self.opened = opened
+        self.closed = None
+        self.parts = {}
+
+
+class Region:
+    """A parallel region: who met it, and its phases."""
+
+    def __init__(self, meeting, place, opened):
+        self.meeting = meeting
+        self.place = place
+        self.phases = [Phase(opened)]
+        self.ended = False
+
+
+class Access:
+    """A read or write, with who did it and the locks that were held; `low` to `high` are its places of eight bytes.
+
+    `home` is the actor that it belongs to in the end, `quiet` says that the root did it while it was alone, and
+    `segment` is the number of the actor's other steps in front of it."""
+
+    __slots__ = ("stamp", "actor", "is_write", "address", "size", "value", "place", "mark", "locks", "low", "high",
+                 "home", "quiet", "segment")
+
+    def __init__(self, event, actor, locks):
+        self.address, self.value, self.stamp, _, self.place, self.size, kind, self.mark = event
+        if self.size == t.LARGE:
+            self.size, self.value = self.value, 0
+        self.actor = actor
+        self.is_write = kind == t.WRITE
+        self.locks = locks
+        self.low = self.address >> 3
+        self.high = self.address + (self.size or 1) + 7 >> 3
+
+
+class Run:
+    """The actors of a trace with their steps, the accesses in their order, and what was counted on the way."""
+
+    def __init__(self, trace):
+        self.root = Actor(0)
+        self.tasks = {}        # explicit tasks by their numbers
+        self.regions = {}
+        self.accesses = []
+        self.memory = []       # (stamp, address, size): new from there on
+        self.copies = {}       # copies of reduced variables: address, size
+        self.counts = Counter()
+        self._now = {0: self.root}     # the actor that each number stands for now
+        self._implicit = {}            # number: (region, phase)
+        self._locks = {}
+        self._wait_items = {}
+        self._sizes = {}
+        handlers = self._handlers()
+        for event in trace.events:
+            handlers[event.kind](event)
+        self._find_homes()
+        self._place_parts()
+
+    def _handlers(self):
+        return {t.CREATE: self._create, t.ITEM: self._item, t.START: self._start, t.END: self._end,
+                t.WAIT: lambda e: self._add(e, Step("taskwait", e.place)),
+                t.WAIT_ITEM: self._wait_item, t.WAIT_ITEMS: self._wait_for_items,
+                t.GROUP_OPEN: lambda e: self._add(e, Step("taskgroup", e.place)),
+                t.GROUP_CLOSE: lambda e: self._add(e, Step("end", e.place)),
+                t.REGION_BEGIN: self._region_begin, t.REGION_END: self._region_end,
+                t.IMPLICIT_BEGIN: self._implicit_begin, t.BARRIER_BEGIN: self._barrier_begin,
+                t.BARRIER_END: self._barrier_end, t.READ: self._access, t.WRITE: self._access,
+                t.MEMORY: lambda e: self.memory.append((e.stamp, e.address, e.value)),
+                t.LOCK: self._lock, t.UNLOCK: self._unlock, t.NOTE: self._note, t.COPY: self._copy}
+
+    def actor_of(self, number):
+        """Who the number stands for at this point of the trace."""
+        return self._now.get(number, self.root)
+
+    def _add(self, event, step):
+        self.actor_of(event.task).steps.append((event.stamp, 0, step))
+
+    # ---- tasks
+
+    def _create(self, event):
+        parent = self.actor_of(event.task)
+        child = Actor(event.address, event.place, parent)
+        child.final = bool(event.value & t.FINAL)
+        # A task of a final task is included: whoever meets it runs it at once.
+        child.deferred = not (event.value & t.UNDEFERRED or parent.final)
+        self.tasks[event.address] = self._now[event.address] = child
+        self._add(event, Step("task", event.place, child=child))
+
+    def _item(self, event):
+        if event.task in self.tasks:
+            self.tasks[event.task].items.append((event.address, event.value))
+
+    def _start(self, event):
+        self.actor_of(event.task).started = event.stamp
+
+    def _end(self, event):
+        actor = self.actor_of(event.task)
+        if actor is not self.root and actor.ended is None:
+            actor.ended = event.stamp
+
+    def _wait_item(self, event):
+        self._wait_items.setdefault(event.task, []).append((event.address, event.value))
+
+    def _wait_for_items(self, event):
+        self._add(event, Step("taskwait", event.place, items=self._wait_items.pop(event.task, [])))
+
+    # ---- regions
+
+    def _region_begin(self, event):
+        meeting = self.actor_of(event.task)
+        self.regions[event.address] = Region(meeting, event.place, event.stamp)
+
+    def _region_end(self, event):
+        region = self.regions.get(event.address)
+        if region:
+            region.phases[-1].closed = event.stamp
+            region.ended = True
+
+    def _implicit_begin(self, event):
+        region = self.regions.get(event.address)
+        if region is None:
+            self._now[event.task] = self.root
+            return
+        self._implicit[event.task] = [region, 0]
+        self._now[event.task] = self._part(region, 0, event)
+
+    def _part(self, region, phase, event):
+        part = Actor(event.task, region.place, region.meeting)
+        part.is_part = True
+        part.started = event.stamp
+        region.phases[phase].parts[event.task] = part
+        return part
+
+    def _barrier_begin(self, event):
+        if event.task in self._implicit:
+            self.actor_of(event.task).ended = event.stamp
+
+    def _barrier_end(self, event):
+        if event.task not in self._implicit:
+            return
+        region, phase = self._implicit[event.task]
+        if region.ended:
+            return
+        if region.phases[phase].closed is None:
+            region.phases[phase].closed = event.stamp
+            region.phases.append(Phase(event.stamp))
+        self._implicit[event.task][1] = phase + 1
+        self._now[event.task] = self._part(region, phase + 1, event)
+
+    # ---- memory
+
+    def _access(self, event):
+        task = event.task
+        self.accesses.append(Access(event, self._now.get(task, self.root), self._locks.get(task, NO_LOCKS)))
+
+    def _lock(self, event):
+        self.counts["reductions" if event.value else "critical sections and locks"] += 1
+        self._locks[event.task] = self._locks.get(event.task, NO_LOCKS) | {event.address}
+
+    def _unlock(self, event):
+        self._locks[event.task] = self._locks.get(event.task, NO_LOCKS) - {event.address}
+
+    def _note(self, event):
+        self.counts[t.NOTES[event.value]] += 1
+
+    def _copy(self, event):
+        if event.size:
+            self._sizes[event.address] = event.value if event.size == t.LARGE else event.size
+            return
+        size = self._sizes.get(event.value, 8)
+        self._sizes[event.address] = size
+        self.copies[event.address] = size
+
+    # ---- parts
+
+    def _find_homes(self):
+        """A part that alone does something in its phase belongs to what met the region."""
+        self.phases = [(region, phase) for region in self.regions.values() for phase in region.phases]
+        busy = {access.actor for access in shared_accesses(self)}
+        busy |= {region.meeting for region in self.regions.values()}
+        for region, phase in self.phases:
+            active = [part for part in phase.parts.values() if part.steps or part in busy]
+            phase.active = active
+            for part in phase.parts.values():
+                if part not in active or len(active) == 1:
+                    part.home = region.meeting
+
+    def _place_parts(self):
+        """A region's phases are groups in whom they belong to; parts that several do are children there."""
+        for region, phase in self.phases:
+            if not phase.active:
+                continue
+            home = region.meeting.whose()
+            home.steps.append((phase.opened, 1, Step("taskgroup", region.place)))
+            for part in phase.active:
+                if part.home is None:
+                    home.steps.append((phase.opened, 2, Step("task", region.place, child=part)))
+            if phase.closed is not None:
+                home.steps.append((phase.closed, -1, Step("end", region.place)))
+        for _, phase in self.phases:
+            for part in phase.parts.values():
+                if part.home is not None:
+                    part.whose().steps += part.steps
+                    part.steps = []
+                elif part.ended is None:
+                    part.ended = phase.closed
+
+
+def shared_accesses(run):
+    """The accesses to memory that two actors touch and one writes, eight bytes taken together."""
+    first, shared, written = {}, set(), set()
+    for access in run.accesses:
+        if access.actor is run.root or access.size > LARGE:
+            continue
+        for granule in range(access.low, access.high):
+            if first.setdefault(granule, access.actor) is not access.actor:
+                shared.add(granule)
+            if access.is_write:
+                written.add(granule)
+    shared &= written
+    return [access for access in run.accesses if access.size > LARGE or access.low in shared
+            or access.high > access.low + 1 and not shared.isdisjoint(range(access.low, access.high))]

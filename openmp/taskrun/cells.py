@@ -1,0 +1,248 @@
+"""Which memory becomes cells: what two actors touch and one writes, with the lifetimes of blocks and stacks apart."""
+
+from bisect import bisect_left
+from collections import Counter
+
+from . import trace as t
+from .actors import Step
+
+GRANULE = 8
+
+
+class Quiet:
+    """When the root is alone: no task was made since all that there were had ended."""
+
+    def __init__(self, run):
+        made = [(task.steps_stamp, task) for task in made_tasks(run)]
+        closes = [phase.closed for region, phase in run.phases
+                  if phase.closed is not None and region.meeting.whose() is run.root]
+        waits = [stamp for stamp, _, step in run.root.steps if step.kind == "taskwait" and not step.items]
+        self._ends = []  # (from, to): not alone
+        begin, nested = None, False
+        happenings = sorted([(stamp, 0, task) for stamp, task in made] + [(stamp, 1, None) for stamp in closes]
+                            + [(stamp, 2, None) for stamp in waits], key=lambda entry: entry[:2])
+        for stamp, what, task in happenings:
+            if what == 0:
+                begin = stamp if begin is None else begin
+                nested = nested or task.parent.whose() is not run.root
+            elif begin is not None and (what == 1 or not nested):
+                self._ends.append((begin, stamp))
+                begin, nested = None, False
+        if begin is not None:
+            self._ends.append((begin, float("inf")))
+        self._begins = [begin for begin, _ in self._ends]
+
+    def is_before_all(self, stamp):
+        """Whether it is in front of the first task: what was stored there is what cells begin with."""
+        return not self._begins or stamp < self._begins[0]
+
+    def at(self, stamp):
+        """Whether the root is alone then."""
+        at = bisect_left(self._begins, stamp) - 1
+        return at < 0 or stamp > self._ends[at][1]
+
+
+def made_tasks(run):
+    """The actors that have a task of their own, each with the stamp at which it was made."""
+    found = []
+    for home in all_homes(run):
+        for stamp, _, step in home.steps:
+            if step.child is not None:
+                step.child.steps_stamp = stamp
+                found.append(step.child)
+    return found
+
+
+def all_homes(run):
+    """The actors that keep their steps."""
+    parts = [part for _, phase in run.phases for part in phase.active if part.home is None]
+    return [run.root, *run.tasks.values(), *parts]
+
+
+class Cell:
+    """One cell: an address, how many others were touched alike, and its first number."""
+
+    def __init__(self, number, address):
+        self.number = number
+        self.address = address
+        self.alike = 1
+        self.first = 0
+
+
+class Memory:
+    """The cells of a run; the actors get their loads and stores."""
+
+    def __init__(self, run):
+        self.run = run
+        self.counts = Counter()
+        self.cells = []
+        self.cell_at = {}      # the first cell of an address
+        self._alike = {}       # (cell, entries) by what touched it
+        self._quiet = Quiet(run)
+        self._stamps = {actor: sorted(stamp for stamp, _, _ in actor.steps) for actor in all_homes(run)}
+        self._copies = {granule for address, size in run.copies.items() for granule in granules(address, size)}
+        accesses = self._accesses()
+        for lifetime in self._lifetimes(accesses):
+            for address, atom in atoms(lifetime):
+                self._take(address, atom)
+        self._finish()
+
+    def _accesses(self):
+        """The accesses that count, each with the actor that it belongs to."""
+        homes = {}
+        found = []
+        root = self.run.root
+        for access in self.run.accesses:
+            if access.low in self._copies:
+                self.counts["accesses to copies of reduced variables"] += 1
+                continue
+            home = homes.get(access.actor)
+            if home is None:
+                home = homes[access.actor] = access.actor.whose()
+            access.home = home
+            access.quiet = home is root and self._quiet.at(access.stamp)
+            found.append(access)
+        return found
+
+    def _shared(self, accesses):
+        """The granules that two actors touch and one writes, sorted."""
+        touched, written = {}, set()
+        for access in accesses:
+            if access.quiet or access.mark & t.FREED:
+                continue
+            for granule in range(access.low, access.high):
+                if touched.setdefault(granule, access.home) is not access.home:
+                    touched[granule] = None
+                if access.is_write:
+                    written.add(granule)
+        known = sorted(touched)
+        for access in accesses:
+            if access.mark & t.FREED and not access.quiet:
+                for granule in between(known, access.low, access.high):
+                    if touched[granule] is not access.home:
+                        touched[granule] = None
+                    written.add(granule)
+        shared = [granule for granule in known if touched[granule] is None]
+        self.counts["places of eight bytes that one task alone touched"] = len(known) - len(shared)
+        self.counts["places of eight bytes that several tasks only read"] = \
+            sum(1 for granule in shared if granule not in written)
+        return [granule for granule in shared if granule in written]
+
+    def _lifetimes(self, accesses):
+        """For each shared granule its accesses, as (access, bytes) in lists, one for each time that it was new."""
+        shared = self._shared(accesses)
+        member = set(shared)
+        current, done = {}, []
+        memory = iter([entry for entry in self.run.memory
+                       if between(shared, entry[1] >> 3, entry[1] + entry[2] + 7 >> 3)] + [(float("inf"), 0, 0)])
+        stamp, address, size = next(memory)
+        for access in accesses:
+            low, high = access.low, access.high
+            if high == low + 1:
+                touched = (low,) if low in member else ()
+            else:
+                touched = between(shared, low, high)
+            if not touched:
+                continue
+            while stamp < access.stamp:
+                for granule in between(shared, address >> 3, address + size + 7 >> 3):
+                    if granule in current:
+                        done.append((granule, current.pop(granule)))
+                stamp, address, size = next(memory)
+            access.segment = bisect_left(self._stamps.get(access.home, ()), access.stamp)
+            for granule in touched:
+                current.setdefault(granule, []).append((access, mask_of(granule, access)))
+        return done + list(current.items())
+
+    def _take(self, address, accesses):
+        """Makes a cell of an atom, or one with those that were touched alike."""
+        loud = [access for access in accesses if not access.quiet]
+        if len({access.home for access in loud}) < 2 or not any(access.is_write for access in loud):
+            return
+        if all(access.mark & t.ATOMIC for access in loud):
+            self.counts["accesses by atomic operations alone"] += len(loud)
+            return
+        kept = without_repeats(accesses)
+        self.counts["repeated accesses"] += len(accesses) - len(kept)
+        key = tuple((id(access.home), access.segment, access.is_write, access.place, access.mark, access.locks)
+                    for access in kept)
+        cell, _ = self._alike.get(key, (None, None))
+        if cell is None:
+            cell = Cell(len(self.cells), address)
+            self.cells.append(cell)
+            self._alike[key] = (cell, kept)
+        else:
+            cell.alike += 1
+        self.cell_at.setdefault(address, cell)
+
+    def _finish(self):
+        """Gives the actors their loads and stores."""
+        for cell, kept in self._alike.values():
+            while kept[0].is_write and self._quiet.is_before_all(kept[0].stamp):
+                cell.first = kept.pop(0).value
+            if not kept[0].is_write and not cell.first:
+                cell.first = kept[0].value
+            for access in kept:
+                kind = "store" if access.is_write else "load"
+                access.home.steps.append((access.stamp, 0, Step(
+                    kind, access.place, cell=cell, value=access.value, mark=access.mark, locks=access.locks)))
+        for actor in all_homes(self.run):
+            actor.steps.sort(key=lambda step: step[:2])
+
+
+def granules(address, size):
+    """The places of eight bytes that these bytes are in."""
+    return range(address >> 3, address + size + GRANULE - 1 >> 3)
+
+
+def between(known, low, high):
+    """Those of the sorted granules from `low` on that are below `high`."""
+    first = bisect_left(known, low)
+    return known[first:bisect_left(known, high, first)]
+
+
+def mask_of(granule, access):
+    """Which bytes of the granule an access touches, as bits."""
+    begin = access.address - granule * GRANULE
+    end = begin + (access.size or 1)
+    return (1 << (end if end < GRANULE else GRANULE)) - (1 << (begin if begin > 0 else 0))
+
+
+def atoms(lifetime):
+    """The granule's pieces that each access touches whole or not at all: (address, accesses)."""
+    granule, entries = lifetime
+    masks = sorted({mask for _, mask in entries})
+    if len(masks) == 1:
+        return [(granule * GRANULE + lowest(masks[0]), [access for access, _ in entries])]
+    found, pieces = set(), []
+    for byte in range(GRANULE):
+        touching = tuple(mask >> byte & 1 for mask in masks)
+        if any(touching) and touching not in found:
+            found.add(touching)
+            pieces.append((granule * GRANULE + byte, [access for access, mask in entries if mask >> byte & 1]))
+    return pieces
+
+
+def lowest(mask):
+    """The lowest bit that is set."""
+    return (mask & -mask).bit_length() - 1
+
+
+def without_repeats(accesses):
+    """One of each kind and place in a row of accesses by one actor between two of its other steps; the root's reads
+    while it is alone go too. A store that is kept has the last number of those it stands for."""
+    kept, row, seen = [], None, {}
+    for access in accesses:
+        if access.quiet and not access.is_write:
+            continue
+        here = (access.home, access.segment)
+        if here != row:
+            row, seen = here, {}
+        key = (access.is_write, access.place)
+        if key in seen:
+            if access.is_write:
+                seen[key].value = access.value
+            continue
+        seen[key] = access
+        kept.append(access)
+    return kept

@@ -1,0 +1,199 @@
+"""Where in the sources a place of the program is: file and line, and the expression that stands there."""
+
+import os
+import re
+import shutil
+import subprocess
+from typing import NamedTuple
+
+IDENTIFIER = re.compile(r"[A-Za-z_]\w*")
+LONGEST = 40
+
+
+class Place(NamedTuple):
+    """A line of a source, and its column (0: not known)."""
+
+    file: str
+    line: int
+    column: int
+
+    def __str__(self):
+        return f"{os.path.basename(self.file)}:{self.line}" if self.line else "a place without a line"
+
+
+NOWHERE = Place("", 0, 0)
+
+
+def symbolizer():
+    """The command that tells source lines, or None."""
+    for name in ("llvm-symbolizer-14", "llvm-symbolizer"):
+        if shutil.which(name):
+            return [name, "--relative-address", "--functions=none", "--inlining=false"]
+    return ["addr2line"] if shutil.which("addr2line") else None
+
+
+def find_places(program, addresses):
+    """A Place for each of these return addresses, counted from where the program is loaded."""
+    command = symbolizer()
+    wanted = sorted(address for address in addresses if address > 0)
+    if not command or not wanted:
+        return {}
+    # The call stands in front of its return address.
+    asked = "".join(f"{address - 1:#x}\n" for address in wanted)
+    done = subprocess.run([*command, "-e", program], input=asked, capture_output=True, text=True,
+                          errors="replace", check=False)
+    told = [line for line in done.stdout.splitlines() if line]
+    if len(told) != len(wanted):
+        return {}
+    return dict(zip(wanted, map(read_place, told)))
+
+
+def read_place(told):
+    """A line of the symbolizer's: `file:line:column`, or `file:line` with remarks."""
+    found = re.match(r"(.*?):(\d+)(?::(\d+))?(?: .*)?$", told)
+    if not found or found[1] == "??":
+        return NOWHERE
+    return Place(found[1], int(found[2]), int(found[3] or 0))
+
+
+class Sources:
+    """The places of one program and the text that stands there."""
+
+    def __init__(self, trace):
+        places = {event.place for event in trace.events}
+        self._places = find_places(trace.program, places)
+        self._texts = {}
+        self._names = {}
+
+    def place(self, address):
+        """The Place of a return address."""
+        return self._places.get(address, NOWHERE)
+
+    def expression(self, address):
+        """What is read or written there, in the words of the source; `memory` where that can't be told."""
+        if address not in self._names:
+            place = self.place(address)
+            lines = self._lines(place.file) if place.line else []
+            line = lines[place.line - 1] if 0 < place.line <= len(lines) else ""
+            self._names[address] = expression_at(line, place.column) or "memory"
+        return self._names[address]
+
+    def _lines(self, file):
+        if file not in self._texts:
+            try:
+                with open(file, encoding="utf-8", errors="replace") as text:
+                    self._texts[file] = text.read().splitlines()
+            except OSError:
+                self._texts[file] = []
+        return self._texts[file]
+
+
+def expression_at(line, column):
+    """The expression at this column: the one that begins there, or the one in front of an operator that assigns."""
+    if not 0 < column <= len(line):
+        return ""
+    at = column - 1
+    freed = re.match(r"(?:free|realloc)\s*\(\s*|delete\s*(?:\[\s*\])?\s*", line[at:])
+    if freed:
+        at += freed.end()
+    assigned = re.match(r"(?:[-+*/%&|^]|<<|>>)?=(?!=)|\+\+|--", line[at:])
+    if assigned:
+        before = expression_before(line[:at].rstrip())
+        if before:
+            return before
+        at += len(assigned[0])
+    if line[at:at + 1] in ("*", "&") or line[at:at + 1] == "(":
+        return prefixed(line, at)
+    return postfixed(line, at)
+
+
+def prefixed(line, at):
+    """`*p`, `(*p).x`: the stars, or the pair of brackets, with what follows."""
+    if line[at] == "(":
+        end = matching(line, at)
+        return shortened(line[at:after_postfixes(line, end)]) if end else ""
+    stars = at
+    while line[at:at + 1] in ("*", "&"):
+        at += 1
+    rest = prefixed(line, at) if line[at:at + 1] == "(" else postfixed(line, at)
+    return shortened(line[stars:at] + rest) if rest else ""
+
+
+def postfixed(line, at):
+    """A name with its indexes and members."""
+    name = IDENTIFIER.match(line, at)
+    if not name or name[0] in ("return", "if", "while", "for"):
+        return ""
+    end = after_postfixes(line, name.end())
+    if line[:at].rstrip().endswith(("->", ".")):
+        return shortened(expression_before(line[:name.end()]) + line[name.end():end])
+    return shortened(line[at:end])
+
+
+def after_postfixes(line, at):
+    """The end of the indexes and members that begin here."""
+    while True:
+        rest = line[at:]
+        member = re.match(r"\s*(?:->|\.)\s*[A-Za-z_]\w*", rest)
+        if member:
+            at += member.end()
+        elif rest[:1] == "[" and matching(line, at):
+            at = matching(line, at)
+        else:
+            return at
+
+
+def matching(line, at):
+    """The column behind the bracket that closes the one here, or 0."""
+    depth = 0
+    for number in range(at, len(line)):
+        if line[number] in "([":
+            depth += 1
+        elif line[number] in ")]":
+            depth -= 1
+            if depth == 0:
+                return number + 1
+    return 0
+
+
+def expression_before(text):
+    """The expression that this text ends with: what an assignment stands after."""
+    at = len(text)
+    while at > 0:
+        if text[at - 1] in ")]":
+            at = opening(text, at)
+            if at < 0:
+                return ""
+        elif re.match(r"\w", text[at - 1]):
+            while at > 0 and re.match(r"\w", text[at - 1]):
+                at -= 1
+        else:
+            return ""
+        if text[:at].endswith("->"):
+            at -= 2
+        elif text[:at].endswith("."):
+            at -= 1
+        elif text[at] not in "[(" or text[at] == "(":
+            break
+    while text[:at].endswith("*") and not re.search(r"\w\s*\**$", text[:at]):
+        at -= 1
+    return shortened(text[at:])
+
+
+def opening(text, end):
+    """Where the bracket opens that the text up to here closes, or -1."""
+    depth = 0
+    for number in range(end - 1, -1, -1):
+        if text[number] in ")]":
+            depth += 1
+        elif text[number] in "([":
+            depth -= 1
+            if depth == 0:
+                return number
+    return -1
+
+
+def shortened(expression):
+    """In printable ASCII, without blanks, and of a bearable length."""
+    text = "".join(letter for letter in expression if 32 < ord(letter) < 127)
+    return text if len(text) <= LONGEST else text[:LONGEST - 2] + ".."

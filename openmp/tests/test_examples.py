@@ -1,0 +1,62 @@
+"""Each example is answered as its first comment says, on every run, with one thread, two and eight."""
+
+import os
+import re
+import unittest
+
+import support
+
+RUNS = int(os.environ.get("TASKBACK_OPENMP_RUNS", "10"))
+SENTENCE = "for this input, every schedule has this outcome"
+
+
+def expected(name):
+    """The words after `expect:` in an example."""
+    with open(os.path.join(support.EXAMPLES, name), encoding="utf-8") as file:
+        return re.search(r"expect: (.*?) \*/", file.read(), re.S)[1].split()
+
+
+@support.needs_clang
+@support.needs_program
+class Examples(support.Recorded):
+    def check_all(self, name):
+        program = self.compile(os.path.join(support.EXAMPLES, name))
+        for threads in support.THREADS:
+            for run in range(RUNS):
+                with self.subTest(example=name, threads=threads, run=run):
+                    self.compare(expected(name), *self.check(program, threads))
+
+    def compare(self, wanted, status, lines):
+        told = "\n".join(lines)
+        if wanted[0] == "race":
+            self.assertEqual(status, 2, told)
+            names = support.names_told(lines)
+            self.assertTrue(names and names <= set(wanted[1:]), f"{names}: {told}")
+            return
+        self.assertEqual(status, 0, told)
+        self.assertIn(SENTENCE, lines[-1])
+        if wanted[0] == "none":
+            self.assertEqual(len(lines), 1, told)
+            self.assertTrue(lines[-1].endswith(SENTENCE), told)
+        elif wanted[0] == "apart":
+            self.assertRegex(lines[0], f"never both at once .*{wanted[1]}")
+        else:
+            self.assertTrue(lines[0].startswith("not said by the notation: "), told)
+
+    def test_there_are_enough(self):
+        wanted = [expected(name)[0] for name in os.listdir(support.EXAMPLES)]
+        self.assertGreaterEqual(len(wanted), 24)
+        self.assertGreaterEqual(2 * wanted.count("race"), len(wanted) - 6)
+
+
+def add_tests():
+    for name in sorted(os.listdir(support.EXAMPLES)):
+        def test(self, name=name):
+            self.check_all(name)
+        setattr(Examples, "test_" + re.sub(r"\W", "_", name), test)
+
+
+add_tests()
+
+if __name__ == "__main__":
+    unittest.main()
