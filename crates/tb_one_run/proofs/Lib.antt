@@ -10,3 +10,4 @@ pub mod OutcomeLemmas
 pub mod TwinLemmas
 pub mod TransferLemmas
 pub mod PassLemmas
+pub mod ListedLemmas

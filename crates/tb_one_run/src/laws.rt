@@ -2,13 +2,20 @@
 //! definitions of `tb_model` and `tb_races` alone, and a function's contract, since what no contract
 //! says stays unproved. A history is listed from its newest event.
 
-ghost use Rattle.std.specs.Prelude.{◌≤◌, length};
+ghost use Rattle.std.specs.Prelude.{◌≡◌, ◌↔◌, ◌≤◌, List, [], length};
 ghost use Rattle.tb_model.specs.Facts.{History};
 ghost use Rattle.tb_model.specs.SameState.{SameState};
 ghost use Rattle.tb_model.specs.WellFormed.{WellFormed};
 ghost use Rattle.tb_model.specs.Program.{Program, LegalFor};
 ghost use Rattle.tb_races.specs.Orders.{Synchronised};
+ghost use Rattle.tb_races.specs.Racing.{races};
 ghost use Rattle.tb_one_run.specs.Outcomes.{IsFinished, HasRace};
+
+/// No race is listed exactly where there is none, apart or not.
+#[tactic(auto, using(crate::proofs::ListedLemmas::listed))]
+pub fn listed()
+    ensures { (H : History) → (races H ≡ []) ↔ (HasRace Synchronised H → ⊥) }
+{}
 
 /// One outcome: where a run after which no task can step has no race, apart or not, every run of
 /// the program is no longer, and every one after which no task can step leaves the same state.
@@ -18,4 +25,11 @@ pub fn one_outcome()
     ensures same_state { (P : Program) (H K : History) → WellFormed P → LegalFor P H →
         IsFinished P H → (HasRace Synchronised H → ⊥) → LegalFor P K → IsFinished P K →
         SameState H K }
+{}
+
+/// Races don't depend on the schedule: of two runs of a program after which no task can step,
+/// either both have a race, apart or not, or neither has.
+pub fn every_schedule()
+    ensures { (P : Program) (H K : History) → WellFormed P → LegalFor P H → IsFinished P H →
+        LegalFor P K → IsFinished P K → HasRace Synchronised H ↔ HasRace Synchronised K }
 {}
