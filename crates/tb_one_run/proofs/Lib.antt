@@ -11,3 +11,5 @@ pub mod TwinLemmas
 pub mod TransferLemmas
 pub mod PassLemmas
 pub mod ListedLemmas
+pub mod PassingLemmas
+pub mod FrontLemmas

@@ -24,7 +24,7 @@ module _ (o : Order) where
   follows e H v = is_step e H v || comes_after o e H v
 
   -- nothing comes after a step that isn't reached
-  followers_none : (e : StepId) (H : History) → length (own e.task H) < e.k → followers o e H ≡ []
+  pub followers_none : (e : StepId) (H : History) → length (own e.task H) < e.k → followers o e H ≡ []
   followers_none e [] h = refl
   followers_none e (v ∷ H) h =
       let r = followers_none e H (omega (arith, h, own_grows e.task v H)) in

@@ -44,7 +44,8 @@ part_split K [] F = refl
 part_split K (v ∷ b) F =
     ap (prepend_if (has K (v ∷ (b ++ F))) v) (part_split K b F) ∙ sym (put_append (has K (v ∷ (b ++ F))) v (late K b F) (part K F))
 
-one_more : (c : Bool) (v : Event) {H G R : History} → Parts H G R → Parts (v ∷ H) (prepend_if c v G) (prepend_if (not c) v R)
+-- one event more stays or goes
+pub one_more : (c : Bool) (v : Event) {H G R : History} → Parts H G R → Parts (v ∷ H) (prepend_if c v G) (prepend_if (not c) v R)
 one_more true v s = parts.stays s
 one_more false v s = parts.goes s
 
