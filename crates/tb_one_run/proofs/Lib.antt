@@ -13,3 +13,4 @@ pub mod PassLemmas
 pub mod ListedLemmas
 pub mod PassingLemmas
 pub mod FrontLemmas
+pub mod RealLemmas

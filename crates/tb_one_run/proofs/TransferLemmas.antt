@@ -226,7 +226,7 @@ module _ (P : Program) (w : WellFormed P) (H : History) (lh : LegalFor P H) (don
           race = unordered Synchronised v u m U shares both (λ after.
               let r = transfer after b (e ∙ ap (λ G. b ++ v ∷ G) q) (v ∷ (between ++ u ∷ front)) (c, between ++ u ∷ front, refl, at_v, sym n ∙ ap (λ G. length (own v.task G)) q) in
               let s = r.1 in
-              let one : s.1 ≡ front = one_place K s.0 (c ++ v ∷ between) u u s.1 front (s.3 ∙ ap (λ G. s.0 ++ G) s.2) at_u refl (s.4 ∙ k) in
+              let one : s.1 ≡ front = (one_place K s.0 (c ++ v ∷ between) u u s.1 front (s.3 ∙ ap (λ G. s.0 ++ G) s.2) at_u refl (s.4 ∙ k)).0 in
               not (subst (ComesAfter Synchronised (v ∷ (between ++ u ∷ front))) (s.2 ∙ ap (λ G. u ∷ G) one) r.2));
         })
 

@@ -66,15 +66,15 @@ twin H C r b y Y e l =
     }
 
 -- one place has the number
-pub one_place : (C : History) (b c : History) (x y : Event) (X Y : History) → C ≡ b ++ x ∷ X → C ≡ c ++ y ∷ Y → x.task ≡ y.task → length (own x.task X) ≡ length (own x.task Y) → X ≡ Y
+pub one_place : (C : History) (b c : History) (x y : Event) (X Y : History) → C ≡ b ++ x ∷ X → C ≡ c ++ y ∷ Y → x.task ≡ y.task → length (own x.task X) ≡ length (own x.task Y) → (X ≡ Y) × (x ≡ y)
 one_place C b c x y X Y e f t n = at b c (sym e ∙ f)
   where
     longer : (d : History) (z : Event) (Z : History) → z.task ≡ x.task → suc (length (own x.task Z)) ≤ length (own x.task (d ++ z ∷ Z))
     longer d z Z q =
         omega (arith, own_longer x.task d (z ∷ Z), ap length (own_mine x.task z Z (subst (λ u. same_name u x.task ≡ true) (sym q) (same_refl x.task))))
 
-    at : (b c : History) → b ++ x ∷ X ≡ c ++ y ∷ Y → X ≡ Y
-    at [] [] e = cc
+    at : (b c : History) → b ++ x ∷ X ≡ c ++ y ∷ Y → (X ≡ Y) × (x ≡ y)
+    at [] [] e = (cc, cc)
     at [] (z ∷ c) e =
         let s : X ≡ c ++ y ∷ Y = cc in absurd (omega (arith, n, longer c y Y (sym t), ap (λ G. length (own x.task G)) s))
     at (z ∷ b) [] e =
