@@ -37,7 +37,8 @@ wait_counts H t (Wait items) u h = some_if_counts (covers H t items u) Waits ref
 wait_counts H t Close u h = some_if_counts (is_member (own t H) u) Group refl h
 wait_counts H t _ u h = absurd (false≢true h)
 
-end_counts : (H : History) (t : Name) (a : Action) (u : Name) → is_some (end_kind H t a u) ≡ true → counts_some WithExclusion (end_kind H t a u) ≡ true
+-- the end of a task that the action waits for, or of its undeferred child, counts
+pub end_counts : (H : History) (t : Name) (a : Action) (u : Name) → is_some (end_kind H t a u) ≡ true → counts_some WithExclusion (end_kind H t a u) ≡ true
 end_counts H t a u h =
     or_counts (wait_kind H t a u) (some_if (holds (own t H) u) Undeferred) (wait_counts H t a u) (some_if_counts (holds (own t H) u) Undeferred refl) h
 

@@ -14,3 +14,4 @@ pub mod ListedLemmas
 pub mod PassingLemmas
 pub mod FrontLemmas
 pub mod RealLemmas
+pub mod LaterLemmas
