@@ -15,3 +15,4 @@ pub mod PassingLemmas
 pub mod FrontLemmas
 pub mod RealLemmas
 pub mod LaterLemmas
+pub mod FirstRaceLemmas

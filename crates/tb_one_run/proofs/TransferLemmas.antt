@@ -90,7 +90,8 @@ clash_back (Test y) b r h = cc
 clash_back End b r h = cc
 clash_back Fault b r h = cc
 
-conflict_parts : (v u : Event) (r : Conflict) → conflict v u ≡ Some r → (is_of v.task u ≡ false) × (shared v.action u.action ≡ Some r)
+-- who conflict are of different tasks
+pub conflict_parts : (v u : Event) (r : Conflict) → conflict v u ≡ Some r → (is_of v.task u ≡ false) × (shared v.action u.action ≡ Some r)
 conflict_parts v u r h = at (is_of v.task u) refl
   where
     at : (b : Bool) → is_of v.task u ≡ b → (is_of v.task u ≡ false) × (shared v.action u.action ≡ Some r)
