@@ -16,3 +16,5 @@ pub mod FrontLemmas
 pub mod RealLemmas
 pub mod LaterLemmas
 pub mod FirstRaceLemmas
+pub mod RunExampleLemmas
+mod ExampleLemmas
