@@ -100,20 +100,30 @@ race_up v H r = record { behind = v ∷ r.behind; later = r.later; earlier = r.e
 race_here : (v : Event) (H G : History) → IsRace Synchronised (v ∷ H) G → HasRace Synchronised (v ∷ H)
 race_here v H G r = record { behind = []; later = v ∷ H; earlier = G; split = refl; race = r }
 
-race_down : (v : Event) (H b F G : History) → v ∷ H ≡ b ++ F → IsRace Synchronised F G → (F ≡ v ∷ H) ⊎ HasRace Synchronised H
-race_down v H [] F G e r = inl (sym e)
-race_down v H (x ∷ b) F G e r = inr (record { behind = b; later = F; earlier = G; split = cc; race = r })
+race_down : (o : Order) (v : Event) (H b F G : History) → v ∷ H ≡ b ++ F → IsRace o F G → (F ≡ v ∷ H) ⊎ HasRace o H
+race_down o v H [] F G e r = inl (sym e)
+race_down o v H (x ∷ b) F G e r = inr (record { behind = b; later = F; earlier = G; split = cc; race = r })
+
+none_in_none : (o : Order) → HasRace o [] → ⊥
+none_in_none o r = at r.behind r.later r.earlier r.split r.race
+  where
+    at : (b F G : History) → [] ≡ b ++ F → IsRace o F G → ⊥
+    at [] F G e (unordered q v u between front shares both not) = cc
+    at (x ∷ b) F G e q = cc
+
+-- none is named for any event
+abbrev pub AllNameNone : Order → History → Type 0
+AllNameNone o [] = Unit {0}
+AllNameNone o (v ∷ H) = AllNameNone o H × (newest_race o H v H ≡ None)
+
+pub unraced : (o : Order) (H : History) → AllNameNone o H → HasRace o H → ⊥
+unraced o [] n r = none_in_none o r
+unraced o (v ∷ H) n r =
+    ⊎_elim (λ e. none_races (subst (λ F. IsRace o F r.earlier) e r.race) n.1) (λ d. unraced o H n.0 d) (race_down o v H r.behind r.later r.earlier r.split r.race)
 
 -- it is decided, and none is listed exactly where there is none
 pub decided : (H : History) → (HasRace Synchronised H × (races H ≡ [] → ⊥)) ⊎ ((HasRace Synchronised H → ⊥) × (races H ≡ []))
-decided [] = inr (none_in_none, refl)
-  where
-    none_in_none : HasRace Synchronised [] → ⊥
-    none_in_none r = at r.behind r.later r.earlier r.split r.race
-      where
-        at : (b F G : History) → [] ≡ b ++ F → IsRace Synchronised F G → ⊥
-        at [] F G e (unordered o v u between front shares both not) = cc
-        at (x ∷ b) F G e q = cc
+decided [] = inr (none_in_none Synchronised, refl)
 decided (v ∷ H) = at (decided H) (named WithExclusion H v [] H refl) (named Synchronised H v [] H refl)
   where
     at : (HasRace Synchronised H × (races H ≡ [] → ⊥)) ⊎ ((HasRace Synchronised H → ⊥) × (races H ≡ [])) → (newest_race WithExclusion H v H ≡ None) ⊎ ((G : History) × IsRace WithExclusion (v ∷ H) G) → (newest_race Synchronised H v H ≡ None) ⊎ ((G : History) × IsRace Synchronised (v ∷ H) G) → (HasRace Synchronised (v ∷ H) × (races (v ∷ H) ≡ [] → ⊥)) ⊎ ((HasRace Synchronised (v ∷ H) → ⊥) × (races (v ∷ H) ≡ []))
@@ -124,7 +134,7 @@ decided (v ∷ H) = at (decided H) (named WithExclusion H v [] H refl) (named Sy
         inl (race_here v H y.0 y.1, λ e. none_races y.1 (none_both _ _ (nothing_listed (race_of H v) (races H) e).0).1)
     at (inr r) (inl x) (inl y) =
         inr
-        (λ q. ⊎_elim (λ e. none_races (subst (λ F. IsRace Synchronised F q.earlier) e q.race) y) (λ d. r.0 d) (race_down v H q.behind q.later q.earlier q.split q.race),
+        (λ q. ⊎_elim (λ e. none_races (subst (λ F. IsRace Synchronised F q.earlier) e q.race) y) (λ d. r.0 d) (race_down Synchronised v H q.behind q.later q.earlier q.split q.race),
         ap (λ c. option_to_list c ++ races H) (ap (λ c. option_or c (newest_race Synchronised H v H)) x ∙ y) ∙ r.1)
 
 -- where none is listed, and only there, is there none
@@ -138,3 +148,7 @@ listed H = at (decided H)
 -- where the absence of races is passed on, races are passed back
 pub passed_back : (H K : History) → ((HasRace Synchronised K → ⊥) → HasRace Synchronised H → ⊥) → HasRace Synchronised H → HasRace Synchronised K
 passed_back H K f r = ⊎_elim (λ d. d.0) (λ d. absurd (f d.0 r)) (decided K)
+
+-- where some is listed there is one
+pub raced : (H : History) → (races H ≡ [] → ⊥) → HasRace Synchronised H
+raced H n = ⊎_elim (λ d. d.0) (λ d. absurd (n d.1)) (decided H)
