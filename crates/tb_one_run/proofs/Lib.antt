@@ -18,3 +18,4 @@ pub mod LaterLemmas
 pub mod FirstRaceLemmas
 pub mod RunExampleLemmas
 mod ExampleLemmas
+mod ChainExampleLemmas
