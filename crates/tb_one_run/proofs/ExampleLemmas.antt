@@ -1,6 +1,6 @@
 -- Runs of small programs, by computation, in which a law would fail without one of its hypotheses.
 use Rattle.std.proofs.Common.{◌≡◌, ◌≢◌, ◌≤◌, List, [], ◌∷◌, ◌++◌, length, Bool, true, false, refl, sym, ap, ◌∙◌, subst, None, ℕ, zero, suc, ℤ, arith, IsTrue}
-use Rattle.tb_model.specs.declared.kind.Kind.TheVariants.{Mutexinoutset}
+use Rattle.tb_model.specs.declared.kind.Kind.TheVariants.{Out, Mutexinoutset}
 use Rattle.tb_model.specs.declared.place.Place.TheVariants.{Cell}
 use Rattle.tb_model.specs.declared.item.Item.{Item}
 use Rattle.tb_model.specs.declared.clause.Clause.{Clause}
@@ -163,3 +163,25 @@ apart_outcomes s = outcomes_differ items s
 
 apart_raced : HasRace Synchronised (one_first items)
 apart_raced = raced (one_first items) (λ e. cc)
+
+-- ---- the second depends on the first
+
+abbrev ordering : List Clause
+ordering = record { kind = Out; address = At (Number (ℤ.pos 0)) } ∷ []
+
+abbrev ordered_items : List Item
+ordered_items = record { kind = Out; place = Cell 0 } ∷ []
+
+-- a finished run without a race, so that there is one outcome
+ordered_run : LegalFor (program ordering) (one_first ordered_items)
+ordered_run =
+    let r : LegalFor (program ordering) (ready ordered_items) =
+    go ordering (go ordering (go ordering (go ordering (tt, tt) (by [] Start) refl refl) (by [] (Spawn one 3 [] ordered_items true)) refl refl) (by [] (Spawn two 5 [] ordered_items true)) refl refl) (by [] End) refl refl
+    in
+    go ordering (go ordering (go ordering (go ordering (go ordering (go ordering r (by one Start) refl refl) (by one (Store 0 (ℤ.pos 1))) refl refl) (by one End) refl refl) (by two Start) refl refl) (by two (Store 0 (ℤ.pos 2))) refl refl) (by two End) refl refl
+
+ordered_finished : IsFinished (program ordering) (one_first ordered_items)
+ordered_finished = finished (program ordering) (well ordering) (one_first ordered_items) ordered_run refl
+
+ordered_unraced : HasRace Synchronised (one_first ordered_items) → ⊥
+ordered_unraced r = (listed (one_first ordered_items)).0 refl r

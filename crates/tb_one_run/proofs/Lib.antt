@@ -19,3 +19,4 @@ pub mod FirstRaceLemmas
 pub mod RunExampleLemmas
 mod ExampleLemmas
 mod ChainExampleLemmas
+mod IllExampleLemmas
