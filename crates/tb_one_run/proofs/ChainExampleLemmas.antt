@@ -1,9 +1,9 @@
 -- A race that rests on an earlier one, by computation: what the order puts in front of the two is no run.
-use Rattle.std.proofs.Common.{◌≡◌, List, [], ◌∷◌, Bool, true, false, refl, sym, ap, ◌∙◌, None, Some, ℕ, zero, suc, ℤ, arith, IsTrue}
+use Rattle.std.proofs.Common.{◌≡◌, [], ◌∷◌, true, false, refl, None, ℕ, zero, suc, ℤ, arith, IsTrue}
 use Rattle.std.proofs.lemmas.Bool.{both_ways}
 use Rattle.tb_model.specs.declared.operand.Operand.TheVariants.{Number, Register}
 use Rattle.tb_model.specs.declared.action.Action.{Action}
-use Rattle.tb_model.specs.declared.action.Action.TheVariants.{Start, Load, Store, Spawn, End}
+use Rattle.tb_model.specs.declared.action.Action.TheVariants.{Start, Load, Store, Spawn}
 use Rattle.tb_model.specs.declared.event.Event.{Event}
 use Rattle.tb_model.specs.declared.statement.Statement.TheVariants.{Start as DoStart, Load as DoLoad, Store as DoStore, Task as DoSpawn}
 use Rattle.tb_model.specs.Names.{Name}
@@ -12,7 +12,7 @@ use Rattle.tb_model.specs.WellFormed.{WellFormed, WellAt}
 use Rattle.tb_model.specs.Hindrances.{can_step, next_event}
 use Rattle.tb_model.specs.Program.{Program, LegalFor, instr_at}
 use Rattle.tb_races.specs.declared.conflict.Conflict.TheVariants.{Cell}
-use Rattle.tb_races.specs.Orders.{WithExclusion, comes_after}
+use Rattle.tb_races.specs.Orders.{WithExclusion}
 use Rattle.tb_races.specs.Racing.{IsRace, unordered}
 use Rattle.tb_one_run.specs.Outcomes.{HasRace, leading, as_read, IsReal}
 use Rattle.tb_one_run.proofs.PassLemmas.{found_by_pass}
@@ -104,13 +104,13 @@ whole_run = go (go (go loaded_run earlier refl refl) (by (3 ∷ []) Start) refl 
 second_race : IsRace WithExclusion (later ∷ front) (earlier ∷ loaded)
 second_race =
     unordered WithExclusion later earlier (by (3 ∷ []) Start ∷ []) loaded (Cell 1) refl (λ a.
-        both_ways false refl ((found_by_pass WithExclusion (by (3 ∷ []) Start ∷ []) later earlier loaded).1 a))
+    both_ways false refl ((found_by_pass WithExclusion (by (3 ∷ []) Start ∷ []) later earlier loaded).1 a))
 
 -- and so do the load and the store in front of them
 load_race : IsRace WithExclusion loaded stored
 load_race =
     unordered WithExclusion read stores (by (2 ∷ []) Start ∷ []) (by (1 ∷ []) Start ∷ generated) (Cell 0) refl (λ a.
-        both_ways false refl ((found_by_pass WithExclusion (by (2 ∷ []) Start ∷ []) read stores (by (1 ∷ []) Start ∷ generated)).1 a))
+    both_ways false refl ((found_by_pass WithExclusion (by (2 ∷ []) Start ∷ []) read stores (by (1 ∷ []) Start ∷ generated)).1 a))
 
 earlier_race : HasRace WithExclusion front
 earlier_race = record { behind = by (3 ∷ []) Start ∷ earlier ∷ []; later = loaded; earlier = stored; split = refl; race = load_race }

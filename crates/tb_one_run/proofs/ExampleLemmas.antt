@@ -1,5 +1,5 @@
 -- Runs of small programs, by computation, in which a law would fail without one of its hypotheses.
-use Rattle.std.proofs.Common.{◌≡◌, ◌≢◌, ◌≤◌, List, [], ◌∷◌, ◌++◌, length, Bool, true, false, refl, sym, ap, ◌∙◌, subst, None, ℕ, zero, suc, ℤ, arith, IsTrue}
+use Rattle.std.proofs.Common.{◌≡◌, ◌≤◌, List, [], ◌∷◌, length, true, refl, None, ℕ, zero, suc, ℤ, arith, IsTrue}
 use Rattle.tb_model.specs.declared.kind.Kind.TheVariants.{Out, Mutexinoutset}
 use Rattle.tb_model.specs.declared.place.Place.TheVariants.{Cell}
 use Rattle.tb_model.specs.declared.item.Item.{Item}
@@ -9,7 +9,7 @@ use Rattle.tb_model.specs.declared.operand.Operand.TheVariants.{Number}
 use Rattle.tb_model.specs.declared.action.Action.{Action}
 use Rattle.tb_model.specs.declared.action.Action.TheVariants.{Start, Store, Spawn, End}
 use Rattle.tb_model.specs.declared.event.Event.{Event}
-use Rattle.tb_model.specs.declared.statement.Statement.TheVariants.{Start as DoStart, Store as DoStore, Task as DoSpawn, End as DoEnd}
+use Rattle.tb_model.specs.declared.statement.Statement.TheVariants.{Start as DoStart, Store as DoStore, Task as DoSpawn}
 use Rattle.tb_model.specs.Names.{Name}
 use Rattle.tb_model.specs.Facts.{History}
 use Rattle.tb_model.specs.SameState.{SameState}

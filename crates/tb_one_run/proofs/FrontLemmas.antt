@@ -1,10 +1,10 @@
 -- Where no race that isn't apart stands, each direct need is one of the order with exclusion.
-use Rattle.std.proofs.Common.{◌≡◌, ◌≤◌, ◌<◌, ℕ, suc, List, [], ◌∷◌, ◌++◌, length, Bool, true, false, cond, ◌&&◌, ◌||◌, ◌⊎◌, inl, inr, ⊎_elim, ◌↔◌, refl, sym, ap, ◌∙◌, subst, arith, append_assoc, Option, Some, None, option_map, is_some, nat_lt}
+use Rattle.std.proofs.Common.{◌≡◌, ◌<◌, [], ◌∷◌, ◌++◌, length, Bool, true, false, cond, ◌⊎◌, inl, inr, ⊎_elim, refl, sym, ap, ◌∙◌, subst, arith, append_assoc, Option, Some, None, option_map, is_some, nat_lt}
 use Rattle.std.specs.List.{list_any}
 use Rattle.std.specs.Option.{option_or}
-use Rattle.std.proofs.lemmas.Bool.{or_cases, or_left, or_right, or_parts, both_ways, false≢true, false_from_ne_true, ltb-true, ltb-false}
+use Rattle.std.proofs.lemmas.Bool.{both_ways, false≢true, false_from_ne_true, ltb-true, ltb-false}
 use Rattle.tb_model.specs.declared.action.Action.{Action}
-use Rattle.tb_model.specs.declared.action.Action.TheVariants.{Start, Load, Store, Print, Wait, Close, End, Fault}
+use Rattle.tb_model.specs.declared.action.Action.TheVariants.{Start, Wait, Close}
 use Rattle.tb_model.specs.declared.event.Event.{Event}
 use Rattle.tb_model.specs.Names.{Name}
 use Rattle.tb_model.specs.Facts.{History, is_of, own, before, apart, covers, is_member, holds, is_end, spawns}
@@ -12,9 +12,9 @@ use Rattle.tb_model.specs.Needs.{needs, step_of}
 use Rattle.tb_races.specs.declared.conflict.Conflict.{Conflict}
 use Rattle.tb_races.specs.declared.need_kind.NeedKind.{NeedKind}
 use Rattle.tb_races.specs.declared.need_kind.NeedKind.TheVariants.{Task, Spawn, Conflict as Conflicts, Before, Apart, Wait as Waits, Group, Undeferred}
-use Rattle.tb_races.specs.Kinds.{some_if, shared, wait_kind, end_kind, need_kind}
-use Rattle.tb_races.specs.Orders.{Order, Synchronised, WithExclusion, counts_some, links, ComesAfter, directly, by_way, followers, comes_after}
-use Rattle.tb_races.specs.Racing.{conflict, IsRace, unordered}
+use Rattle.tb_races.specs.Kinds.{some_if, shared, wait_kind, end_kind}
+use Rattle.tb_races.specs.Orders.{Order, WithExclusion, counts_some, links, ComesAfter, directly, by_way, comes_after}
+use Rattle.tb_races.specs.Racing.{conflict, unordered}
 use Rattle.tb_races.proofs.KindLemmas.{kind_some}
 use Rattle.tb_one_run.specs.Outcomes.{HasRace, is_in_front}
 use Rattle.tb_one_run.proofs.SharedLemmas.{own_longer}

@@ -2,7 +2,7 @@
 use Rattle.std.proofs.Common.{◌≡◌, ℕ, suc, ℤ, List, [], ◌∷◌, ◌++◌, Bool, true, false, cond, ◌&&◌, ◌||◌, refl, sym, ap, ◌∙◌, subst, Option, Some, None, option_map, is_some, map}
 use Rattle.std.specs.List.{list_any}
 use Rattle.std.specs.Option.{option_or}
-use Rattle.std.proofs.lemmas.Bool.{or_left, false≢true}
+use Rattle.std.proofs.lemmas.Bool.{false≢true}
 use Rattle.tb_model.specs.declared.action.Action.{Action}
 use Rattle.tb_model.specs.declared.action.Action.TheVariants.{Start, Let, Load, Store, Print, Spawn, Wait, Open, Close, Test, End, Fault}
 use Rattle.tb_model.specs.declared.event.Event.{Event}
@@ -22,12 +22,10 @@ use Rattle.tb_races.specs.declared.conflict.Conflict.{Conflict}
 use Rattle.tb_races.specs.declared.need_kind.NeedKind.{NeedKind}
 use Rattle.tb_races.specs.declared.need_kind.NeedKind.TheVariants.{Task, Spawn as Spawned, Conflict as Conflicts, Undeferred}
 use Rattle.tb_races.specs.Kinds.{some_if, shared, wait_kind, end_kind}
-use Rattle.tb_races.specs.Orders.{Order, WithExclusion, counts_some, links, ComesAfter, directly}
-use Rattle.tb_races.specs.Racing.{conflict}
-use Rattle.tb_one_run.specs.Outcomes.{HasRace, passing, with_number, as_read}
+use Rattle.tb_races.specs.Orders.{WithExclusion, counts_some, links}
+use Rattle.tb_one_run.specs.Outcomes.{passing, with_number, as_read}
 use Rattle.tb_one_run.proofs.PassingLemmas.{failing, passing_parts, none_failing, planned_stays}
-use Rattle.tb_one_run.proofs.FrontLemmas.{end_counts, after_front}
-use Rattle.tb_one_run.proofs.RealLemmas.{keep}
+use Rattle.tb_one_run.proofs.FrontLemmas.{end_counts}
 
 -- ---- an action with another number
 

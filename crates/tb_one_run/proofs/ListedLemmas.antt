@@ -1,12 +1,11 @@
 -- What is listed of races, and that it is decided whether there is one.
 use Rattle.std.proofs.Common.{◌≡◌, List, [], ◌∷◌, ◌++◌, Bool, true, false, cond, ◌⊎◌, inl, inr, ⊎_elim, ◌↔◌, refl, sym, ap, ◌∙◌, subst, append_assoc, Option, Some, None, option_map}
 use Rattle.std.specs.Option.{option_or, option_to_list}
-use Rattle.std.proofs.lemmas.Bool.{or_cases, or_left, or_right, both_ways, false≢true}
+use Rattle.std.proofs.lemmas.Bool.{both_ways}
 use Rattle.tb_model.specs.declared.event.Event.{Event}
 use Rattle.tb_model.specs.Facts.{History}
 use Rattle.tb_model.specs.Needs.{step_of}
 use Rattle.tb_races.specs.declared.conflict.Conflict.{Conflict}
-use Rattle.tb_races.specs.declared.race.Race.{Race}
 use Rattle.tb_races.specs.declared.need_kind.NeedKind.{NeedKind}
 use Rattle.tb_races.specs.declared.need_kind.NeedKind.TheVariants.{Task, Spawn, Conflict as Conflicts, Before, Apart, Wait, Group, Undeferred}
 use Rattle.tb_races.specs.Kinds.{need_kind}
@@ -62,8 +61,11 @@ named o H v m (u ∷ K) e = at (contested o H v K u) refl (named o H v (m ++ u �
     at None q (inr r) = inr r
     at (Some c) q rest =
         let p = contested_some (comes_after o (step_of K u) H v) (conflict v u) (contested o H v K u) refl c q in
-        inr (u ∷ K, subst (λ G. IsRace o (v ∷ G) (u ∷ K)) (sym e) (unordered o v u m K c p.1 (λ a.
-            both_ways (comes_after o (step_of K u) (m ++ u ∷ K) v) (ap (λ G. comes_after o (step_of K u) G v) (sym e) ∙ p.0) ((found_by_pass o m v u K).1 a))))
+        inr (
+          u ∷ K,
+          subst (λ G. IsRace o (v ∷ G) (u ∷ K)) (sym e) (unordered o v u m K c p.1 (λ a.
+              both_ways (comes_after o (step_of K u) (m ++ u ∷ K) v) (ap (λ G. comes_after o (step_of K u) G v) (sym e) ∙ p.0) ((found_by_pass o m v u K).1 a))),
+        )
 
 -- where none is named, v races with none
 none_at : (o : Order) (H : History) (v : Event) (b : History) (u : Event) (F : History) → newest_race o H v (b ++ u ∷ F) ≡ None → contested o H v F u ≡ None
@@ -133,9 +135,10 @@ decided (v ∷ H) = at (decided H) (named WithExclusion H v [] H refl) (named Sy
     at (inr r) (inl x) (inr y) =
         inl (race_here v H y.0 y.1, λ e. none_races y.1 (none_both _ _ (nothing_listed (race_of H v) (races H) e).0).1)
     at (inr r) (inl x) (inl y) =
-        inr
-        (λ q. ⊎_elim (λ e. none_races (subst (λ F. IsRace Synchronised F q.earlier) e q.race) y) (λ d. r.0 d) (race_down Synchronised v H q.behind q.later q.earlier q.split q.race),
-        ap (λ c. option_to_list c ++ races H) (ap (λ c. option_or c (newest_race Synchronised H v H)) x ∙ y) ∙ r.1)
+        inr (
+          λ q. ⊎_elim (λ e. none_races (subst (λ F. IsRace Synchronised F q.earlier) e q.race) y) (λ d. r.0 d) (race_down Synchronised v H q.behind q.later q.earlier q.split q.race),
+          ap (λ c. option_to_list c ++ races H) (ap (λ c. option_or c (newest_race Synchronised H v H)) x ∙ y) ∙ r.1,
+        )
 
 -- where none is listed, and only there, is there none
 pub listed : (H : History) → (races H ≡ []) ↔ (HasRace Synchronised H → ⊥)

@@ -1,10 +1,10 @@
 -- The events of a run that pass a test, where the test passes all that they directly need.
-use Rattle.std.proofs.Common.{◌≡◌, ℕ, suc, ℤ, List, [], ◌∷◌, ◌++◌, length, Bool, true, false, ◌||◌, not, refl, sym, ap, ap₂, ◌∙◌, append_assoc}
+use Rattle.std.proofs.Common.{◌≡◌, suc, ℤ, [], ◌∷◌, ◌++◌, Bool, true, false, ◌||◌, not, refl, sym, ap, ap₂, ◌∙◌, append_assoc}
 use Rattle.std.specs.List.{list_any}
 use Rattle.std.proofs.lemmas.Bool.{both_ways, false_from_ne_true}
 use Rattle.tb_model.specs.declared.event.Event.{Event}
 use Rattle.tb_model.specs.Names.{Name}
-use Rattle.tb_model.specs.Facts.{History, own, is_of, spawns, prepend_if}
+use Rattle.tb_model.specs.Facts.{History, is_of, spawns, prepend_if}
 use Rattle.tb_model.specs.State.{called_by}
 use Rattle.tb_model.specs.Legal.{spawn_count}
 use Rattle.tb_model.specs.Needs.{needs}

@@ -1,10 +1,8 @@
 -- The first race that isn't apart is real: a run of the program leads to where either of the two can come next.
-use Rattle.std.proofs.Common.{◌≡◌, ◌≤◌, ◌<◌, ℕ, suc, ℤ, List, [], ◌∷◌, ◌++◌, length, Bool, true, false, cond, ◌&&◌, ◌||◌, not, ◌⊎◌, inl, inr, ⊎_elim, refl, sym, ap, ap₂, ◌∙◌, subst, arith, append_assoc, Option, Some, None, option_map, ◌==◌, eqb-true}
-use Rattle.std.specs.List.{list_any}
-use Rattle.std.specs.Option.{option_or}
-use Rattle.std.proofs.lemmas.Bool.{or_cases, or_left, or_right, and_parts, both_ways, false≢true, false_from_ne_true}
+use Rattle.std.proofs.Common.{◌≡◌, ◌≤◌, suc, [], ◌∷◌, ◌++◌, length, Bool, true, false, ◌||◌, ◌⊎◌, inl, inr, ⊎_elim, refl, sym, ap, ap₂, ◌∙◌, subst, arith, append_assoc, ◌==◌, eqb-true}
+use Rattle.std.proofs.lemmas.Bool.{or_cases, or_left, or_right, and_parts, both_ways, false_from_ne_true}
 use Rattle.tb_model.specs.declared.event.Event.{Event}
-use Rattle.tb_model.specs.Facts.{History, is_of, own, spawns, prepend_if}
+use Rattle.tb_model.specs.Facts.{History, is_of, own, prepend_if}
 use Rattle.tb_model.specs.Needs.{needs, is_step, step_of}
 use Rattle.tb_model.specs.Program.{Program, LegalFor, IsNext}
 use Rattle.tb_model.proofs.TestLemmas.{same_true}
@@ -14,11 +12,11 @@ use Rattle.tb_model.proofs.LeastLemmas.{later_not_step}
 use Rattle.tb_model.proofs.UndoLemmas.{AreFree}
 use Rattle.tb_model.proofs.RunLemmas.{moved_run}
 use Rattle.tb_model.proofs.ForProgramLemmas.{run_for}
-use Rattle.tb_races.specs.Orders.{Order, WithExclusion, ComesAfter, by_way}
+use Rattle.tb_races.specs.Orders.{WithExclusion, ComesAfter, by_way}
 use Rattle.tb_one_run.specs.Outcomes.{HasRace, passing, is_in_front}
 use Rattle.tb_one_run.proofs.SharedLemmas.{own_longer}
 use Rattle.tb_one_run.proofs.TwinLemmas.{one_place}
-use Rattle.tb_one_run.proofs.PassingLemmas.{failing, late_passing, passing_parts, passing_split, none_failing, KeepsNeeds, passing_legal}
+use Rattle.tb_one_run.proofs.PassingLemmas.{late_passing, passing_parts, passing_split, none_failing, KeepsNeeds, passing_legal}
 use Rattle.tb_one_run.proofs.FrontLemmas.{need_ordered, not_itself, front_after, after_front}
 
 module _ (P : Program) (f : Event) (F : History) (e : Event) (E m : History) (at_e : F ≡ m ++ e ∷ E) (unordered : ComesAfter WithExclusion (f ∷ F) (e ∷ E) → ⊥) (l : LegalFor P F) (free : HasRace WithExclusion F → ⊥) where

@@ -1,13 +1,6 @@
 -- Small runs by computation: each step is the task's next by what the definitions compute.
-use Rattle.std.proofs.Common.{◌≡◌, ◌≢◌, List, [], ◌∷◌, ◌++◌, Bool, true, false, ◌⊎◌, inl, inr, ⊎_elim, refl, sym, ap, ◌∙◌, subst, None, Option, ℕ, zero, suc, ℤ, arith, IsTrue}
-use Rattle.tb_model.specs.declared.kind.Kind.TheVariants.{Mutexinoutset}
-use Rattle.tb_model.specs.declared.clause.Clause.{Clause}
-use Rattle.tb_model.specs.declared.address.Address.TheVariants.{Cell as At}
-use Rattle.tb_model.specs.declared.operand.Operand.TheVariants.{Number}
-use Rattle.tb_model.specs.declared.action.Action.{Action}
+use Rattle.std.proofs.Common.{◌≡◌, ◌∷◌, subst, None, IsTrue}
 use Rattle.tb_model.specs.declared.event.Event.{Event}
-use Rattle.tb_model.specs.declared.statement.Statement.TheVariants.{Start as DoStart, Store as DoStore, Task as DoSpawn, End as DoEnd}
-use Rattle.tb_model.specs.Names.{Name}
 use Rattle.tb_model.specs.Facts.{History}
 use Rattle.tb_model.specs.WellFormed.{WellFormed}
 use Rattle.tb_model.specs.Hindrances.{next_event, can_step, least_ready}

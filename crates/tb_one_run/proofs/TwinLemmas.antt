@@ -1,17 +1,16 @@
 -- Two runs in which each task does the same: each step of the one stands in the other.
-use Rattle.std.proofs.Common.{◌≡◌, ◌≤◌, ◌<◌, ℕ, suc, List, [], ◌∷◌, ◌++◌, length, Bool, true, false, cond, ◌&&◌, ◌||◌, ⊎_elim, refl, sym, ap, ap₂, ◌∙◌, subst, arith, append_assoc, Option, Some, None, option_map}
+use Rattle.std.proofs.Common.{◌≡◌, ◌≤◌, ◌<◌, ℕ, suc, List, [], ◌∷◌, ◌++◌, length, true, cond, refl, sym, ap, ap₂, ◌∙◌, subst, arith, Some, None, option_map}
 use Rattle.std.specs.Option.{option_or}
-use Rattle.std.proofs.lemmas.Bool.{ltb-true, lt-ltb, both_ways}
 use Rattle.tb_model.specs.declared.action.Action.{Action}
 use Rattle.tb_model.specs.declared.action.Action.TheVariants.{Start, Wait, Close}
 use Rattle.tb_model.specs.declared.event.Event.{Event}
 use Rattle.tb_model.specs.Names.{Name, same_name}
-use Rattle.tb_model.specs.Facts.{History, is_of, own, before, apart, covers, is_member, holds, is_end, spawns, IsSpawned}
+use Rattle.tb_model.specs.Facts.{History, is_of, own, is_member, holds, is_end, spawns, IsSpawned}
 use Rattle.tb_model.specs.Legal.{Cells, Legal}
 use Rattle.tb_model.proofs.TestLemmas.{same_true, same_refl}
 use Rattle.tb_model.proofs.FactsLemmas.{own_mine}
 use Rattle.tb_races.specs.declared.need_kind.NeedKind.TheVariants.{Before, Apart, Wait as Waits, Group, Undeferred, Task, Spawn as Spawned, Conflict as Conflicts}
-use Rattle.tb_races.specs.Kinds.{some_if, shared, wait_kind, end_kind, need_kind}
+use Rattle.tb_races.specs.Kinds.{some_if, shared, wait_kind, need_kind}
 use Rattle.tb_one_run.proofs.SharedLemmas.{Older, own_longer, older_front, older_trans, older_same, place}
 use Rattle.tb_one_run.proofs.AgreeLemmas.{Reaches, before_too, apart_too, covers_too}
 
