@@ -1,6 +1,5 @@
 -- Legal histories of which each task's actions in one are the older part of those in the other.
-use Rattle.std.proofs.Common.{◌≡◌, ◌≤◌, ℕ, suc, List, [], ◌∷◌, ◌++◌, length, Bool, true, false, cond, ◌&&◌, ◌||◌, not, refl, sym, ap, ap₂, ◌∙◌, subst, arith, ◌==◌, eqb-true, eq-eqb, ne_eqb, nat_lt, Option, Some, None}
-use Rattle.std.specs.List.{list_any}
+use Rattle.std.proofs.Common.{◌≡◌, ◌≤◌, ℕ, suc, List, [], ◌∷◌, ◌++◌, Bool, true, false, cond, ◌&&◌, ◌||◌, refl, sym, ap, ap₂, ◌∙◌, subst, arith, ◌==◌, eqb-true, eq-eqb, ne_eqb, nat_lt, Option, Some, None}
 use Rattle.std.proofs.lemmas.Bool.{and_parts, both_ways, false≢true, false_from_ne_true, ltb-true}
 use Rattle.tb_model.specs.declared.item.Item.{Item}
 use Rattle.tb_model.specs.declared.action.Action.{Action}

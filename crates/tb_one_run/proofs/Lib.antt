@@ -10,3 +10,13 @@ pub mod OutcomeLemmas
 pub mod TwinLemmas
 pub mod TransferLemmas
 pub mod PassLemmas
+pub mod ListedLemmas
+pub mod PassingLemmas
+pub mod FrontLemmas
+pub mod RealLemmas
+pub mod LaterLemmas
+pub mod FirstRaceLemmas
+pub mod RunExampleLemmas
+mod ExampleLemmas
+mod ChainExampleLemmas
+mod IllExampleLemmas

@@ -1,5 +1,5 @@
 -- What is closed under the links of an order is closed under the order, and where nothing races under conflicts too.
-use Rattle.std.proofs.Common.{◌≡◌, List, [], ◌∷◌, ◌++◌, Bool, true, false, cond, ◌&&◌, ◌||◌, ◌⊎◌, inl, inr, ⊎_elim, refl, sym, ap, ◌∙◌, Option, Some, None, append_assoc, option_map}
+use Rattle.std.proofs.Common.{◌≡◌, ◌∷◌, ◌++◌, Bool, true, false, cond, ◌&&◌, ◌||◌, ◌⊎◌, inl, inr, ⊎_elim, refl, sym, ap, ◌∙◌, Option, Some, None, append_assoc, option_map}
 use Rattle.std.specs.Option.{option_or}
 use Rattle.std.proofs.lemmas.Bool.{cases_Bool, both_ways, false≢true, or_cases}
 use Rattle.tb_model.specs.declared.action.Action.{Action}
@@ -12,9 +12,9 @@ use Rattle.tb_races.specs.declared.conflict.Conflict.{Conflict}
 use Rattle.tb_races.specs.declared.conflict.Conflict.TheVariants.{Cell, Print as Prints}
 use Rattle.tb_races.specs.declared.need_kind.NeedKind.{NeedKind}
 use Rattle.tb_races.specs.declared.need_kind.NeedKind.TheVariants.{Task, Spawn as Spawned, Conflict as Conflicts, Before, Apart, Undeferred}
-use Rattle.tb_races.specs.Kinds.{shared, some_if, wait_kind, end_kind}
+use Rattle.tb_races.specs.Kinds.{shared, some_if, end_kind}
 use Rattle.tb_races.specs.Orders.{Order, Synchronised, counts_some, links, ComesAfter, directly, by_way}
-use Rattle.tb_races.specs.Racing.{conflict, IsRace, unordered}
+use Rattle.tb_races.specs.Racing.{unordered}
 use Rattle.tb_one_run.specs.Outcomes.{HasRace}
 
 -- ---- what a synchronised link is

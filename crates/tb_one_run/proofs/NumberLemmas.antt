@@ -1,13 +1,13 @@
 -- What an action says beside the number that a load reads.
-use Rattle.std.proofs.Common.{◌≡◌, ℕ, suc, ℤ, List, [], ◌∷◌, ◌++◌, ◌==◌, Bool, true, false, refl, sym, ap, ◌∙◌, Option, Some, None, subst}
+use Rattle.std.proofs.Common.{◌≡◌, ℕ, ℤ, List, [], ◌∷◌, ◌++◌, ◌==◌, false, refl, sym, ◌∙◌, Option, Some, None}
 use Rattle.std.specs.List.{list_any}
-use Rattle.std.proofs.lemmas.Bool.{both_ways, false_from_ne_true, or_parts, eqb-true, eq-eqb, ne_eqb}
+use Rattle.std.proofs.lemmas.Bool.{both_ways, or_parts, eq-eqb, ne_eqb}
 use Rattle.tb_model.specs.declared.action.Action.{Action}
-use Rattle.tb_model.specs.declared.action.Action.TheVariants.{Load, Store, Fault}
+use Rattle.tb_model.specs.declared.action.Action.TheVariants.{Load, Store}
 use Rattle.tb_model.specs.declared.statement.Statement.{Statement}
 use Rattle.tb_model.specs.declared.statement.Statement.TheVariants.{Load as DoLoad}
 use Rattle.tb_model.specs.Names.{Name}
-use Rattle.tb_model.specs.Facts.{History, last, stored_or, is_store_to}
+use Rattle.tb_model.specs.Facts.{History, last, is_store_to}
 use Rattle.tb_model.specs.Legal.{Cells, first_number}
 use Rattle.tb_model.specs.Needs.{conflicts}
 use Rattle.tb_model.specs.Program.{value, cell_at, or_fault, action_of}

@@ -1,9 +1,9 @@
 -- A finished run without a race has one outcome.
-use Rattle.std.proofs.Common.{◌≡◌, ◌≤◌, ◌<◌, ℕ, suc, List, [], ◌∷◌, ◌++◌, length, Bool, true, false, refl, sym, ap, ap₂, ◌∙◌, subst, arith, nat_lt, append_assoc}
+use Rattle.std.proofs.Common.{◌≡◌, ◌≤◌, ◌<◌, suc, [], ◌∷◌, ◌++◌, length, Bool, true, false, refl, sym, ap, ap₂, ◌∙◌, subst, arith, nat_lt, append_assoc}
 use Rattle.std.proofs.lemmas.Bool.{ltb-true, ltb-false, lt-ltb, le-ltb}
 use Rattle.tb_model.specs.declared.event.Event.{Event}
 use Rattle.tb_model.specs.Names.{Name}
-use Rattle.tb_model.specs.Facts.{History, own, prepend_if, HasEnded, IsSpawned}
+use Rattle.tb_model.specs.Facts.{History, own, prepend_if, IsSpawned}
 use Rattle.tb_model.specs.State.{status_of, is_over}
 use Rattle.tb_model.specs.Legal.{Legal}
 use Rattle.tb_model.specs.Alike.{Alike}

@@ -1,5 +1,5 @@
 -- The pass over a history finds exactly what an order puts after a step.
-use Rattle.std.proofs.Common.{◌≡◌, ◌≤◌, ◌<◌, ℕ, zero, suc, List, [], ◌∷◌, ◌++◌, length, Bool, true, false, ◌||◌, ◌⊎◌, ◌↔◌, inl, inr, ⊎_elim, refl, sym, ap, ap₂, ◌∙◌, subst, arith, append_assoc, length-append}
+use Rattle.std.proofs.Common.{◌≡◌, ◌<◌, ℕ, zero, suc, List, [], ◌∷◌, ◌++◌, length, Bool, true, false, ◌||◌, ◌⊎◌, ◌↔◌, inl, inr, ⊎_elim, refl, sym, ap, ap₂, ◌∙◌, subst, arith, append_assoc, length-append}
 use Rattle.std.specs.List.{list_any}
 use Rattle.std.proofs.lemmas.Bool.{or_cases, or_left, or_right, both_ways, false≢true}
 use Rattle.tb_model.specs.declared.event.Event.{Event}
@@ -24,7 +24,7 @@ module _ (o : Order) where
   follows e H v = is_step e H v || comes_after o e H v
 
   -- nothing comes after a step that isn't reached
-  followers_none : (e : StepId) (H : History) → length (own e.task H) < e.k → followers o e H ≡ []
+  pub followers_none : (e : StepId) (H : History) → length (own e.task H) < e.k → followers o e H ≡ []
   followers_none e [] h = refl
   followers_none e (v ∷ H) h =
       let r = followers_none e H (omega (arith, h, own_grows e.task v H)) in

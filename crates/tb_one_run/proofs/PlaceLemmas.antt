@@ -1,24 +1,22 @@
 -- The event of one history that the next event of another stands for.
-use Rattle.std.proofs.Common.{◌≡◌, ◌≤◌, ◌<◌, ℕ, zero, suc, ℤ, List, [], ◌∷◌, ◌++◌, length, Bool, true, false, ◌&&◌, ◌||◌, not, ◌⊎◌, inl, inr, ⊎_elim, refl, sym, ap, ap₂, ◌∙◌, subst, arith, nat_lt, append_assoc}
-use Rattle.std.specs.List.{list_any}
-use Rattle.std.proofs.lemmas.Bool.{or_cases, or_left, or_right, and_parts, both_ways, cases_Bool, false≢true, ltb-true, ltb-false}
+use Rattle.std.proofs.Common.{◌≡◌, ℕ, [], ◌∷◌, ◌++◌, length, Bool, true, false, ⊎_elim, refl, sym, ap, ◌∙◌, subst, arith, nat_lt, append_assoc}
+use Rattle.std.proofs.lemmas.Bool.{and_parts, false≢true, ltb-true, ltb-false}
 use Rattle.tb_model.specs.declared.action.Action.{Action}
 use Rattle.tb_model.specs.declared.action.Action.TheVariants.{Start, Let, Load, Store, Print, Spawn, Wait, Open, Close, Test, End, Fault}
 use Rattle.tb_model.specs.declared.event.Event.{Event}
 use Rattle.tb_model.specs.Names.{Name, is_child, is_elder}
-use Rattle.tb_model.specs.Facts.{History, is_of, own, ends, spawns, before, covers, holds, is_member, HasEnded, IsSpawned}
-use Rattle.tb_model.specs.State.{status_of, is_over, called_by, spawn_of}
-use Rattle.tb_model.specs.Legal.{Cells, IsTimely, MayFollow, Legal, spawn_count}
+use Rattle.tb_model.specs.Facts.{History, is_of, own, is_member, HasEnded, IsSpawned}
+use Rattle.tb_model.specs.State.{status_of, is_over, spawn_of}
+use Rattle.tb_model.specs.Legal.{Cells, IsTimely, Legal, spawn_count}
 use Rattle.tb_model.specs.Alike.{Alike}
 use Rattle.tb_model.proofs.TestLemmas.{same_true}
 use Rattle.tb_model.proofs.FactsLemmas.{acted_spawned, member_up}
 use Rattle.tb_model.proofs.NeighboursLemmas.{legal_below}
-use Rattle.tb_model.proofs.SettledLemmas.{spawned_later}
 use Rattle.tb_model.proofs.StateLemmas.{over_ended, children_numbered}
 use Rattle.tb_one_run.proofs.LinkLemmas.{awaits}
 use Rattle.tb_one_run.proofs.SharedLemmas.{Older, part, own_front, own_back, own_older, older_front, older_all, place}
 use Rattle.tb_one_run.proofs.OnceLemmas.{no_more}
-use Rattle.tb_one_run.proofs.AgreeLemmas.{Reaches, spawned_too, spawned_back, elder_back, child_back, before_too, covers_too, spawn_too, root_unspawned}
+use Rattle.tb_one_run.proofs.AgreeLemmas.{Reaches, spawned_too, spawned_back, elder_back, before_too, covers_too, spawn_too, root_unspawned}
 
 -- whose child was generated was generated
 pub parent_spawned : (cells : Cells) (X : History) (k : ℕ) (p : Name) → Legal cells X → IsSpawned X (k ∷ p) → IsSpawned X p

@@ -1,7 +1,7 @@
 -- The part of one history whose steps stand in another.
-use Rattle.std.proofs.Common.{◌≡◌, ◌≤◌, ◌<◌, ℕ, suc, List, [], ◌∷◌, ◌++◌, length, Bool, true, false, ◌&&◌, not, ◌⊎◌, inl, inr, ⊎_elim, refl, sym, ap, ap₂, ◌∙◌, subst, arith, nat_lt, eqb-true, eq-eqb, append_assoc, length-append, ◌==◌}
-use Rattle.std.specs.List.{list_any, AllByRecursion}
-use Rattle.std.proofs.lemmas.Bool.{or_cases, or_left, or_right, or_parts, and_parts, and_from, both_ways, cases_Bool, false≢true, false_from_ne_true, ltb-true, lt-ltb, le-ltb, ltb-false}
+use Rattle.std.proofs.Common.{◌≡◌, ◌≤◌, ◌<◌, ℕ, suc, List, [], ◌∷◌, ◌++◌, length, Bool, true, false, ◌&&◌, not, ◌⊎◌, inl, inr, refl, sym, ap, ap₂, ◌∙◌, subst, arith, nat_lt, eqb-true, eq-eqb, append_assoc, length-append, ◌==◌}
+use Rattle.std.specs.List.{AllByRecursion}
+use Rattle.std.proofs.lemmas.Bool.{both_ways, ltb-true, lt-ltb, le-ltb, ltb-false}
 use Rattle.tb_model.specs.declared.action.Action.{Action}
 use Rattle.tb_model.specs.declared.event.Event.{Event}
 use Rattle.tb_model.specs.Names.{Name}
@@ -44,7 +44,8 @@ part_split K [] F = refl
 part_split K (v ∷ b) F =
     ap (prepend_if (has K (v ∷ (b ++ F))) v) (part_split K b F) ∙ sym (put_append (has K (v ∷ (b ++ F))) v (late K b F) (part K F))
 
-one_more : (c : Bool) (v : Event) {H G R : History} → Parts H G R → Parts (v ∷ H) (prepend_if c v G) (prepend_if (not c) v R)
+-- one event more stays or goes
+pub one_more : (c : Bool) (v : Event) {H G R : History} → Parts H G R → Parts (v ∷ H) (prepend_if c v G) (prepend_if (not c) v R)
 one_more true v s = parts.stays s
 one_more false v s = parts.goes s
 

@@ -1,18 +1,16 @@
 -- One step of the walk.
-use Rattle.std.proofs.Common.{◌≡◌, ◌≤◌, ◌<◌, ℕ, suc, ℤ, List, [], ◌∷◌, ◌++◌, length, Bool, true, false, ◌&&◌, ◌||◌, not, ◌⊎◌, inl, inr, ⊎_elim, refl, sym, ap, ap₂, ◌∙◌, subst, arith, nat_lt, append_assoc, length-append}
+use Rattle.std.proofs.Common.{◌≡◌, ℕ, suc, ℤ, List, [], ◌∷◌, ◌++◌, length, Bool, true, false, ◌&&◌, ◌||◌, not, refl, sym, ap, ap₂, ◌∙◌, subst, arith, append_assoc}
 use Rattle.std.specs.List.{list_any, AllByRecursion}
-use Rattle.std.proofs.lemmas.Bool.{or_cases, or_left, or_right, or_parts, and_from, both_ways, cases_Bool, false≢true, false_from_ne_true, le-ltb, lt-ltb}
+use Rattle.std.proofs.lemmas.Bool.{or_left, or_parts, both_ways, false_from_ne_true, le-ltb, lt-ltb}
 use Rattle.tb_model.specs.declared.action.Action.{Action}
 use Rattle.tb_model.specs.declared.action.Action.TheVariants.{Load}
 use Rattle.tb_model.specs.declared.event.Event.{Event}
-use Rattle.tb_model.specs.Names.{Name}
-use Rattle.tb_model.specs.Facts.{History, is_of, is_print, is_store_to, own, prepend_if, ends, spawns, last, HasEnded, IsSpawned}
-use Rattle.tb_model.specs.Legal.{Cells, first_number, Legal}
+use Rattle.tb_model.specs.Facts.{History, is_of, is_print, own, prepend_if, spawns, last}
+use Rattle.tb_model.specs.Legal.{first_number, Legal}
 use Rattle.tb_model.specs.Needs.{conflicts}
 use Rattle.tb_model.specs.Alike.{Alike}
 use Rattle.tb_model.specs.Program.{Program, zero_ℤ, planned, LegalFor, IsNext}
 use Rattle.tb_model.specs.Hindrances.{number_read, next_event}
-use Rattle.tb_model.proofs.TestLemmas.{same_true, same_refl}
 use Rattle.tb_model.proofs.FactsLemmas.{own_mine, not_again, spawned_by}
 use Rattle.tb_model.proofs.NeighboursLemmas.{legal_below, same_sym}
 use Rattle.tb_model.proofs.PartsLemmas.{stores_to, last_same}
@@ -21,8 +19,8 @@ use Rattle.tb_model.proofs.NextStepLemmas.{next_computed}
 use Rattle.tb_model.proofs.AlikeLemmas.{alike_trans, alike_cons}
 use Rattle.tb_races.specs.Orders.{Synchronised}
 use Rattle.tb_one_run.specs.Outcomes.{HasRace}
-use Rattle.tb_one_run.proofs.LinkLemmas.{IsClosed, clash, tame}
-use Rattle.tb_one_run.proofs.SharedLemmas.{has, part, gone, late, part_split, part_gone, has_mine, own_longer, place, Place, Changes, to_end, has_same, has_now, has_back, has_still, part_same, late_same}
+use Rattle.tb_one_run.proofs.LinkLemmas.{clash, tame}
+use Rattle.tb_one_run.proofs.SharedLemmas.{has, part, gone, late, part_split, part_gone, has_mine, own_longer, Changes, to_end, has_same, has_now, part_same, late_same}
 use Rattle.tb_one_run.proofs.NumberLemmas.{blind_conflicts, conflict_load, number_same, last_skip}
 use Rattle.tb_one_run.proofs.WalkLemmas.{Walked, lx, same_task, planned_same, blind_same, closed_more}
 

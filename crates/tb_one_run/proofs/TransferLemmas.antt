@@ -1,23 +1,22 @@
 -- Where a finished run has no race, no finished run of the program has one.
-use Rattle.std.proofs.Common.{◌≡◌, ◌≤◌, ◌<◌, ℕ, suc, List, [], ◌∷◌, ◌++◌, length, Bool, true, false, cond, ◌⊎◌, inl, inr, ⊎_elim, refl, sym, ap, ◌∙◌, subst, arith, nat_lt, ℤ, append_assoc, Option, Some, None, ◌==◌, eqb-true, eq-eqb}
+use Rattle.std.proofs.Common.{◌≡◌, ◌<◌, ℕ, [], ◌∷◌, ◌++◌, length, Bool, true, false, cond, ◌⊎◌, inl, inr, ⊎_elim, refl, sym, ap, ◌∙◌, subst, arith, ℤ, append_assoc, Some, None, ◌==◌, eqb-true, eq-eqb}
 use Rattle.std.proofs.lemmas.Bool.{or_left, or_right, and_from, both_ways, false≢true, ltb-true}
 use Rattle.tb_model.specs.declared.action.Action.{Action}
 use Rattle.tb_model.specs.declared.action.Action.TheVariants.{Start, Let, Load, Store, Print, Spawn, Wait, Open, Close, Test, End, Fault}
 use Rattle.tb_model.specs.declared.event.Event.{Event}
 use Rattle.tb_model.specs.Names.{Name}
 use Rattle.tb_model.specs.Facts.{History, is_of, is_print, own, touches, is_store_to, IsSpawned}
-use Rattle.tb_model.specs.Legal.{Legal}
 use Rattle.tb_model.specs.Needs.{conflicts}
 use Rattle.tb_model.specs.WellFormed.{WellFormed}
-use Rattle.tb_model.specs.Program.{Program, AllFollow, LegalFor}
-use Rattle.tb_model.proofs.TestLemmas.{same_true, same_refl}
+use Rattle.tb_model.specs.Program.{Program, LegalFor}
+use Rattle.tb_model.proofs.TestLemmas.{same_refl}
 use Rattle.tb_model.proofs.FactsLemmas.{own_mine, grown}
-use Rattle.tb_model.proofs.NeighboursLemmas.{legal_below, same_sym}
+use Rattle.tb_model.proofs.NeighboursLemmas.{same_sym}
 use Rattle.tb_model.proofs.SettledLemmas.{spawned_later}
 use Rattle.tb_model.proofs.NeedsLemmas.{may_spawned}
 use Rattle.tb_races.specs.declared.conflict.Conflict.{Conflict}
 use Rattle.tb_races.specs.Kinds.{shared, some_if}
-use Rattle.tb_races.specs.Orders.{Order, Synchronised, counts_some, links, ComesAfter, directly, by_way}
+use Rattle.tb_races.specs.Orders.{Synchronised, counts_some, links, ComesAfter, directly, by_way}
 use Rattle.tb_races.specs.Racing.{conflict, IsRace, unordered}
 use Rattle.tb_one_run.specs.Outcomes.{IsFinished, HasRace}
 use Rattle.tb_one_run.proofs.LinkLemmas.{stands_before, clash, tame}
@@ -90,7 +89,8 @@ clash_back (Test y) b r h = cc
 clash_back End b r h = cc
 clash_back Fault b r h = cc
 
-conflict_parts : (v u : Event) (r : Conflict) → conflict v u ≡ Some r → (is_of v.task u ≡ false) × (shared v.action u.action ≡ Some r)
+-- who conflict are of different tasks
+pub conflict_parts : (v u : Event) (r : Conflict) → conflict v u ≡ Some r → (is_of v.task u ≡ false) × (shared v.action u.action ≡ Some r)
 conflict_parts v u r h = at (is_of v.task u) refl
   where
     at : (b : Bool) → is_of v.task u ≡ b → (is_of v.task u ≡ false) × (shared v.action u.action ≡ Some r)
@@ -226,7 +226,7 @@ module _ (P : Program) (w : WellFormed P) (H : History) (lh : LegalFor P H) (don
           race = unordered Synchronised v u m U shares both (λ after.
               let r = transfer after b (e ∙ ap (λ G. b ++ v ∷ G) q) (v ∷ (between ++ u ∷ front)) (c, between ++ u ∷ front, refl, at_v, sym n ∙ ap (λ G. length (own v.task G)) q) in
               let s = r.1 in
-              let one : s.1 ≡ front = one_place K s.0 (c ++ v ∷ between) u u s.1 front (s.3 ∙ ap (λ G. s.0 ++ G) s.2) at_u refl (s.4 ∙ k) in
+              let one : s.1 ≡ front = (one_place K s.0 (c ++ v ∷ between) u u s.1 front (s.3 ∙ ap (λ G. s.0 ++ G) s.2) at_u refl (s.4 ∙ k)).0 in
               not (subst (ComesAfter Synchronised (v ∷ (between ++ u ∷ front))) (s.2 ∙ ap (λ G. u ∷ G) one) r.2));
         })
 

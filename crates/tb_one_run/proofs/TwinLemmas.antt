@@ -1,17 +1,16 @@
 -- Two runs in which each task does the same: each step of the one stands in the other.
-use Rattle.std.proofs.Common.{◌≡◌, ◌≤◌, ◌<◌, ℕ, suc, List, [], ◌∷◌, ◌++◌, length, Bool, true, false, cond, ◌&&◌, ◌||◌, ⊎_elim, refl, sym, ap, ap₂, ◌∙◌, subst, arith, append_assoc, Option, Some, None, option_map}
+use Rattle.std.proofs.Common.{◌≡◌, ◌≤◌, ◌<◌, ℕ, suc, List, [], ◌∷◌, ◌++◌, length, true, cond, refl, sym, ap, ap₂, ◌∙◌, subst, arith, Some, None, option_map}
 use Rattle.std.specs.Option.{option_or}
-use Rattle.std.proofs.lemmas.Bool.{ltb-true, lt-ltb, both_ways}
 use Rattle.tb_model.specs.declared.action.Action.{Action}
 use Rattle.tb_model.specs.declared.action.Action.TheVariants.{Start, Wait, Close}
 use Rattle.tb_model.specs.declared.event.Event.{Event}
 use Rattle.tb_model.specs.Names.{Name, same_name}
-use Rattle.tb_model.specs.Facts.{History, is_of, own, before, apart, covers, is_member, holds, is_end, spawns, IsSpawned}
+use Rattle.tb_model.specs.Facts.{History, is_of, own, is_member, holds, is_end, spawns, IsSpawned}
 use Rattle.tb_model.specs.Legal.{Cells, Legal}
 use Rattle.tb_model.proofs.TestLemmas.{same_true, same_refl}
 use Rattle.tb_model.proofs.FactsLemmas.{own_mine}
 use Rattle.tb_races.specs.declared.need_kind.NeedKind.TheVariants.{Before, Apart, Wait as Waits, Group, Undeferred, Task, Spawn as Spawned, Conflict as Conflicts}
-use Rattle.tb_races.specs.Kinds.{some_if, shared, wait_kind, end_kind, need_kind}
+use Rattle.tb_races.specs.Kinds.{some_if, shared, wait_kind, need_kind}
 use Rattle.tb_one_run.proofs.SharedLemmas.{Older, own_longer, older_front, older_trans, older_same, place}
 use Rattle.tb_one_run.proofs.AgreeLemmas.{Reaches, before_too, apart_too, covers_too}
 
@@ -66,15 +65,15 @@ twin H C r b y Y e l =
     }
 
 -- one place has the number
-pub one_place : (C : History) (b c : History) (x y : Event) (X Y : History) → C ≡ b ++ x ∷ X → C ≡ c ++ y ∷ Y → x.task ≡ y.task → length (own x.task X) ≡ length (own x.task Y) → X ≡ Y
+pub one_place : (C : History) (b c : History) (x y : Event) (X Y : History) → C ≡ b ++ x ∷ X → C ≡ c ++ y ∷ Y → x.task ≡ y.task → length (own x.task X) ≡ length (own x.task Y) → (X ≡ Y) × (x ≡ y)
 one_place C b c x y X Y e f t n = at b c (sym e ∙ f)
   where
     longer : (d : History) (z : Event) (Z : History) → z.task ≡ x.task → suc (length (own x.task Z)) ≤ length (own x.task (d ++ z ∷ Z))
     longer d z Z q =
         omega (arith, own_longer x.task d (z ∷ Z), ap length (own_mine x.task z Z (subst (λ u. same_name u x.task ≡ true) (sym q) (same_refl x.task))))
 
-    at : (b c : History) → b ++ x ∷ X ≡ c ++ y ∷ Y → X ≡ Y
-    at [] [] e = cc
+    at : (b c : History) → b ++ x ∷ X ≡ c ++ y ∷ Y → (X ≡ Y) × (x ≡ y)
+    at [] [] e = (cc, cc)
     at [] (z ∷ c) e =
         let s : X ≡ c ++ y ∷ Y = cc in absurd (omega (arith, n, longer c y Y (sym t), ap (λ G. length (own x.task G)) s))
     at (z ∷ b) [] e =

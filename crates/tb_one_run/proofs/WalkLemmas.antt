@@ -1,35 +1,27 @@
 -- A walk over any run K of a program, beside a finished run H without a race: what stands in K says of every task, cell and
 -- output what H says of it.
-use Rattle.std.proofs.Common.{◌≡◌, ◌≤◌, ◌<◌, ℕ, suc, ℤ, List, [], ◌∷◌, ◌++◌, length, Bool, true, false, ◌&&◌, ◌||◌, not, ◌⊎◌, inl, inr, ⊎_elim, refl, sym, ap, ap₂, ◌∙◌, subst, arith, nat_lt, append_assoc, length-append}
-use Rattle.std.specs.List.{list_any, AllByRecursion}
-use Rattle.std.proofs.lemmas.Bool.{or_cases, or_left, or_right, or_parts, and_from, both_ways, cases_Bool, false≢true, false_from_ne_true, le-ltb}
+use Rattle.std.proofs.Common.{◌≡◌, ℕ, suc, ℤ, [], ◌∷◌, ◌++◌, length, true, ◌⊎◌, inl, inr, ⊎_elim, refl, sym, ap, ap₂, ◌∙◌, subst, arith, append_assoc}
+use Rattle.std.specs.List.{list_any}
+use Rattle.std.proofs.lemmas.Bool.{and_from}
 use Rattle.tb_model.specs.declared.action.Action.{Action}
-use Rattle.tb_model.specs.declared.action.Action.TheVariants.{Load}
 use Rattle.tb_model.specs.declared.event.Event.{Event}
 use Rattle.tb_model.specs.Names.{Name}
-use Rattle.tb_model.specs.Facts.{History, is_of, is_end, is_store_to, own, prepend_if, ends, spawns, holds, last, HasEnded, IsSpawned}
+use Rattle.tb_model.specs.Facts.{History, is_of, is_end, own, ends, spawns, holds, HasEnded, IsSpawned}
 use Rattle.tb_model.specs.State.{called_by}
-use Rattle.tb_model.specs.Legal.{Cells, first_number, spawn_count, MayFollow, Legal}
-use Rattle.tb_model.specs.Needs.{conflicts}
+use Rattle.tb_model.specs.Legal.{spawn_count, Legal}
 use Rattle.tb_model.specs.Alike.{Alike}
-use Rattle.tb_model.specs.Program.{Program, zero_ℤ, config, instr_at, action_of, situation, planned, loaded, AllFollow, LegalFor, IsNext}
-use Rattle.tb_model.specs.Hindrances.{number_read, next_event}
+use Rattle.tb_model.specs.Program.{Program, config, instr_at, action_of, situation, planned, loaded, AllFollow, LegalFor, IsNext}
 use Rattle.tb_model.proofs.TestLemmas.{same_true, same_refl}
-use Rattle.tb_model.proofs.FactsLemmas.{own_mine, grown, acted_spawned, not_again, spawn_names, spawned_by}
+use Rattle.tb_model.proofs.FactsLemmas.{own_mine, grown, spawn_names}
 use Rattle.tb_model.proofs.NeighboursLemmas.{legal_below}
-use Rattle.tb_model.proofs.PartsLemmas.{stores_to, last_same}
 use Rattle.tb_model.proofs.SettledLemmas.{spawned_later}
 use Rattle.tb_model.proofs.NeedsLemmas.{may_spawned}
-use Rattle.tb_model.proofs.NextStepLemmas.{next_computed}
-use Rattle.tb_model.proofs.AlikeLemmas.{alike_trans, alike_cons}
 use Rattle.tb_races.specs.Orders.{Synchronised, links}
-use Rattle.tb_one_run.specs.Outcomes.{HasRace}
-use Rattle.tb_one_run.proofs.LinkLemmas.{awaits, linked, IsClosed, clash, tame}
-use Rattle.tb_one_run.proofs.SharedLemmas.{has, part, gone, late, part_split, part_gone, has_mine, own_longer, place, Place, Changes, to_end, has_same, has_now, has_back, has_still, part_same, late_same}
+use Rattle.tb_one_run.proofs.LinkLemmas.{awaits, linked, IsClosed}
+use Rattle.tb_one_run.proofs.SharedLemmas.{has, part, own_longer, has_now, has_back, has_still}
 use Rattle.tb_one_run.proofs.OnceLemmas.{end_stays, spawn_stays}
-use Rattle.tb_one_run.proofs.AgreeLemmas.{spawned_too}
-use Rattle.tb_one_run.proofs.NumberLemmas.{IsBlind, blind_statement, blind_conflicts, conflict_load, number_same, last_skip}
-use Rattle.tb_one_run.proofs.PlaceLemmas.{own_at, reaches_front, awaited, spawn_here}
+use Rattle.tb_one_run.proofs.NumberLemmas.{IsBlind, blind_statement}
+use Rattle.tb_one_run.proofs.PlaceLemmas.{own_at, awaited, spawn_here}
 
 -- so far K is a part of H in another order: closed under the order of H, alike, and as long
 pub record Walked (H K : History) : Type 0 where
