@@ -1,23 +1,21 @@
 -- A plan that was made at some time, and is taken now.
-use Rattle.std.proofs.Common.{◌≡◌, ◌≢◌, ◌<◌, ◌≤◌, ◌↔◌, ℕ, List, Bool, true, false, nat_le, length, reverse, refl, sym, ap, ap₂, ◌∙◌, subst, Option, Some, None, option_map, arith}
+use Rattle.std.proofs.Common.{◌≡◌, ◌≢◌, ◌<◌, ◌↔◌, ℕ, List, Bool, true, false, nat_le, length, reverse, refl, sym, ap, ◌∙◌, subst, Option, Some, None, option_map, arith}
 use Rattle.std.specs.Prelude.{Result, Ok, Err, IfOk}
 use Rattle.std.specs.List.{list_any}
-use Rattle.std.proofs.lemmas.Bool.{false≢true, both_ways}
+use Rattle.std.proofs.lemmas.Bool.{both_ways}
 use Rattle.std.proofs.lemmas.Bool.Decides.{nat_tests}
 use Rattle.std.proofs.lemmas.List.{length-reverse}
 use Rattle.tb_model.specs.declared.entry.Entry.{Entry}
-use Rattle.tb_model.specs.declared.entry.Entry.TheVariants.{Stepped, Rolled}
+use Rattle.tb_model.specs.declared.entry.Entry.TheVariants.{Stepped}
 use Rattle.tb_model.specs.declared.event.Event.{Event}
 use Rattle.tb_model.specs.declared.step_id.StepId.{StepId}
 use Rattle.tb_model.specs.Names.{Name}
 use Rattle.tb_model.specs.Facts.{is_spawned, ends}
 use Rattle.tb_model.specs.Journal.{hist}
 use Rattle.tb_model.specs.Program.{Program, instr_at}
-use Rattle.tb_model.specs.Hindrances.{Refusal, Hindrance, By, refusal_of, next_event}
+use Rattle.tb_model.specs.Hindrances.{Hindrance, By, refusal_of, next_event}
 use Rattle.tb_model.specs.Hindrances.{Undeferred as TheUndeferred, Waiting as IsWaiting, Excluded as IsExcluded, Children as TheChildren, Group as TheGroup}
 use Rattle.tb_read.specs.Plans.{instruction}
-use Rattle.tb_read.specs.declared.config.Config.{Config}
-use Rattle.tb_read.specs.declared.instr.Instr.{Instr}
 use Rattle.tb_read.specs.declared.planned.Plan.{Plan}
 use Rattle.tb_core.specs.declared.step_refusal.StepRefusal.{StepRefusal}
 use Rattle.tb_core.specs.declared.step_refusal.StepRefusal.TheVariants.{Memory, NoSuchTask, Ended, Waiting, Excluded, Children, Group, Full, Stale, Undeferred}
@@ -26,20 +24,17 @@ use Rattle.tb_core.specs.Seen as core
 use Rattle.tb_core.specs.Situation.{config_of}
 use Rattle.tb_core.specs.Outcomes.{event_of, has_ended, hindrance_of, IsOpen, IsCurrent, IsKept}
 use Rattle.tb_core.specs.Outcomes as outcomes
-use Rattle.tb_roll.specs.declared.readied.Ready.{Ready}
 use Rattle.tb_live.specs.declared.control.Control.{Control}
 use Rattle.tb_live.specs.declared.commit_refusal.CommitRefusal.{CommitRefusal}
 use Rattle.tb_live.specs.declared.commit_refusal.CommitRefusal.TheVariants.{Step as NotTaken}
-use Rattle.tb_live.specs.declared.prepared.Prepared.{Prepared}
-use Rattle.tb_live.specs.declared.prepared.Prepared.TheVariants.{Step, Roll}
 use Rattle.tb_live.specs.Claims.{claim_of}
 use Rattle.tb_live.specs.Modes.{is_paused}
 use Rattle.tb_live.specs.Session.{Session, Held, history, is_full}
 use Rattle.tb_live.specs.Moves.{MayStep, Refuses, refusal_for, coming}
 use Rattle.tb_live.specs.Moves as moves
-use Rattle.tb_live.specs.Commits.{IsClaimed, IsOffered, IsUpToDate, MayCommit, RefusesPlan, RefusesCommit, Commits, IsPrepared, entry_to_come}
+use Rattle.tb_live.specs.Commits.{IsClaimed, IsOffered, IsUpToDate, MayCommit, RefusesPlan, Commits, IsPrepared, entry_to_come}
 use Rattle.tb_live.specs.Plans.{IsPlanOf, IsOfProgram, IsNative, IsForeign, IsKeptFrom, IsRefusalTo, IsRefusalOf, IsTold, Enters, has_no_place}
-use Rattle.tb_live.specs.Preparing.{IsReadied, HasStepRoom, HasRoom, entry_of}
+use Rattle.tb_live.specs.Preparing.{IsReadied, HasStepRoom}
 use Rattle.tb_live.specs.Soundness.{Fits, IsSound, IsLawful}
 use Rattle.tb_live.specs.Working.{configuration}
 use Rattle.tb_live.proofs.PlanLemmas.{IsPlan, plan_fits, plan_next, refusal_of_plan}

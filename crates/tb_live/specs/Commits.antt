@@ -1,9 +1,8 @@
 -- When a plan is committed, and what that leaves.
-use Rattle.std.specs.Prelude.{◌≡◌, ◌≢◌, ◌<◌, ℕ, length, Option, Some, None, Result, Ok, Err, IsTrue, IsFalse}
+use Rattle.std.specs.Prelude.{◌≡◌, ◌≢◌, ◌<◌, ℕ, length, Some, Result, Ok, Err, IsTrue, IsFalse}
 use Rattle.tb_model.specs.declared.entry.Entry.{Entry}
 use Rattle.tb_model.specs.declared.entry.Entry.TheVariants.{Stepped}
 use Rattle.tb_model.specs.declared.step_id.StepId.{StepId}
-use Rattle.tb_model.specs.Names.{Name}
 use Rattle.tb_model.specs.Facts.{is_spawned}
 use Rattle.tb_read.specs.declared.planned.Plan.{Plan}
 use Rattle.tb_core.specs.declared.step_refusal.StepRefusal.{StepRefusal}
