@@ -108,13 +108,13 @@ pub record UndoesFor (seat : ℕ) (s : Session) (i : StepId) (new : Session) (re
 abbrev pub Undoes : Session → StepId → Session → Removed → Type 0
 Undoes = UndoesFor 0
 
--- an undo by its answer; memory may be wanted for the name of what needs the step
+-- an undo by its answer; memory may be wanted for the name of what needs the step, and else only where the journal has a place
 abbrev pub UndoneFor : ℕ → Session → StepId → Session → Result Removed UndoRefusal → Type 0
 UndoneFor seat s i new (Ok removed) = UndoesFor seat s i new removed
 UndoneFor seat s i new (Err NoSuchStep) = (new ≡ s) × IsFalse (stands i (history s))
 UndoneFor seat s i new (Err (Needed by)) = (new ≡ s) × IsTrue (stands i (history s)) × (first_needer i (history s) ≡ Some by)
 UndoneFor seat s i new (Err JournalFull) = (new ≡ s) × IsTrue (stands i (history s)) × (first_needer i (history s) ≡ None) × IsTrue (is_full s)
-UndoneFor seat s i new (Err NoMemory) = (new ≡ s) × IsTrue (stands i (history s))
+UndoneFor seat s i new (Err NoMemory) = (new ≡ s) × IsTrue (stands i (history s)) × (first_needer i (history s) ≡ None → IsFalse (is_full s))
 
 abbrev pub UndoneBy : Session → StepId → Session → Result Removed UndoRefusal → Type 0
 UndoneBy = UndoneFor 0
@@ -136,8 +136,8 @@ pub record IsRollPrepared (seat : ℕ) (held : Held) (i : StepId) (e : Entry) : 
   pub entry : e ≡ Rolled seat i
   pub prepared : held.prepared ≡ Some e
 
--- when all stays
+-- when all stays: want of memory comes last
 abbrev pub KeepsAll : Session → StepId → RollRefusal → Type 0
 KeepsAll s i StepIsMissing = IsFalse (stands i (history s))
 KeepsAll s i NoPlace = IsTrue (stands i (history s)) × IsTrue (is_full s)
-KeepsAll s i NoRoom = IsTrue (stands i (history s))
+KeepsAll s i NoRoom = IsTrue (stands i (history s)) × IsFalse (is_full s)

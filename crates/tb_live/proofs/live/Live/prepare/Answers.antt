@@ -4,6 +4,7 @@ use Rattle.tb_model.specs.declared.entry.Entry.TheVariants.{Stepped}
 use Rattle.tb_core.specs.Outcomes.{event_of, IsOpen}
 use Rattle.tb_live.specs.Preparing.{HasRoom, entry_of}
 use Rattle.tb_live.specs.Session.{Held}
+use Rattle.tb_core.specs.declared.step_refusal.StepRefusal.TheVariants.{Memory}
 use Rattle.tb_live.specs.declared.commit_refusal.CommitRefusal.TheVariants.{Step as NotTaken}
 use Rattle.tb_live.proofs.RunLemmas.{shown}
 use Rattle.tb_live.proofs.StepLemmas.{longer, stays, same_held}
@@ -63,3 +64,10 @@ pub returns-in-Err-clause-kept : goal.returns-in-Err-clause-kept
 returns-in-Err-clause-kept c =
     let i = c.self.inside in
     λ n. same_held i.program i.limit i.journal.items c.ready_step.new.journal.items i.control i.control i.prepared c.ready_step.new.prepared c.args.self.now c.self.view_is c.ready_step.ensures.entries refl (c.in-Err.ensures.kept (λ same. n (ap NotTaken same)))
+
+pub returns-in-Err-copy_of-clause-refused : goal.returns-in-Err-copy_of-clause-refused
+returns-in-Err-copy_of-clause-refused c =
+    let i = c.self.inside in
+    let offered = c.in_default.ensures.none in
+    let native = offered_native i.program i.limit i.journal.items i.control i.core.run c.args.self.now.session (ap (λ (h : Held). h.session) c.self.view_is) c.self.invariant.0 c.args.seat c.args.plan.now offered in
+    (offered.claimed, native_refused i.program i.limit i.journal.items i.control i.core.run c.args.self.now.session (ap (λ (h : Held). h.session) c.self.view_is) c.self.invariant.0 c.args.seat c.args.plan.now native Memory (λ current clear. c.in-Ok.ensures.readied.room))
