@@ -10,7 +10,7 @@ use Rattle.tb_model.specs.declared.step_id.StepId.{StepId}
 use Rattle.tb_model.specs.declared.event.Event.{Event}
 use Rattle.tb_model.specs.Names.{Name, same_name}
 use Rattle.tb_model.specs.Facts.{History, is_spawned, ends}
-use Rattle.tb_model.specs.Needs.{step_of}
+use Rattle.tb_model.specs.Needs.{step_of, without}
 use Rattle.tb_model.specs.Journal.{hist}
 use Rattle.tb_model.specs.Program.{Program, IsNext, LegalFor, planned, situation, zero_ℤ}
 use Rattle.tb_model.specs.Hindrances.{Refusal, By, refusal_of, can_step, least_ready, next_event, in_the_way}
@@ -94,9 +94,10 @@ module _ (P : Program) (limit : ℕ) (entries : List Entry) (before : Control) (
       let same : v ≡ w = next_computed P (hist journal) v done.next ∙ ap (next_event P (hist journal)) plan.of_task in
       let all : reverse pushed ≡ Stepped seat v ∷ journal = ap reverse e.grows ∙ reverse-append entries (Stepped seat v ∷ []) in
       let behind : after ≡ behind_step (situation P t (hist journal)).line w before = counts ∙ ap₂ (λ (n : ℕ) (u : Event). behind_step n u before) line_so same in
+      let kept : IsSound P limit (reverse pushed) new = subst (λ (K : List Entry). IsSound P limit K new) (sym all) done.sound in
       record {
         keeps = record {
-          sound = subst (λ (K : List Entry). IsSound P limit K new) (sym all) done.sound;
+          sound = kept;
           lawful =
               subst (λ (K : List Entry). IsLawful K after) (sym all)
               (subst (λ (c : Control). AreLawful (v ∷ hist journal) c.claims) (sym counts) (lawful_step v (hist journal) before.claims (same_name v.task) lawful));
@@ -109,6 +110,7 @@ module _ (P : Program) (limit : ℕ) (entries : List Entry) (before : Control) (
           next = subst (IsNext P (hist journal)) same done.next;
           id = done.id ∙ ap (step_of (hist journal)) same;
           now = ap₂ (λ (K : List Entry) (c : Control). record { program = P; limit = limit; journal = K; control = c }) (all ∙ ap (λ u. Stepped seat u ∷ journal) same) behind;
+          back = ap (without i) (sym kept.leaves) ∙ e.steps.back ∙ sound.leaves;
         });
       }
 
