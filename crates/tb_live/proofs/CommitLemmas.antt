@@ -1,23 +1,21 @@
 -- A plan that was made at some time, and is taken now.
-use Rattle.std.proofs.Common.{◌≡◌, ◌≢◌, ◌<◌, ◌≤◌, ◌↔◌, ℕ, List, Bool, true, false, nat_le, length, reverse, refl, sym, ap, ap₂, ◌∙◌, subst, Option, Some, None, option_map, arith}
+use Rattle.std.proofs.Common.{◌≡◌, ◌≢◌, ◌<◌, ◌≤◌, ◌↔◌, ℕ, List, Bool, true, false, nat_le, length, reverse, refl, sym, ap, ◌∙◌, subst, Option, Some, None, option_map, arith, inl, inr}
 use Rattle.std.specs.Prelude.{Result, Ok, Err, IfOk}
 use Rattle.std.specs.List.{list_any}
-use Rattle.std.proofs.lemmas.Bool.{false≢true, both_ways}
+use Rattle.std.proofs.lemmas.Bool.{both_ways}
 use Rattle.std.proofs.lemmas.Bool.Decides.{nat_tests}
 use Rattle.std.proofs.lemmas.List.{length-reverse}
 use Rattle.tb_model.specs.declared.entry.Entry.{Entry}
-use Rattle.tb_model.specs.declared.entry.Entry.TheVariants.{Stepped, Rolled}
+use Rattle.tb_model.specs.declared.entry.Entry.TheVariants.{Stepped}
 use Rattle.tb_model.specs.declared.event.Event.{Event}
 use Rattle.tb_model.specs.declared.step_id.StepId.{StepId}
 use Rattle.tb_model.specs.Names.{Name}
 use Rattle.tb_model.specs.Facts.{is_spawned, ends}
 use Rattle.tb_model.specs.Journal.{hist}
 use Rattle.tb_model.specs.Program.{Program, instr_at}
-use Rattle.tb_model.specs.Hindrances.{Refusal, Hindrance, By, refusal_of, next_event}
+use Rattle.tb_model.specs.Hindrances.{Hindrance, By, refusal_of, next_event}
 use Rattle.tb_model.specs.Hindrances.{Undeferred as TheUndeferred, Waiting as IsWaiting, Excluded as IsExcluded, Children as TheChildren, Group as TheGroup}
 use Rattle.tb_read.specs.Plans.{instruction}
-use Rattle.tb_read.specs.declared.config.Config.{Config}
-use Rattle.tb_read.specs.declared.instr.Instr.{Instr}
 use Rattle.tb_read.specs.declared.planned.Plan.{Plan}
 use Rattle.tb_core.specs.declared.step_refusal.StepRefusal.{StepRefusal}
 use Rattle.tb_core.specs.declared.step_refusal.StepRefusal.TheVariants.{Memory, NoSuchTask, Ended, Waiting, Excluded, Children, Group, Full, Stale, Undeferred}
@@ -26,20 +24,17 @@ use Rattle.tb_core.specs.Seen as core
 use Rattle.tb_core.specs.Situation.{config_of}
 use Rattle.tb_core.specs.Outcomes.{event_of, has_ended, hindrance_of, IsOpen, IsCurrent, IsKept}
 use Rattle.tb_core.specs.Outcomes as outcomes
-use Rattle.tb_roll.specs.declared.readied.Ready.{Ready}
 use Rattle.tb_live.specs.declared.control.Control.{Control}
 use Rattle.tb_live.specs.declared.commit_refusal.CommitRefusal.{CommitRefusal}
 use Rattle.tb_live.specs.declared.commit_refusal.CommitRefusal.TheVariants.{Step as NotTaken}
-use Rattle.tb_live.specs.declared.prepared.Prepared.{Prepared}
-use Rattle.tb_live.specs.declared.prepared.Prepared.TheVariants.{Step, Roll}
 use Rattle.tb_live.specs.Claims.{claim_of}
 use Rattle.tb_live.specs.Modes.{is_paused}
 use Rattle.tb_live.specs.Session.{Session, Held, history, is_full}
 use Rattle.tb_live.specs.Moves.{MayStep, Refuses, refusal_for, coming}
 use Rattle.tb_live.specs.Moves as moves
-use Rattle.tb_live.specs.Commits.{IsClaimed, IsOffered, IsUpToDate, MayCommit, RefusesPlan, RefusesCommit, Commits, IsPrepared, entry_to_come}
+use Rattle.tb_live.specs.Commits.{IsClaimed, IsOffered, IsUpToDate, MayCommit, RefusesPlan, Commits, IsPrepared, entry_to_come}
 use Rattle.tb_live.specs.Plans.{IsPlanOf, IsOfProgram, IsNative, IsForeign, IsKeptFrom, IsRefusalTo, IsRefusalOf, IsTold, Enters, has_no_place}
-use Rattle.tb_live.specs.Preparing.{IsReadied, HasStepRoom, HasRoom, entry_of}
+use Rattle.tb_live.specs.Preparing.{IsReadied, HasStepRoom}
 use Rattle.tb_live.specs.Soundness.{Fits, IsSound, IsLawful}
 use Rattle.tb_live.specs.Working.{configuration}
 use Rattle.tb_live.proofs.PlanLemmas.{IsPlan, plan_fits, plan_next, refusal_of_plan}
@@ -77,6 +72,23 @@ module _ (P : Program) (run : Seen) (p : Plan) (f : Fits P run) (native : IsNati
 
   pub native_next : p.config ≡ config_of run p.config.task → event_of run p ≡ next_event P (core.history run) p.config.task
   native_next here = plan_next P run p f (is_plan_where here) native.program.cells
+
+-- what the core finds in the way keeps the task from its action
+pub kept_from : (run : Seen) (p : Plan) (full : Bool) (e : StepRefusal) → IsKept run p e → (run.limit ≤ length run.steps → full ≡ true) → IsKeptFrom run p full e
+kept_from run p full NoSuchTask k h = k
+kept_from run p full Ended k h = k
+kept_from run p full (Stale now) k h = k
+kept_from run p full (Undeferred u) k h = k
+kept_from run p full (Waiting u) k h = k
+kept_from run p full (Excluded u) k h = k
+kept_from run p full (Children u) k h = k
+kept_from run p full (Group u) k h = k
+kept_from run p full Full k h = (k.0, k.1, h k.2)
+kept_from run p full Memory k h = λ current clear. absurd (named k current clear)
+  where
+    named : IsKept run p Memory → IsCurrent run p → hindrance_of run p ≡ None → ⊥
+    named (inl (now, stale)) current clear = stale.elsewhere (current.here ∙ sym stale.now_is)
+    named (inr (h, hindered)) current clear = cc (clear, hindered.hindrance)
 
 -- what is prepared for the task is the plan's event
 pub readied_so : (limit : ℕ) (P : Program) (c : HeldCore) (entries : List Entry) (spare : ℕ) (p : Plan) (v : Event) → Fits P c.run → IsNative P c.run p → v.task ≡ p.config.task
@@ -150,7 +162,7 @@ module _ (P : Program) (limit : ℕ) (entries : List Entry) (before : Control) (
   foreign_refused NoSuchTask k = no_plan P limit entries before run s shows sound t NoSuchTask k
   foreign_refused Ended k = no_plan P limit entries before run s shows sound t Ended k
   foreign_refused (Stale now) k = (spawned_so true k.0, ended_so false k.1, k.2 ∙ configuration_so, (λ u. k.3 (program_back u.program)))
-  foreign_refused Memory k = (spawned_so true k.0, ended_so false k.1)
+  foreign_refused Memory k = (spawned_so true k.0, ended_so false k.1, (λ u n. absurd (k.2 (program_back u.program))))
   foreign_refused (Waiting u) k = absurd k
   foreign_refused (Excluded u) k = absurd k
   foreign_refused (Children u) k = absurd k
@@ -181,11 +193,27 @@ module _ (P : Program) (limit : ℕ) (entries : List Entry) (before : Control) (
     refused_so : IsCurrent run p → (e : StepRefusal) → IsKeptFrom run p (has_no_place limit entries) e → Refuses s t e
     refused_so k e r = refused P limit entries before run s shows sound t p (plan_so k) e r
 
+    current_at : IsUpToDate s p → IsCurrent run p
+    current_at u = record { spawned = native.spawned; going = native.going; here = u.here ∙ sym configuration_so }
+
+    clear_at : IsUpToDate s p → refusal_for s t ≡ None → hindrance_of run p ≡ None
+    clear_at u n =
+        none_of (hindrance_of run p)
+        (sym (refusal_of_plan P run t p sound.fits (plan_so (current_at u))) ∙ ap (λ H. refusal_of P H t) sound.leaves ∙ ap (λ (z : Session). refusal_for z t) shows ∙ n)
+      where
+        none_of : (o : Option Hindrance) → option_map By o ≡ None → o ≡ None
+        none_of None e = refl
+        none_of (Some h) e = cc
+
     pub native_refused : (e : StepRefusal) → IsKeptFrom run p (has_no_place limit entries) e → RefusesPlan s p e
     native_refused NoSuchTask k = absurd (both_ways (is_spawned (core.history run) t) k native.spawned)
     native_refused Ended k = absurd (both_ways (has_ended run t) native.going k.1)
     native_refused (Stale now) k = (spawned_so true k.spawned, ended_so false k.going, k.now_is ∙ configuration_so, (λ u. k.elsewhere (u.here ∙ sym configuration_so ∙ sym k.now_is)))
-    native_refused Memory k = (spawned_so true native.spawned, ended_so false native.going)
+    native_refused Memory k = (
+      spawned_so true native.spawned,
+      ended_so false native.going,
+      λ u n. ap is_full (sym shows) ∙ ap (nat_le limit) (length-reverse entries) ∙ k (current_at u) (clear_at u n),
+    )
     native_refused (Waiting u) k = (up_to_date k.current, refused_so k.current (Waiting u) k)
     native_refused (Excluded u) k = (up_to_date k.current, refused_so k.current (Excluded u) k)
     native_refused (Children u) k = (up_to_date k.current, refused_so k.current (Children u) k)
@@ -195,21 +223,11 @@ module _ (P : Program) (limit : ℕ) (entries : List Entry) (before : Control) (
 
     -- nothing keeps the task from a plan that may be committed
     pub may_open : MayCommit s seat p → IsOpen run p
-    may_open m =
-        let here : p.config ≡ config_of run t = m.up_to_date.here ∙ sym configuration_so in
-        let current : IsCurrent run p = record { spawned = native.spawned; going = native.going; here = here } in
-        let clear : option_map By (hindrance_of run p) ≡ None =
-        sym (refusal_of_plan P run t p sound.fits (plan_so current)) ∙ ap (λ H. refusal_of P H t) sound.leaves ∙ ap (λ (z : Session). refusal_for z t) shows ∙ m.may.unrefused
-        in
-        record {
-          current = current;
-          clear = none_of (hindrance_of run p) clear;
-          room = has_place P limit (reverse entries) run sound (ap is_full shows ∙ m.may.room);
-        }
-      where
-        none_of : (o : Option Hindrance) → option_map By o ≡ None → o ≡ None
-        none_of None e = refl
-        none_of (Some h) e = cc
+    may_open m = record {
+      current = current_at m.up_to_date;
+      clear = clear_at m.up_to_date m.may.unrefused;
+      room = has_place P limit (reverse entries) run sound (ap is_full shows ∙ m.may.room);
+    }
 
     -- and so is a plan that is open
     pub open_may : IsClaimed s seat p → IsOpen run p → has_no_place limit entries ≡ false → MayCommit s seat p

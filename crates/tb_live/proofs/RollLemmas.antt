@@ -63,4 +63,7 @@ live_keeps_all P limit entries before run s i Full shows sound r = (
   subst (λ (z : Session). stands i (hist z.journal) ≡ true) shows (ap (stands i) (sym sound.leaves) ∙ r.0),
   ap is_full (sym shows) ∙ ap (nat_le limit) (length-reverse entries) ∙ r.1,
 )
-live_keeps_all P limit entries before run s i Memory shows sound r = subst (λ (z : Session). stands i (hist z.journal) ≡ true) shows (ap (stands i) (sym sound.leaves) ∙ r)
+live_keeps_all P limit entries before run s i Memory shows sound r = (
+  subst (λ (z : Session). stands i (hist z.journal) ≡ true) shows (ap (stands i) (sym sound.leaves) ∙ r.0),
+  ap is_full (sym shows) ∙ ap (nat_le limit) (length-reverse entries) ∙ r.1,
+)

@@ -6,17 +6,24 @@ use Rattle.tb_model.specs.declared.entry.Entry.{Entry}
 use Rattle.tb_model.specs.declared.entry.Entry.TheVariants.{Opened, Stepped, Rolled}
 use Rattle.tb_model.specs.declared.event.Event.{Event}
 use Rattle.tb_model.specs.declared.step_id.StepId.{StepId}
-use Rattle.tb_model.specs.Facts.{History, last, prepend_if}
+use Rattle.tb_model.specs.declared.action.Action.{Action}
+use Rattle.tb_model.specs.Names.{Name}
+use Rattle.tb_model.specs.Facts.{History, last, prepend_if, own, is_of}
 use Rattle.tb_model.specs.Legal.{Cells, first_number, MayFollow}
+use Rattle.tb_model.specs.Reordering.{IsUnneeded}
+use Rattle.tb_model.specs.State.{called_by}
 use Rattle.tb_model.specs.Needs.{is_removed, without, step_of}
-use Rattle.tb_model.specs.Equivalent.{stands}
+use Rattle.tb_model.specs.Equivalent.{Equivalent, stands}
 use Rattle.tb_model.specs.Needers.{first_needer}
 use Rattle.tb_model.specs.Journal.{hist, Sound}
 use Rattle.tb_model.specs.Lines.{Departure, LinesFit, without_lines}
-use Rattle.tb_model.specs.Program.{Program, Instr, Config as Place, instr_at, IsNext, LegalFor, situation, moved}
+use Rattle.tb_model.specs.Program.{Program, Instr, Config as Place, config, instr_at, IsNext, LegalFor, situation, moved}
 use Rattle.tb_model.proofs.LinesLemmas.{lines_left}
 use Rattle.tb_model.proofs.NextLemmas.{removal_for}
 use Rattle.tb_model.proofs.TestLemmas.{same_refl}
+use Rattle.tb_model.proofs.FactsLemmas.{own_mine}
+use Rattle.tb_model.proofs.NeedersLemmas.{standing, unneeded}
+use Rattle.tb_model.proofs.ReorderingLemmas as reordering
 use Rattle.tb_read.specs.declared.config.Config.{Config}
 use Rattle.tb_read.specs.declared.planned.Plan.{Plan}
 use Rattle.tb_read.specs.Plans.{instruction, line_behind}
@@ -138,6 +145,32 @@ taken_back seat P limit J run new i s room stood cells root_line limits steps re
       bound = s.bound;
     }
 
+-- a step that nothing needs is the next one of its task, once it is taken back
+next_back : (P : Program) (H : History) (i : StepId) (a : Action) → LegalFor P H → stands i H ≡ true → first_needer i H ≡ None
+    → Alike H (record { task = i.task; action = a } ∷ without i H) → IsNext P (without i H) (record { task = i.task; action = a })
+next_back P H i a legal stood free alike =
+    let s = standing i H stood in
+    let v = s.event in
+    let w : Event = record { task = i.task; action = a } in
+    let u : IsUnneeded (step_of s.front v) (s.later ++ v ∷ s.front) = subst (IsUnneeded (step_of s.front v)) s.split (subst (λ j. IsUnneeded j H) (sym s.step) ((unneeded i H stood).1 free)) in
+    let l : LegalFor P (s.later ++ v ∷ s.front) = subst (LegalFor P) s.split legal in
+    let left : without i H ≡ s.later ++ s.front = ap₂ without (sym s.step) s.split ∙ reordering.undone s.later s.front v u in
+    let mine : v.task ≡ i.task = ap (λ (j : StepId). j.task) s.step in
+    let acts : own i.task (w ∷ without i H) ≡ own i.task (v ∷ without i H) =
+    sym (alike.acts i.task) ∙ ap (own i.task) s.split ∙ (reordering.again_for s.later s.front v u P l).alike.acts i.task ∙ ap (λ K. own i.task (v ∷ K)) (sym left)
+    in
+    let heads : a ∷ own i.task (without i H) ≡ v.action ∷ own i.task (without i H) =
+    sym (own_mine i.task w (without i H) (same_refl i.task)) ∙ acts
+    ∙ own_mine i.task v (without i H) (subst (λ (t : Name). is_of i.task (record { task = t; action = v.action }) ≡ true) (sym mine) (same_refl i.task))
+    in
+    let same : v.action ≡ a = cc in
+    subst (λ x. IsNext P (without i H) x) (ap₂ (λ (t : Name) (act : Action). record { task = t; action = act }) mine same)
+    (subst (λ K. IsNext P K v) (sym left) (reordering.next_again s.later s.front v u P l))
+
+-- alike histories leave each task in the same situation
+situation_alike : (P : Program) {G H : History} → Alike G H → (t : Name) → situation P t G ≡ situation P t H
+situation_alike P a t = ap₂ (λ acts k. config P k.line k.args acts) (a.acts t) (ap (called_by P.root_line) (a.spawn t))
+
 pub undone : (seat : ℕ) (P : Program) (limit : ℕ) (J : List Entry) (run new : Seen) (i : StepId) (removed : Removed) → IsSound P limit J run → nat_le limit (length J) ≡ false
     → TakesBack run i new removed → IsSound P limit (Rolled seat i ∷ J) new
 undone seat P limit J run new i removed s room b = taken_back seat P limit J run new i s room b.free.stands b.cells b.root_line b.limit b.steps b.rest
@@ -185,15 +218,17 @@ live_undoes seat P limit entries spare pushed before after run new s i copy remo
     let all : reverse pushed ≡ Rolled seat i ∷ J =
     ap reverse (grows ∙ ap (λ es. es ++ Rolled seat copy ∷ []) kept) ∙ reverse-append entries (Rolled seat copy ∷ []) ∙ ap (λ (w : StepId). Rolled seat w ∷ J) same
     in
+    let legal : LegalFor P (hist J) = subst (LegalFor P) sound.leaves sound.fits.legal in
     let stood : stands i (hist J) ≡ true = ap (stands i) (sym sound.leaves) ∙ b.free.stands in
-    let unneeded : first_needer i (hist J) ≡ None = ap (first_needer i) (sym sound.leaves) ∙ b.free.unneeded in
+    let free : first_needer i (hist J) ≡ None = ap (first_needer i) (sym sound.leaves) ∙ b.free.unneeded in
     let back : Event = record { task = i.task; action = removed.action } in
     let left : core.history new ≡ without i (hist J) = b.rest ∙ ap (without i) sound.leaves in
+    let equivalent : Equivalent (hist J) (back ∷ without i (hist J)) = subst (λ (H : History). Equivalent H (back ∷ without i (hist J))) sound.leaves (subst (λ (H : History). Equivalent (core.history run) (back ∷ H)) left b.equivalent) in
     let alike : Alike (hist J) (back ∷ without i (hist J)) = subst (λ (H : History). Alike H (back ∷ without i (hist J))) sound.leaves (subst (λ (H : History). Alike (core.history run) (back ∷ H)) left b.alike) in
     let hits : after ≡ behind_removal (removals i (hist J)) before =
     withdraws
     ∙ ap (λ (cs : Claims). record { claims = cs; breakpoints = before.breakpoints; mode = before.mode })
-    (sym (withdrawn_alike (is_hit (removals i (hist J))) (is_hit (removed ∷ [])) (undo_hits P.cells (hist J) i removed (subst (LegalFor P) sound.leaves sound.fits.legal).0 stood unneeded b.id alike) before.claims))
+    (sym (withdrawn_alike (is_hit (removals i (hist J))) (is_hit (removed ∷ [])) (undo_hits P.cells (hist J) i removed legal.0 stood free b.id alike) before.claims))
     in
     let now : shown P limit pushed after ≡ with_entry (shown P limit entries before) (Rolled seat i) =
     ap₂ (λ (K : List Entry) (c : Control). record { program = P; limit = limit; journal = K; control = c }) all hits
@@ -204,13 +239,15 @@ live_undoes seat P limit entries spare pushed before after run new s i copy remo
       undoes = subst (λ (z : Session). UndoesFor seat z i (shown P limit pushed after) removed) shows (record {
         may = record {
           stands = stood;
-          unneeded = unneeded;
+          unneeded = free;
           room = room';
         };
         id = b.id;
         now = now;
-        again = subst (λ (z : Session). MayFollow P.cells (history z) back) (sym now) (subst (λ (H : History). MayFollow P.cells H back) left (subst (λ (cells : Cells). MayFollow cells (core.history new) back) sound.fits.cells b.again));
+        next = subst (λ (z : Session). IsNext P (history z) back) (sym now) (next_back P (hist J) i removed.action legal stood free alike);
+        equivalent = subst (λ (z : Session). Equivalent (hist J) (back ∷ history z)) (sym now) equivalent;
         alike = subst (λ (z : Session). Alike (hist J) (back ∷ history z)) (sym now) alike;
+        situations = λ t. subst (λ (z : Session). situation P t (hist J) ≡ situation P t (back ∷ history z)) (sym now) (situation_alike P alike t);
       });
     }
 

@@ -1,6 +1,6 @@
 -- What a Live answers to a step, and what it leaves.
 use Rattle.std.proofs.Common.{◌≡◌, ◌<◌, arith, ap₂, ℕ, List, [], ◌∷◌, Bool, true, false, nat_le, length, reverse, refl, sym, ap, ◌∙◌, subst, Option, Some, None, option_map, not, cond}
-use Rattle.std.specs.Prelude.{is_none, Result, Ok, Err}
+use Rattle.std.specs.Prelude.{◌≢◌, is_none, Result, Ok, Err, IfErr}
 use Rattle.std.specs.List.{list_any}
 use Rattle.std.proofs.lemmas.List.{reverse-append, length-reverse, length-map}
 use Rattle.std.proofs.lemmas.Bool.{false≢true, both_ways}
@@ -10,7 +10,7 @@ use Rattle.tb_model.specs.declared.step_id.StepId.{StepId}
 use Rattle.tb_model.specs.declared.event.Event.{Event}
 use Rattle.tb_model.specs.Names.{Name, same_name}
 use Rattle.tb_model.specs.Facts.{History, is_spawned, ends}
-use Rattle.tb_model.specs.Needs.{step_of}
+use Rattle.tb_model.specs.Needs.{step_of, without}
 use Rattle.tb_model.specs.Journal.{hist}
 use Rattle.tb_model.specs.Program.{Program, IsNext, LegalFor, planned, situation, zero_ℤ}
 use Rattle.tb_model.specs.Hindrances.{Refusal, By, refusal_of, can_step, least_ready, next_event, in_the_way}
@@ -26,9 +26,11 @@ use Rattle.tb_core.specs.Seen as core
 use Rattle.tb_core.specs.Situation.{config_of}
 use Rattle.tb_core.specs.Outcomes.{event_of, has_ended, hindrance_of}
 use Rattle.tb_live.specs.declared.control.Control.{Control}
+use Rattle.tb_live.specs.declared.prepared.Prepared.{Prepared}
+use Rattle.tb_live.specs.Preparing.{entry_of}
 use Rattle.tb_live.specs.Claims.{AreLawful}
 use Rattle.tb_live.specs.Controls.{behind_step}
-use Rattle.tb_live.specs.Session.{Session, is_full}
+use Rattle.tb_live.specs.Session.{Session, Held, is_full}
 use Rattle.tb_live.specs.Moves.{StepsFor, Refuses, StepsBy, LeastStepsFor, refusal_for, least_task}
 use Rattle.tb_live.specs.Soundness.{IsSound, IsLawful}
 use Rattle.tb_live.specs.Plans.{IsPlanOf, IsReady, HasNone, IsEntered, IsKeptFrom, Enters, has_no_place}
@@ -92,9 +94,10 @@ module _ (P : Program) (limit : ℕ) (entries : List Entry) (before : Control) (
       let same : v ≡ w = next_computed P (hist journal) v done.next ∙ ap (next_event P (hist journal)) plan.of_task in
       let all : reverse pushed ≡ Stepped seat v ∷ journal = ap reverse e.grows ∙ reverse-append entries (Stepped seat v ∷ []) in
       let behind : after ≡ behind_step (situation P t (hist journal)).line w before = counts ∙ ap₂ (λ (n : ℕ) (u : Event). behind_step n u before) line_so same in
+      let kept : IsSound P limit (reverse pushed) new = subst (λ (K : List Entry). IsSound P limit K new) (sym all) done.sound in
       record {
         keeps = record {
-          sound = subst (λ (K : List Entry). IsSound P limit K new) (sym all) done.sound;
+          sound = kept;
           lawful =
               subst (λ (K : List Entry). IsLawful K after) (sym all)
               (subst (λ (c : Control). AreLawful (v ∷ hist journal) c.claims) (sym counts) (lawful_step v (hist journal) before.claims (same_name v.task) lawful));
@@ -107,6 +110,7 @@ module _ (P : Program) (limit : ℕ) (entries : List Entry) (before : Control) (
           next = subst (IsNext P (hist journal)) same done.next;
           id = done.id ∙ ap (step_of (hist journal)) same;
           now = ap₂ (λ (K : List Entry) (c : Control). record { program = P; limit = limit; journal = K; control = c }) (all ∙ ap (λ u. Stepped seat u ∷ journal) same) behind;
+          back = ap (without i) (sym kept.leaves) ∙ e.steps.back ∙ sound.leaves;
         });
       }
 
@@ -156,6 +160,24 @@ stays P limit entries pushed before after run new s shows both same kept left = 
   };
   same = ap₂ (shown P limit) kept left ∙ shows;
 }
+
+-- what a Live holds
+abbrev pub held : Program → ℕ → List Entry → Control → Option Prepared → Held
+held P limit entries control prepared = record { session = shown P limit entries control; prepared = option_map entry_of prepared }
+
+abbrev made : Session → Option Prepared → Held
+made s prepared = record { session = s; prepared = option_map entry_of prepared }
+
+pub same_held : (P : Program) (limit : ℕ) (entries pushed : List Entry) (before after : Control) (kept now : Option Prepared) (h : Held) → held P limit entries before kept ≡ h
+    → pushed ≡ entries → after ≡ before → now ≡ kept → held P limit pushed after now ≡ h
+same_held P limit entries pushed before after kept now h is same left holds = ap₂ made (ap₂ (shown P limit) same left) holds ∙ is
+
+-- a refusal that keeps what is prepared changes nothing
+pub enters_held : (P : Program) (limit : ℕ) (entries pushed : List Entry) (before after : Control) (kept now : Option Prepared) (h : Held) → held P limit entries before kept ≡ h
+    → (seat : ℕ) (run new : Seen) (p : Plan) (result : Result StepId StepRefusal) → Enters limit seat run p new entries pushed before after result
+    → IfErr result (λ e. e ≢ Memory → now ≡ kept) → IfErr result (λ e. e ≢ Memory → held P limit pushed after now ≡ h)
+enters_held P limit entries pushed before after kept now h is seat run new p (Ok i) e k = tt
+enters_held P limit entries pushed before after kept now h is seat run new p (Err r) e k = λ n. same_held P limit entries pushed before after kept now h is e.1 e.2 (k n)
 
 pub record LiveAnswers (P : Program) (limit : ℕ) (s : Session) (t : Name) (pushed : List Entry) (after : Control) (new : Seen) (result : Result StepId StepRefusal) : Type 0 where
   pub keeps : Keeps P limit pushed after new
@@ -207,6 +229,10 @@ no_plan P limit entries before run s shows sound t (Stale now) k = absurd k
 abbrev pub for_least : Result StepId StepRefusal → Result (Option StepId) StepRefusal
 for_least (Ok i) = Ok (Some i)
 for_least (Err e) = Err e
+
+pub for_least_held : (A : Type 0) (result : Result StepId StepRefusal) → IfErr result (λ e. e ≢ Memory → A) → IfErr (for_least result) (λ e. e ≢ Memory → A)
+for_least_held A (Ok i) k = tt
+for_least_held A (Err r) k = k
 
 least_refused : (seat : ℕ) (s new : Session) (t : Name) (e : StepRefusal) → new ≡ s → least_task s ≡ Some t → refusal_for s t ≡ None → Refuses s t e → LeastStepsFor seat s new (Err e)
 least_refused seat s new t NoSuchTask same l clear r = cc (clear, r)

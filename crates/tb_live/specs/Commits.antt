@@ -1,9 +1,8 @@
 -- When a plan is committed, and what that leaves.
-use Rattle.std.specs.Prelude.{◌≡◌, ◌≢◌, ◌<◌, ℕ, length, Option, Some, None, Result, Ok, Err, IsTrue, IsFalse}
+use Rattle.std.specs.Prelude.{◌≡◌, ◌≢◌, ◌<◌, ℕ, length, Some, None, Result, Ok, Err, IsTrue, IsFalse}
 use Rattle.tb_model.specs.declared.entry.Entry.{Entry}
 use Rattle.tb_model.specs.declared.entry.Entry.TheVariants.{Stepped}
 use Rattle.tb_model.specs.declared.step_id.StepId.{StepId}
-use Rattle.tb_model.specs.Names.{Name}
 use Rattle.tb_model.specs.Facts.{is_spawned}
 use Rattle.tb_read.specs.declared.planned.Plan.{Plan}
 use Rattle.tb_core.specs.declared.step_refusal.StepRefusal.{StepRefusal}
@@ -12,8 +11,8 @@ use Rattle.tb_live.specs.declared.commit_refusal.CommitRefusal.{CommitRefusal}
 use Rattle.tb_live.specs.declared.commit_refusal.CommitRefusal.TheVariants.{Paused, Withdrawn, Step}
 use Rattle.tb_live.specs.Claims.{claim_of}
 use Rattle.tb_live.specs.Modes.{is_paused}
-use Rattle.tb_live.specs.Session.{Session, Held, history}
-use Rattle.tb_live.specs.Moves.{MayStep, StepsFor, Refuses, has_ended, coming}
+use Rattle.tb_live.specs.Session.{Session, Held, history, is_full}
+use Rattle.tb_live.specs.Moves.{MayStep, StepsFor, Refuses, has_ended, coming, refusal_for}
 use Rattle.tb_live.specs.Plans.{IsOfProgram}
 use Rattle.tb_live.specs.Working.{configuration}
 
@@ -44,14 +43,17 @@ pub record MayCommit (s : Session) (seat : ℕ) (p : Plan) : Type 0 where
 abbrev pub entry_to_come : ℕ → Session → Plan → Entry
 entry_to_come seat s p = Stepped seat (coming s p.config.task)
 
--- what keeps the task from the plan's step; a plan that isn't up to date is stale, before anything is in the task's way
+-- what keeps the task from the plan's step; a plan that isn't up to date is stale, before anything is in the task's way;
+-- memory may be wanted for what names a task, and else only where the journal has a place
 abbrev pub RefusesPlan : Session → Plan → StepRefusal → Type 0
 RefusesPlan s p NoSuchTask = Refuses s p.config.task NoSuchTask
 RefusesPlan s p Ended = Refuses s p.config.task Ended
 RefusesPlan s p (Stale now) =
     IsTrue (is_spawned (history s) p.config.task) × IsFalse (has_ended s p.config.task)
     × (now ≡ configuration s.program (history s) p.config.task) × (IsUpToDate s p → ⊥)
-RefusesPlan s p Memory = Refuses s p.config.task Memory
+RefusesPlan s p Memory =
+    IsTrue (is_spawned (history s) p.config.task) × IsFalse (has_ended s p.config.task)
+    × (IsUpToDate s p → refusal_for s p.config.task ≡ None → IsFalse (is_full s))
 RefusesPlan s p e = IsUpToDate s p × Refuses s p.config.task e
 
 -- why a plan isn't committed: a pause comes first, then a claim that isn't there

@@ -7,12 +7,11 @@ use Rattle.tb_model.specs.declared.event.Event.{Event}
 use Rattle.tb_model.specs.declared.step_id.StepId.{StepId}
 use Rattle.tb_model.specs.Names.{Name}
 use Rattle.tb_model.specs.Facts.{is_spawned, ends}
-use Rattle.tb_model.specs.Legal.{MayFollow}
 use Rattle.tb_model.specs.Alike.{Alike}
-use Rattle.tb_model.specs.Needs.{step_of}
+use Rattle.tb_model.specs.Needs.{step_of, without}
 use Rattle.tb_model.specs.Needers.{first_needer}
-use Rattle.tb_model.specs.Equivalent.{stands}
-use Rattle.tb_model.specs.Program.{IsNext}
+use Rattle.tb_model.specs.Equivalent.{Equivalent, stands}
+use Rattle.tb_model.specs.Program.{IsNext, situation}
 use Rattle.tb_model.specs.Hindrances.{Refusal, By, refusal_of, least_ready, next_event}
 use Rattle.tb_model.specs.Hindrances.{NoSuchTask as IsMissing, Ended as IsOver}
 use Rattle.tb_model.specs.Hindrances.{Undeferred as TheUndeferred, Waiting as IsWaiting, Excluded as IsExcluded, Children as TheChildren, Group as TheGroup}
@@ -46,12 +45,13 @@ pub record MayStep (s : Session) (t : Name) : Type 0 where
   pub unrefused : refusal_for s t ≡ None
   pub room : IsFalse (is_full s)
 
--- the task's next event is the journal's newest entry, of this seat
+-- the task's next event is the journal's newest entry, of this seat; its undo would leave the history as it was
 pub record StepsFor (seat : ℕ) (s : Session) (t : Name) (new : Session) (i : StepId) : Type 0 where
   pub may : MayStep s t
   pub next : IsNext s.program (history s) (coming s t)
   pub id : i ≡ step_of (history s) (coming s t)
   pub now : new ≡ with_entry s (Stepped seat (coming s t))
+  pub back : without i (history new) ≡ history s
 
 abbrev pub Steps : Session → Name → Session → StepId → Type 0
 Steps = StepsFor 0
@@ -97,24 +97,31 @@ pub record MayUndo (s : Session) (i : StepId) : Type 0 where
   pub unneeded : first_needer i (history s) ≡ None
   pub room : IsFalse (is_full s)
 
--- the undo is the journal's newest entry, of this seat; the step may be taken again, and then all is as it was
+-- the event of a step that was taken back
+abbrev pub event_back : StepId → Removed → Event
+event_back i removed = record { task = i.task; action = removed.action }
+
+-- the undo is the journal's newest entry, of this seat; the step is the next one of its task then, with the same numbers, and
+-- with it all is as it was: the histories are equivalent and alike in all that a state tells, and each task is in its situation
 pub record UndoesFor (seat : ℕ) (s : Session) (i : StepId) (new : Session) (removed : Removed) : Type 0 where
   pub may : MayUndo s i
   pub id : removed.id ≡ i
   pub now : new ≡ with_entry s (Rolled seat i)
-  pub again : MayFollow s.program.cells (history new) (record { task = i.task; action = removed.action })
-  pub alike : Alike (history s) (record { task = i.task; action = removed.action } ∷ history new)
+  pub next : IsNext s.program (history new) (event_back i removed)
+  pub equivalent : Equivalent (history s) (event_back i removed ∷ history new)
+  pub alike : Alike (history s) (event_back i removed ∷ history new)
+  pub situations : (t : Name) → situation s.program t (history s) ≡ situation s.program t (event_back i removed ∷ history new)
 
 abbrev pub Undoes : Session → StepId → Session → Removed → Type 0
 Undoes = UndoesFor 0
 
--- an undo by its answer; memory may be wanted for the name of what needs the step
+-- an undo by its answer; memory may be wanted for the name of what needs the step, and else only where the journal has a place
 abbrev pub UndoneFor : ℕ → Session → StepId → Session → Result Removed UndoRefusal → Type 0
 UndoneFor seat s i new (Ok removed) = UndoesFor seat s i new removed
 UndoneFor seat s i new (Err NoSuchStep) = (new ≡ s) × IsFalse (stands i (history s))
 UndoneFor seat s i new (Err (Needed by)) = (new ≡ s) × IsTrue (stands i (history s)) × (first_needer i (history s) ≡ Some by)
 UndoneFor seat s i new (Err JournalFull) = (new ≡ s) × IsTrue (stands i (history s)) × (first_needer i (history s) ≡ None) × IsTrue (is_full s)
-UndoneFor seat s i new (Err NoMemory) = (new ≡ s) × IsTrue (stands i (history s))
+UndoneFor seat s i new (Err NoMemory) = (new ≡ s) × IsTrue (stands i (history s)) × (first_needer i (history s) ≡ None → IsFalse (is_full s))
 
 abbrev pub UndoneBy : Session → StepId → Session → Result Removed UndoRefusal → Type 0
 UndoneBy = UndoneFor 0
@@ -136,8 +143,8 @@ pub record IsRollPrepared (seat : ℕ) (held : Held) (i : StepId) (e : Entry) : 
   pub entry : e ≡ Rolled seat i
   pub prepared : held.prepared ≡ Some e
 
--- when all stays
+-- when all stays: want of memory comes last
 abbrev pub KeepsAll : Session → StepId → RollRefusal → Type 0
 KeepsAll s i StepIsMissing = IsFalse (stands i (history s))
 KeepsAll s i NoPlace = IsTrue (stands i (history s)) × IsTrue (is_full s)
-KeepsAll s i NoRoom = IsTrue (stands i (history s))
+KeepsAll s i NoRoom = IsTrue (stands i (history s)) × IsFalse (is_full s)

@@ -84,10 +84,11 @@ pub record IsEntered (seat : ℕ) (run : Seen) (p : Plan) (new : Seen) (old entr
   pub steps : Steps run p new i
   pub grows : entries ≡ old ++ Stepped seat (event_of run p) ∷ []
 
--- what keeps the task from its action comes before a full journal
+-- what keeps the task from its action comes before a full journal, and want of memory last: at a full journal it takes the
+-- place of a name alone
 abbrev pub IsKeptFrom : Seen → Plan → Bool → StepRefusal → Type 0
 IsKeptFrom run p full Full = IsCurrent run p × (hindrance_of run p ≡ None) × IsTrue full
-IsKeptFrom run p full Memory = ⊤
+IsKeptFrom run p full Memory = IsCurrent run p → hindrance_of run p ≡ None → IsFalse full
 IsKeptFrom run p full e = IsKept run p e
 
 -- a planned step by its answer

@@ -5,6 +5,7 @@ use Rattle.tb_model.specs.declared.entry.Entry.TheVariants.{Stepped, Rolled}
 use Rattle.tb_model.specs.declared.event.Event.{Event}
 use Rattle.tb_model.specs.declared.step_id.StepId.{StepId}
 use Rattle.tb_model.specs.Equivalent.{stands}
+use Rattle.tb_model.specs.Names.{Name}
 use Rattle.tb_model.specs.Hindrances.{next_event}
 use Rattle.tb_model.specs.Program.{Program}
 use Rattle.tb_read.specs.declared.planned.Plan.{Plan}
@@ -20,6 +21,31 @@ use Rattle.tb_live.specs.Plans.{has_no_place}
 abbrev pub entry_of : Prepared → Entry
 entry_of (Step seat v) = Stepped seat v
 entry_of (Roll seat i ready) = Rolled seat i
+
+-- a step of the task by the seat is prepared
+abbrev pub HoldsStep : Option Prepared → ℕ → Name → Type 0
+HoldsStep (Some (Step whose v)) seat t = (whose ≡ seat) × (v.task ≡ t)
+HoldsStep _ seat t = ⊥
+
+-- the rollback of the step by the seat is prepared
+abbrev pub HoldsRoll : Option Prepared → ℕ → StepId → Type 0
+HoldsRoll (Some (Roll whose i ready)) seat j = (whose ≡ seat) × (i ≡ j)
+HoldsRoll _ seat j = ⊥
+
+-- the event of the step that is prepared
+abbrev pub held_event : Option Prepared → Option Event
+held_event (Some (Step seat v)) = Some v
+held_event _ = None
+
+-- the step whose rollback is prepared
+abbrev pub held_name : Option Prepared → Option StepId
+held_name (Some (Roll seat i ready)) = Some i
+held_name _ = None
+
+-- the rollback that is prepared
+abbrev pub held_roll : Option Prepared → Option (StepId × Ready)
+held_roll (Some (Roll seat i ready)) = Some (i, ready)
+held_roll _ = None
 
 -- so many places of the journal are free, and the plan's event may be taken without memory
 pub record IsReadied (limit : ℕ) (core : Held) (p : Plan) (entries : List Entry) (spare : ℕ) (v : Event) : Type 0 where

@@ -18,8 +18,8 @@ pub record EntersRollback (limit seat : ℕ) (run : Seen) (i : StepId) (new : Se
   pub rolls : RollsBack run i new removed
   pub grows : entries ≡ old ++ Rolled seat i ∷ []
 
--- why nothing goes: a step that isn't there comes before a full journal
+-- why nothing goes: a step that isn't there comes before a full journal, and want of memory last
 abbrev pub RefusesRollback : ℕ → Seen → StepId → List Entry → RollRefusal → Type 0
 RefusesRollback limit run i old NoSuchStep = IsFalse (stands i (history run))
 RefusesRollback limit run i old Full = IsTrue (stands i (history run)) × IsTrue (has_no_place limit old)
-RefusesRollback limit run i old Memory = IsTrue (stands i (history run))
+RefusesRollback limit run i old Memory = IsTrue (stands i (history run)) × IsFalse (has_no_place limit old)

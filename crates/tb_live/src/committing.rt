@@ -1,15 +1,17 @@
 //! A plan that was made at some time, and is taken now.
 
-ghost use Rattle.std.specs.Prelude.{◌≡◌, ◌<◌, ◌-◌, ◌↔◌, IfOk, IfErr, IfSome, IfNone, IsOk, IsSome, IsTrue, IsFalse, length, vec_len, vec_capacity};
+ghost use Rattle.std.specs.Prelude.{◌≡◌, ◌≢◌, ◌<◌, ◌-◌, ◌↔◌, IfOk, IfErr, IfSome, IfNone, IsOk, OnOk, IsTrue, IsFalse, None, length, vec_len, vec_capacity};
 ghost use Rattle.tb_model.specs.Facts.{is_spawned};
 ghost use Rattle.tb_core.specs.Outcomes.{IsOpen, has_ended};
 ghost use Rattle.tb_core.specs.Outcomes as outcomes;
 ghost use Rattle.tb_core.specs.Seen.{history};
 ghost use Rattle.tb_live.specs.Plans.{Enters, IsForeign, IsKeptFrom, IsNative, IsOfProgram, IsStaleAnswer, has_no_place};
-ghost use Rattle.tb_live.specs.Preparing.{HasStepRoom, IsReadied};
+ghost use Rattle.tb_core.specs.declared.step_refusal.StepRefusal.TheVariants.{Memory};
+ghost use Rattle.tb_live.specs.Preparing.{HasRoom, HoldsStep, IsReadied};
 ghost use Rattle.tb_live.specs.Soundness.{Fits};
 
 use crate::control::Control;
+use crate::prepared::{Prepared, holds_step, take_step};
 use crate::same_instr::is_same_instr;
 use crate::stepping::{enter_readied, ready_step};
 use tb_core::{Core, StepRefusal};
@@ -57,61 +59,73 @@ pub fn foreign(program: &Program, core: &Core, plan: &Plan) -> Option<StepRefusa
 }
 
 /// The event of a plan, with all room made for its step: what is prepared for the task, if something
-/// is, and then without memory.
+/// is, and then without memory. A refusal for any reason but memory keeps what is prepared.
 fn event_for(
     program: &Program,
     core: &mut Core,
     journal: &mut Vec<Entry>,
+    prepared: &mut Option<Prepared>,
     limit: u32,
-    prepared: Option<Event>,
+    seat: u32,
     plan: &Plan,
 ) -> Result<Event, StepRefusal>
     requires fits { Fits program.now core.old.run }
     requires native { IsNative program.now core.old.run plan.now }
     requires limit { core.old.run.limit ≡ limit }
     requires shorter { length core.old.run.steps < length journal.old.items }
-    requires prepared { IfSome prepared (λ v. (v.task ≡ plan.now.config.task)
-        × HasStepRoom limit program.now core.old journal.old.items
-        (vec_capacity journal.old - vec_len journal.old) v) }
+    requires room { HasRoom limit program.now core.old journal.old.items
+        (vec_capacity journal.old - vec_len journal.old) prepared.old }
     ensures run { core.new.run ≡ core.old.run }
     ensures entries { journal.new.items ≡ journal.old.items }
     ensures readied { IfOk result (IsReadied limit core.new plan.now journal.old.items
         (vec_capacity journal.new - vec_len journal.new)) }
     ensures refused { IfErr result (IsKeptFrom core.old.run plan.now
         (has_no_place limit journal.old.items)) }
-    ensures room { IsSome prepared → IsOpen core.old.run plan.now → IsOk result }
+    ensures given_up { OnOk result (prepared.new ≡ None) }
+    ensures kept { IfErr result (λ e. e ≢ Memory → prepared.new ≡ prepared.old) }
+    ensures serves { HasRoom limit program.now core.new journal.new.items
+        (vec_capacity journal.new - vec_len journal.new) prepared.new }
+    ensures succeeds { HoldsStep prepared.old seat plan.now.config.task
+        → IsOpen core.old.run plan.now → IsOk result }
 {
-    match prepared {
-        Some(event) => match core.refusal(plan) {
-            None => Ok(event),
-            Some(refusal) => Err(refusal),
-        },
-        None => ready_step(core, journal, limit, plan),
+    if !holds_step(prepared, seat, &plan.config.task) {
+        return ready_step(core, journal, prepared, limit, plan);
+    }
+    if let Some(refusal) = core.refusal(plan) {
+        return Err(refusal);
+    }
+    match take_step(prepared) {
+        Some(event) => Ok(event),
+        None => unreachable!(),
     }
 }
 
-/// Takes the step of a plan of the program, and enters it for the seat.
+/// Takes the step of a plan of the program, and enters it for the seat. A refusal for any reason but
+/// memory keeps what is prepared.
 pub fn enter_plan(
     program: &Program,
     core: &mut Core,
     journal: &mut Vec<Entry>,
     control: &mut Control,
+    prepared: &mut Option<Prepared>,
     limit: u32,
     seat: u32,
-    prepared: Option<Event>,
     plan: Plan,
 ) -> Result<StepId, StepRefusal>
     requires fits { Fits program.now core.old.run }
     requires native { IsNative program.now core.old.run plan }
     requires limit { core.old.run.limit ≡ limit }
     requires shorter { length core.old.run.steps < length journal.old.items }
-    requires prepared { IfSome prepared (λ v. (v.task ≡ plan.config.task)
-        × HasStepRoom limit program.now core.old journal.old.items
-        (vec_capacity journal.old - vec_len journal.old) v) }
+    requires room { HasRoom limit program.now core.old journal.old.items
+        (vec_capacity journal.old - vec_len journal.old) prepared.old }
     ensures entered { Enters limit seat core.old.run plan core.new.run journal.old.items journal.new.items control.old control.new result }
-    ensures room { IsSome prepared → IsOpen core.old.run plan → IsOk result }
+    ensures kept { IfErr result (λ e. e ≢ Memory → prepared.new ≡ prepared.old) }
+    ensures serves { HasRoom limit program.now core.new journal.new.items
+        (vec_capacity journal.new - vec_len journal.new) prepared.new }
+    ensures succeeds { HoldsStep prepared.old seat plan.config.task
+        → IsOpen core.old.run plan → IsOk result }
 {
-    match event_for(program, core, journal, limit, prepared, &plan) {
+    match event_for(program, core, journal, prepared, limit, seat, &plan) {
         Ok(event) => Ok(enter_readied(core, journal, control, seat, plan, event)),
         Err(refusal) => Err(refusal),
     }

@@ -6,10 +6,11 @@ mod inside;
 mod pausing;
 mod running;
 
-ghost use Rattle.std.specs.Prelude.{◌≡◌, ◌<◌, ◌≤◌, IfOk, IfErr, IfSome, IfNone, IsOk, Some, None, length, reverse, slice_get};
+ghost use Rattle.std.specs.Prelude.{◌≡◌, ◌≢◌, ◌<◌, ◌≤◌, IfOk, IfErr, OnErr, IfSome, IfNone, IsOk, Some, None, length, reverse, slice_get};
 ghost use Rattle.std.specs.Option.{option_copied};
 ghost use Rattle.tb_model.specs.declared.entry.Entry.TheVariants.{Rolled};
 ghost use Rattle.tb_model.specs.State.{printed};
+ghost use Rattle.tb_core.specs.declared.step_refusal.StepRefusal.TheVariants.{Memory};
 ghost use Rattle.tb_live.specs.Claims.{claim_of, AreLawful};
 ghost use Rattle.tb_live.specs.Session.{opened, with_seat, history, is_full, cell_numbers, last_store, last_print};
 ghost use Rattle.tb_live.specs.Moves.{StepsBy, LeastStepsBy, LeastStepsFor, UndoneFor, RollsFor, KeepsAll, Hinders, refusal_for, MayUndo};
@@ -20,9 +21,9 @@ use crate::control::Control;
 use crate::mode::Mode;
 use crate::newest::{newest_step, place_of_print, place_of_store};
 use crate::planning::plan_of;
-use crate::prepared::{Prepared, forget, prepared_roll};
+use crate::prepared::{Prepared, forget, take_name, take_roll};
 use crate::ready::{ready_plan, refusal_of};
-use crate::rolling::{enter_roll, name_of_roll};
+use crate::rolling::{enter_roll, fresh_name};
 use crate::stepping::enter_step;
 use std::alloc::{AllocError, Global};
 use std::marker::Model;
@@ -137,19 +138,20 @@ impl Live {
     }
 
     /// Takes the next step of a task, for seat 0. Want of memory comes only where a growth was
-    /// refused.
+    /// refused; any other refusal keeps what is prepared.
     pub fn step(&mut self, task: &TaskName) -> Result<StepId, StepRefusal>
-        ensures { StepsBy self.old.session task.now self.new.session result }
+        ensures stepped { StepsBy self.old.session task.now self.new.session result }
+        ensures kept { IfErr result (λ e. e ≢ Memory → self.new ≡ self.old) }
     {
         let plan = match plan_of(self.alloc, &self.program, &self.core, task) {
             Ok(plan) => plan,
             Err(refusal) => return Err(refusal),
         };
-        forget(&mut self.prepared);
         enter_step(
             &mut self.core,
             &mut self.journal,
             &mut self.control,
+            &mut self.prepared,
             self.limit,
             0,
             plan,
@@ -159,7 +161,8 @@ impl Live {
     /// Takes the next step of the least task that can step, for seat 0; None where all tasks have
     /// ended.
     pub fn step_least(&mut self) -> Result<Option<StepId>, StepRefusal>
-        ensures { LeastStepsBy self.old.session self.new.session result }
+        ensures stepped { LeastStepsBy self.old.session self.new.session result }
+        ensures kept { IfErr result (λ e. e ≢ Memory → self.new ≡ self.old) }
     {
         self.step_least_for(0)
     }
@@ -167,18 +170,19 @@ impl Live {
     /// The same for any seat, whatever the claims and the mode. The mode counts the step, and pauses
     /// at a breakpoint that it meets.
     pub fn step_least_for(&mut self, seat: u32) -> Result<Option<StepId>, StepRefusal>
-        ensures { LeastStepsFor seat self.old.session self.new.session result }
+        ensures stepped { LeastStepsFor seat self.old.session self.new.session result }
+        ensures kept { IfErr result (λ e. e ≢ Memory → self.new ≡ self.old) }
     {
         let plan = match ready_plan(self.alloc, &self.program, &self.core) {
             Ok(Some(plan)) => plan,
             Ok(None) => return Ok(None),
             Err(_) => return Err(StepRefusal::Memory),
         };
-        forget(&mut self.prepared);
         match enter_step(
             &mut self.core,
             &mut self.journal,
             &mut self.control,
+            &mut self.prepared,
             self.limit,
             seat,
             plan,
@@ -196,22 +200,24 @@ impl Live {
         refusal_of(self.alloc, &self.program, &self.core, task)
     }
 
-    /// Takes a step back that nothing needs, for the seat. The step is looked for once.
+    /// Takes a step back that nothing needs, for the seat. The step is looked for once. A refusal
+    /// changes nothing, and keeps what is prepared.
     pub fn undo(&mut self, seat: u32, id: &StepId) -> Result<Removed, UndoRefusal>
         ensures undone { UndoneFor seat self.old.session id.now self.new.session result }
+        ensures kept { OnErr result (self.new ≡ self.old) }
         ensures room { MayUndo self.old.session id.now
             → self.old.prepared ≡ Some (Rolled seat id.now) → IsOk result }
     {
         if self.is_full() {
             return Err(self.core.keeps(id).unwrap_or(UndoRefusal::Full));
         }
-        let readied = prepared_roll(self.prepared.take(), seat, id);
-        let name = match name_of_roll(&mut self.journal, readied, id) {
-            Ok(name) => name,
+        let fresh = match fresh_name(&mut self.journal, &self.prepared, seat, id) {
+            Ok(fresh) => fresh,
             Err(_) => return Err(self.core.keeps(id).unwrap_or(UndoRefusal::Memory)),
         };
         match self.core.undo(id) {
             Ok(removed) => {
+                let name = take_name(&mut self.prepared, fresh, id);
                 self.control.step_removed(&removed);
                 self.journal.push_reserved(Entry::Rolled { seat, id: name });
                 Ok(removed)
@@ -221,13 +227,14 @@ impl Live {
     }
 
     /// Takes a step back with all that need it, for the seat, and tells them in the order of the
-    /// history, the chosen one first.
+    /// history, the chosen one first. A refusal changes nothing, and keeps what is prepared.
     pub fn roll(&mut self, seat: u32, id: &StepId) -> Result<Vec<Removed>, RollRefusal>
         ensures rolled { IfOk result (λ removed. RollsFor seat self.old.session id.now self.new.session removed.items) }
         ensures refused { IfErr result (λ e. (self.new.session ≡ self.old.session) × KeepsAll self.old.session id.now e) }
+        ensures kept { OnErr result (self.new ≡ self.old) }
         ensures room { self.old.prepared ≡ Some (Rolled seat id.now) → IsOk result }
     {
-        let readied = prepared_roll(self.prepared.take(), seat, id);
+        let readied = take_roll(&mut self.prepared, seat, id);
         match enter_roll(
             self.alloc,
             &mut self.core,
@@ -238,6 +245,7 @@ impl Live {
             id,
         ) {
             Ok(removed) => {
+                forget(&mut self.prepared);
                 self.control.steps_removed(&removed);
                 Ok(removed)
             }

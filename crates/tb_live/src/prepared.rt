@@ -1,8 +1,7 @@
 //! What is prepared for the next change.
 
-ghost use Rattle.std.specs.Prelude.{◌≡◌, ◌↔◌, Some, None, IfOk, IfSome, IsSome, IsTrue};
-ghost use Rattle.tb_model.specs.declared.event.Event.{Event as AnEvent};
-ghost use Rattle.tb_roll.specs.declared.readied.Ready.{Ready as Readied};
+ghost use Rattle.std.specs.Prelude.{◌≡◌, ◌↔◌, Some, None, IfOk, IfSome, IfNone, IsSome, IsTrue};
+ghost use Rattle.tb_live.specs.Preparing.{HoldsStep, HoldsRoll, held_event, held_name, held_roll};
 ghost use Rattle.tb_live.specs.declared.prepared.Prepared.TheVariants as prepared;
 
 use std::alloc::AllocError;
@@ -16,43 +15,94 @@ pub enum Prepared {
     Roll { seat: u32, id: StepId, ready: Ready },
 }
 
-/// The event that is prepared for a step of the task by the seat.
-pub fn prepared_event(given: Option<Prepared>, seat: u32, task: &TaskName) -> Option<Event>
-    ensures some { IfSome result (λ v. (given ≡ Some (prepared.Step seat v)) × (v.task ≡ task.now)) }
-    ensures found { (v : AnEvent) → given ≡ Some (prepared.Step seat v) → v.task ≡ task.now
-        → IsSome result }
+/// Whether a step of the task by the seat is prepared.
+pub fn holds_step(given: &Option<Prepared>, seat: u32, task: &TaskName) -> bool
+    ensures { IsTrue result ↔ HoldsStep given.now seat task.now }
 {
     match given {
-        Some(Prepared::Step { seat: whose, event }) => {
-            if whose == seat && event.task == *task {
-                Some(event)
-            } else {
-                None
-            }
-        }
+        Some(Prepared::Step { seat: whose, event }) => *whose == seat && event.task == *task,
+        _ => false,
+    }
+}
+
+/// The event of the step that is prepared. Nothing is prepared any longer.
+pub fn take_step(place: &mut Option<Prepared>) -> Option<Event>
+    ensures event { result ≡ held_event place.old }
+    ensures after { place.new ≡ None }
+{
+    match place.take() {
+        Some(Prepared::Step { seat: _, event }) => Some(event),
         _ => None,
     }
 }
 
-/// The rollback of the step that is prepared for the seat.
-pub fn prepared_roll(given: Option<Prepared>, seat: u32, step: &StepId) -> Option<(StepId, Ready)>
-    ensures some { IfSome result (λ r. (given ≡ Some (prepared.Roll seat r.0 r.1)) × (r.0 ≡ step.now)) }
-    ensures found { (r : Readied) → given ≡ Some (prepared.Roll seat step.now r) → IsSome result }
+/// Whether the rollback of the step by the seat is prepared.
+pub fn holds_roll(given: &Option<Prepared>, seat: u32, step: &StepId) -> bool
+    ensures { IsTrue result ↔ HoldsRoll given.now seat step.now }
 {
     match given {
         Some(
             Prepared::Roll {
                 seat: whose,
                 id,
-                ready,
+                ready: _,
             },
-        ) => {
-            if whose == seat && is_same_step(&id, step) {
-                Some((id, ready))
-            } else {
-                None
-            }
-        }
+        ) => *whose == seat && is_same_step(id, step),
+        _ => false,
+    }
+}
+
+/// The rollback of the step, where it is prepared for the seat: it is taken out then.
+pub fn take_roll(place: &mut Option<Prepared>, seat: u32, step: &StepId) -> Option<(StepId, Ready)>
+    ensures some { IfSome result (λ r.
+        (place.old ≡ Some (prepared.Roll seat r.0 r.1)) × (r.0 ≡ step.now)) }
+    ensures none { IfNone result (place.new ≡ place.old) }
+    ensures found { HoldsRoll place.old seat step.now → IsSome result }
+{
+    if holds_roll(place, seat, step) {
+        take_rollback(place)
+    } else {
+        None
+    }
+}
+
+fn take_rollback(place: &mut Option<Prepared>) -> Option<(StepId, Ready)>
+    ensures { result ≡ held_roll place.old }
+{
+    match place.take() {
+        Some(Prepared::Roll { seat: _, id, ready }) => Some((id, ready)),
+        _ => None,
+    }
+}
+
+/// The name of a step for its entry: the fresh one, else the one that is prepared. Nothing is prepared
+/// any longer.
+pub fn take_name(place: &mut Option<Prepared>, fresh: Option<StepId>, step: &StepId) -> StepId
+    requires fresh { IfSome fresh (λ id. id ≡ step.now) }
+    requires held { IfNone fresh (held_name place.old ≡ Some step.now) }
+    ensures name { result ≡ step.now }
+    ensures after { place.new ≡ None }
+{
+    let held = forget_roll(place);
+    match fresh.or(held) {
+        Some(name) => name,
+        None => unreachable!(),
+    }
+}
+
+/// The step whose rollback is prepared. Nothing is prepared any longer.
+fn forget_roll(place: &mut Option<Prepared>) -> Option<StepId>
+    ensures name { result ≡ held_name place.old }
+    ensures after { place.new ≡ None }
+{
+    match place.take() {
+        Some(
+            Prepared::Roll {
+                seat: _,
+                id,
+                ready: _,
+            },
+        ) => Some(id),
         _ => None,
     }
 }

@@ -1,10 +1,10 @@
 //! A rollback, with its entry in the journal.
 
-ghost use Rattle.std.specs.Prelude.{◌≡◌, ◌<◌, ◌-◌, ◌++◌, ◌∷◌, [], IfOk, IfErr, IsOk, IsSome, IfSome, OnOk, OnErr, vec_len, vec_capacity};
-ghost use Rattle.tb_model.specs.declared.entry.Entry.TheVariants.{Rolled};
+ghost use Rattle.std.specs.Prelude.{◌≡◌, ◌<◌, ◌≤◌, ◌-◌, Some, IfOk, IfErr, IsOk, IsSome, IfSome, IfNone, OnOk, OnErr, vec_len, vec_capacity};
 ghost use Rattle.tb_live.specs.Rollbacks.{EntersRollback, RefusesRollback};
-ghost use Rattle.tb_live.specs.Preparing.{IsRollReadied};
+ghost use Rattle.tb_live.specs.Preparing.{HoldsRoll, IsRollReadied, held_name};
 
+use crate::prepared::{Prepared, holds_roll};
 use std::alloc::{AllocError, Global};
 use tb_core::{Core, Removed, place_of};
 use tb_model::{Entry, StepId};
@@ -23,6 +23,8 @@ pub fn ready_roll(
     ensures readied { IfOk result (λ r. IsRollReadied limit core.now step.now journal.old.items
         (vec_capacity journal.new - vec_len journal.new) r.1) }
     ensures refused { IfErr result (RefusesRollback limit core.now.run step.now journal.old.items) }
+    ensures spare { vec_capacity journal.old - vec_len journal.old
+        ≤ vec_capacity journal.new - vec_len journal.new }
 {
     if limit as usize <= journal.as_slice().len() {
         return Err(match place_of(core.legal_entries(), step) {
@@ -58,9 +60,11 @@ pub fn enter_roll(
         journal.old.items (vec_capacity journal.old - vec_len journal.old) r.1) }
     ensures rolled { IfOk result (λ removed. EntersRollback limit seat core.old.run step.now
         core.new.run journal.old.items journal.new.items removed.items) }
-    ensures refused { IfErr result (λ e. (core.new.run ≡ core.old.run)
+    ensures refused { IfErr result (RefusesRollback limit core.old.run step.now journal.old.items) }
+    ensures stays { OnErr result ((core.new ≡ core.old)
         × (journal.new.items ≡ journal.old.items)
-        × RefusesRollback limit core.old.run step.now journal.old.items e) }
+        × (vec_capacity journal.old - vec_len journal.old
+        ≤ vec_capacity journal.new - vec_len journal.new)) }
     ensures room { IsSome readied → IsOk result }
 {
     let (id, ready) = match readied {
@@ -74,23 +78,27 @@ pub fn enter_roll(
     Ok(finish(core, ready))
 }
 
-/// The name of a step for its entry, for which the journal has room: what is readied, where
-/// something is, and then without memory.
-pub fn name_of_roll(
+/// A name of the step for its entry, for which the journal has room; none where the one that is
+/// prepared serves, and then without memory.
+pub fn fresh_name(
     journal: &mut Vec<Entry>,
-    readied: Option<(StepId, Ready)>,
+    prepared: &Option<Prepared>,
+    seat: u32,
     step: &StepId,
-) -> Result<StepId, AllocError>
-    requires { IfSome readied (λ r. (r.0 ≡ step.now)
-        × (0 < vec_capacity journal.old - vec_len journal.old)) }
+) -> Result<Option<StepId>, AllocError>
+    requires { HoldsRoll prepared.now seat step.now
+        → 0 < vec_capacity journal.old - vec_len journal.old }
     ensures entries { journal.new.items ≡ journal.old.items }
-    ensures name { IfOk result (λ id. id ≡ step.now) }
-    ensures spare { OnOk result (0 < vec_capacity journal.new - vec_len journal.new) }
-    ensures room { IsSome readied → IsOk result }
+    ensures name { IfOk result (λ o. IfSome o (λ id. id ≡ step.now)) }
+    ensures held { IfOk result (λ o. IfNone o (held_name prepared.now ≡ Some step.now)) }
+    ensures free { OnOk result (0 < vec_capacity journal.new - vec_len journal.new) }
+    ensures spare { vec_capacity journal.old - vec_len journal.old
+        ≤ vec_capacity journal.new - vec_len journal.new }
+    ensures room { HoldsRoll prepared.now seat step.now → IsOk result }
 {
-    if let Some((id, _)) = readied {
-        return Ok(id);
+    if holds_roll(prepared, seat, step) {
+        return Ok(None);
     }
     journal.reserve(1)?;
-    Ok(step.clone()?)
+    Ok(Some(step.clone()?))
 }

@@ -1,21 +1,26 @@
 //! A planned step, with its entry in the journal.
 
-ghost use Rattle.std.specs.Prelude.{◌≡◌, ◌<◌, ◌-◌, IfOk, IfErr, Some, length, vec_len, vec_capacity};
+ghost use Rattle.std.specs.Prelude.{◌≡◌, ◌≢◌, ◌<◌, ◌-◌, IfOk, IfErr, OnOk, Some, None, length, vec_len, vec_capacity};
+ghost use Rattle.tb_model.specs.Program.{Program};
+ghost use Rattle.tb_core.specs.declared.step_refusal.StepRefusal.TheVariants.{Memory};
 ghost use Rattle.tb_core.specs.Outcomes.{Fits, IsOpen, event_of};
 ghost use Rattle.tb_live.specs.Controls.{behind_step};
 ghost use Rattle.tb_live.specs.Plans.{Enters, IsEntered, IsKeptFrom, has_no_place};
-ghost use Rattle.tb_live.specs.Preparing.{IsReadied};
+ghost use Rattle.tb_live.specs.Preparing.{HasRoom, IsReadied};
 
 use crate::control::Control;
+use crate::prepared::{Prepared, forget};
 use tb_core::{Core, StepRefusal};
 use tb_model::{Entry, Event, StepId};
 use tb_read::Plan;
 
 /// Makes all room for the step of a plan and for its entry, and tells the event. The journal has more
-/// entries than the history has events.
+/// entries than the history has events. What was prepared is given up for it, and at want of memory;
+/// any other refusal keeps it.
 pub fn ready_step(
     core: &mut Core,
     journal: &mut Vec<Entry>,
+    prepared: &mut Option<Prepared>,
     limit: u32,
     plan: &Plan,
 ) -> Result<Event, StepRefusal>
@@ -28,14 +33,26 @@ pub fn ready_step(
         (vec_capacity journal.new - vec_len journal.new)) }
     ensures refused { IfErr result (IsKeptFrom core.old.run plan.now
         (has_no_place limit journal.old.items)) }
+    ensures given_up { OnOk result (prepared.new ≡ None) }
+    ensures kept { IfErr result (λ e. e ≢ Memory → prepared.new ≡ prepared.old) }
+    ensures serves { (P : Program)
+        → HasRoom limit P core.old journal.old.items
+        (vec_capacity journal.old - vec_len journal.old) prepared.old
+        → HasRoom limit P core.new journal.new.items
+        (vec_capacity journal.new - vec_len journal.new) prepared.new }
 {
     if limit as usize <= journal.as_slice().len() {
         return Err(core.refusal(plan).unwrap_or(StepRefusal::Full));
     }
     let event = match core.reserve_step(plan) {
         Ok(event) => event,
+        Err(StepRefusal::Memory) => {
+            forget(prepared);
+            return Err(StepRefusal::Memory);
+        }
         Err(refusal) => return Err(refusal),
     };
+    forget(prepared);
     if journal.reserve(1).is_err() {
         return Err(StepRefusal::Memory);
     }
@@ -67,11 +84,13 @@ pub fn enter_readied(
     id
 }
 
-/// Takes the step of a plan, and enters it for the seat.
+/// Takes the step of a plan, and enters it for the seat. What was prepared is kept where the step is
+/// refused for any reason but memory.
 pub fn enter_step(
     core: &mut Core,
     journal: &mut Vec<Entry>,
     control: &mut Control,
+    prepared: &mut Option<Prepared>,
     limit: u32,
     seat: u32,
     plan: Plan,
@@ -79,9 +98,15 @@ pub fn enter_step(
     requires fits { Fits core.old.run plan }
     requires limit { core.old.run.limit ≡ limit }
     requires shorter { length core.old.run.steps < length journal.old.items }
-    ensures { Enters limit seat core.old.run plan core.new.run journal.old.items journal.new.items control.old control.new result }
+    ensures entered { Enters limit seat core.old.run plan core.new.run journal.old.items journal.new.items control.old control.new result }
+    ensures kept { IfErr result (λ e. e ≢ Memory → prepared.new ≡ prepared.old) }
+    ensures serves { (P : Program)
+        → HasRoom limit P core.old journal.old.items
+        (vec_capacity journal.old - vec_len journal.old) prepared.old
+        → HasRoom limit P core.new journal.new.items
+        (vec_capacity journal.new - vec_len journal.new) prepared.new }
 {
-    match ready_step(core, journal, limit, &plan) {
+    match ready_step(core, journal, prepared, limit, &plan) {
         Ok(event) => Ok(enter_readied(core, journal, control, seat, plan, event)),
         Err(refusal) => Err(refusal),
     }

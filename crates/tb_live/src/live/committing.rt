@@ -1,14 +1,16 @@
 //! Plans that seats commit, and rollbacks that are prepared.
 
-ghost use Rattle.std.specs.Prelude.{◌≡◌, IfOk, IfErr, IfSome, IfNone, IsOk, IsSome, Some};
+ghost use Rattle.std.specs.Prelude.{◌≡◌, ◌≢◌, IfOk, IfErr, OnErr, IfSome, IfNone, IsOk, IsSome, Some};
 ghost use Rattle.tb_model.specs.declared.entry.Entry.TheVariants.{Rolled};
+ghost use Rattle.tb_core.specs.declared.step_refusal.StepRefusal.TheVariants.{Memory};
+ghost use Rattle.tb_live.specs.declared.commit_refusal.CommitRefusal.TheVariants.{Step as NotTaken};
 ghost use Rattle.tb_live.specs.Commits.{Commits, IsPrepared, IsOffered, MayCommit, RefusesCommit, entry_to_come};
 ghost use Rattle.tb_live.specs.Moves.{IsRollPrepared, KeepsAll};
 
 use super::Live;
 use crate::commit_refusal::CommitRefusal;
 use crate::committing::{enter_plan, foreign};
-use crate::prepared::{Prepared, copy_of, forget, keep, prepared_event};
+use crate::prepared::{Prepared, copy_of, keep};
 use crate::rolling::ready_roll;
 use crate::stepping::ready_step;
 use tb_core::StepRefusal;
@@ -18,17 +20,24 @@ use tb_roll::RollRefusal;
 
 impl Live {
     /// Takes all memory for a commit of the plan by the seat, and tells the entry to come, whose place
-    /// is the journal's length. The `commit` of that plan right behind it is done, and takes none.
+    /// is the journal's length. The `commit` of that plan right behind it is done, and takes none. A
+    /// refusal keeps what an earlier call prepared, but for want of memory.
     pub fn prepare(&mut self, seat: u32, plan: &Plan) -> Result<Entry, CommitRefusal>
         ensures session { self.new.session ≡ self.old.session }
         ensures prepared { IfOk result (IsPrepared seat self.new plan.now) }
         ensures refused { IfErr result (RefusesCommit self.old.session seat plan.now) }
+        ensures kept { IfErr result (λ e. e ≢ NotTaken Memory → self.new ≡ self.old) }
     {
         if let Some(refusal) = self.withheld(seat, plan) {
             return Err(refusal);
         }
-        forget(&mut self.prepared);
-        match ready_step(&mut self.core, &mut self.journal, self.limit, plan) {
+        match ready_step(
+            &mut self.core,
+            &mut self.journal,
+            &mut self.prepared,
+            self.limit,
+            plan,
+        ) {
             Ok(event) => match copy_of(&event) {
                 Ok(copy) => {
                     keep(&mut self.prepared, Prepared::Step { seat, event: copy });
@@ -44,9 +53,10 @@ impl Live {
 
     /// Takes the step of a plan that was made for the task that the seat claims, and answers the place
     /// of its entry. The claim ends. A plan that isn't for the task's situation by this program is
-    /// stale.
+    /// stale. A refusal keeps what is prepared, but for want of memory.
     pub fn commit(&mut self, seat: u32, plan: Plan) -> Result<u32, CommitRefusal>
         ensures committed { Commits seat self.old.session plan self.new.session result }
+        ensures kept { IfErr result (λ e. e ≢ NotTaken Memory → self.new ≡ self.old) }
         ensures room { MayCommit self.old.session seat plan
             → self.old.prepared ≡ Some (entry_to_come seat self.old.session plan) → IsOk result }
     {
@@ -54,15 +64,14 @@ impl Live {
             return Err(refusal);
         }
         let place = self.journal.as_slice().len() as u32;
-        let event = prepared_event(self.prepared.take(), seat, &plan.config.task);
         match enter_plan(
             &self.program,
             &mut self.core,
             &mut self.journal,
             &mut self.control,
+            &mut self.prepared,
             self.limit,
             seat,
-            event,
             plan,
         ) {
             Ok(_) => Ok(place),
@@ -71,13 +80,14 @@ impl Live {
     }
 
     /// Takes all memory for a rollback of the step by the seat, and tells the entry to come. The `roll`
-    /// right behind it is done, and takes none; so is the `undo`, where nothing needs the step.
+    /// right behind it is done, and takes none; so is the `undo`, where nothing needs the step. A refusal
+    /// keeps what an earlier call prepared.
     pub fn prepare_roll(&mut self, seat: u32, id: &StepId) -> Result<Entry, RollRefusal>
         ensures session { self.new.session ≡ self.old.session }
         ensures prepared { IfOk result (IsRollPrepared seat self.new id.now) }
         ensures refused { IfErr result (KeepsAll self.old.session id.now) }
+        ensures kept { OnErr result (self.new ≡ self.old) }
     {
-        forget(&mut self.prepared);
         match ready_roll(self.alloc, &self.core, &mut self.journal, self.limit, id) {
             Ok((step, ready)) => match id.clone() {
                 Ok(id) => {

@@ -1,7 +1,7 @@
-use Rattle.std.proofs.Common.{◌≡◌, subst, ◌-◌}
-use Rattle.std.specs.Prelude.{IfSome, vec_len, vec_capacity}
-use Rattle.tb_live.specs.Preparing.{HasStepRoom}
+use Rattle.std.proofs.Common.{sym, ◌∙◌, ◌-◌}
+use Rattle.std.specs.Prelude.{vec_len, vec_capacity}
 use Rattle.tb_live.proofs.CommitLemmas.{native_fits, readied_so}
+use Rattle.tb_live.proofs.PreparedLemmas.{event_room, event_taken}
 use Rattle.tb_live.proofs.committing.event_for.Goals as goal
 
 pub refusal-requires : goal.refusal-requires
@@ -10,8 +10,17 @@ refusal-requires c = native_fits c.args.program.now c.args.core.now.run c.args.p
 pub ready_step-requires-clause-fits : goal.ready_step-requires-clause-fits
 ready_step-requires-clause-fits c = native_fits c.args.program.now c.args.core.now.run c.args.plan.now c.requires.fits c.requires.native
 
-pub returns-in-None-refusal-clause-readied : goal.returns-in-None-refusal-clause-readied
-returns-in-None-refusal-clause-readied c =
+pub returns-then-not-holds_step-clause-serves : goal.returns-then-not-holds_step-clause-serves
+returns-then-not-holds_step-clause-serves c = c.ready_step.ensures.serves c.args.program.now c.requires.room
+
+-- what is prepared serves
+pub returns-clause-readied : goal.returns-clause-readied
+returns-clause-readied c =
     let spare = vec_capacity c.args.journal.now - vec_len c.args.journal.now in
-    let k = subst (λ o. IfSome o (λ v. (v.task ≡ c.args.plan.now.config.task) × HasStepRoom c.args.limit c.args.program.now c.args.core.now c.args.journal.now.items spare v)) c.in-Some.is c.requires.prepared in
-    readied_so c.args.limit c.args.program.now c.args.core.now c.args.journal.now.items spare c.args.plan.now c.in-Some.event c.requires.fits c.requires.native k.0 k.1 c.in-None-refusal.ensures.none
+    let k = event_room c.args.limit c.args.program.now c.args.core.now c.args.journal.now.items spare c.args.prepared.now c.args.seat c.args.plan.now.config.task c.in-Some-take_step.event
+    c.requires.room (c.holds_step.ensures.0 c.if-not-holds_step.false) (sym c.take_step.ensures.event ∙ c.in-Some-take_step.is)
+    in
+    readied_so c.args.limit c.args.program.now c.args.core.now c.args.journal.now.items spare c.args.plan.now c.in-Some-take_step.event c.requires.fits c.requires.native k.0 k.1 c.in_default.ensures.none
+
+pub unreachable-requires : goal.unreachable-requires
+unreachable-requires c = event_taken c.args.prepared.now c.args.seat c.args.plan.now.config.task (c.holds_step.ensures.0 c.if-not-holds_step.false) (sym c.take_step.ensures.event ∙ c.in-None.is)

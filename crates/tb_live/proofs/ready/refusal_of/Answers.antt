@@ -1,4 +1,3 @@
-use Rattle.std.proofs.Common.{refl}
 use Rattle.tb_live.proofs.CommitLemmas.{told_result, clear_so}
 use Rattle.tb_live.proofs.ready.refusal_of.Goals as goal
 

@@ -1,11 +1,11 @@
-use Rattle.std.proofs.Common.{ap, refl, sym, ◌∙◌, subst, length, Some, rules, ◌-◌}
-use Rattle.std.specs.Prelude.{Ok, Err, vec_len, vec_capacity}
+use Rattle.std.proofs.Common.{ap, ◌∙◌, length, rules}
+use Rattle.std.specs.Prelude.{Ok, Err}
+use Rattle.tb_live.specs.declared.commit_refusal.CommitRefusal.TheVariants.{Step as NotTaken}
 use Rattle.tb_live.specs.Moves.{coming}
-use Rattle.tb_live.specs.Preparing.{HasRoom}
 use Rattle.tb_live.specs.Session.{Held}
-use Rattle.tb_live.proofs.StepLemmas.{longer}
+use Rattle.tb_live.proofs.StepLemmas.{longer, same_held}
 use Rattle.tb_live.proofs.CommitLemmas.{offered_native, live_commits, may_open}
-use Rattle.tb_live.proofs.PreparedLemmas.{event_of_entry}
+use Rattle.tb_live.proofs.PreparedLemmas.{step_of_entry}
 use Rattle.tb_live.proofs.live.Live.commit.Goals as goal
 
 pub enter_plan-requires-clause-shorter : goal.enter_plan-requires-clause-shorter
@@ -23,7 +23,7 @@ invariant_of-self c =
     let l = live_commits c.args.seat i.program i.limit i.journal.items i.control i.core.run c.args.self.now.session (ap (λ (h : Held). h.session) c.self.view_is) (c.self.invariant.0, c.self.invariant.1) c.args.plan c.in_default.ensures.none.claimed native
     (length c.as_slice.result.now) (ap length c.as_slice.ensures.value) c.enter_plan.new.journal.items c.enter_plan.new.control c.enter_plan.new.core.run c.enter_plan.result c.enter_plan.ensures.entered
     in
-    (l.keeps.sound, l.keeps.lawful, subst (HasRoom i.limit i.program c.enter_plan.new.core c.enter_plan.new.journal.items (vec_capacity c.enter_plan.new.journal - vec_len c.enter_plan.new.journal)) (sym c.take.ensures.after) tt)
+    (l.keeps.sound, l.keeps.lawful, c.enter_plan.ensures.serves)
 
 pub returns-in-Ok-clause-committed : goal.returns-in-Ok-clause-committed
 returns-in-Ok-clause-committed c =
@@ -39,14 +39,18 @@ returns-clause-committed c =
     (live_commits c.args.seat i.program i.limit i.journal.items i.control i.core.run c.args.self.now.session (ap (λ (h : Held). h.session) c.self.view_is) (c.self.invariant.0, c.self.invariant.1) c.args.plan c.in_default.ensures.none.claimed native
     (length c.as_slice.result.now) (ap length c.as_slice.ensures.value) c.enter_plan.new.journal.items c.enter_plan.new.control c.enter_plan.new.core.run (Err c.in-Err.refusal) c.in-Err.ensures.entered).answer
 
+pub returns-clause-kept : goal.returns-clause-kept
+returns-clause-kept c =
+    let i = c.self.inside in
+    let e = c.in-Err.ensures.entered in
+    λ n. same_held i.program i.limit i.journal.items c.enter_plan.new.journal.items i.control c.enter_plan.new.control i.prepared c.enter_plan.new.prepared c.args.self.now c.self.view_is e.1 e.2 (c.in-Err.ensures.kept (λ same. n (ap NotTaken same)))
+
 -- what is prepared serves, so nothing is refused
 pub returns-clause-room : goal.returns-clause-room
 returns-clause-room c =
     let i = c.self.inside in
-    let t = c.args.plan.config.task in
-    let v = coming c.args.self.now.session t in
+    let v = coming c.args.self.now.session c.args.plan.config.task in
     let native = offered_native i.program i.limit i.journal.items i.control i.core.run c.args.self.now.session (ap (λ (h : Held). h.session) c.self.view_is) c.self.invariant.0 c.args.seat c.args.plan c.in_default.ensures.none in
     λ m given.
-    c.in-Err.ensures.room
-    (c.prepared_event-event.ensures.found v (c.take.ensures.value ∙ event_of_entry i.prepared c.args.seat v (ap (λ (h : Held). h.prepared) c.self.view_is ∙ given)) refl)
+    c.in-Err.ensures.succeeds (step_of_entry i.prepared c.args.seat v (ap (λ (h : Held). h.prepared) c.self.view_is ∙ given))
     (may_open i.program i.limit i.journal.items i.control i.core.run c.args.self.now.session (ap (λ (h : Held). h.session) c.self.view_is) c.self.invariant.0 c.args.seat c.args.plan native m)

@@ -4,8 +4,10 @@ use Rattle.tb_model.specs.declared.entry.Entry.TheVariants.{Stepped}
 use Rattle.tb_core.specs.Outcomes.{event_of, IsOpen}
 use Rattle.tb_live.specs.Preparing.{HasRoom, entry_of}
 use Rattle.tb_live.specs.Session.{Held}
+use Rattle.tb_core.specs.declared.step_refusal.StepRefusal.TheVariants.{Memory}
+use Rattle.tb_live.specs.declared.commit_refusal.CommitRefusal.TheVariants.{Step as NotTaken}
 use Rattle.tb_live.proofs.RunLemmas.{shown}
-use Rattle.tb_live.proofs.StepLemmas.{longer, stays}
+use Rattle.tb_live.proofs.StepLemmas.{longer, stays, same_held}
 use Rattle.tb_live.proofs.CommitLemmas.{offered_native, native_fits, native_refused, room_kept, live_prepares}
 use Rattle.tb_live.proofs.live.Live.prepare.Goals as goal
 
@@ -51,3 +53,21 @@ returns-in-Err-clause-refused c =
     let offered = c.in_default.ensures.none in
     let native = offered_native i.program i.limit i.journal.items i.control i.core.run c.args.self.now.session (ap (λ (h : Held). h.session) c.self.view_is) c.self.invariant.0 c.args.seat c.args.plan.now offered in
     (offered.claimed, native_refused i.program i.limit i.journal.items i.control i.core.run c.args.self.now.session (ap (λ (h : Held). h.session) c.self.view_is) c.self.invariant.0 c.args.seat c.args.plan.now native c.in-Err.refusal c.in-Err.ensures.refused)
+
+pub invariant_of-self-in-Err : goal.invariant_of-self-in-Err
+invariant_of-self-in-Err c =
+    let i = c.self.inside in
+    let l = stays i.program i.limit i.journal.items c.ready_step.new.journal.items i.control i.control i.core.run c.ready_step.new.core.run c.args.self.now.session (ap (λ (h : Held). h.session) c.self.view_is) (c.self.invariant.0, c.self.invariant.1) c.ready_step.ensures.run c.ready_step.ensures.entries refl in
+    (l.keeps.sound, l.keeps.lawful, c.ready_step.ensures.serves i.program c.self.invariant.2)
+
+pub returns-in-Err-clause-kept : goal.returns-in-Err-clause-kept
+returns-in-Err-clause-kept c =
+    let i = c.self.inside in
+    λ n. same_held i.program i.limit i.journal.items c.ready_step.new.journal.items i.control i.control i.prepared c.ready_step.new.prepared c.args.self.now c.self.view_is c.ready_step.ensures.entries refl (c.in-Err.ensures.kept (λ same. n (ap NotTaken same)))
+
+pub returns-in-Err-copy_of-clause-refused : goal.returns-in-Err-copy_of-clause-refused
+returns-in-Err-copy_of-clause-refused c =
+    let i = c.self.inside in
+    let offered = c.in_default.ensures.none in
+    let native = offered_native i.program i.limit i.journal.items i.control i.core.run c.args.self.now.session (ap (λ (h : Held). h.session) c.self.view_is) c.self.invariant.0 c.args.seat c.args.plan.now offered in
+    (offered.claimed, native_refused i.program i.limit i.journal.items i.control i.core.run c.args.self.now.session (ap (λ (h : Held). h.session) c.self.view_is) c.self.invariant.0 c.args.seat c.args.plan.now native Memory (λ current clear. c.in-Ok.ensures.readied.room))

@@ -1,7 +1,5 @@
-use Rattle.std.proofs.Common.{ap, subst, sym, ◌-◌}
-use Rattle.tb_live.proofs.StepLemmas.{longer, live_steps}
-use Rattle.std.specs.Prelude.{vec_len, vec_capacity}
-use Rattle.tb_live.specs.Preparing.{HasRoom}
+use Rattle.std.proofs.Common.{ap}
+use Rattle.tb_live.proofs.StepLemmas.{longer, live_steps, enters_held}
 use Rattle.tb_live.specs.Session.{Held}
 use Rattle.tb_live.proofs.live.Live.step.Goals as goal
 
@@ -14,12 +12,17 @@ pub invariant_of-self : goal.invariant_of-self
 invariant_of-self c =
     let i = c.self.inside in
     let l = live_steps i.program i.limit i.journal.items i.control i.core.run c.args.self.now.session (ap (λ (h : Held). h.session) c.self.view_is) (c.self.invariant.0, c.self.invariant.1) c.args.task.now c.in-Ok.plan c.in-Ok.ensures.ok
-    c.enter_step.new.journal.items c.enter_step.new.control c.enter_step.new.core.run c.enter_step.result c.enter_step.ensures
+    c.enter_step.new.journal.items c.enter_step.new.control c.enter_step.new.core.run c.enter_step.result c.enter_step.ensures.entered
     in
-    (l.keeps.sound, l.keeps.lawful, subst (HasRoom i.limit i.program c.enter_step.new.core c.enter_step.new.journal.items (vec_capacity c.enter_step.new.journal - vec_len c.enter_step.new.journal)) (sym c.forget.ensures) tt)
+    (l.keeps.sound, l.keeps.lawful, c.enter_step.ensures.serves i.program c.self.invariant.2)
 
-pub returns : goal.returns
-returns c =
+pub returns-clause-stepped : goal.returns-clause-stepped
+returns-clause-stepped c =
     let i = c.self.inside in
     (live_steps i.program i.limit i.journal.items i.control i.core.run c.args.self.now.session (ap (λ (h : Held). h.session) c.self.view_is) (c.self.invariant.0, c.self.invariant.1) c.args.task.now c.in-Ok.plan c.in-Ok.ensures.ok
-    c.enter_step.new.journal.items c.enter_step.new.control c.enter_step.new.core.run c.enter_step.result c.enter_step.ensures).answer
+    c.enter_step.new.journal.items c.enter_step.new.control c.enter_step.new.core.run c.enter_step.result c.enter_step.ensures.entered).answer
+
+pub returns-clause-kept : goal.returns-clause-kept
+returns-clause-kept c =
+    let i = c.self.inside in
+    enters_held i.program i.limit i.journal.items c.enter_step.new.journal.items i.control c.enter_step.new.control i.prepared c.enter_step.new.prepared c.args.self.now c.self.view_is 0 i.core.run c.enter_step.new.core.run c.in-Ok.plan c.enter_step.result c.enter_step.ensures.entered c.enter_step.ensures.kept

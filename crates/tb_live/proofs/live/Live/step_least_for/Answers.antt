@@ -1,12 +1,12 @@
-use Rattle.std.proofs.Common.{subst, ap, sym, ◌∙◌, Option, ◌-◌}
+use Rattle.std.proofs.Common.{◌≡◌, subst, ap, sym, ◌∙◌, Option}
+use Rattle.std.specs.Prelude.{◌≢◌, IfErr}
 use Rattle.tb_read.specs.declared.planned.Plan.{Plan}
 use Rattle.tb_live.specs.Plans.{IsReady}
-use Rattle.tb_live.proofs.StepLemmas.{longer, for_least, live_least}
+use Rattle.tb_core.specs.declared.step_refusal.StepRefusal.TheVariants.{Memory}
+use Rattle.tb_live.proofs.StepLemmas.{longer, held, for_least, for_least_held, enters_held, live_least}
 use Rattle.tb_live.proofs.RunLemmas.{shown}
 use Rattle.tb_live.specs.Moves.{LeastStepsFor}
 use Rattle.tb_live.proofs.live.Live.step_least_for.Goals as goal
-use Rattle.std.specs.Prelude.{vec_len, vec_capacity}
-use Rattle.tb_live.specs.Preparing.{HasRoom}
 use Rattle.tb_live.specs.Session.{Held}
 use Rattle.tb_live.proofs.live.Live.step_least_for.Goals.{in-Ok, in-Err-enter_step}
 
@@ -20,18 +20,29 @@ invariant_of-self c =
     let i = c.self.inside in
     let ready = subst (λ (o : Option Plan). IsReady i.program i.core.run o) c.in-Ok-Some.field-0-is c.in-Ok-Some.ensures in
     let l = live_least c.args.seat i.program i.limit i.journal.items i.control i.core.run c.args.self.now.session (ap (λ (h : Held). h.session) c.self.view_is) (c.self.invariant.0, c.self.invariant.1) c.in-Ok-Some.plan ready
-    c.enter_step.new.journal.items c.enter_step.new.control c.enter_step.new.core.run c.enter_step.result c.enter_step.ensures
+    c.enter_step.new.journal.items c.enter_step.new.control c.enter_step.new.core.run c.enter_step.result c.enter_step.ensures.entered
     in
-    (l.keeps.sound, l.keeps.lawful, subst (HasRoom i.limit i.program c.enter_step.new.core c.enter_step.new.journal.items (vec_capacity c.enter_step.new.journal - vec_len c.enter_step.new.journal)) (sym c.forget.ensures) tt)
+    (l.keeps.sound, l.keeps.lawful, c.enter_step.ensures.serves i.program c.self.invariant.2)
 
-pub returns : goal.returns
-returns c =
+pub returns-clause-stepped : goal.returns-clause-stepped
+returns-clause-stepped c =
     let i = c.self.inside in
     let ready = subst (λ (o : Option Plan). IsReady i.program i.core.run o) c.in-Ok-Some.field-0-is c.in-Ok-Some.ensures in
     let answer = (live_least c.args.seat i.program i.limit i.journal.items i.control i.core.run c.args.self.now.session (ap (λ (h : Held). h.session) c.self.view_is) (c.self.invariant.0, c.self.invariant.1) c.in-Ok-Some.plan ready
-    c.enter_step.new.journal.items c.enter_step.new.control c.enter_step.new.core.run c.enter_step.result c.enter_step.ensures).answer
+    c.enter_step.new.journal.items c.enter_step.new.control c.enter_step.new.core.run c.enter_step.result c.enter_step.ensures.entered).answer
     in
     elim c.match-enter_step.branch [
       | in-Ok w ↦ subst (LeastStepsFor c.args.seat c.args.self.now.session (shown i.program i.limit c.enter_step.new.journal.items c.enter_step.new.control)) (ap for_least w.in-Ok.is ∙ sym w.result-is) answer
       | in-Err-enter_step w ↦ subst (LeastStepsFor c.args.seat c.args.self.now.session (shown i.program i.limit c.enter_step.new.journal.items c.enter_step.new.control)) (ap for_least w.in-Err-enter_step.is ∙ sym w.result-is) answer
+    ]
+
+pub returns-clause-kept : goal.returns-clause-kept
+returns-clause-kept c =
+    let i = c.self.inside in
+    let k = for_least_held _ c.enter_step.result
+    (enters_held i.program i.limit i.journal.items c.enter_step.new.journal.items i.control c.enter_step.new.control i.prepared c.enter_step.new.prepared c.args.self.now c.self.view_is c.args.seat i.core.run c.enter_step.new.core.run c.in-Ok-Some.plan c.enter_step.result c.enter_step.ensures.entered c.enter_step.ensures.kept)
+    in
+    elim c.match-enter_step.branch [
+      | in-Ok w ↦ subst (λ r. IfErr r (λ e. e ≢ Memory → held i.program i.limit c.enter_step.new.journal.items c.enter_step.new.control c.enter_step.new.prepared ≡ c.args.self.now)) (ap for_least w.in-Ok.is ∙ sym w.result-is) k
+      | in-Err-enter_step w ↦ subst (λ r. IfErr r (λ e. e ≢ Memory → held i.program i.limit c.enter_step.new.journal.items c.enter_step.new.control c.enter_step.new.prepared ≡ c.args.self.now)) (ap for_least w.in-Err-enter_step.is ∙ sym w.result-is) k
     ]

@@ -1,4 +1,4 @@
-use Rattle.std.proofs.Common.{ap, sym, ◌∙◌, rules}
+use Rattle.std.proofs.Common.{ap, rules}
 use Rattle.tb_live.specs.Session.{Held}
 use Rattle.tb_live.proofs.CommitLemmas.{claimed_so, foreign_refused, foreign_blocks}
 use Rattle.tb_live.proofs.live.Live.withheld.Goals as goal
