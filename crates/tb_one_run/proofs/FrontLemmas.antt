@@ -69,7 +69,7 @@ module _ (F : History) (free : HasRace WithExclusion F → ⊥) where
       racing : (r : Conflict) → conflict x u ≡ Some r → comes_after WithExclusion (step_of U u) (m ++ u ∷ U) x ≡ false → ⊥
       racing r c z =
           free (record {
-            behind = b;
+            newer = b;
             later = x ∷ (m ++ u ∷ U);
             earlier = u ∷ U;
             split = e;

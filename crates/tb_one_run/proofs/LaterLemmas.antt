@@ -1,4 +1,4 @@
--- The later event of a race, behind what the order puts in front of either.
+-- The later event of a race, after what the order puts in front of either.
 use Rattle.std.proofs.Common.{◌≡◌, ℕ, suc, ℤ, List, [], ◌∷◌, ◌++◌, Bool, true, false, cond, ◌&&◌, ◌||◌, refl, sym, ap, ◌∙◌, subst, Option, Some, None, option_map, is_some, map}
 use Rattle.std.specs.List.{list_any}
 use Rattle.std.specs.Option.{option_or}

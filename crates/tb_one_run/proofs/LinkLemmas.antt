@@ -126,7 +126,7 @@ tame {o} keep H c free b x m w F s k n h =
     (λ y.
     let r = clash_shares x.action w.action h in
     absurd (free (record {
-      behind = b;
+      newer = b;
       later = x ∷ (m ++ w ∷ F);
       earlier = w ∷ F;
       split = s;

@@ -97,17 +97,17 @@ nothing_listed (Some x) xs h = cc
 
 -- a race is among the later events or the newest has one
 race_up : (v : Event) (H : History) → HasRace Synchronised H → HasRace Synchronised (v ∷ H)
-race_up v H r = record { behind = v ∷ r.behind; later = r.later; earlier = r.earlier; split = ap (λ G. v ∷ G) r.split; race = r.race }
+race_up v H r = record { newer = v ∷ r.newer; later = r.later; earlier = r.earlier; split = ap (λ G. v ∷ G) r.split; race = r.race }
 
 race_here : (v : Event) (H G : History) → IsRace Synchronised (v ∷ H) G → HasRace Synchronised (v ∷ H)
-race_here v H G r = record { behind = []; later = v ∷ H; earlier = G; split = refl; race = r }
+race_here v H G r = record { newer = []; later = v ∷ H; earlier = G; split = refl; race = r }
 
 race_down : (o : Order) (v : Event) (H b F G : History) → v ∷ H ≡ b ++ F → IsRace o F G → (F ≡ v ∷ H) ⊎ HasRace o H
 race_down o v H [] F G e r = inl (sym e)
-race_down o v H (x ∷ b) F G e r = inr (record { behind = b; later = F; earlier = G; split = cc; race = r })
+race_down o v H (x ∷ b) F G e r = inr (record { newer = b; later = F; earlier = G; split = cc; race = r })
 
 none_in_none : (o : Order) → HasRace o [] → ⊥
-none_in_none o r = at r.behind r.later r.earlier r.split r.race
+none_in_none o r = at r.newer r.later r.earlier r.split r.race
   where
     at : (b F G : History) → [] ≡ b ++ F → IsRace o F G → ⊥
     at [] F G e (unordered q v u between front shares both not) = cc
@@ -121,7 +121,7 @@ AllNameNone o (v ∷ H) = AllNameNone o H × (newest_race o H v H ≡ None)
 pub unraced : (o : Order) (H : History) → AllNameNone o H → HasRace o H → ⊥
 unraced o [] n r = none_in_none o r
 unraced o (v ∷ H) n r =
-    ⊎_elim (λ e. none_races (subst (λ F. IsRace o F r.earlier) e r.race) n.1) (λ d. unraced o H n.0 d) (race_down o v H r.behind r.later r.earlier r.split r.race)
+    ⊎_elim (λ e. none_races (subst (λ F. IsRace o F r.earlier) e r.race) n.1) (λ d. unraced o H n.0 d) (race_down o v H r.newer r.later r.earlier r.split r.race)
 
 -- it is decided, and none is listed exactly where there is none
 pub decided : (H : History) → (HasRace Synchronised H × (races H ≡ [] → ⊥)) ⊎ ((HasRace Synchronised H → ⊥) × (races H ≡ []))
@@ -136,7 +136,7 @@ decided (v ∷ H) = at (decided H) (named WithExclusion H v [] H refl) (named Sy
         inl (race_here v H y.0 y.1, λ e. none_races y.1 (none_both _ _ (nothing_listed (race_of H v) (races H) e).0).1)
     at (inr r) (inl x) (inl y) =
         inr (
-          λ q. ⊎_elim (λ e. none_races (subst (λ F. IsRace Synchronised F q.earlier) e q.race) y) (λ d. r.0 d) (race_down Synchronised v H q.behind q.later q.earlier q.split q.race),
+          λ q. ⊎_elim (λ e. none_races (subst (λ F. IsRace Synchronised F q.earlier) e q.race) y) (λ d. r.0 d) (race_down Synchronised v H q.newer q.later q.earlier q.split q.race),
           ap (λ c. option_to_list c ++ races H) (ap (λ c. option_or c (newest_race Synchronised H v H)) x ∙ y) ∙ r.1,
         )
 

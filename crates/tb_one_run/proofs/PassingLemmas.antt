@@ -56,7 +56,7 @@ planned_stays P s t o n x =
     ap₂ (λ acts k. action_of P.cells t (suc (spawn_count acts)) (config P k.line k.args acts).regs x (instr_at P (config P k.line k.args acts).line).statement)
     (own_same t s o) (ap (called_by P.root_line) (spawn_same t s n))
 
--- so an event that needs none of those that go is next behind those that stay
+-- so an event that needs none of those that go is next after those that stay
 pub next_stays : (P : Program) {H K R : History} → Parts H K R → (v : Event) → list_any (needs H v) R ≡ false → IsNext P H v → IsNext P K v
 next_stays P {H} {K} {R} s v n i = record {
   may = follows_stays P.cells H K R s v n i.may;

@@ -219,7 +219,7 @@ module _ (P : Program) (w : WellFormed P) (H : History) (lh : LegalFor P H) (don
     in_order : (b V d U : History) → H ≡ b ++ v ∷ V → length (own v.task V) ≡ length (own v.task (between ++ u ∷ front)) → H ≡ d ++ u ∷ U → length (own u.task U) ≡ length (own u.task front) → (m : History) → V ≡ m ++ u ∷ U → (ComesAfter Synchronised (v ∷ (between ++ u ∷ front)) (u ∷ front) → ⊥) → ⊥
     in_order b V d U e n f k m q not =
         free (record {
-          behind = b;
+          newer = b;
           later = v ∷ (m ++ u ∷ U);
           earlier = u ∷ U;
           split = e ∙ ap (λ G. b ++ v ∷ G) q;
@@ -253,4 +253,4 @@ module _ (P : Program) (w : WellFormed P) (H : History) (lh : LegalFor P H) (don
   not_one (unordered o v u between front shares both not) c e = ordered c v u between front shares both e not
 
   pub no_race : HasRace Synchronised K → ⊥
-  no_race r = not_one r.race r.behind r.split
+  no_race r = not_one r.race r.newer r.split
