@@ -80,7 +80,7 @@ pub record Found (e : StepId) (entries : List Entry) (later : ℕ) (places : Lis
   pub their_events : events_at entries places ≡ reverse (removed e (history_of (take later entries)))
   pub past : e.k ≤ length (own e.task (history_of (take later entries)))
 
-events_pushed : (entries : List Entry) (places : List ℕ) (p : ℕ) (e : Entry) → p < length entries → e ≡ get_or entries p e → events_at entries (places ++ p ∷ []) ≡ events_at entries places ++ e.event ∷ []
+pub events_pushed : (entries : List Entry) (places : List ℕ) (p : ℕ) (e : Entry) → p < length entries → e ≡ get_or entries p e → events_at entries (places ++ p ∷ []) ≡ events_at entries places ++ e.event ∷ []
 events_pushed entries [] p e within here =
     ap (λ (o : Option Entry). map (λ (x : Entry). x.event) (option_to_list o) ++ []) (slice_get_read entries (length entries) p e refl within here)
 events_pushed entries (q ∷ places) p e within here =

@@ -38,8 +38,9 @@ Commands:
   undo ID                                   take a step back that nothing needs
   roll ID, rolltask T, rollcell C, rollprint
                                             take a step back with all that need it
-  cells, out, hist, tasks, task T, ready, waits, deps T, why ID, who ID, breaks
+  cells, out, hist, tasks, task T, ready, waits, deps T, breaks
                                             show what stands
+  why ID, causes ID, who ID, races          show what needs what, and what races
   break task T, break cell C, break body B, break print, break fault, clear K
                                             stop `go` behind such a step
 

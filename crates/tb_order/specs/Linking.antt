@@ -1,5 +1,5 @@
 -- What links a step to an earlier one, and what is chained to a step by such links.
-use Rattle.std.specs.Prelude.{ℕ, List, [], ◌∷◌, Bool, true, false, ◌&&◌, ◌||◌, not, Option, Some, None, slice_get, take, option_and_then}
+use Rattle.std.specs.Prelude.{[], ◌∷◌, Bool, true, false, ◌&&◌, ◌||◌, not, Option}
 use Rattle.std.specs.List.{list_any}
 use Rattle.std.specs.Option.{option_or}
 use Rattle.tb_model.specs.declared.event.Event.{Event}
@@ -10,19 +10,19 @@ use Rattle.tb_model.specs.Needs.{needs, is_step}
 use Rattle.tb_races.specs.declared.need_kind.NeedKind.{NeedKind}
 use Rattle.tb_races.specs.declared.need_kind.NeedKind.TheVariants.{Before, Apart}
 use Rattle.tb_races.specs.Kinds.{some_if}
-use Rattle.tb_races.specs.Orders.{Order, links, counts_some}
-use Rattle.tb_races.specs.Orders.{Synchronised as ByTasks, WithExclusion as ByAll}
+use Rattle.tb_races.specs.Orders.{Order, Synchronised, WithExclusion, links, counts_some}
 use Rattle.tb_order.specs.declared.relation.Relation.{Relation}
-use Rattle.tb_order.specs.declared.relation.Relation.TheVariants.{Needs, Synchronised, WithExclusion}
+use Rattle.tb_order.specs.declared.relation.Relation.TheVariants.{Needs, Order as InOrder}
 
+-- with exclusion or without
+abbrev pub order_of : Bool → Order
+order_of true = WithExclusion
+order_of false = Synchronised
+
+-- v, behind H, is linked to the event u of H
 abbrev pub is_linked : Relation → History → Event → Event → Bool
 is_linked Needs H v u = needs H v u
-is_linked Synchronised H v u = links ByTasks H v u
-is_linked WithExclusion H v u = links ByAll H v u
-
-abbrev pub order_of : Bool → Order
-order_of true = ByAll
-order_of false = ByTasks
+is_linked (InOrder exclusion) H v u = links (order_of exclusion) H v u
 
 abbrev pub counts_in : Bool → Option NeedKind → Bool
 counts_in exclusion kind = counts_some (order_of exclusion) kind

@@ -17,8 +17,7 @@ pub fn is_linked(relation: Relation, front: &[Entry], v: &Event, u: &Event) -> b
 {
     match relation {
         Relation::Needs => needs(front, v, u),
-        Relation::Synchronised => counts(false, need_kind(front, v, u)),
-        Relation::WithExclusion => counts(true, need_kind(front, v, u)),
+        Relation::Order { exclusion } => counts(exclusion, need_kind(front, v, u)),
     }
 }
 

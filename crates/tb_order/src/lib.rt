@@ -1,11 +1,11 @@
 //! Why a step needs another, and which steps race: the answers of a core.
 #![tactic(auto)]
 
-
-
+mod asking;
+mod immediate;
 mod kinds;
-
-
+mod passing;
+mod racing;
 mod relation;
 
-
+pub use asking::{causes, races};

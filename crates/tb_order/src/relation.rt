@@ -5,8 +5,6 @@
 pub enum Relation {
     /// A direct need of any kind.
     Needs,
-    /// One of synchronisation, without exclusion.
-    Synchronised,
-    /// One of synchronisation, exclusion among it.
-    WithExclusion,
+    /// A direct need of synchronisation. Exclusion may count as such or not.
+    Order { exclusion: bool },
 }

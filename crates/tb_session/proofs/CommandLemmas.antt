@@ -2,7 +2,7 @@
 use Rattle.std.proofs.Common.{◌≡◌, ℕ, List, ◌∷◌, refl}
 use Rattle.tb_session.specs.Commands.{asked_of, Words}
 use Rattle.tb_session.specs.declared.command.Verb.{Verb}
-use Rattle.tb_session.specs.declared.command.Verb.TheVariants.{Step, Undo, Roll, RollTask, RollCell, RollPrint, Run, Clear, Tasks, Task, Cells, Out, Ready, Waits, Deps, Hist, Why, Who, Breaks}
+use Rattle.tb_session.specs.declared.command.Verb.TheVariants.{Step, Undo, Roll, RollTask, RollCell, RollPrint, Run, Clear, Tasks, Task, Cells, Out, Ready, Waits, Deps, Hist, Why, Causes, Who, Races, Breaks}
 use Rattle.tb_session.specs.declared.asked.CommandFault.TheVariants.{Count}
 use Rattle.tb_session.specs.declared.asked.Asked.TheVariants.{Fault}
 
@@ -24,5 +24,7 @@ too_many Waits word other words = refl
 too_many Deps word other words = refl
 too_many Hist word other words = refl
 too_many Why word other words = refl
+too_many Causes word other words = refl
 too_many Who word other words = refl
+too_many Races word other words = refl
 too_many Breaks word other words = refl

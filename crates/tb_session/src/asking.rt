@@ -113,6 +113,15 @@ fn asked_why(alloc: Global, word: &[u8]) -> Result<Asked, AllocError>
     }
 }
 
+fn asked_causes(alloc: Global, word: &[u8]) -> Result<Asked, AllocError>
+    ensures { IfOk result (λ a. a ≡ named (step_of word.now) (λ id. command.Show (view.Causes id))) }
+{
+    match read_step_id(alloc, word)? {
+        Some(id) => Ok(asked_view(View::Causes { id })),
+        None => Ok(Asked::Fault(CommandFault::Name)),
+    }
+}
+
 fn asked_who(alloc: Global, word: &[u8]) -> Result<Asked, AllocError>
     ensures { IfOk result (λ a. a ≡ named (step_of word.now) (λ id. command.Show (view.Who id))) }
 {
@@ -154,6 +163,7 @@ fn asked_alone(verb: Verb) -> Asked
         Verb::Ready => asked_view(View::Ready),
         Verb::Waits => asked_view(View::Waits),
         Verb::Hist => asked_view(View::Hist),
+        Verb::Races => asked_view(View::Races),
         Verb::Breaks => asked_view(View::Breaks),
         _ => Asked::Fault(CommandFault::Count),
     }
@@ -174,6 +184,7 @@ fn asked_with(alloc: Global, verb: Verb, word: &[u8]) -> Result<Asked, AllocErro
         Verb::Task => asked_task(alloc, word),
         Verb::Deps => asked_deps(alloc, word),
         Verb::Why => asked_why(alloc, word),
+        Verb::Causes => asked_causes(alloc, word),
         Verb::Who => asked_who(alloc, word),
         _ => Ok(Asked::Fault(CommandFault::Count)),
     }

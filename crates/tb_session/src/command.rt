@@ -26,7 +26,9 @@ pub enum Verb {
     Deps,
     Hist,
     Why,
+    Causes,
     Who,
+    Races,
     Breaks,
 }
 

@@ -28,8 +28,12 @@ fn view_verb(word: &[u8]) -> Option<Verb>
         Some(Verb::Hist)
     } else if same_word(word, b"why") {
         Some(Verb::Why)
+    } else if same_word(word, b"causes") {
+        Some(Verb::Causes)
     } else if same_word(word, b"who") {
         Some(Verb::Who)
+    } else if same_word(word, b"races") {
+        Some(Verb::Races)
     } else if same_word(word, b"breaks") {
         Some(Verb::Breaks)
     } else {

@@ -3,6 +3,7 @@ mod CountLemmas
 mod WalkLemmas
 mod NeedLemmas
 mod ShownLemmas
+mod ReasonLemmas
 mod ListingLemmas
 mod TaskLemmas
 mod StateLemmas

@@ -1,5 +1,5 @@
 -- Siblings by their numbers, and relations told along the entries.
-use Rattle.std.proofs.Common.{◌≡◌, ◌<◌, ◌≤◌, ◌+◌, ℕ, List, [], ◌∷◌, ◌++◌, ◌&&◌, ◌||◌, Bool, true, false, length, take, drop, refl, sym, ap, ap₂, ◌∙◌, arith, get_or, length-append, Option, Some, None, IfSome, slice_get, reverse, map, inl, inr, ⊎_elim}
+use Rattle.std.proofs.Common.{◌≡◌, ◌<◌, ◌≤◌, ◌+◌, ℕ, List, [], ◌∷◌, ◌++◌, ◌||◌, true, length, take, drop, sym, ap, ap₂, ◌∙◌, arith, get_or, length-append, Option, Some, None, IfSome, slice_get, reverse, map, ⊎_elim}
 use Rattle.std.proofs.lemmas.Bool.{false≢true, and_parts, or_cases}
 use Rattle.std.proofs.lemmas.List.{take_all}
 use Rattle.tb_model.specs.Names.{Name, child, same_name, is_elder}

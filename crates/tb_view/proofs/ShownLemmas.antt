@@ -42,6 +42,9 @@ module _ (s : Session) (run : Seen) (entries : List Entry) (leaves : events run 
       ap (λ (Q : Program). chosen_text word Q seen (history_of entries)) program
       ∙ ap₂ (λ S H. chosen_text word s.program S H) seen_are (entries_are s run entries leaves shows)
 
+-- ---- a step stands
+
+module _ (s : Session) (run : Seen) (id : StepId) (leaves : events run ≡ history s) where
   stands_then : (b : Bool) → (b ≡ false → ⊥) → b ≡ true
   stands_then true h = refl
   stands_then false h = absurd (h refl)

@@ -1,20 +1,19 @@
 -- How far a task is, told by its count of steps, whether it has ended, and the line that it keeps.
-use Rattle.std.proofs.Common.{◌≡◌, ◌≢◌, ℕ, suc, List, [], ◌∷◌, ◌&&◌, ◌||◌, Bool, true, false, cond, length, map, refl, sym, ap, ◌∙◌, subst, arith, ℤ, Option, Some, None, codes, ◌++◌, not}
+use Rattle.std.proofs.Common.{◌≡◌, ◌≢◌, ℕ, suc, List, [], ◌∷◌, ◌&&◌, ◌||◌, Bool, true, false, cond, length, map, refl, sym, ap, ◌∙◌, subst, arith, ℤ, Option, Some, None, codes, ◌++◌}
 use Rattle.std.specs.Fmt.{decimal}
 use Rattle.std.specs.List.{list_any}
-use Rattle.std.proofs.lemmas.Bool.{false≢true, false_from_ne_true}
+use Rattle.std.proofs.lemmas.Bool.{false≢true}
 use Rattle.tb_model.specs.declared.item.Item.{Item}
 use Rattle.tb_model.specs.declared.action.Action.{Action}
 use Rattle.tb_model.specs.declared.action.Action.TheVariants.{Start, Let, Load, Store, Print, Spawn, Wait, Open, Close, Test, End, Fault}
 use Rattle.tb_model.specs.declared.statement.Statement.{Statement}
 use Rattle.tb_model.specs.declared.statement.Statement.TheVariants.{Start as DoStart, Let as DoLet, Compute as DoCompute, Load as DoLoad, Store as DoStore, Print as DoPrint, Task as DoTask, Taskwait as DoTaskwait, Taskgroup as DoTaskgroup, EndTaskgroup as DoEndTaskgroup, Test as DoTest, End as DoEnd}
-use Rattle.tb_model.specs.declared.event.Event.{Event}
 use Rattle.tb_model.specs.Names.{Name}
-use Rattle.tb_model.specs.Facts.{History, is_of, own, is_end, ends, spawns, is_spawned}
+use Rattle.tb_model.specs.Facts.{History, is_of, own, is_end, ends, is_spawned}
 use Rattle.tb_model.specs.Legal.{Cells, spawn_count}
-use Rattle.tb_model.specs.State.{Status, Pending, Running, Ended, Faulted, status_of, is_over, open_groups}
-use Rattle.tb_model.specs.Program.{Program, Config as Place, Instr, instr_at, action_of, or_fault, items_or_fault, cell_at, items_at, value, is_deferred, is_met, situation, planned, loaded, moved, LegalFor}
-use Rattle.tb_model.proofs.FactsLemmas.{own_mine, own_other, acted_spawned, not_again, not_running}
+use Rattle.tb_model.specs.State.{Running, Ended, Faulted, status_of, is_over, open_groups}
+use Rattle.tb_model.specs.Program.{Program, Config as Place, Instr, instr_at, action_of, or_fault, items_or_fault, cell_at, items_at, value, is_deferred, situation, planned, loaded, moved, LegalFor}
+use Rattle.tb_model.proofs.FactsLemmas.{own_mine, own_other, acted_spawned, not_again}
 use Rattle.tb_model.proofs.LinesLemmas.{situation_other}
 use Rattle.tb_model.proofs.StateLemmas.{over_ended}
 use Rattle.tb_model.proofs.TestLemmas.{same_true}

@@ -1,10 +1,8 @@
 -- The tasks of a history and their bodies, along its entries.
-use Rattle.std.proofs.Common.{◌≡◌, ◌<◌, ◌+◌, ℕ, List, ◌∷◌, Bool, true, false, cond, length, take, refl, sym, ap, ◌∙◌, get_or, Option, Some, None}
-use Rattle.tb_model.specs.declared.item.Item.{Item}
+use Rattle.std.proofs.Common.{◌≡◌, ◌<◌, ◌+◌, ℕ, List, Bool, true, false, cond, length, take, refl, sym, ap, ◌∙◌, get_or, Option, Some, None}
 use Rattle.tb_model.specs.declared.action.Action.{Action}
 use Rattle.tb_model.specs.declared.action.Action.TheVariants.{Start, Let, Load, Store, Print, Spawn, Wait, Open, Close, Test, End, Fault}
 use Rattle.tb_model.specs.Names.{Name, same_name}
-use Rattle.tb_model.specs.Facts.{History}
 use Rattle.tb_model.specs.State.{spawn_of, spawn_or, called_by}
 use Rattle.tb_core.specs.declared.entry.Entry.{Entry}
 use Rattle.tb_core.specs.Scans.{history_of}

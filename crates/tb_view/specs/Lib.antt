@@ -3,6 +3,7 @@ pub mod Lines
 pub mod Listing
 pub mod Numbers
 pub mod Steps
+pub mod Reasons
 pub mod Tasks
 pub mod Waits
 pub mod Relations

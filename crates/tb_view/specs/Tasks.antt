@@ -8,7 +8,7 @@ use Rattle.tb_model.specs.declared.item.Item.{Item}
 use Rattle.tb_model.specs.Names.{Name, name_cmp}
 use Rattle.tb_model.specs.Facts.{History, own, items_of}
 use Rattle.tb_model.specs.State.{Status, Pending, Running, Ended, Faulted, status_of, open_groups}
-use Rattle.tb_model.specs.Program.{Program, Config, called, situation}
+use Rattle.tb_model.specs.Program.{Program, called, situation}
 use Rattle.tb_model.specs.Spelling.{name_text}
 use Rattle.tb_view.specs.Lines.{line, as_text}
 use Rattle.tb_view.specs.Step.{name_at, kind_text, place_text, args_text}

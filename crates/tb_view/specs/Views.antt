@@ -6,13 +6,16 @@ use Rattle.tb_model.specs.Facts.{is_spawned}
 use Rattle.tb_model.specs.Names.{Name}
 use Rattle.tb_model.specs.State.{printed}
 use Rattle.tb_cause.specs.Chains.{needers, causes_of}
+use Rattle.tb_races.specs.Immediate.{immediate_of}
+use Rattle.tb_races.specs.Racing.{races}
 use Rattle.tb_live.specs.Session.{Session, history, cell_numbers}
 use Rattle.tb_view.specs.declared.view.View.{View}
-use Rattle.tb_view.specs.declared.view.View.TheVariants.{Cells, Out, Hist, Why, Who, Tasks, Task, Ready, Waits, Deps, Breaks}
+use Rattle.tb_view.specs.declared.view.View.TheVariants.{Cells, Out, Hist, Why, Causes, Who, Races, Tasks, Task, Ready, Waits, Deps, Breaks}
 use Rattle.tb_view.specs.declared.view_refusal.ViewRefusal.{ViewRefusal}
 use Rattle.tb_view.specs.declared.view_refusal.ViewRefusal.TheVariants.{Memory, NoSuchStep, NoSuchTask}
 use Rattle.tb_view.specs.Numbers.{cells_text, out_text}
 use Rattle.tb_view.specs.Steps.{history_text, chosen_text}
+use Rattle.tb_view.specs.Reasons.{causes_text, races_text}
 use Rattle.tb_view.specs.Tasks.{tasks_text, task_text}
 use Rattle.tb_view.specs.Waits.{ready_text, waits_text}
 use Rattle.tb_view.specs.Relations.{deps_text}
@@ -27,7 +30,9 @@ view_text s Cells = cells_text (cell_numbers s)
 view_text s Out = out_text (reverse (printed (history s)))
 view_text s Hist = history_text s.program (history s)
 view_text s (Why id) = steps_text (codes "why") s (causes_of id (history s))
+view_text s (Causes id) = causes_text s.program (history s) (reverse (immediate_of id (history s)))
 view_text s (Who id) = steps_text (codes "who") s (needers id (history s))
+view_text s Races = races_text (reverse (races (history s)))
 view_text s Tasks = tasks_text s.program (history s)
 view_text s (Task t) = task_text s.program (history s) t
 view_text s Ready = ready_text s.program (history s)
@@ -46,6 +51,7 @@ unless_it_is_there s t = if is_spawned (history s) t then None else Some NoSuchT
 -- why a view isn't shown
 abbrev pub view_refusal : Session → View → Option ViewRefusal
 view_refusal s (Why id) = unless_it_stands s id
+view_refusal s (Causes id) = unless_it_stands s id
 view_refusal s (Who id) = unless_it_stands s id
 view_refusal s (Task t) = unless_it_is_there s t
 view_refusal s (Deps t) = unless_it_is_there s t

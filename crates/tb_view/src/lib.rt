@@ -7,6 +7,7 @@ mod counting;
 mod hindrances;
 mod listing;
 mod numbers;
+mod reasons;
 mod relations;
 mod showing;
 mod states;

@@ -8,6 +8,7 @@ ghost use Rattle.tb_view.specs.declared.view_refusal.ViewRefusal.TheVariants as 
 
 use crate::breaks::breaks_text;
 use crate::numbers::{cells_text, out_text};
+use crate::reasons::{causes_text, races_text};
 use crate::relations::deps_text;
 use crate::step_line::append_line;
 use crate::steps::{chosen_text, history_text};
@@ -20,6 +21,7 @@ use std::alloc::{AllocError, Global};
 use tb_cause::{CauseRefusal, needed_by, needs};
 use tb_live::{Live, Removed};
 use tb_model::{StepId, TaskName};
+use tb_order::{causes, races};
 
 /// The text, or that memory ran out.
 fn told(text: Result<String, AllocError>) -> Result<String, ViewRefusal>
@@ -43,6 +45,30 @@ fn why_text(alloc: Global, live: &Live, id: &StepId) -> Result<String, ViewRefus
         Ok(steps) => told(chosen_text(alloc, "why", live.program(), core.legal_entries(), &steps)),
         Err(CauseRefusal::NoSuchStep) => Err(ViewRefusal::NoSuchStep),
         Err(CauseRefusal::Memory) => Err(ViewRefusal::Memory),
+    }
+}
+
+fn needed_at_once(alloc: Global, live: &Live, id: &StepId) -> Result<String, ViewRefusal>
+    ensures shown { IfOk result
+        (λ text. IsShown live.now.session (view.Causes id.now) (string_bytes text)) }
+    ensures refused { IfErr result (IsRefused live.now.session (view.Causes id.now)) }
+{
+    let core = live.core();
+    match causes(alloc, core, id) {
+        Ok(causes) => told(causes_text(alloc, live.program(), core.legal_entries(), &causes)),
+        Err(CauseRefusal::NoSuchStep) => Err(ViewRefusal::NoSuchStep),
+        Err(CauseRefusal::Memory) => Err(ViewRefusal::Memory),
+    }
+}
+
+fn raced(alloc: Global, live: &Live) -> Result<String, ViewRefusal>
+    ensures shown { IfOk result
+        (λ text. IsShown live.now.session view.Races (string_bytes text)) }
+    ensures refused { IfErr result (IsRefused live.now.session view.Races) }
+{
+    match races(alloc, live.core()) {
+        Ok(races) => told(races_text(alloc, &races)),
+        Err(_) => Err(ViewRefusal::Memory),
     }
 }
 
@@ -92,7 +118,9 @@ fn written(alloc: Global, live: &Live, view: &View) -> Result<String, ViewRefusa
         View::Out => told(out_text(alloc, live.output())),
         View::Hist => told(history_text(alloc, live.program(), live.core().legal_entries())),
         View::Why { id } => why_text(alloc, live, id),
+        View::Causes { id } => needed_at_once(alloc, live, id),
         View::Who { id } => who_text(alloc, live, id),
+        View::Races => raced(alloc, live),
         View::Tasks => told(tasks_text(alloc, live.program(), live.core())),
         View::Task { task } => one_task(alloc, live, task),
         View::Ready => told(ready_text(alloc, live)),

@@ -13,8 +13,12 @@ pub enum View {
     Hist,
     /// The steps that a step needs.
     Why { id: StepId },
+    /// The immediate needs of a step, each with its kind.
+    Causes { id: StepId },
     /// The steps that need a step.
     Who { id: StepId },
+    /// For each step that races with earlier ones the race that is named.
+    Races,
     /// All tasks, and how far each has come.
     Tasks,
     /// A task: its body, its position, its registers, its open groups and its items.

@@ -1,4 +1,4 @@
-use Rattle.std.proofs.Common.{◌∙◌, arith}
+use Rattle.std.proofs.Common.{arith}
 use Rattle.tb_core.specs.Seen.{history}
 use Rattle.tb_view.proofs.RelationLemmas.{among_more, number_more}
 use Rattle.tb_view.proofs.relations.deps_text.Goals as goal

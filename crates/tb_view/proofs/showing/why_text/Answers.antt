@@ -16,7 +16,6 @@ returns-in-Ok-clause-shown c =
     let text = steps_text_is live run c.legal_entries.result.now c.core-core.ensures.history c.legal_entries.ensures.steps causes_of c.args.id.now c.in-Ok.steps.items c.deref.result.now
     c.in-Ok.ensures.steps c.deref.ensures.value (codes "why") c.program.result.now c.program.ensures
     in
-    let there = it_stands live run c.legal_entries.result.now c.core-core.ensures.history c.legal_entries.ensures.steps causes_of c.args.id.now c.in-Ok.steps.items c.deref.result.now
-    c.in-Ok.ensures.steps c.deref.ensures.value (λ z. not_err _ _ (c.in-Ok.ensures.absent.1 z))
+    let there = it_stands live run c.args.id.now c.core-core.ensures.history (λ z. not_err _ _ (c.in-Ok.ensures.absent.1 z))
     in
     ok_then c.told.result _ _ (λ given is. record { unrefused = there; text_is = is ∙ text }) (c.told.ensures.ok _ c.chosen_text.ensures)

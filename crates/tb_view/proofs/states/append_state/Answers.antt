@@ -4,7 +4,7 @@ use Rattle.tb_model.specs.Program.{instr_at}
 use Rattle.tb_read.specs.declared.config.Config.{Config}
 use Rattle.tb_read.specs.Followed.{is_last}
 use Rattle.tb_core.specs.Situation.{config_of}
-use Rattle.tb_view.proofs.StateLemmas.{is_known, is_absent, no_step, not_there, still_going, is_done}
+use Rattle.tb_view.proofs.StateLemmas.{is_known, is_absent, not_there, still_going, is_done}
 use Rattle.tb_view.proofs.states.append_state.Goals as goal
 
 pub returns-in_default : goal.returns-in_default
