@@ -46,12 +46,13 @@ none_both : {A : Type 0} (o p : Option A) → option_or o p ≡ None → (o ≡ 
 none_both (Some x) p h = cc
 none_both None p h = (refl, h)
 
-contested_some : (t : Bool) (s r : Option Conflict) → r ≡ cond t None s → (c : Conflict) → r ≡ Some c → (t ≡ false) × (s ≡ Some c)
+-- what is contested is a conflict, and not in order
+pub contested_some : (t : Bool) (s r : Option Conflict) → r ≡ cond t None s → (c : Conflict) → r ≡ Some c → (t ≡ false) × (s ≡ Some c)
 contested_some true s r e c h = absurd (let z : None ≡ Some c = sym e ∙ h in cc)
 contested_some false s r e c h = (refl, sym e ∙ h)
 
 -- v, behind H, races with an event of K, or none is named
-named : (o : Order) (H : History) (v : Event) (m K : History) → H ≡ m ++ K → (newest_race o H v K ≡ None) ⊎ ((G : History) × IsRace o (v ∷ H) G)
+pub named : (o : Order) (H : History) (v : Event) (m K : History) → H ≡ m ++ K → (newest_race o H v K ≡ None) ⊎ ((G : History) × IsRace o (v ∷ H) G)
 named o H v m [] e = inl refl
 named o H v m (u ∷ K) e = at (contested o H v K u) refl (named o H v (m ++ u ∷ []) K (e ∙ sym (append_assoc m (u ∷ []) K)))
   where
@@ -81,7 +82,7 @@ abbrev NamesNone : Order → History → Type 0
 NamesNone o [] = Unit {0}
 NamesNone o (v ∷ H) = newest_race o H v H ≡ None
 
-none_races : {o : Order} {F G : History} → IsRace o F G → NamesNone o F → ⊥
+pub none_races : {o : Order} {F G : History} → IsRace o F G → NamesNone o F → ⊥
 none_races (unordered o v u between front shares both not) h = at (comes_after o (step_of front u) (between ++ u ∷ front) v) refl
   where
     at : (c : Bool) → comes_after o (step_of front u) (between ++ u ∷ front) v ≡ c → ⊥
