@@ -1,5 +1,5 @@
 -- What is listed of an event is the newest of its races that aren't apart, else the newest.
-use Rattle.std.proofs.Common.{◌≡◌, List, [], ◌∷◌, ◌++◌, Bool, true, false, cond, ◌⊎◌, inl, inr, ⊎_elim, ◌↔◌, refl, sym, ap, ◌∙◌, subst, append_assoc, Option, Some, None, option_map}
+use Rattle.std.proofs.Common.{◌≡◌, [], ◌∷◌, ◌++◌, Bool, true, false, cond, ⊎_elim, ◌↔◌, refl, sym, ap, ◌∙◌, subst, Option, Some, None, option_map}
 use Rattle.std.specs.Option.{option_or}
 use Rattle.std.proofs.lemmas.Bool.{both_ways, false≢true}
 use Rattle.tb_model.specs.declared.event.Event.{Event}
@@ -7,7 +7,7 @@ use Rattle.tb_model.specs.Facts.{History}
 use Rattle.tb_model.specs.Needs.{step_of}
 use Rattle.tb_races.specs.declared.conflict.Conflict.{Conflict}
 use Rattle.tb_races.specs.declared.race.Race.{Race}
-use Rattle.tb_races.specs.Orders.{Order, Synchronised, WithExclusion, ComesAfter, comes_after}
+use Rattle.tb_races.specs.Orders.{Order, Synchronised, WithExclusion, comes_after}
 use Rattle.tb_races.specs.Racing.{conflict, IsRace, unordered, contested, is_apart, as_race, newest_race, race_of}
 use Rattle.tb_one_run.specs.Rows.{order_of, IsRow}
 use Rattle.tb_one_run.proofs.PassLemmas.{found_by_pass}
@@ -133,11 +133,11 @@ row H v r e = at (newest_race WithExclusion H v H) refl
 pub no_row : (H : History) (v : Event) → (race_of H v ≡ None) ↔ ((G : History) → IsRace Synchronised (v ∷ H) G → ⊥)
 no_row H v = (
   λ e G i.
-  none_races i (both (newest_race WithExclusion H v H) (newest_race Synchronised H v H) e).1,
+      none_races i (both (newest_race WithExclusion H v H) (newest_race Synchronised H v H) e).1,
   λ n.
-  ⊎_elim
-  (λ x. ⊎_elim (λ y. ap (λ c. option_or c (newest_race Synchronised H v H)) x ∙ y) (λ y. absurd (n y.0 y.1)) (named Synchronised H v [] H refl))
-  (λ x. absurd (n x.0 (less_race x.1))) (named WithExclusion H v [] H refl),
+      ⊎_elim
+      (λ x. ⊎_elim (λ y. ap (λ c. option_or c (newest_race Synchronised H v H)) x ∙ y) (λ y. absurd (n y.0 y.1)) (named Synchronised H v [] H refl))
+      (λ x. absurd (n x.0 (less_race x.1))) (named WithExclusion H v [] H refl),
 )
   where
     both : (o p : Option Race) → option_or o p ≡ None → (o ≡ None) × (p ≡ None)
