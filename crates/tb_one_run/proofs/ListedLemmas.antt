@@ -30,6 +30,7 @@ more_some : (k : Option NeedKind) → counts_some Synchronised k ≡ true → co
 more_some None h = h
 more_some (Some k) h = more_counts k h
 
+-- so what is synchronised is in order with exclusion
 pub more_order : {F G : History} → ComesAfter Synchronised F G → ComesAfter WithExclusion F G
 more_order (directly o v u between front h) =
     directly WithExclusion v u between front (more_some (need_kind (between ++ u ∷ front) v u) h)
@@ -82,6 +83,7 @@ abbrev NamesNone : Order → History → Type 0
 NamesNone o [] = Unit {0}
 NamesNone o (v ∷ H) = newest_race o H v H ≡ None
 
+-- so it has no race
 pub none_races : {o : Order} {F G : History} → IsRace o F G → NamesNone o F → ⊥
 none_races (unordered o v u between front shares both not) h = at (comes_after o (step_of front u) (between ++ u ∷ front) v) refl
   where
@@ -119,6 +121,7 @@ abbrev pub AllNameNone : Order → History → Type 0
 AllNameNone o [] = Unit {0}
 AllNameNone o (v ∷ H) = AllNameNone o H × (newest_race o H v H ≡ None)
 
+-- so there is no race
 pub unraced : (o : Order) (H : History) → AllNameNone o H → HasRace o H → ⊥
 unraced o [] n r = none_in_none o r
 unraced o (v ∷ H) n r =

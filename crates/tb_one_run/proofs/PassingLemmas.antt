@@ -27,6 +27,7 @@ abbrev pub late_passing : (History → Bool) → History → History → History
 late_passing p [] front = []
 late_passing p (v ∷ b) front = prepend_if (p (v ∷ (b ++ front))) v (late_passing p b front)
 
+-- a history is those that pass and those that fail
 pub passing_parts : (p : History → Bool) (H : History) → Parts H (passing p H) (failing p H)
 passing_parts p [] = parts.none
 passing_parts p (v ∷ H) = one_more (p (v ∷ H)) v (passing_parts p H)
@@ -35,6 +36,7 @@ put_append : (c : Bool) (v : Event) (G F : History) → prepend_if c v G ++ F �
 put_append true v G F = refl
 put_append false v G F = refl
 
+-- the later part and the front pass each by themselves
 pub passing_split : (p : History → Bool) (b F : History) → passing p (b ++ F) ≡ late_passing p b F ++ passing p F
 passing_split p [] F = refl
 passing_split p (v ∷ b) F =

@@ -27,6 +27,7 @@ module _ (cells : Cells) (H A B : History) (lh : Legal cells H) (la : Legal cell
   wait_same t Close u o st sx su sy = ap (λ acts. some_if (is_member acts u) Group) o
   wait_same t _ u o st sx su sy = refl
 
+  -- and so the need has one kind
   pub kind_same : (v u : Event) → own v.task A ≡ own v.task B → IsSpawned A v.task → IsSpawned B v.task → IsSpawned A u.task → IsSpawned B u.task → need_kind A v u ≡ need_kind B v u
   kind_same v u o st sx su sy =
       ap (λ k. cond (is_of v.task u) (Some Task) (cond (spawns v.task u) (Some Spawned) (option_or (option_map Conflicts (shared v.action u.action)) (cond (is_end u.action) k None))))
