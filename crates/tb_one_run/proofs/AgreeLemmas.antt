@@ -86,7 +86,8 @@ spawn_older n [] acts h = refl
 spawn_older n (a ∷ later) acts h =
     one_spawn n a (later ++ acts) (omega (arith, h, count_older later acts)) ∙ spawn_older n later acts h
 
-pub root_not : (cells : Cells) (H : History) (v : Event) → MayFollow cells H v → spawns [] v ≡ false
+-- no event generates the root
+root_not : (cells : Cells) (H : History) (v : Event) → MayFollow cells H v → spawns [] v ≡ false
 root_not cells H v m = false_from_ne_true (spawns [] v) (λ h. cc (spawn_names cells v.task [] (own v.task H) v.action m.own h))
 
 -- nobody generates the root
@@ -123,6 +124,7 @@ module _ (cells : Cells) (A B : History) (la : Legal cells A) (lb : Legal cells 
       let a = ((children_numbered cells A t n la).0 s).1 in
       spawned_back m u b (omega (arith, ltb-true m n o.0, a, ap (λ x. spawn_count (own x A)) q))
 
+  -- or a child of a task with the same actions
   pub child_back : (t u : Name) → own t A ≡ own t B → is_child t u ≡ true → IsSpawned B u → IsSpawned A u
   child_back t [] e c b = refl
   child_back t (n ∷ p) e c b =
@@ -143,6 +145,7 @@ module _ (cells : Cells) (A B : History) (la : Legal cells A) (lb : Legal cells 
   before_too (m ∷ u) (n ∷ t) su st =
       ap₂ (λ i j. is_elder (m ∷ u) (n ∷ t) && some_meet is_before i j) (items_too n t st) (items_too m u su)
 
+  -- and the same apart from it
   pub apart_too : (u t : Name) → IsSpawned A u → IsSpawned A t → apart B u t ≡ apart A u t
   apart_too [] [] su st = refl
   apart_too [] (n ∷ t) su st = refl

@@ -113,7 +113,7 @@ load_race =
     both_ways false refl ((found_by_pass WithExclusion (by (2 ∷ []) Start ∷ []) read stores (by (1 ∷ []) Start ∷ generated)).1 a))
 
 earlier_race : HasRace WithExclusion front
-earlier_race = record { behind = by (3 ∷ []) Start ∷ earlier ∷ []; later = loaded; earlier = stored; split = refl; race = load_race }
+earlier_race = record { newer = by (3 ∷ []) Start ∷ earlier ∷ []; later = loaded; earlier = stored; split = refl; race = load_race }
 
 -- in front of the two b reads 1, and nothing stored it
 no_run : IsReal program (leading WithExclusion (later ∷ front) (earlier ∷ loaded) front) earlier later → ⊥

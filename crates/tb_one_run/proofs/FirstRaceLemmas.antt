@@ -12,6 +12,7 @@ use Rattle.tb_one_run.proofs.TransferLemmas.{conflict_parts}
 use Rattle.tb_one_run.proofs.RealLemmas.{keep, kept_run, earlier_next}
 use Rattle.tb_one_run.proofs.LaterLemmas.{later_next}
 
+-- with f and any e with which it has such a race
 pub first_real : (P : Program) (f e : Event) (F E : History) → LegalFor P (f ∷ F) → IsRace WithExclusion (f ∷ F) (e ∷ E) → (HasRace WithExclusion F → ⊥) → IsReal P (leading WithExclusion (f ∷ F) (e ∷ E) F) e f
 first_real P f e F E l (unordered o v u m front shares both not) free =
     let below : LegalFor P F = (l.0.0, l.1.0) in

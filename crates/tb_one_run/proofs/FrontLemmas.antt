@@ -50,6 +50,7 @@ counted false false (Some r) e k f h = inr (r, refl)
 counted false false None true k f h = inl (f h)
 counted false false None false k f h = absurd (false≢true h)
 
+-- so a direct need is a link of the order with exclusion, or a conflict
 pub linked_or_conflict : (H : History) (v u : Event) → needs H v u ≡ true → (links WithExclusion H v u ≡ true) ⊎ ((r : Conflict) × (conflict v u ≡ Some r))
 linked_or_conflict H v u h =
     counted (is_of v.task u) (spawns v.task u) (shared v.action u.action) (is_end u.action) (end_kind H v.task v.action u.task) (end_counts H v.task v.action u.task) (kind_some H v u ∙ h)
@@ -69,7 +70,7 @@ module _ (F : History) (free : HasRace WithExclusion F → ⊥) where
       racing : (r : Conflict) → conflict x u ≡ Some r → comes_after WithExclusion (step_of U u) (m ++ u ∷ U) x ≡ false → ⊥
       racing r c z =
           free (record {
-            behind = b;
+            newer = b;
             later = x ∷ (m ++ u ∷ U);
             earlier = u ∷ U;
             split = e;
@@ -116,6 +117,7 @@ module _ (o : Order) (e : Event) (a E b : History) (x : Event) (X : History) (sa
       shorter : (m : History) → X ≡ m ++ E → ⊥
       shorter m q = omega (arith, reached o E e x X h, ap (λ G. length (own x.task G)) q, own_longer x.task m E)
 
+-- and back
 pub after_front : (o : Order) (e : Event) (E : History) (x : Event) (X : History) → ComesAfter o (e ∷ E) (x ∷ X) → is_in_front o (e ∷ E) (x ∷ X) ≡ true
 after_front o e E x X c = let s = proper c in at s.0 s.1 s.2
   where

@@ -1,4 +1,4 @@
--- The later event of a race, behind what the order puts in front of either.
+-- The later event of a race, after what the order puts in front of either.
 use Rattle.std.proofs.Common.{◌≡◌, ℕ, suc, ℤ, List, [], ◌∷◌, ◌++◌, Bool, true, false, cond, ◌&&◌, ◌||◌, refl, sym, ap, ◌∙◌, subst, Option, Some, None, option_map, is_some, map}
 use Rattle.std.specs.List.{list_any}
 use Rattle.std.specs.Option.{option_or}
@@ -191,6 +191,7 @@ module _ (P : Program) (p : History → Bool) (f : Event) (F : History) (b : Act
       let x = number_read P.cells G f.action in
       ap (with_number x) l.1.1 ∙ planned_with P F f.task x (loaded f.action) ∙ sym (planned_stays P s f.task none_own none_spawn x)
 
+  -- so it is next, with the number that its cell has there
   pub later_next : IsNext P G (as_read P G f)
   later_next = record {
     may =

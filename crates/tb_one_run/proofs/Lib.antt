@@ -20,3 +20,4 @@ pub mod RunExampleLemmas
 mod ExampleLemmas
 mod ChainExampleLemmas
 mod IllExampleLemmas
+pub mod RowLemmas

@@ -52,6 +52,7 @@ chosen o false false (Some c) e k h = absurd (false≢true h)
 chosen o false false None true k h = inr (inr (refl, h))
 chosen o false false None false k h = absurd (false≢true h)
 
+-- a synchronised link is of one task, from its spawn, or from an end that it waits for
 pub linked : (H : History) (x u : Event) → links Synchronised H x u ≡ true → (is_of x.task u ≡ true) ⊎ ((spawns x.task u ≡ true) ⊎ ((is_end u.action ≡ true) × ((holds (own x.task H) u.task ≡ true) ⊎ (awaits H x.task x.action u.task ≡ true))))
 linked H x u h =
     ⊎_elim (λ a. inl a) (λ a. ⊎_elim (λ b. inr (inl b)) (λ b. inr (inr (b.0, end_counts H x.task x.action u.task b.1))) a)
@@ -116,6 +117,7 @@ shares_output Fault b h = absurd (false≢true h)
 abbrev pub clash : Action → Action → Bool
 clash a b = conflicts a b || (is_print a && is_print b)
 
+-- so they conflict
 pub clash_shares : (a b : Action) → clash a b ≡ true → (r : Conflict) × (shared a b ≡ Some r)
 clash_shares a b h = ⊎_elim (λ c. shares_cell a b c) (λ c. shares_output a b c) (or_cases (conflicts a b) (is_print a && is_print b) h)
 
@@ -126,7 +128,7 @@ tame {o} keep H c free b x m w F s k n h =
     (λ y.
     let r = clash_shares x.action w.action h in
     absurd (free (record {
-      behind = b;
+      newer = b;
       later = x ∷ (m ++ w ∷ F);
       earlier = w ∷ F;
       split = s;

@@ -30,6 +30,7 @@ more_some : (k : Option NeedKind) → counts_some Synchronised k ≡ true → co
 more_some None h = h
 more_some (Some k) h = more_counts k h
 
+-- so what is synchronised is in order with exclusion
 pub more_order : {F G : History} → ComesAfter Synchronised F G → ComesAfter WithExclusion F G
 more_order (directly o v u between front h) =
     directly WithExclusion v u between front (more_some (need_kind (between ++ u ∷ front) v u) h)
@@ -46,12 +47,13 @@ none_both : {A : Type 0} (o p : Option A) → option_or o p ≡ None → (o ≡ 
 none_both (Some x) p h = cc
 none_both None p h = (refl, h)
 
-contested_some : (t : Bool) (s r : Option Conflict) → r ≡ cond t None s → (c : Conflict) → r ≡ Some c → (t ≡ false) × (s ≡ Some c)
+-- what is contested is a conflict, and not in order
+pub contested_some : (t : Bool) (s r : Option Conflict) → r ≡ cond t None s → (c : Conflict) → r ≡ Some c → (t ≡ false) × (s ≡ Some c)
 contested_some true s r e c h = absurd (let z : None ≡ Some c = sym e ∙ h in cc)
 contested_some false s r e c h = (refl, sym e ∙ h)
 
 -- v, behind H, races with an event of K, or none is named
-named : (o : Order) (H : History) (v : Event) (m K : History) → H ≡ m ++ K → (newest_race o H v K ≡ None) ⊎ ((G : History) × IsRace o (v ∷ H) G)
+pub named : (o : Order) (H : History) (v : Event) (m K : History) → H ≡ m ++ K → (newest_race o H v K ≡ None) ⊎ ((G : History) × IsRace o (v ∷ H) G)
 named o H v m [] e = inl refl
 named o H v m (u ∷ K) e = at (contested o H v K u) refl (named o H v (m ++ u ∷ []) K (e ∙ sym (append_assoc m (u ∷ []) K)))
   where
@@ -81,7 +83,8 @@ abbrev NamesNone : Order → History → Type 0
 NamesNone o [] = Unit {0}
 NamesNone o (v ∷ H) = newest_race o H v H ≡ None
 
-none_races : {o : Order} {F G : History} → IsRace o F G → NamesNone o F → ⊥
+-- so it has no race
+pub none_races : {o : Order} {F G : History} → IsRace o F G → NamesNone o F → ⊥
 none_races (unordered o v u between front shares both not) h = at (comes_after o (step_of front u) (between ++ u ∷ front) v) refl
   where
     at : (c : Bool) → comes_after o (step_of front u) (between ++ u ∷ front) v ≡ c → ⊥
@@ -97,17 +100,17 @@ nothing_listed (Some x) xs h = cc
 
 -- a race is among the later events or the newest has one
 race_up : (v : Event) (H : History) → HasRace Synchronised H → HasRace Synchronised (v ∷ H)
-race_up v H r = record { behind = v ∷ r.behind; later = r.later; earlier = r.earlier; split = ap (λ G. v ∷ G) r.split; race = r.race }
+race_up v H r = record { newer = v ∷ r.newer; later = r.later; earlier = r.earlier; split = ap (λ G. v ∷ G) r.split; race = r.race }
 
 race_here : (v : Event) (H G : History) → IsRace Synchronised (v ∷ H) G → HasRace Synchronised (v ∷ H)
-race_here v H G r = record { behind = []; later = v ∷ H; earlier = G; split = refl; race = r }
+race_here v H G r = record { newer = []; later = v ∷ H; earlier = G; split = refl; race = r }
 
 race_down : (o : Order) (v : Event) (H b F G : History) → v ∷ H ≡ b ++ F → IsRace o F G → (F ≡ v ∷ H) ⊎ HasRace o H
 race_down o v H [] F G e r = inl (sym e)
-race_down o v H (x ∷ b) F G e r = inr (record { behind = b; later = F; earlier = G; split = cc; race = r })
+race_down o v H (x ∷ b) F G e r = inr (record { newer = b; later = F; earlier = G; split = cc; race = r })
 
 none_in_none : (o : Order) → HasRace o [] → ⊥
-none_in_none o r = at r.behind r.later r.earlier r.split r.race
+none_in_none o r = at r.newer r.later r.earlier r.split r.race
   where
     at : (b F G : History) → [] ≡ b ++ F → IsRace o F G → ⊥
     at [] F G e (unordered q v u between front shares both not) = cc
@@ -118,10 +121,11 @@ abbrev pub AllNameNone : Order → History → Type 0
 AllNameNone o [] = Unit {0}
 AllNameNone o (v ∷ H) = AllNameNone o H × (newest_race o H v H ≡ None)
 
+-- so there is no race
 pub unraced : (o : Order) (H : History) → AllNameNone o H → HasRace o H → ⊥
 unraced o [] n r = none_in_none o r
 unraced o (v ∷ H) n r =
-    ⊎_elim (λ e. none_races (subst (λ F. IsRace o F r.earlier) e r.race) n.1) (λ d. unraced o H n.0 d) (race_down o v H r.behind r.later r.earlier r.split r.race)
+    ⊎_elim (λ e. none_races (subst (λ F. IsRace o F r.earlier) e r.race) n.1) (λ d. unraced o H n.0 d) (race_down o v H r.newer r.later r.earlier r.split r.race)
 
 -- it is decided, and none is listed exactly where there is none
 pub decided : (H : History) → (HasRace Synchronised H × (races H ≡ [] → ⊥)) ⊎ ((HasRace Synchronised H → ⊥) × (races H ≡ []))
@@ -136,7 +140,7 @@ decided (v ∷ H) = at (decided H) (named WithExclusion H v [] H refl) (named Sy
         inl (race_here v H y.0 y.1, λ e. none_races y.1 (none_both _ _ (nothing_listed (race_of H v) (races H) e).0).1)
     at (inr r) (inl x) (inl y) =
         inr (
-          λ q. ⊎_elim (λ e. none_races (subst (λ F. IsRace Synchronised F q.earlier) e q.race) y) (λ d. r.0 d) (race_down Synchronised v H q.behind q.later q.earlier q.split q.race),
+          λ q. ⊎_elim (λ e. none_races (subst (λ F. IsRace Synchronised F q.earlier) e q.race) y) (λ d. r.0 d) (race_down Synchronised v H q.newer q.later q.earlier q.split q.race),
           ap (λ c. option_to_list c ++ races H) (ap (λ c. option_or c (newest_race Synchronised H v H)) x ∙ y) ∙ r.1,
         )
 

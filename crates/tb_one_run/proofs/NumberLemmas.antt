@@ -18,6 +18,7 @@ use Rattle.tb_model.proofs.PartsLemmas.{stores_to, not_stored}
 abbrev pub IsBlind : {A : Type 0} → (Action → A) → Type 0
 IsBlind f = (r c : ℕ) (x y : ℤ) → f (Load r c x) ≡ f (Load r c y)
 
+-- what is blind says the same of a statement, whatever a load reads
 pub blind_statement : {A : Type 0} (f : Action → A) → IsBlind f → (cells : Cells) (t : Name) (n : ℕ) (regs : List ℤ) (x y : ℤ) (s : Statement) → f (action_of cells t n regs x s) ≡ f (action_of cells t n regs y s)
 blind_statement f b cells t n regs x y (DoLoad r a) = at (cell_at cells (value regs a))
   where
@@ -32,6 +33,7 @@ blind_conflicts (Store c z) r d x y = refl
 blind_conflicts (Load s c z) r d x y = refl
 blind_conflicts _ r d x y = refl
 
+-- what doesn't conflict with a load stores elsewhere
 pub conflict_load : (b : Action) (r c : ℕ) (x : ℤ) → conflicts b (Load r c x) ≡ false → is_store_to c b ≡ false
 conflict_load (Store d y) r c x h = ne_eqb c d (λ e. both_ways (d == c) h (eq-eqb d c (sym e)))
 conflict_load _ r c x h = refl

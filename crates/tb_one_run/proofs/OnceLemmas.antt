@@ -27,6 +27,7 @@ module _ (cells : Cells) (t : Name) (u : Event) (F : History) where
   pub no_end_before : Legal cells (u ∷ F) → ends t u ≡ true → list_any (ends t) F ≡ false
   no_end_before l e = false_from_ne_true (list_any (ends t) F) (λ h. no_more cells F u t l.0 l.1 (ends_own t u e) h)
 
+  -- none follows it
   pub no_end_after : (b : History) → Legal cells (b ++ u ∷ F) → ends t u ≡ true → list_any (ends t) b ≡ false
   no_end_after [] l e = refl
   no_end_after (x ∷ b) l e = false_from_ne_true (list_any (ends t) (x ∷ b)) (λ h.
@@ -37,6 +38,7 @@ module _ (cells : Cells) (t : Name) (u : Event) (F : History) where
   pub no_spawn_before : Legal cells (u ∷ F) → spawns t u ≡ true → list_any (spawns t) F ≡ false
   no_spawn_before l e = false_from_ne_true (list_any (spawns t) F) (λ h. both_ways (spawns t u) (not_again cells F l.0 u l.1 t (spawned_by t F h)) e)
 
+  -- none follows it
   pub no_spawn_after : (b : History) → Legal cells (b ++ u ∷ F) → spawns t u ≡ true → list_any (spawns t) b ≡ false
   no_spawn_after [] l e = refl
   no_spawn_after (x ∷ b) l e = false_from_ne_true (list_any (spawns t) (x ∷ b)) (λ h.

@@ -70,6 +70,7 @@ module _ (P : Program) (w : WellFormed P) (H : History) (lh : LegalFor P H) (don
       let p = place v.task (length (own v.task K)) H (goes_on K below s v nk) in
       walked_at P H K lh below free s v nk p.later p.event p.front p.split p.mine p.number
 
+  -- so it is no longer
   pub no_longer : (K : History) → LegalFor P K → length K ≤ length H
   no_longer K lk = omega (arith, (walked K lk).size, part_short K H)
 
@@ -101,5 +102,6 @@ module _ (P : Program) (w : WellFormed P) (H : History) (lh : LegalFor P H) (don
     pub alike_outcome : Alike H K
     alike_outcome = subst (λ G. Alike G K) (all_there [] H refl) alike_part
 
+    -- so they leave one state
     pub same_outcome : SameState H K
     same_outcome = same_state P.cells H K lh.0 lk.0 alike_outcome

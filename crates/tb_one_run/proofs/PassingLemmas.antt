@@ -27,6 +27,7 @@ abbrev pub late_passing : (History → Bool) → History → History → History
 late_passing p [] front = []
 late_passing p (v ∷ b) front = prepend_if (p (v ∷ (b ++ front))) v (late_passing p b front)
 
+-- a history is those that pass and those that fail
 pub passing_parts : (p : History → Bool) (H : History) → Parts H (passing p H) (failing p H)
 passing_parts p [] = parts.none
 passing_parts p (v ∷ H) = one_more (p (v ∷ H)) v (passing_parts p H)
@@ -35,6 +36,7 @@ put_append : (c : Bool) (v : Event) (G F : History) → prepend_if c v G ++ F �
 put_append true v G F = refl
 put_append false v G F = refl
 
+-- the later part and the front pass each by themselves
 pub passing_split : (p : History → Bool) (b F : History) → passing p (b ++ F) ≡ late_passing p b F ++ passing p F
 passing_split p [] F = refl
 passing_split p (v ∷ b) F =
@@ -56,7 +58,7 @@ planned_stays P s t o n x =
     ap₂ (λ acts k. action_of P.cells t (suc (spawn_count acts)) (config P k.line k.args acts).regs x (instr_at P (config P k.line k.args acts).line).statement)
     (own_same t s o) (ap (called_by P.root_line) (spawn_same t s n))
 
--- so an event that needs none of those that go is next behind those that stay
+-- so an event that needs none of those that go is next after those that stay
 pub next_stays : (P : Program) {H K R : History} → Parts H K R → (v : Event) → list_any (needs H v) R ≡ false → IsNext P H v → IsNext P K v
 next_stays P {H} {K} {R} s v n i = record {
   may = follows_stays P.cells H K R s v n i.may;

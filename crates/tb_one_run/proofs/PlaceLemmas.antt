@@ -40,6 +40,7 @@ module _ (cells : Cells) (H K : History) (lh : Legal cells H) (lk : Legal cells 
         let whole : own t (part K H) ≡ own t (part K ((b ++ w ∷ []) ++ X)) = ap (λ G. own t (part K G)) (split ∙ sym (append_assoc b (w ∷ []) X)) in
         sym (own_front K t X (omega (arith, number))) ∙ sym back ∙ sym whole ∙ alike.acts t
 
+    -- and of each task no more than H has
     pub reaches_front : Reaches X H
     reaches_front u = subst (λ G. Older (own u X) (own u G)) (sym (split ∙ sym (append_assoc b (w ∷ []) X))) (older_front u (b ++ w ∷ []) X)
 

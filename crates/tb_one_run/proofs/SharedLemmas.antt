@@ -26,6 +26,7 @@ abbrev pub part : History → History → History
 part K [] = []
 part K (v ∷ F) = prepend_if (has K (v ∷ F)) v (part K F)
 
+-- those that aren't
 abbrev pub gone : History → History → History
 gone K [] = []
 gone K (v ∷ F) = prepend_if (not (has K (v ∷ F))) v (gone K F)
@@ -39,6 +40,7 @@ put_append : (c : Bool) (v : Event) (G F : History) → prepend_if c v G ++ F �
 put_append true v G F = refl
 put_append false v G F = refl
 
+-- the later part and the front have each their own
 pub part_split : (K b F : History) → part K (b ++ F) ≡ late K b F ++ part K F
 part_split K [] F = refl
 part_split K (v ∷ b) F =
@@ -49,12 +51,14 @@ pub one_more : (c : Bool) (v : Event) {H G R : History} → Parts H G R → Part
 one_more true v s = parts.stays s
 one_more false v s = parts.goes s
 
+-- a history is those that are steps of K and the others
 pub part_gone : (K F : History) → Parts F (part K F) (gone K F)
 part_gone K [] = parts.none
 part_gone K (v ∷ F) = one_more (has K (v ∷ F)) v (part_gone K F)
 
 -- ---- one task's actions
 
+-- of a task, by its own actions
 pub has_mine : (K : History) (t : Name) (v : Event) (F : History) → is_of t v ≡ true → has K (v ∷ F) ≡ nat_lt (length (own t F)) (length (own t K))
 has_mine K t v F o = ap (λ u. nat_lt (length (own u F)) (length (own u K))) (same_true v.task t o)
 
@@ -78,6 +82,7 @@ own_front K t (v ∷ F) h = at (is_of t v) refl (own_front K t F)
     at false o rest =
         own_put t (has K (v ∷ F)) v (part K F) o ∙ rest (omega (arith, h, ap length (own_other t v F o))) ∙ sym (own_other t v F o)
 
+-- a front has no more of a task than the whole
 pub own_longer : (t : Name) (b F : History) → length (own t F) ≤ length (own t (b ++ F))
 own_longer t [] F = omega arith
 own_longer t (v ∷ b) F = omega (arith, own_longer t b F, own_grows t v (b ++ F))
@@ -129,6 +134,7 @@ older_all {acts} {all} o h = none o.0 o.1
     none [] e = sym e
     none (a ∷ later) e = absurd (omega (arith, h, ap length e ∙ length-append (a ∷ later) acts))
 
+-- of an older part, the older part
 pub older_trans : {a b c : List Action} → Older a b → Older b c → Older a c
 older_trans {a} o p = (p.0 ++ o.0, p.1 ∙ ap (λ xs. p.0 ++ xs) o.1 ∙ sym (append_assoc p.0 o.0 a))
 
@@ -153,6 +159,7 @@ pub record Place (H : History) (t : Name) (n : ℕ) : Type 0 where
   pub mine : is_of t event ≡ true
   pub number : length (own t front) ≡ n
 
+-- each number that was reached has its place
 pub place : (t : Name) (n : ℕ) (H : History) → n < length (own t H) → Place H t n
 place t n [] h = absurd (omega (arith, h))
 place t n (v ∷ H) h = at (is_of t v) (nat_lt n (length (own t H))) refl refl (place t n H)
@@ -181,6 +188,7 @@ pub record Changes (w x : Event) : Type 0 where
   pub print : (is_print x.action && is_print w.action) ≡ false
   pub spawn : (t : Name) → spawns t w ≡ true → spawns t x ≡ true → ⊥
 
+-- an event moves to the end past those with which it may change places
 pub to_end : (w : Event) (L F : History) → AllByRecursion (Changes w) L → Alike (L ++ w ∷ F) (w ∷ (L ++ F))
 to_end w [] F h = alike_refl (w ∷ F)
 to_end w (x ∷ L) F h =

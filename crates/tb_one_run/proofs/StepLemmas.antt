@@ -144,6 +144,7 @@ module _ (P : Program) (H K : History) (lh : LegalFor P H) (lk : LegalFor P K) (
         ∙ ap₂ (λ G F. G ++ F) (late_same K v b (w ∷ X) (omega (arith, number, ap length (own_mine v.task w X mine))))
         (ap (λ d. prepend_if d w (part (v ∷ K) X)) now ∙ ap (λ G. w ∷ G) (part_same K v X (omega (arith, number))))
 
+    -- so the walk goes on
     pub walked_at : Walked H (v ∷ K)
     walked_at = record {
       closed = closed_more P H K lh lk s v nk;

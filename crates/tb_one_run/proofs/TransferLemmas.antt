@@ -106,6 +106,7 @@ places [] (z ∷ b) x y F G e = inr (inl (b, cc))
 places (z ∷ a) [] x y F G e = inr (inr (a, cc))
 places (z ∷ a) (k ∷ b) x y F G e = places a b x y F G (cc)
 
+-- the front of a run is a run
 pub legal_front : (P : Program) (b F : History) → LegalFor P (b ++ F) → LegalFor P F
 legal_front P [] F l = l
 legal_front P (x ∷ b) F l = legal_front P b F (l.0.0, l.1.0)
@@ -219,7 +220,7 @@ module _ (P : Program) (w : WellFormed P) (H : History) (lh : LegalFor P H) (don
     in_order : (b V d U : History) → H ≡ b ++ v ∷ V → length (own v.task V) ≡ length (own v.task (between ++ u ∷ front)) → H ≡ d ++ u ∷ U → length (own u.task U) ≡ length (own u.task front) → (m : History) → V ≡ m ++ u ∷ U → (ComesAfter Synchronised (v ∷ (between ++ u ∷ front)) (u ∷ front) → ⊥) → ⊥
     in_order b V d U e n f k m q not =
         free (record {
-          behind = b;
+          newer = b;
           later = v ∷ (m ++ u ∷ U);
           earlier = u ∷ U;
           split = e ∙ ap (λ G. b ++ v ∷ G) q;
@@ -252,5 +253,6 @@ module _ (P : Program) (w : WellFormed P) (H : History) (lh : LegalFor P H) (don
   not_one : {F G : History} → IsRace Synchronised F G → (c : History) → K ≡ c ++ F → ⊥
   not_one (unordered o v u between front shares both not) c e = ordered c v u between front shares both e not
 
+  -- so K has no race
   pub no_race : HasRace Synchronised K → ⊥
-  no_race r = not_one r.race r.behind r.split
+  no_race r = not_one r.race r.newer r.split

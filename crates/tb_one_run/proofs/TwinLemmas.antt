@@ -14,7 +14,7 @@ use Rattle.tb_races.specs.Kinds.{some_if, shared, wait_kind, need_kind}
 use Rattle.tb_one_run.proofs.SharedLemmas.{Older, own_longer, older_front, older_trans, older_same, place}
 use Rattle.tb_one_run.proofs.AgreeLemmas.{Reaches, before_too, apart_too, covers_too}
 
--- ---- the kind of a need is the same behind fronts in which the task has done the same
+-- ---- the kind of a need is the same after fronts in which the task has done the same
 
 module _ (cells : Cells) (H A B : History) (lh : Legal cells H) (la : Legal cells A) (lb : Legal cells B) (ra : Reaches A H) (rb : Reaches B H) where
   wait_same : (t : Name) (a : Action) (u : Name) → own t A ≡ own t B → IsSpawned A t → IsSpawned B t → IsSpawned A u → IsSpawned B u → wait_kind A t a u ≡ wait_kind B t a u
@@ -27,6 +27,7 @@ module _ (cells : Cells) (H A B : History) (lh : Legal cells H) (la : Legal cell
   wait_same t Close u o st sx su sy = ap (λ acts. some_if (is_member acts u) Group) o
   wait_same t _ u o st sx su sy = refl
 
+  -- and so the need has one kind
   pub kind_same : (v u : Event) → own v.task A ≡ own v.task B → IsSpawned A v.task → IsSpawned B v.task → IsSpawned A u.task → IsSpawned B u.task → need_kind A v u ≡ need_kind B v u
   kind_same v u o st sx su sy =
       ap (λ k. cond (is_of v.task u) (Some Task) (cond (spawns v.task u) (Some Spawned) (option_or (option_map Conflicts (shared v.action u.action)) (cond (is_end u.action) k None))))

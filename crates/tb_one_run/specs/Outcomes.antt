@@ -16,10 +16,10 @@ IsFinished P H = (v : Event) → IsNext P H v → ⊥
 
 -- two events of H race, by the order: each is named by itself with all in front of it
 pub record HasRace (o : Order) (H : History) : Type 0 where
-  pub behind : History
+  pub newer : History
   pub later : History
   pub earlier : History
-  pub split : H ≡ behind ++ later
+  pub split : H ≡ newer ++ later
   pub race : IsRace o later earlier
 
 -- ---- the run that leads to two events
@@ -44,11 +44,11 @@ abbrev pub with_number : ℤ → Action → Action
 with_number x (Load r c y) = Load r c x
 with_number x a = a
 
--- the event, where a load reads what its cell has behind H
+-- the event, where a load reads what its cell has after H
 abbrev pub as_read : Program → History → Event → Event
 as_read P H v = record { task = v.task; action = with_number (number_read P.cells H v.action) v.action }
 
--- H is a run of the program, behind which both tasks can step next: the one to e, the other to f, but for the number that f reads
+-- H is a run of the program, after which both tasks can step next: the one to e, the other to f, but for the number that f reads
 pub record IsReal (P : Program) (H : History) (e f : Event) : Type 0 where
   pub run : LegalFor P H
   pub earlier : IsNext P H e
