@@ -20,6 +20,7 @@ class Actor:
         self.place = place      # the directive that made it
         self.parent = parent
         self.items = []         # (address, bits of the type)
+        self.lengths = []       # of the items, in bytes
         self.deferred = True
         self.final = False
         self.started = None     # stamps
@@ -155,7 +156,8 @@ class Run:
 
     def _item(self, event):
         if event.task in self.tasks:
-            self.tasks[event.task].items.append((event.address, event.value))
+            self.tasks[event.task].items.append((event.address, event.mark))
+            self.tasks[event.task].lengths.append(event.value)
 
     def _start(self, event):
         self.actor_of(event.task).started = event.stamp
@@ -166,7 +168,7 @@ class Run:
             actor.ended = event.stamp
 
     def _wait_item(self, event):
-        self._wait_items.setdefault(event.task, []).append((event.address, event.value))
+        self._wait_items.setdefault(event.task, []).append((event.address, event.mark))
 
     def _wait_for_items(self, event):
         self._add(event, Step("taskwait", event.place, items=self._wait_items.pop(event.task, [])))

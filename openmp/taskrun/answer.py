@@ -124,7 +124,7 @@ def remedy(session, race):
     behind = one if is_made_first(meeting, other, one) else other
     wait = f"a taskwait in front of {session.line_of(spawn_of(behind))}"
     if one is first and other is second and is_explicit(one) and is_explicit(other):
-        return f"add {depend_words(session, race)}, or {wait}"
+        return f"{depend_words(session, race)}, or {wait}"
     if is_explicit(one) and is_explicit(other):
         return (f"add a taskgroup around the task at {session.line_of(spawn_of(other if behind is one else one))}: "
                 "a depend clause orders children of one task alone")
@@ -143,15 +143,31 @@ def is_made_first(parent, one, other):
 
 
 def depend_words(session, race):
-    """`depend(inout: total)`, or `in` and `out` where one only reads."""
-    name = session.sources.expression(race.earlier.step.place)
-    if name == "memory":
-        name = session.sources.expression(race.later.step.place)
-    kinds = [lines_kind(taken) for taken in (race.earlier, race.later)]
-    places = [session.line_of(taken.actor.place) for taken in (race.earlier, race.later)]
+    """`depend(inout: total)`, or `in` and `out` where one only reads; where one of the two names the place in a
+    clause already, what the other one lacks."""
+    sides = (race.earlier, race.later)
+    places = [session.line_of(taken.actor.place) for taken in sides]
+    kinds = [lines_kind(taken) for taken in sides]
+    known = [item_name(session, taken) for taken in sides]
+    for one, other in ((0, 1), (1, 0)):
+        if known[one] and not known[other] and places[0] != places[1]:
+            return (f"add depend({kinds[other]}: {known[one]}) to the task at {places[other]} "
+                    f"(so the one at {places[one]} names that place)")
+    names = [session.sources.expression(taken.step.place) for taken in sides]
+    name = names[0] if names[0] != "memory" else names[1]
     if kinds[0] == kinds[1] or places[0] == places[1]:
-        return f"depend(inout: {name})"
-    return f"depend({kinds[0]}: {name}) at {places[0]} and depend({kinds[1]}: {name}) at {places[1]}"
+        return f"add depend(inout: {name})"
+    return f"add depend({kinds[0]}: {name}) at {places[0]} and depend({kinds[1]}: {name}) at {places[1]}"
+
+
+def item_name(session, taken):
+    """The name of the depend item of the step's task that covers what the step touches, or None."""
+    actor = taken.actor
+    names = session.sources.items(actor.place)
+    for number, ((address, _), length) in enumerate(zip(actor.items, actor.lengths)):
+        if address <= taken.step.cell.address < address + max(length, 1) and len(names) == len(actor.items):
+            return names[number]
+    return None
 
 
 def lines_kind(taken):
