@@ -49,9 +49,9 @@ class Actor:
 class Step:
     """One statement of an actor; `kind` is the notation's word."""
 
-    __slots__ = ("kind", "place", "child", "items", "cell", "value", "mark", "locks", "name")
+    __slots__ = ("kind", "place", "child", "items", "cell", "value", "mark")
 
-    def __init__(self, kind, place=0, child=None, items=(), cell=None, value=0, mark=0, locks=frozenset()):
+    def __init__(self, kind, place=0, child=None, items=(), cell=None, value=0, mark=0):
         self.kind = kind
         self.place = place
         self.child = child
@@ -59,8 +59,6 @@ class Step:
         self.cell = cell
         self.value = value
         self.mark = mark
-        self.locks = locks
-        self.name = None
 
 
 class Phase:

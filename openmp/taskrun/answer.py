@@ -24,11 +24,6 @@ class Race:
         self.later = later
         self.is_apart = is_apart
 
-    def is_locked(self):
-        """Whether a lock, a critical section or atomic operations keep the two apart: the notation doesn't say so."""
-        one, other = self.earlier.step, self.later.step
-        return bool(one.locks & other.locks) or bool(one.mark & other.mark & t.ATOMIC)
-
 
 def read_races(session, lines):
     """The races in a reply's lines."""
@@ -172,7 +167,7 @@ def item_name(session, taken):
 
 def lines_kind(taken):
     """The depend type for what the step's task does to that cell."""
-    stores = any(step.kind == "store" and step.cell is taken.step.cell for _, _, step in taken.actor.steps)
+    stores = any(step.mark & t.WRITES and step.cell is taken.step.cell for _, _, step in taken.actor.steps)
     return "inout" if stores else "in"
 
 
@@ -195,8 +190,7 @@ def answer(session, replies):
 
 def tell_outcome(session, races, lines):
     """(exit status, lines) for a legal and finished run with these races."""
-    open_races = [race for race in races if not race.is_apart and not race.is_locked()]
-    locked = sum(1 for race in races if not race.is_apart and race.is_locked())
+    open_races = [race for race in races if not race.is_apart]
     apart = [race for race in races if race.is_apart]
     if open_races:
         return RACES, lines + tell_races(session, open_races)
@@ -204,11 +198,9 @@ def tell_outcome(session, races, lines):
         return UNKNOWN, lines + [f"up to its end the trace is legal and has no race, but {len(session.unfinished)} tasks "
                                  "hadn't ended: nothing is said of other schedules"]
     done = f"a legal run of {len(session.actors) - 1} tasks without a race"
-    if locked:
-        lines.append(f"{locked} pairs are kept apart by a lock, a critical section or atomic operations alone")
     if apart:
         shown = sorted({f"{session.describe(race.earlier)}, {session.describe(race.later)}" for race in apart})
         lines += [f"either may come first, never both at once (mutexinoutset): {pair}" for pair in shown]
-    if locked or apart or session.unsaid():
+    if apart or session.unsaid():
         return NONE, lines + [f"{done}: {FOR_EVERY}, as far as what is told above comes out alike in either order"]
     return NONE, lines + [f"{done}: {FOR_EVERY}"]
