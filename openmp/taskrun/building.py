@@ -62,6 +62,19 @@ def recorder_objects(compiler, names):
     return objects
 
 
+def compile_options(words):
+    """The words that aren't files, and don't speak of what is linked."""
+    options, skip = [], False
+    for word in words:
+        if skip or word == "-o":
+            skip = not skip
+        elif word.startswith("-") and not word.startswith(("-l", "-L", "-Wl,")):
+            options.append(word)
+        elif options and options[-1] in ("-I", "-D", "-U", "-include", "-isystem", "-x"):
+            options.append(word)
+    return options
+
+
 def wraps(names):
     return [f"-Wl,--wrap={name}" for name in names]
 
@@ -79,8 +92,7 @@ def compile_program(words):
         return subprocess.run([driver, *COMPILING, *words], check=False).returncode
     with tempfile.TemporaryDirectory() as folder:
         linking = list(words)
-        options = [word for word in words if word.startswith(("-O", "-D", "-I", "-U", "-std", "-f", "-W", "-m", "-g"))
-                   and not word.startswith("-Wl,")]
+        options = compile_options(words)
         for number, source in enumerate(sources):
             made = os.path.join(folder, f"{number}.o")
             status = subprocess.run([driver, *COMPILING, *options, "-c", source, "-o", made], check=False).returncode
