@@ -180,8 +180,8 @@ def answer(session, replies):
         return FAULT, tell_fault(session, number, replies.steps[number])
     lines = [f"not said by the notation: {name}: {count}" for name, count in session.unsaid()]
     if session.is_cut:
-        return UNKNOWN, lines + ["events are missing from the trace (no room for its file?), or tasks were too deep to follow: "
-                                 "nothing is answered"]
+        return UNKNOWN, lines + ["events are missing from the trace (no room for its file?), or tasks were too deep "
+                                 "to follow: nothing is answered"]
     if replies.races is None:
         return UNKNOWN, lines + ["the run was legal; this program doesn't know the command `races` (it answers "
                                  "`error word`), so nothing is said of races"]
@@ -195,8 +195,8 @@ def tell_outcome(session, races, lines):
     if open_races:
         return RACES, lines + tell_races(session, open_races)
     if session.unfinished:
-        return UNKNOWN, lines + [f"up to its end the trace is legal and has no race, but {len(session.unfinished)} tasks "
-                                 "hadn't ended: nothing is said of other schedules"]
+        return UNKNOWN, lines + [f"up to its end the trace is legal and has no race, but {len(session.unfinished)} "
+                                 "tasks hadn't ended: nothing is said of other schedules"]
     done = f"a legal run of {len(session.actors) - 1} tasks without a race"
     if apart:
         shown = sorted({f"{session.describe(race.earlier)}, {session.describe(race.later)}" for race in apart})

@@ -38,7 +38,8 @@ def has_runtime():
     with tempfile.TemporaryDirectory() as folder:
         source = os.path.join(folder, "probe.c")
         with open(source, "w", encoding="utf-8") as file:
-            file.write("#include <omp.h>\n#include <omp-tools.h>\nint main(void) { return omp_get_max_threads() < 0; }\n")
+            file.write("#include <omp.h>\n#include <omp-tools.h>\n"
+                       "int main(void) { return omp_get_max_threads() < 0; }\n")
         done = subprocess.run([compiler, "-fopenmp", source, "-o", os.path.join(folder, "probe")],
                               stdout=subprocess.DEVNULL, stderr=subprocess.DEVNULL, check=False)
     return done.returncode == 0
@@ -57,7 +58,8 @@ def recorder_objects(compiler, names):
             continue
         handle, part = tempfile.mkstemp(dir=CACHE, suffix=".o")
         os.close(handle)
-        subprocess.run([compiler, "-O2", "-Wall", "-Wextra", "-Wno-frame-address", "-c", source, "-o", part], check=True)
+        options = ["-O2", "-Wall", "-Wextra", "-Wno-frame-address"]
+        subprocess.run([compiler, *options, "-c", source, "-o", part], check=True)
         os.replace(part, made)
     return objects
 
