@@ -9,11 +9,11 @@
 /* The kinds of events; openmp/taskrun/trace.py has the same numbers. */
 enum kind {
     CREATE = 1,     /* task: the creator; address: the child; value: its flags; place: the directive */
-    ITEM,           /* task: the child; address; value: the type's bits */
+    ITEM,           /* task: the child; address; value: the length; mark: the type's bits */
     START,          /* task */
     END,            /* task */
     WAIT,           /* task: it has passed a taskwait */
-    WAIT_ITEM,      /* task; address; value: as of ITEM; in front of its WAIT_ITEMS */
+    WAIT_ITEM,      /* task; the rest as of ITEM; in front of its WAIT_ITEMS */
     WAIT_ITEMS,     /* task: it has passed a taskwait with items */
     GROUP_OPEN,     /* task */
     GROUP_CLOSE,    /* task */

@@ -47,7 +47,7 @@ void taskback_pop_task(struct own *own, uint32_t task) {
 static void note_items(struct own *own, uint32_t child, int count, const void *items) {
     const struct runtime_item *item = items;
     for (int i = 0; i < count; i++)
-        taskback_note(own, ITEM, child, item[i].address, item[i].type, 0);
+        taskback_note(own, ITEM, child, item[i].address, item[i].length, 0)->mark = item[i].type;
 }
 
 static void on_create(ompt_data_t *creator, const ompt_frame_t *frame, ompt_data_t *child, int flags, int depends,

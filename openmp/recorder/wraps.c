@@ -90,7 +90,7 @@ int32_t __wrap___kmpc_omp_task_with_deps(void *at, int32_t thread, void *task, i
 static void note_wait_items(struct own *own, int count, const void *items) {
     const struct runtime_item *item = items;
     for (int i = 0; i < count; i++)
-        taskback_note(own, WAIT_ITEM, own->task, item[i].address, item[i].type, 0);
+        taskback_note(own, WAIT_ITEM, own->task, item[i].address, item[i].length, 0)->mark = item[i].type;
 }
 
 /* Two things come here: an undeferred task with items, of which the record is already there, and a taskwait. */

@@ -20,6 +20,7 @@ class Actor:
         self.place = place      # the directive that made it
         self.parent = parent
         self.items = []         # (address, bits of the type)
+        self.lengths = []       # of the items, in bytes
         self.deferred = True
         self.final = False
         self.started = None     # stamps
@@ -48,9 +49,9 @@ class Actor:
 class Step:
     """One statement of an actor; `kind` is the notation's word."""
 
-    __slots__ = ("kind", "place", "child", "items", "cell", "value", "mark", "locks", "name")
+    __slots__ = ("kind", "place", "child", "items", "cell", "value", "mark")
 
-    def __init__(self, kind, place=0, child=None, items=(), cell=None, value=0, mark=0, locks=frozenset()):
+    def __init__(self, kind, place=0, child=None, items=(), cell=None, value=0, mark=0):
         self.kind = kind
         self.place = place
         self.child = child
@@ -58,8 +59,6 @@ class Step:
         self.cell = cell
         self.value = value
         self.mark = mark
-        self.locks = locks
-        self.name = None
 
 
 class Phase:
@@ -155,7 +154,8 @@ class Run:
 
     def _item(self, event):
         if event.task in self.tasks:
-            self.tasks[event.task].items.append((event.address, event.value))
+            self.tasks[event.task].items.append((event.address, event.mark))
+            self.tasks[event.task].lengths.append(event.value)
 
     def _start(self, event):
         self.actor_of(event.task).started = event.stamp
@@ -166,7 +166,7 @@ class Run:
             actor.ended = event.stamp
 
     def _wait_item(self, event):
-        self._wait_items.setdefault(event.task, []).append((event.address, event.value))
+        self._wait_items.setdefault(event.task, []).append((event.address, event.mark))
 
     def _wait_for_items(self, event):
         self._add(event, Step("taskwait", event.place, items=self._wait_items.pop(event.task, [])))

@@ -24,11 +24,6 @@ class Race:
         self.later = later
         self.is_apart = is_apart
 
-    def is_locked(self):
-        """Whether a lock, a critical section or atomic operations keep the two apart: the notation doesn't say so."""
-        one, other = self.earlier.step, self.later.step
-        return bool(one.locks & other.locks) or bool(one.mark & other.mark & t.ATOMIC)
-
 
 def read_races(session, lines):
     """The races in a reply's lines."""
@@ -124,7 +119,7 @@ def remedy(session, race):
     behind = one if is_made_first(meeting, other, one) else other
     wait = f"a taskwait in front of {session.line_of(spawn_of(behind))}"
     if one is first and other is second and is_explicit(one) and is_explicit(other):
-        return f"add {depend_words(session, race)}, or {wait}"
+        return f"{depend_words(session, race)}, or {wait}"
     if is_explicit(one) and is_explicit(other):
         return (f"add a taskgroup around the task at {session.line_of(spawn_of(other if behind is one else one))}: "
                 "a depend clause orders children of one task alone")
@@ -143,20 +138,36 @@ def is_made_first(parent, one, other):
 
 
 def depend_words(session, race):
-    """`depend(inout: total)`, or `in` and `out` where one only reads."""
-    name = session.sources.expression(race.earlier.step.place)
-    if name == "memory":
-        name = session.sources.expression(race.later.step.place)
-    kinds = [lines_kind(taken) for taken in (race.earlier, race.later)]
-    places = [session.line_of(taken.actor.place) for taken in (race.earlier, race.later)]
+    """`depend(inout: total)`, or `in` and `out` where one only reads; where one of the two names the place in a
+    clause already, what the other one lacks."""
+    sides = (race.earlier, race.later)
+    places = [session.line_of(taken.actor.place) for taken in sides]
+    kinds = [lines_kind(taken) for taken in sides]
+    known = [item_name(session, taken) for taken in sides]
+    for one, other in ((0, 1), (1, 0)):
+        if known[one] and not known[other] and places[0] != places[1]:
+            return (f"add depend({kinds[other]}: {known[one]}) to the task at {places[other]} "
+                    f"(so the one at {places[one]} names that place)")
+    names = [session.sources.expression(taken.step.place) for taken in sides]
+    name = names[0] if names[0] != "memory" else names[1]
     if kinds[0] == kinds[1] or places[0] == places[1]:
-        return f"depend(inout: {name})"
-    return f"depend({kinds[0]}: {name}) at {places[0]} and depend({kinds[1]}: {name}) at {places[1]}"
+        return f"add depend(inout: {name})"
+    return f"add depend({kinds[0]}: {name}) at {places[0]} and depend({kinds[1]}: {name}) at {places[1]}"
+
+
+def item_name(session, taken):
+    """The name of the depend item of the step's task that covers what the step touches, or None."""
+    actor = taken.actor
+    names = session.sources.items(actor.place)
+    for number, ((address, _), length) in enumerate(zip(actor.items, actor.lengths)):
+        if address <= taken.step.cell.address < address + max(length, 1) and len(names) == len(actor.items):
+            return names[number]
+    return None
 
 
 def lines_kind(taken):
     """The depend type for what the step's task does to that cell."""
-    stores = any(step.kind == "store" and step.cell is taken.step.cell for _, _, step in taken.actor.steps)
+    stores = any(step.mark & t.WRITES and step.cell is taken.step.cell for _, _, step in taken.actor.steps)
     return "inout" if stores else "in"
 
 
@@ -169,8 +180,8 @@ def answer(session, replies):
         return FAULT, tell_fault(session, number, replies.steps[number])
     lines = [f"not said by the notation: {name}: {count}" for name, count in session.unsaid()]
     if session.is_cut:
-        return UNKNOWN, lines + ["events are missing from the trace (no room for its file?), or tasks were too deep to follow: "
-                                 "nothing is answered"]
+        return UNKNOWN, lines + ["events are missing from the trace (no room for its file?), or tasks were too deep "
+                                 "to follow: nothing is answered"]
     if replies.races is None:
         return UNKNOWN, lines + ["the run was legal; this program doesn't know the command `races` (it answers "
                                  "`error word`), so nothing is said of races"]
@@ -179,20 +190,17 @@ def answer(session, replies):
 
 def tell_outcome(session, races, lines):
     """(exit status, lines) for a legal and finished run with these races."""
-    open_races = [race for race in races if not race.is_apart and not race.is_locked()]
-    locked = sum(1 for race in races if not race.is_apart and race.is_locked())
+    open_races = [race for race in races if not race.is_apart]
     apart = [race for race in races if race.is_apart]
     if open_races:
         return RACES, lines + tell_races(session, open_races)
     if session.unfinished:
-        return UNKNOWN, lines + [f"up to its end the trace is legal and has no race, but {len(session.unfinished)} tasks "
-                                 "hadn't ended: nothing is said of other schedules"]
+        return UNKNOWN, lines + [f"up to its end the trace is legal and has no race, but {len(session.unfinished)} "
+                                 "tasks hadn't ended: nothing is said of other schedules"]
     done = f"a legal run of {len(session.actors) - 1} tasks without a race"
-    if locked:
-        lines.append(f"{locked} pairs are kept apart by a lock, a critical section or atomic operations alone")
     if apart:
         shown = sorted({f"{session.describe(race.earlier)}, {session.describe(race.later)}" for race in apart})
         lines += [f"either may come first, never both at once (mutexinoutset): {pair}" for pair in shown]
-    if locked or apart or session.unsaid():
+    if apart or session.unsaid():
         return NONE, lines + [f"{done}: {FOR_EVERY}, as far as what is told above comes out alike in either order"]
     return NONE, lines + [f"{done}: {FOR_EVERY}"]

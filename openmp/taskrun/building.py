@@ -38,7 +38,8 @@ def has_runtime():
     with tempfile.TemporaryDirectory() as folder:
         source = os.path.join(folder, "probe.c")
         with open(source, "w", encoding="utf-8") as file:
-            file.write("#include <omp.h>\n#include <omp-tools.h>\nint main(void) { return omp_get_max_threads() < 0; }\n")
+            file.write("#include <omp.h>\n#include <omp-tools.h>\n"
+                       "int main(void) { return omp_get_max_threads() < 0; }\n")
         done = subprocess.run([compiler, "-fopenmp", source, "-o", os.path.join(folder, "probe")],
                               stdout=subprocess.DEVNULL, stderr=subprocess.DEVNULL, check=False)
     return done.returncode == 0
@@ -57,9 +58,23 @@ def recorder_objects(compiler, names):
             continue
         handle, part = tempfile.mkstemp(dir=CACHE, suffix=".o")
         os.close(handle)
-        subprocess.run([compiler, "-O2", "-Wall", "-Wextra", "-Wno-frame-address", "-c", source, "-o", part], check=True)
+        options = ["-O2", "-Wall", "-Wextra", "-Wno-frame-address"]
+        subprocess.run([compiler, *options, "-c", source, "-o", part], check=True)
         os.replace(part, made)
     return objects
+
+
+def compile_options(words):
+    """The words that aren't files, and don't speak of what is linked."""
+    options, skip = [], False
+    for word in words:
+        if skip or word == "-o":
+            skip = not skip
+        elif word.startswith("-") and not word.startswith(("-l", "-L", "-Wl,")):
+            options.append(word)
+        elif options and options[-1] in ("-I", "-D", "-U", "-include", "-isystem", "-x"):
+            options.append(word)
+    return options
 
 
 def wraps(names):
@@ -79,8 +94,7 @@ def compile_program(words):
         return subprocess.run([driver, *COMPILING, *words], check=False).returncode
     with tempfile.TemporaryDirectory() as folder:
         linking = list(words)
-        options = [word for word in words if word.startswith(("-O", "-D", "-I", "-U", "-std", "-f", "-W", "-m", "-g"))
-                   and not word.startswith("-Wl,")]
+        options = compile_options(words)
         for number, source in enumerate(sources):
             made = os.path.join(folder, f"{number}.o")
             status = subprocess.run([driver, *COMPILING, *options, "-c", source, "-o", made], check=False).returncode

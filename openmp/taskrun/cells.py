@@ -162,6 +162,9 @@ class Memory:
         if all(access.mark & t.ATOMIC for access in loud):
             self.counts["accesses by atomic operations alone"] += len(loud)
             return
+        if frozenset.intersection(*(access.locks for access in loud)):
+            self.counts["accesses that one lock keeps apart"] += len(loud)
+            return
         kept = without_repeats(accesses)
         self.counts["repeated accesses"] += len(accesses) - len(kept)
         key = tuple((id(access.home), access.segment, access.is_write, access.place, access.mark, access.locks)
@@ -182,12 +185,52 @@ class Memory:
                 cell.first = kept.pop(0).value
             if not kept[0].is_write and not cell.first:
                 cell.first = kept[0].value
+            if any(is_guarded(access) for access in kept):
+                self._spread(cell, kept)
+                continue
             for access in kept:
-                kind = "store" if access.is_write else "load"
-                access.home.steps.append((access.stamp, 0, Step(
-                    kind, access.place, cell=cell, value=access.value, mark=access.mark, locks=access.locks)))
+                add_step(access, cell, access.is_write)
         for actor in all_homes(self.run):
             actor.steps.sort(key=lambda step: step[:2])
+
+    def _spread(self, cell, kept):
+        """Several cells for a place that some touch under a lock, so that two steps meet in a cell exactly where no
+        lock keeps them apart: a guarded write loads the place's cell, which the others store, and stores one that
+        belongs to its actor and lock, which those load that it isn't kept apart from."""
+        owned = {}
+        for access in kept:
+            if access.is_write and is_guarded(access):
+                key = (access.home, access.locks, access.mark)
+                if key not in owned:
+                    owned[key] = (access, Cell(len(self.cells), cell.address))
+                    self.cells.append(owned[key][1])
+        for access in kept:
+            guarded = is_guarded(access)
+            add_step(access, cell, access.is_write and not guarded)
+            if access.is_write and not guarded:
+                continue
+            for writer, own in owned.values():
+                if writer.home is not access.home and not are_kept_apart(writer, access):
+                    add_step(access, own, False)
+            if access.is_write:
+                add_step(access, owned[access.home, access.locks, access.mark][1], True)
+
+
+def is_guarded(access):
+    """Whether a lock is held, or the operation is atomic."""
+    return bool(access.locks or access.mark & t.ATOMIC)
+
+
+def are_kept_apart(one, other):
+    """Whether a lock or atomic operations keep two accesses apart: the notation doesn't say so."""
+    return bool(one.locks & other.locks or one.mark & other.mark & t.ATOMIC)
+
+
+def add_step(access, cell, is_store):
+    """Gives the access's actor a load or a store of the cell."""
+    mark = access.mark | (t.WRITES if access.is_write else 0)
+    access.home.steps.append((access.stamp, 0, Step("store" if is_store else "load", access.place, cell=cell,
+                                                    value=access.value, mark=mark)))
 
 
 def granules(address, size):
@@ -238,7 +281,7 @@ def without_repeats(accesses):
         here = (access.home, access.segment)
         if here != row:
             row, seen = here, {}
-        key = (access.is_write, access.place)
+        key = (access.is_write, access.place, access.locks)
         if key in seen:
             if access.is_write:
                 seen[key].value = access.value

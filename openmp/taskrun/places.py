@@ -78,6 +78,18 @@ class Sources:
             self._names[address] = expression_at(line, place.column) or "memory"
         return self._names[address]
 
+    def items(self, address):
+        """The names in the depend clauses of the directive there, in their order."""
+        place = self.place(address)
+        lines = self._lines(place.file) if place.line else []
+        text = ""
+        for line in lines[place.line - 1:] if place.line else []:
+            text += line.rstrip("\\")
+            if not line.endswith("\\"):
+                break
+        return [name for clause in re.finditer(r"\bdepend\s*\(", text)
+                for name in names_in(text[clause.end():matching(text, clause.end() - 1) - 1])]
+
     def _lines(self, file):
         if file not in self._texts:
             try:
@@ -86,6 +98,18 @@ class Sources:
             except OSError:
                 self._texts[file] = []
         return self._texts[file]
+
+
+def names_in(clause):
+    """The names in `TYPE: NAME, NAME`; a comma within brackets parts none."""
+    names, depth = [""], 0
+    for letter in clause.partition(":")[2]:
+        depth += (letter in "([") - (letter in ")]")
+        if letter == "," and depth == 0:
+            names.append("")
+        else:
+            names[-1] += letter
+    return [shortened(name) for name in names]
 
 
 def expression_at(line, column):

@@ -14,10 +14,11 @@ class CannotPlay(Exception):
 
 
 def program_words():
-    """The words that call the program: TASKBACK_PROGRAM, else the proved one, else the unproved one."""
+    """The words that call the program: TASKBACK_PROGRAM (a path, or a command with its words), else the proved one,
+    else the unproved one."""
     named = os.environ.get("TASKBACK_PROGRAM")
     if named:
-        return named.split()
+        return [named] if os.path.exists(named) else named.split()
     for place in PLACES:
         path = os.path.join(TOP, place)
         if os.access(path, os.X_OK):

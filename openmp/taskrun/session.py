@@ -7,6 +7,7 @@ from collections import Counter
 from .actors import Run
 from .cells import Memory, all_homes
 from .places import Sources
+from .trace import FREED, WRITES
 
 MOST_CELLS, MOST_BODIES, MOST_LINES, MOST_ITEMS, MOST_STEPS = 65536, 1024, 65536, 64, 999999
 LONGEST_LINE = 1000
@@ -15,7 +16,8 @@ TYPES = {1: "in", 2: "out", 3: "inout", 4: "mutexinoutset", 8: "inoutset"}
 ALL_MEMORY = 0x80
 WORDS = {"task": "makes a task", "taskwait": "has waited", "taskgroup": "opens a group", "end": "closes the group"}
 NOT_SAID = ("critical sections and locks", "reductions", "detach clauses", "cancellations",
-            "accesses by atomic operations alone", "accesses to copies of reduced variables")
+            "accesses by atomic operations alone", "accesses that one lock keeps apart",
+            "accesses to copies of reduced variables")
 
 
 class TooLarge(Exception):
@@ -119,7 +121,8 @@ class Session:
     def describe(self, taken):
         """What a step did, by its source line."""
         if taken.what in ("load", "store"):
-            done = "reads" if taken.what == "load" else "frees" if taken.step.mark & 2 else "writes"
+            mark = taken.step.mark
+            done = "frees" if mark & FREED else "writes" if mark & WRITES else "reads"
             return f"{self.line_of(taken.step.place)} {done} {self.sources.expression(taken.step.place)}"
         if taken.step is None:
             place = taken.actor.place

@@ -11,6 +11,7 @@ KINDS = ("", "create", "item", "start", "end", "wait", "wait item", "wait items"
          "lock", "unlock", "note", "copy")
 NOTES = ("", "reductions", "detach clauses", "priority clauses", "cancellations", "tasks too deep to follow")
 ATOMIC, FREED = 1, 2
+WRITES = 4      # of a step: the program writes there, be the step a load or a store
 UNDEFERRED, FINAL = 0x8000000, 0x20000000
 FORMAT = struct.Struct("<QqIIiHBB")
 LARGE = 0xffff

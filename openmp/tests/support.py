@@ -29,7 +29,8 @@ def has_program():
         return False
 
 
-needs_clang = unittest.skipUnless(building.has_runtime(), "no clang with OpenMP: apt-get install clang-14 libomp-14-dev")
+needs_clang = unittest.skipUnless(building.has_runtime(),
+                                  "no clang with OpenMP: apt-get install clang-14 libomp-14-dev")
 needs_program = unittest.skipUnless(has_program(), "no program is built; TASKBACK_PROGRAM names one")
 
 
@@ -68,8 +69,8 @@ class Recorded(unittest.TestCase):
     def record(self, program, threads, words=()):
         """The path of the trace of one run, and what it wrote."""
         trace = self.path("trace")
-        done = subprocess.run([os.path.join(FOLDER, "record"), "run", "-o", trace, program, *words], capture_output=True,
-                              text=True, timeout=SECONDS, check=False,
+        done = subprocess.run([os.path.join(FOLDER, "record"), "run", "-o", trace, program, *words],
+                              capture_output=True, text=True, timeout=SECONDS, check=False,
                               env={**os.environ, "OMP_NUM_THREADS": str(threads)})
         self.assertEqual((done.returncode, done.stderr), (0, ""))
         return trace, done.stdout

@@ -43,6 +43,14 @@ class Examples(support.Recorded):
         else:
             self.assertTrue(lines[0].startswith("not said by the notation: "), told)
 
+    def test_optimised(self):
+        """With `-O2` the names may be others, but not whether there is a race."""
+        for name in sorted(os.listdir(support.EXAMPLES)):
+            with self.subTest(example=name):
+                program = self.compile(os.path.join(support.EXAMPLES, name), options=["-O2"])
+                status, lines = self.check(program, 2)
+                self.assertEqual(status, 2 if expected(name)[0] == "race" else 0, lines)
+
     def test_there_are_enough(self):
         wanted = [expected(name)[0] for name in os.listdir(support.EXAMPLES)]
         self.assertGreaterEqual(len(wanted), 24)

@@ -71,7 +71,8 @@ class Sessions(support.Recorded):
         session = self.session(self.compile_text(program(
             "#pragma omp task priority(2)\n{\n#pragma omp critical\ny++;\n}\n#pragma omp task\n{\n"
             "#pragma omp critical\ny++;\n}")), 1)
-        self.assertEqual(session.unsaid(), [("critical sections and locks", 2)])
+        self.assertEqual(session.unsaid(), [("critical sections and locks", 2),
+                                            ("accesses that one lock keeps apart", 4)])
         self.assertIn("# left out: priority clauses: 1", session.text())
 
 
