@@ -258,8 +258,10 @@ class BrowserTest(unittest.TestCase):
           return [document.querySelectorAll(".step").length, ...times];""", "1400,900")
         self.assertEqual(faults, [])
         self.assertGreater(len(many.view("hist")), 10000)
-        self.assertTrue(5 < times[0] < 200, times)
-        self.assertTrue(max(times[1:]) < 100, times)
+        # A screen has some tens of steps. An idle machine needs some tens of milliseconds, a busy one more.
+        drawn, *milliseconds = times
+        self.assertTrue(5 < drawn < 200, times)
+        self.assertLess(max(milliseconds), 300)
 
 
 if __name__ == "__main__":
