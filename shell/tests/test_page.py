@@ -240,6 +240,12 @@ class BrowserTest(unittest.TestCase):
             self.assertGreater(told[2], 5)
             self.assertGreater(told[3], 250)
 
+    def test_needs_that_are_left_out_are_not_counted(self):
+        session, _ = walked(self, 1)
+        page = re.sub(r'"leftOut":\[[^]]*\]', '"leftOut":["needs: for a try"]', page_of(session)[0])
+        faults, told = in_browser(write_file(self, page, "page.html"), "point('0#1'); return find('told').textContent;")
+        self.assertEqual((faults, told.split(": ")[1]), ([], "what it needs is left out"))
+
     def test_ten_thousand_steps_stay_fluent(self):
         text = "cells 8\nbody main 0\n  while r0 < 90\n    task t r0\n    let r0 r0 + 1\n  end\nend\nbody t 1\n  while r1 < 26\n" \
                "    let r1 r1 + 1\n    load r2 0\n    store 1 r1\n    let r3 r2\n  end\nend\n"
