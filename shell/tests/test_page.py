@@ -8,10 +8,12 @@ import shutil
 import subprocess
 import tempfile
 import unittest
+import unittest.mock
 
 from support import EXAMPLES, PROGRAM, TOP, Terminal, contrast, example, needs_program, write_file
 from shell.commands import Shell
 from shell.drawing import play_file
+from shell.facts import Facts
 from shell.page import page_of
 from shell.session import Session
 from shell.source import Source
@@ -253,7 +255,10 @@ class BrowserTest(unittest.TestCase):
         self.addCleanup(many.close)
         for _ in range(21):
             many.do("run 500")
-        path = write_file(self, with_causes(page_of(many)[0]), "page.html")
+        # The page's own speed is tried: how long the program takes for its views is another matter.
+        with unittest.mock.patch.object(Facts, "causes", lambda *_: None), unittest.mock.patch.object(Facts, "races", lambda _: None):
+            page = page_of(many)[0]
+        path = write_file(self, with_causes(page), "page.html")
         faults, times = in_browser(path, """
           const times = [], count = Number(find("at").max), box = find("lanes");
           const time = (act) => { let best = 1e9; for (let k = 0; k < 5; k++) { const from = performance.now(); act(k); document.body.offsetHeight; best = Math.min(best, performance.now() - from); } return best; };
