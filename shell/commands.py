@@ -264,6 +264,8 @@ class Shell(Walking, Drawing, cmd.Cmd):
             self.say("info wants a view: " + ", ".join(VIEWS))
             return False
         fitting = [name for name in VIEWS if name == words[0]] or [name for name in VIEWS if name.startswith(words[0])]
+        if fitting and fitting[0] in ("races", "causes"):
+            return getattr(self, "do_" + fitting[0])(words[1:])
         self.send(" ".join(fitting[:1] + words[1:]) if fitting else "info")
         return False
 

@@ -13,6 +13,8 @@
   // What stands at the moment that is shown.
   const view = { at: 0, steps: [], row: new Map(), tasks: [], lane: new Map(), later: new Map(), lives: new Map(), chosen: null, pinned: false, races: [] };
 
+  const needsKnown = !data.leftOut.some((text) => text.startsWith("needs"));
+
   function element(name, attributes, text) {
     const made = document.createElementNS("http://www.w3.org/2000/svg", name);
     for (const key in attributes) made.setAttribute(key, attributes[key]);
@@ -245,7 +247,8 @@
       for (const early of needs) view.lit.set(early, "needs");
       for (const later of needers) view.lit.set(later, "needers");
       view.lit.set(index, "chosen");
-      find("told").textContent = step.name + " " + step.did + (step.line ? ", line " + step.line : "") + ": it needs " + needs.size + " steps; roll " + step.name + " takes " + (needers.size + 1) + (pinned ? " (chosen)" : "");
+      const needed = needsKnown ? "it needs " + needs.size + " steps; roll " + step.name + " takes " + (needers.size + 1) : "what it needs is left out";
+      find("told").textContent = step.name + " " + step.did + (step.line ? ", line " + step.line : "") + ": " + needed + (pinned ? " (chosen)" : "");
       showLines([step.line], "here");
     } else {
       find("told").textContent = "Point at a step, or choose one by the arrow keys in the history, to see what it needs and what needs it.";

@@ -74,7 +74,7 @@ RACE = (
     ("undo", ["error count", "  too few words, or too many"]),
     ("step 00", ["error name", "  a task is written 0.1, and a step 0.1#2"]),
     ("run x", ["error number", "  a number is missing, or out of its range"]),
-    ("go 2 5", ["error number"]),
+    ("go 0 5", ["error number"]),
     ("undo " + "0" * 1100, ["error line", "  the line is too long, or isn't text"]),
     ("finish 0 0", ["finish [T], for example: finish 0.1"]),
     ("until 7", ["until T#K, for example: until 0.2#4"]),
