@@ -87,12 +87,13 @@ class FirstMinute(unittest.TestCase):
         command = re.search(r"^\./run (\S+\.session) .*`source`", page("README.md"), re.M)
         shell = Terminal(self, [os.path.join(TOP, command[1])], (os.path.join(TOP, "run"),), NO_COLOR="1")
         self.assertIn("`source` plays the next, Enter goes on", shell.read_until("(taskback) ", 300))
-        shown = [replies(shell, typed) for typed in ("source", "", "", "", "", "", "back")]
+        shown = [replies(shell, typed) for typed in ("source", "", "", "", "", "", "", "back")]
         self.assertEqual(shown[0][-1], "ran 17 done")
         self.assertEqual(shown[1][-2:], ["out 1", "3"])
-        self.assertEqual(shown[2][1], "rolled 10")
-        self.assertEqual(shown[5][-2:], ["out 1", "2"])
-        self.assertEqual(shown[6], ["undone 0#7"])
+        self.assertEqual(shown[2][1:], ["races 2", "0.1#4 0.2#2 cell 0", "0.1#4 0.2#4 cell 0"])
+        self.assertEqual(shown[3][1], "rolled 10")
+        self.assertEqual(shown[6][-2:], ["out 1", "2"])
+        self.assertEqual(shown[7], ["undone 0#7"])
 
 
 class Rows(unittest.TestCase):
