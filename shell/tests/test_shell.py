@@ -133,7 +133,7 @@ class TerminalTest(unittest.TestCase):
     def test_session_file_is_played(self):
         shell = self.open(os.path.join(EXAMPLES, "right_sum.session"), NO_COLOR="1")
         for typed, wanted in (("source", "ran 17 done\r\n(taskback) "), ("source", "(taskback) out\r\nout 1\r\n3\r\n(taskback) "),
-                              ("", "rolled 10\r\n"), ("", "0.2#2 load r1 0 0 "), ("", "ran 9 done\r\n"),
+                              ("", "races 2\r\n"), ("", "rolled 10\r\n"), ("", "0.2#2 load r1 0 0 "), ("", "ran 9 done\r\n"),
                               ("", "out 1\r\n2\r\n"), ("", "no commands are left")):
             shell.send(typed + "\n")
             shell.read_until(wanted)
