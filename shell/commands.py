@@ -49,13 +49,13 @@ class Shell(Walking, Drawing, cmd.Cmd):
         return f"\x1b[2m{text}\x1b[0m" if self.colours else text
 
     def show(self, lines):
-        """Lines of a reply, each that tells steps followed by their source lines."""
+        """Lines of a reply, each that shows steps followed by their source lines."""
         for line in lines:
             self.say(line if self.plain else line + self.places_of(line))
         self.stdout.flush()
 
     def places_of(self, line):
-        """The source lines of the steps that a line tells."""
+        """The source lines of the steps that a line shows."""
         parts = []
         for step in STEP.findall(line):
             number = self.session.places.line_of(step)

@@ -154,15 +154,15 @@ def reduced(before):
     names = sorted(before, key=by_name)
     bit = {name: 1 << at for at, name in enumerate(names)}
     # All that come before a task, through others too; an earlier sibling is done first.
-    behind, drawn = {}, {}
+    above, drawn = {}, {}
     for name in names:
         through = 0
         for other in before[name]:
-            through |= behind[other]
+            through |= above[other]
         drawn[name] = [other for other in before[name] if not through & bit[other]]
-        behind[name] = through
+        above[name] = through
         for other in before[name]:
-            behind[name] |= bit[other]
+            above[name] |= bit[other]
     return drawn
 
 

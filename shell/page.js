@@ -55,7 +55,7 @@
     return found;
   }
 
-  // What needs a step: those that stand behind it and need one that was found.
+  // What needs a step: those that came after it and need one that was found.
   function needersOf(index) {
     const found = new Set([index]);
     for (let row = view.row.get(index) + 1; row < view.steps.length; row++) {

@@ -9,7 +9,7 @@ CHANGES = {"undo": "undone", "roll": "rolled", "rolltask": "rolled", "rollcell":
 
 
 def is_step(line):
-    """Whether a line of a reply tells a step."""
+    """Whether a line of a reply shows a step."""
     return "#" in line.split(" ")[0]
 
 
