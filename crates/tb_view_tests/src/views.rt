@@ -68,14 +68,12 @@ fn view(alloc: Global, word: &str, k: u32) -> View {
         "out" => View::Out,
         "hist" => View::Hist,
         "why" => View::Why { id },
-        "causes" => View::Causes { id },
-        "races" => View::Races,
         _ => View::Who { id },
     }
 }
 
 /// The view, the step of the root that it is asked of, and the text.
-const TEXTS: [(&str, u32, &str); 7] = [
+const TEXTS: [(&str, u32, &str); 5] = [
     ("cells", 1, "cells 2\n1 7\n"),
     ("out", 1, "out 1\n7\n"),
     (
@@ -84,9 +82,7 @@ const TEXTS: [(&str, u32, &str); 7] = [
         "hist 4\n0#1 start\n0#2 store 1 7\n0#3 load r3 1 7\n0#4 print 7\n",
     ),
     ("why", 3, "why 2\n0#1 start\n0#2 store 1 7\n"),
-    ("causes", 3, "causes 1\ntask: 0#2 store 1 7\n"),
     ("who", 3, "who 1\n0#4 print 7\n"),
-    ("races", 1, "races 0\n"),
 ];
 
 fn show_all(rt: &(impl Abort + AllocGlobal), live: &Live) {
@@ -99,7 +95,7 @@ fn show_all(rt: &(impl Abort + AllocGlobal), live: &Live) {
 }
 
 fn refuse_all(rt: &(impl Abort + AllocGlobal), live: &Live) {
-    for word in ["why", "causes", "who"] {
+    for word in ["why", "who"] {
         assert_eq!(rt; refusal(rt.alloc(), live, view(rt.alloc(), word, 5)), 1);
     }
 }
