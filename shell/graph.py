@@ -1,3 +1,4 @@
+#!/usr/bin/env python3
 """The tasks as a graph: who generated whom, which dependences order them, who excludes whom, and who is waited for.
 
     shell/graph.py SESSION [FILE]     plays the session and draws its tasks: FILE.dot as text, else by Graphviz

@@ -1,3 +1,4 @@
+#!/usr/bin/env python3
 """The history as a space-time picture: a lane for each task, the steps in order from the top, and why each is needed.
 
     shell/lanes.py SESSION [T#K] [FILE]     plays the session, and draws its lanes as text, or to FILE as SVG;

@@ -3,6 +3,7 @@
   const data = JSON.parse(document.getElementById("data").textContent);
   const ROW = 26, TOP = 58, LEFT = 22, LANE = 168, LETTERS = 16, MOST_BOXES = 300, MOST_SPANS = 400;
   const SHAPES = { start: "M-5 -6 L7 0 L-5 6 Z", end: "M-6 -6 H6 V6 H-6 Z", fault: "M-6 -6 L6 6 M6 -6 L-6 6" };
+  const WIDE = 188, HIGH = 116, SLANT = 10;     // of the graph: from box to box, and how odd rows are moved
   const ROUND = "M-5 0 A5 5 0 1 0 5 0 A5 5 0 1 0 -5 0 Z";
   const FULL = ["start", "end", "store", "print"];
   const find = (id) => document.getElementById(id);
@@ -223,7 +224,7 @@
   }
 
   function stepOf(step) {
-    const [x, y] = placeOf(step.index), group = element("g", { class: "step", "data-step": step.name, "data-index": step.index, role: "option" });
+    const [x, y] = placeOf(step.index), group = element("g", { class: "step", id: "step-" + step.index, "data-step": step.name, "data-index": step.index, role: "option" });
     const lit = view.lit && view.lit.get(step.index), room = lit ? LETTERS - 3 : LETTERS;
     const label = step.did.length > room ? step.did.slice(0, room - 1) + "…" : step.did;
     if (lit) group.classList.add(lit);
@@ -254,6 +255,8 @@
       find("told").textContent = "Point at a step, or choose one by the arrow keys in the history, to see what it needs and what needs it.";
       showLines([], "here");
     }
+    if (index === null) find("lanes").removeAttribute("aria-activedescendant");
+    else find("lanes").setAttribute("aria-activedescendant", "step-" + index);
     drawLanes();
   }
 
@@ -264,51 +267,73 @@
     drawLanes();
   }
 
-  // The graph: a task stands below those that it comes after.
-
-  function layers(shown) {
-    const depth = new Map(), rows = [];
-    for (const task of shown) {
-      const parent = task.name.split(".").slice(0, -1).join("."), above = [parent && depth.has(parent) ? depth.get(parent) : -1];
-      for (const [other] of task.before) if (depth.has(tasks[other].name)) above.push(depth.get(tasks[other].name));
-      const row = 1 + above.reduce((one, two) => Math.max(one, two));
-      depth.set(task.name, row);
-      (rows[row] = rows[row] || []).push(task);
-    }
-    return rows;
-  }
+  // The graph: tasks, groups as boxes, and the waits that are over.
 
   function showGraph() {
-    const WIDE = 168, HIGH = 104, svg = find("graph"), shown = view.tasks.slice(0, MOST_BOXES), rows = layers(shown), place = new Map(), parts = [];
-    rows.forEach((row, down) => row.forEach((task, across) => place.set(task.name, [12 + across * WIDE + (down % 2) * 24, 12 + down * HIGH])));
+    const svg = find("graph"), shown = view.tasks.slice(0, MOST_BOXES), parts = [], there = new Map(shown.map((task) => [task.name, task]));
+    const standing = new Map(view.tasks.map((task) => [task.name, task]));
+    const earlier = {
+      tasks: (name) => standing.get(name).before.map(([other]) => tasks[other].name),
+      children: (step) => step.causes.filter(([kind]) => kind === "wait").map(([, early]) => steps[early].task),
+    };
+    const plan = layoutOf(view.steps, earlier, (name) => there.has(name), MOST_BOXES);
+    const place = new Map(plan.nodes.map((node) => [node.name, [24 + node.column * WIDE + (node.row % 2) * SLANT, 30 + node.row * HIGH]]));
+    for (const box of plan.boxes) groupBox(box, plan.groups.get(box.name).line, parts);
+    for (const task of shown) edgesOf(task, place, shown.length <= 40, parts);
+    for (const node of plan.nodes.filter((some) => some.isWait)) waitOf(node, place, parts);
+    for (const task of shown) boxOf(task, place.get(task.name), plan.inside.get(task.name), parts);
+    svg.setAttribute("width", plan.wide * WIDE + 50);
+    svg.setAttribute("height", plan.high * HIGH + 26);
+    if (view.tasks.length > shown.length) parts.push(element("text", { x: 12, y: plan.high * HIGH + 20 }, "and " + (view.tasks.length - shown.length) + " more tasks"));
+    svg.replaceChildren(headOf(), ...parts);
+  }
+
+  function groupBox(box, line, parts) {
+    const pad = Math.max(4, 16 - 3 * box.depth), x = 24 + box.from * WIDE - pad, y = 20 + box.low * HIGH - pad;
+    const title = "taskgroup " + box.name + (line ? ", line " + line : "");
+    const rect = element("rect", { class: "group", "data-group": box.name, x, y, width: (box.to - box.from) * WIDE + SLANT + 140 + 2 * pad, height: (box.high - box.low) * HIGH + 68 + 2 * pad, rx: 9 });
+    rect.append(element("title", {}, title));
+    parts.push(rect, element("text", { class: "kind", x: x + 6, y: y + 13 }, title.slice(0, 26)));
+  }
+
+  function edgesOf(task, place, labelled, parts) {
     const edge = (one, two, name, label) => {
-      const [x, y] = place.get(one), [toX, toY] = place.get(two);
-      const d = y === toY ? "M" + (x + 70) + " " + (y + 58) + " Q" + ((x + toX) / 2 + 70) + " " + (y + 90) + " " + (toX + 70) + " " + (toY + 58)
+      if (!place.has(one)) return;
+      const [x, y] = place.get(one), [toX, toY] = place.get(two), flat = y === toY;
+      const d = flat ? "M" + (x + 70) + " " + (y + 58) + " Q" + ((x + toX) / 2 + 70) + " " + (y + 90) + " " + (toX + 70) + " " + (toY + 58)
         : "M" + (x + 70) + " " + (y + 58) + " C" + (x + 70) + " " + (y + 84) + " " + (toX + 70) + " " + (toY - 26) + " " + (toX + 70) + " " + toY;
       const made = element("path", { class: "edge " + name, d, "data-from": one, "data-to": two });
       if (name !== "apart") made.setAttribute("marker-end", "url(#head)");
       made.append(element("title", {}, label));
       parts.push(made);
-      if (name !== "spawn" && shown.length <= 40) parts.push(element("text", { class: "kind", x: (x + toX) / 2 + 70, y: y === toY ? y + 82 : (y + 58 + toY) / 2 + 4, "text-anchor": "middle" }, label.split("; ")[0]));
+      if (name !== "spawn" && labelled) parts.push(element("text", { class: "kind", x: (x + toX) / 2 + 70, y: flat ? y + 82 : (y + 58 + toY) / 2 + 4, "text-anchor": "middle" }, label.split("; ")[0]));
     };
-    for (const task of shown) {
-      const parent = task.name.split(".").slice(0, -1).join(".");
-      if (parent && place.has(parent)) edge(parent, task.name, "spawn", parent + " generates " + task.name);
-      for (const [other, label] of task.before) if (place.has(tasks[other].name)) edge(tasks[other].name, task.name, "before", label.join("; "));
-      for (const [other, label] of task.apart) if (place.has(tasks[other].name)) edge(tasks[other].name, task.name, "apart", label.join("; "));
-    }
-    for (const task of shown) boxOf(task, place.get(task.name), parts);
-    const widest = rows.reduce((most, row) => Math.max(most, row.length), 1);
-    svg.setAttribute("width", widest * WIDE + 40);
-    svg.setAttribute("height", rows.length * HIGH + 12);
-    if (view.tasks.length > shown.length) parts.push(element("text", { x: 12, y: rows.length * HIGH + 6 }, "and " + (view.tasks.length - shown.length) + " more tasks"));
-    svg.replaceChildren(headOf(), ...parts);
+    const parent = task.name.split(".").slice(0, -1).join(".");
+    if (parent) edge(parent, task.name, "spawn", parent + " generates " + task.name);
+    for (const [other, label] of task.before) edge(tasks[other].name, task.name, "before", label.join("; "));
+    for (const [other, label] of task.apart) edge(tasks[other].name, task.name, "apart", label.join("; "));
   }
 
-  function boxOf(task, [x, y], parts) {
+  // A diamond for a taskwait that is over, below its task and the children whose ends it needed.
+  function waitOf(wait, place, parts) {
+    const [x, y] = place.get(wait.name), [fromX, fromY] = place.get(wait.task), told = "taskwait" + (wait.line ? ", line " + wait.line : "");
+    parts.push(element("path", { class: "edge at", d: "M" + (fromX + 12) + " " + (fromY + 58) + " L" + (x + 12) + " " + (y + 29) + " L" + (x + 30) + " " + (y + 29) }));
+    for (const child of wait.children) {
+      if (!place.has(child)) continue;
+      const [childX, childY] = place.get(child);
+      parts.push(element("path", { class: "edge wait", "data-from": child, "data-to": wait.name, "marker-end": "url(#head)", d: "M" + (childX + 70) + " " + (childY + 58) + " L" + (x + 70) + " " + (y + 9) }));
+    }
+    const group = element("g", { "data-wait": wait.name });
+    group.append(element("path", { class: "diamond", d: "M" + (x + 30) + " " + (y + 29) + " L" + (x + 70) + " " + (y + 9) + " L" + (x + 110) + " " + (y + 29) + " L" + (x + 70) + " " + (y + 49) + " Z" }),
+      element("text", { class: "kind", x: x + 70, y: y + 33, "text-anchor": "middle" }, wait.line ? "line " + wait.line : "wait"),
+      element("title", {}, wait.name + " " + told + (wait.children.length ? ": waited for " + wait.children.join(", ") : "")));
+    parts.push(group);
+  }
+
+  function boxOf(task, [x, y], inside, parts) {
     const [, state, line, why] = latest(task.states), [word, other] = why.split(" ");
     const told = { Waiting: "after " + other, Excluded: "not with " + other }[word] || (why && why !== "can step" ? "waits for " + other : why);
-    const group = element("g", { "data-task": task.name });
+    const group = element("g", { "data-task": task.name, "data-inside": inside || "" });
     group.append(element("rect", { class: "box " + state + (told === "can step" ? " ready" : ""), x, y, width: 140, height: 58, rx: 5 }),
       element("text", { x: x + 8, y: y + 17, "font-weight": "bold" }, (task.name + " " + task.body).slice(0, 16)),
       element("text", { x: x + 8, y: y + 34 }, state + (line ? ", line " + line : "")),

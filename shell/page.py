@@ -1,3 +1,4 @@
+#!/usr/bin/env python3
 """One page for a session, with all that it needs in it: no network, no library.
 
     shell/page.py SESSION FILE     plays the session, and writes its page to FILE
@@ -28,7 +29,7 @@ def page_of(session, stop=lambda: False):
     told = json.dumps(data, separators=(",", ":")).replace("</", "<\\/")
     title = data["title"].replace("&", "&amp;").replace("<", "&lt;").encode("utf-8", "replace").decode("utf-8")
     page = part("page.html").replace("@title@", title)
-    for mark, text in (("@style@", part("page.css")), ("@data@", told), ("@script@", part("page.js"))):
+    for mark, text in (("@style@", part("page.css")), ("@data@", told), ("@script@", part("page_graph.js") + part("page.js"))):
         before, after = page.split(mark)
         page = before + text + after
     return page, len(story.commands), len(story.steps)

@@ -165,6 +165,9 @@ def sizes(program, count, _):
     task = b'cells 1\nbody main 0\ntask t%s\nend\nbody t 0\nend\n---\nrun 9\n'
     accepted(program, count, '64 items', task % items, b'ran 5 done\n')
     refusal(program, count, '65 items', task % (items + b' depend in 0'), b'line 3: TooLarge')
+    deep = b'cells 0\nbody main 0\ntask a 1000\nend\nbody a 1\nif 0 < r0\nlet r1 r0 - 1\ntask a r1\nend\nend\n---\n'
+    ended = b'run 1000000\nhist\ntasks\nout\nrolltask 0.1\nready\nwaits\n'
+    accepted(program, count, 'a name 1,001 levels deep', deep + ended, b'\nready 1\n0.1\nwaits 0\n', seconds=30)
     wide = b'step 0\n' + b'x' * 10_000_000 + b'\nstep 0\n'
     accepted(program, count, 'a line of 10 MB', loop + wide, b'0#1 start\nerror line\n0#2 test yes\n')
     refusal(program, count, 'a line of 10 MB in the program', b'cells 0\n#' + b'x' * 10_000_000 + b'\n', b'line 2: TooLarge')
@@ -181,11 +184,11 @@ def texts(program, count, number, seed):
             return bytes(r.randrange(256) for _ in range(r.choice([1, 10, 100, 1000])))
         changed = bytearray(r.choice(stored))
         for _ in range(r.choice([1, 2, 5, 20])):
-            at = r.randrange(len(changed) - 1)
+            at = r.randrange(len(changed))
             size = r.choice([0, 1, 1, 5, 40])
             new = bytes(r.choice(b'0123456789#.-+ \n\tabcdefghijklmnopqrstuvwxyz\x00\xff') for _ in range(r.choice([0, 1, 1, 3])))
             changed[at:at + size] = r.choice([new, bytes(changed[at:at + size]) * 2])
-            changed += b'\n' if len(changed) < 2 else b''
+            changed = changed or bytearray(b'\n')
         return bytes(changed)
 
     def check(given):

@@ -1,6 +1,6 @@
 #!/usr/bin/env bash
 # Makes an archive that runs on a Debian machine without the toolchain: the proved program, ./run,
-# the shell, docs and examples, each where it lies in the repository.
+# the shell, the recorder, docs and examples, each where it lies in the repository.
 #   tools/package.sh [FOLDER]      the archive goes into FOLDER (none: the current one), and its name is told
 set -eu
 top=$(cd "$(dirname "$(readlink -f "${BASH_SOURCE[0]}")")/.." && pwd)
@@ -17,10 +17,10 @@ work=$(mktemp -d)
 trap 'rm -rf "$work"' EXIT
 mkdir -p "$work/$name/$(dirname "$program")"
 cp "$program" "$work/$name/$program"
-for part in README.md LICENSE run shell docs examples; do
+for part in README.md LICENSE run shell openmp docs examples; do
     [ ! -e "$part" ] || cp -R "$part" "$work/$name/"
 done
 find "$work/$name" -name __pycache__ -prune -exec rm -rf {} +
-rm -rf "$work/$name/shell/tests"
+rm -rf "$work/$name/shell/tests" "$work/$name/openmp/tests" "$work/$name/openmp/run_tests"
 tar -C "$work" --sort=name --owner=0 --group=0 --numeric-owner -czf "$into/$name.tar.gz" "$name"
 echo "$into/$name.tar.gz"

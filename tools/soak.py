@@ -1,11 +1,11 @@
 #!/usr/bin/env python3
 """Runs random sessions for some minutes: against another implementation, and with memory refused.
 
-    tools/soak.py --other 'COMMAND' [--minutes M] [--program P] [--seed S]
+    tools/soak.py --other 'COMMAND' [--minutes M] [--program P] [--seed S] [--jobs J]
 
 Each session is answered by both, and once more by the program with one allocation refused, picked at
-random: it gives the whole output then, or whole replies and status 3. A session that fails is told by its
-seed, with which `tools/compare_sessions.py --seed S --count 1` makes it again.
+random: it gives the whole output then, or whole replies and status 3. A session that fails, or that takes
+too long, is told by its seed, with which `tools/compare_sessions.py --seed S --count 1` makes it again.
 """
 import argparse
 import collections
@@ -50,22 +50,28 @@ class Soak:
         return 'memory refused', stopped
 
     def check(self, seed):
-        text, limit = pick_session(seed, self.program)
-        mine, theirs = answer(self.program, text, limit), answer(self.other, text, limit)
-        kind, stopped = self.check_memory(seed, text, limit, mine)
-        return seed, mine == theirs, kind, stopped, theirs
+        """What was wrong with a session, or nothing, and what was found."""
+        try:
+            text, limit = pick_session(seed, self.program)
+            mine, theirs = answer(self.program, text, limit), answer(self.other, text, limit)
+            kind, stopped = self.check_memory(seed, text, limit, mine)
+        except subprocess.TimeoutExpired as slow:
+            return '%s took more than %d s' % (os.path.basename(slow.cmd[0]), slow.timeout), 'too slow', b''
+        wrong = 'differs' if mine != theirs else '' if stopped else 'wrong with memory refused'
+        return wrong, kind, theirs[0]
 
-    def run(self, seed, minutes):
+    def run(self, seed, minutes, jobs):
         end = time.monotonic() + 60 * minutes
-        with ThreadPoolExecutor(max_workers=os.cpu_count()) as pool:
+        with ThreadPoolExecutor(max_workers=jobs) as pool:
             while time.monotonic() < end:
-                for given, same, kind, stopped, theirs in pool.map(self.check, range(seed, seed + 64)):
+                seeds = range(seed, seed + 64)
+                for given, (wrong, kind, replies) in zip(seeds, pool.map(self.check, seeds)):
                     self.found['sessions'] += 1
                     self.found[kind] += 1
-                    self.kinds.update(kinds_of(theirs[0]))
-                    if not (same and stopped):
+                    self.kinds.update(kinds_of(replies))
+                    if wrong:
                         self.failed.append(given)
-                        print('seed %d: %s' % (given, 'differs' if not same else 'wrong with memory refused'), flush=True)
+                        print('seed %d: %s' % (given, wrong), flush=True)
                 seed += 64
 
 
@@ -75,12 +81,13 @@ def main():
     args.add_argument('--minutes', type=float, default=1)
     args.add_argument('--program', default=os.path.join(TOP, 'crates/taskback/out/taskback'))
     args.add_argument('--seed', type=int, default=int(time.time()))
+    args.add_argument('--jobs', type=int, default=os.cpu_count())
     given = args.parse_args()
     with tempfile.TemporaryDirectory() as folder:
         library = os.path.join(folder, 'refuse.so')
         subprocess.run(['cc', '-shared', '-fPIC', '-O1', '-o', library, os.path.join(TOP, 'tools/refuse.c'), '-ldl'], check=True)
         soak = Soak(os.path.abspath(given.program), shlex.split(given.other), library)
-        soak.run(given.seed, given.minutes)
+        soak.run(given.seed, given.minutes, given.jobs)
     for kind, number in sorted(soak.kinds.items()):
         print('%8d %s' % (number, kind))
     print('first seed %d; %s; %d failed' % (given.seed, ', '.join('%d %s' % (n, k) for k, n in sorted(soak.found.items())), len(soak.failed)))

@@ -7,7 +7,6 @@ import sys
 import tempfile
 
 RECORDER = os.path.join(os.path.dirname(os.path.dirname(os.path.abspath(__file__))), "recorder")
-CACHE = os.path.join(os.path.dirname(RECORDER), ".cache")
 PARTS = ["buffers.c", "accesses.c", "atomics.c", "tool.c", "wraps.c", "memory.c"]
 PARTS_CXX = ["operators.c"]
 CXX_ENDINGS = (".cc", ".cpp", ".cxx", ".C")
@@ -45,18 +44,27 @@ def has_runtime():
     return done.returncode == 0
 
 
+def cache_folder():
+    """Where the recorder's parts are kept: beside it, or where the user keeps such, if nobody may write there."""
+    beside = os.path.dirname(RECORDER)
+    if os.access(beside, os.W_OK):
+        return os.path.join(beside, ".cache")
+    return os.path.join(os.environ.get("XDG_CACHE_HOME") or os.path.expanduser("~/.cache"), "taskback")
+
+
 def recorder_objects(compiler, names):
     """The recorder's parts, compiled where they aren't or are older than their text."""
-    os.makedirs(CACHE, exist_ok=True)
+    folder = cache_folder()
+    os.makedirs(folder, exist_ok=True)
     newest_header = os.path.getmtime(os.path.join(RECORDER, "recorder.h"))
     objects = []
     for name in names:
         source = os.path.join(RECORDER, name)
-        made = os.path.join(CACHE, name[:-2] + ".o")
+        made = os.path.join(folder, name[:-2] + ".o")
         objects.append(made)
         if os.path.exists(made) and os.path.getmtime(made) > max(newest_header, os.path.getmtime(source)):
             continue
-        handle, part = tempfile.mkstemp(dir=CACHE, suffix=".o")
+        handle, part = tempfile.mkstemp(dir=folder, suffix=".o")
         os.close(handle)
         options = ["-O2", "-Wall", "-Wextra", "-Wno-frame-address"]
         subprocess.run([compiler, *options, "-c", source, "-o", part], check=True)
@@ -108,8 +116,13 @@ def compile_program(words):
 
 def run_program(trace, words):
     """Runs the program; its exit status, or 64 where it left no trace."""
-    if os.path.exists(trace):
+    try:
+        with open(trace, "wb"):
+            pass
         os.remove(trace)
+    except OSError as fault:
+        print(f"record: can't write {trace}: {fault.strerror}", file=sys.stderr)
+        return 64
     environment = {**os.environ, "TASKBACK_TRACE": os.path.abspath(trace)}
     try:
         status = subprocess.run(words, env=environment, check=False).returncode

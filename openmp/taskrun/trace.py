@@ -39,8 +39,11 @@ class Trace:
     """The program's path, and the events in the order of their stamps."""
 
     def __init__(self, path):
-        with open(path, "rb") as file:
-            data = file.read()
+        try:
+            with open(path, "rb") as file:
+                data = file.read()
+        except OSError as fault:
+            raise BadTrace(f"can't read {path}: {fault.strerror}") from fault
         first, _, rest = data.partition(b"\n")
         if not data.startswith(HEADER) or len(rest) % FORMAT.size:
             raise BadTrace(f"{path} is no whole trace")

@@ -14,6 +14,7 @@ from support import EXAMPLES, PROGRAM, TOP, Terminal, contrast, example, needs_p
 from shell.commands import Shell
 from shell.drawing import play_file
 from shell.facts import Facts
+from shell.graph import groups_of, waits_of
 from shell.page import page_of
 from shell.session import Session
 from shell.source import Source
@@ -29,6 +30,8 @@ const find = (id) => document.getElementById(id), names = (query) => [...documen
 const move = (at) => { find("at").value = at; find("at").dispatchEvent(new Event("input")); };
 const point = (name) => document.querySelector('.step[data-step="' + name + '"]').dispatchEvent(new PointerEvent("pointerover", { bubbles: true }));
 const texts = (query) => [...document.querySelectorAll(query)].map((found) => found.textContent);
+const side = (rect, from, size) => [Number(rect.getAttribute(from)), Number(rect.getAttribute(from)) + Number(rect.getAttribute(size))];
+const meets = (one, two) => [["x", "width"], ["y", "height"]].every(([from, size]) => side(one, from, size)[0] < side(two, from, size)[1] && side(two, from, size)[0] < side(one, from, size)[1]);
 const press = (key) => find("lanes").dispatchEvent(new KeyboardEvent("keydown", { key, bubbles: true }));
 """
 EACH_MOMENT = """
@@ -37,11 +40,45 @@ return [...Array(Number(find("at").max) + 1).keys()].map((at) => {
   const shown = { where: find("where").textContent, steps: names(".step"), cells: texts("#cells li"), out: texts("#out li"),
     stand: texts("#program li").map((text) => (text.split("◀ ")[1] || "")), boxes: [...document.querySelectorAll("#graph [data-task]")].map((box) => box.dataset.task),
     edges: [...document.querySelectorAll("#graph .edge.before")].map((edge) => [edge.dataset.from, edge.dataset.to]),
+    inside: [...document.querySelectorAll("#graph [data-task]")].map((box) => [box.dataset.task, box.dataset.inside]),
+    groups: [...document.querySelectorAll("#graph .group")].map((group) => [group.dataset.group,
+      [...document.querySelectorAll("#graph [data-task]")].filter((box) => meets(group, box.querySelector(".box"))).map((box) => box.dataset.task)]),
+    waits: [...document.querySelectorAll("#graph [data-wait]")].map((wait) => wait.dataset.wait),
+    waited: [...document.querySelectorAll("#graph .edge.wait")].map((edge) => [edge.dataset.from, edge.dataset.to]),
     arrows: [...document.querySelectorAll("#drawn .arrow:not(.racing)")].map((arrow) => [arrow.dataset.from, arrow.dataset.to, arrow.dataset.kind]),
     races: [...document.querySelectorAll("#race-list button")].map((button) => button.dataset.race), lit: {} };
   for (const name of shown.steps) { point(name); shown.lit[name] = [names(".step.needs"), names(".step.needers")]; }
   return shown;
 });"""
+
+# Groups in a group, a task with a wait in one, one after a wait, and two that follow each other.
+NESTED = """cells 2
+body main 0
+  task leaf depend out 0
+  taskgroup
+    task deep
+    taskgroup
+      task leaf depend in 0
+      task leaf depend inout 0
+    end
+    task leaf depend in 1
+  end
+  task leaf
+  taskwait
+  taskgroup
+    task leaf
+  end
+  task leaf
+end
+body deep 0
+  task leaf
+  taskwait
+  task leaf
+end
+body leaf 0
+  let r0 1
+end
+"""
 
 
 def page_file(test, session):
@@ -153,7 +190,8 @@ class DataTest(unittest.TestCase):
 class ContrastTest(unittest.TestCase):
     def test_words_can_be_read_on_each_ground(self):
         with open(os.path.join(TOP, "shell", "page.css"), encoding="utf-8") as file:
-            colour = dict(re.findall(r"--(\w+): (#\w+);", file.read()))
+            style = file.read()
+        colour = dict(re.findall(r"--(\w+): (#\w+);", style))
         for ground in ("paper", "pale", "chosen", "needs", "needers"):
             self.assertGreaterEqual(contrast(colour["ink"], colour[ground]), 4.5)
         for ground in ("#e4e4e4", "#ffd6d6"):
@@ -161,6 +199,9 @@ class ContrastTest(unittest.TestCase):
         for word in ("race", "blue", "green", "faint"):
             self.assertGreaterEqual(contrast(colour[word], colour["paper"]), 4.5, word)
         # Lines that carry a meaning, and frames, need less.
+        for stroke in re.findall(r"stroke: (#\w+|var\(--\w+\))", style):
+            if stroke != "var(--paper)":
+                self.assertGreaterEqual(contrast(colour.get(stroke[6:-1], stroke), colour["paper"]), 3, stroke)
         self.assertGreaterEqual(contrast(colour["line"], colour["paper"]), 3)
 
 
@@ -190,6 +231,27 @@ class BrowserTest(unittest.TestCase):
                 for name in names:
                     self.assertIn(name, shown["stand"][line - 1].split(", "))
             self.agree_arrows(again, shown)
+            self.agree_graph(again, shown)
+
+    def agree_graph(self, session, shown):
+        """Each task stands in the boxes of its groups and in no other; each wait that is over has its children."""
+        facts = Facts(session)
+        steps = facts.steps()
+        inside, outer = groups_of(steps)
+        members = {}
+        for name in shown["boxes"]:
+            group = inside[name]
+            while group:
+                members.setdefault(group, []).append(name)
+                group = outer[group]
+        self.assertEqual(dict(shown["inside"]), {name: inside[name] or "" for name in shown["boxes"]})
+        # A group has a box too where only waits stand in it.
+        self.assertEqual({group: names for group, names in shown["groups"] if names}, members)
+        self.assertLessEqual({group for group, _ in shown["groups"]}, outer.keys())
+        self.assertEqual(shown["waits"], [step.name for step in steps if step.word == "wait"])
+        waits = waits_of(facts, steps)
+        if waits is not None:
+            self.assertEqual(sorted(shown["waited"]), sorted([child, wait.step] for wait in waits for child in wait.children))
 
     def agree_arrows(self, session, shown):
         """The arrows between lanes are the causes of each kind, where the program shows them."""
@@ -210,6 +272,14 @@ class BrowserTest(unittest.TestCase):
             self.addCleanup(session.close)
             self.agree(session)
 
+    def test_groups_stand_in_boxes_and_waits_below_their_children(self):
+        has_views(self)
+        session = Session(PROGRAM, Source(NESTED, "nested.task"))
+        self.addCleanup(session.close)
+        for command in ("run 12", "run 9", "step 0", "run 100", "rolltask 0.2"):
+            session.do(command)
+        self.agree(session)
+
     def test_random_sessions(self):
         for seed in (1, 4):
             self.agree(walked(self, seed, 25)[0])
@@ -227,9 +297,25 @@ class BrowserTest(unittest.TestCase):
           told.push(texts("#program li.race").map((text) => text.trim()), names(".step.chosen"));
           return told;""")
         self.assertEqual(faults, [])
-        self.assertEqual(told[:8], ["0#1", "0#2", "0#7", "0#6", "0#1", None, "10 of 11", "11 of 11"])
+        last = len(session.log)
+        self.assertEqual(told[:8], ["0#1", "0#2", "0#7", "0#6", "0#1", None, f"{last - 1} of {last}", f"{last} of {last}"])
         if has_views(self):
             self.assertEqual(told[8:], [["load r1 0", "store 0 r1"], ["0.2#2"]])
+
+    def test_all_is_reached_by_keys(self):
+        """What scrolls can have the focus, each control has a name, and a chosen step is told as the list's active one."""
+        session = play_file(os.path.join(EXAMPLES, "race.session"), PROGRAM)
+        self.addCleanup(session.close)
+        faults, told = in_browser(page_file(self, session), """
+          const scrolls = [...document.querySelectorAll("body *")].filter((part) => getComputedStyle(part).overflowY === "auto");
+          const unreached = scrolls.filter((part) => part.tabIndex < 0 && !part.querySelector("button")).map((part) => part.id || part.className);
+          const named = (part) => part.ariaLabel || part.textContent.trim() || part.getAttribute("aria-labelledby");
+          const unnamed = [...document.querySelectorAll("button, input, [tabindex]")].filter((part) => !named(part)).map((part) => part.id);
+          press("ArrowDown");
+          const active = document.getElementById(find("lanes").getAttribute("aria-activedescendant"));
+          press("Escape");
+          return [unreached, unnamed, active && active.dataset.step, find("lanes").hasAttribute("aria-activedescendant")];""")
+        self.assertEqual((faults, told), ([], [[], [], "0#1", False]))
 
     def test_three_sizes(self):
         session = play_file(os.path.join(EXAMPLES, "tasks.session"), PROGRAM)

@@ -18,6 +18,9 @@ pub fn needed_by(alloc: Global, core: &Core, step: &StepId) -> Result<Vec<StepId
     ensures absent { IsErrOf result CauseRefusal.NoSuchStep
         ↔ IsFalse (stands step.now (history core.now.run)) }
 {
+    if !core.has_step(step) {
+        return Err(CauseRefusal::NoSuchStep);
+    }
     let entries = core.legal_entries();
     let Some(at) = place_of(entries, step) else {
         return Err(CauseRefusal::NoSuchStep);
@@ -35,6 +38,9 @@ pub fn needs(alloc: Global, core: &Core, step: &StepId) -> Result<Vec<StepId>, C
     ensures absent { IsErrOf result CauseRefusal.NoSuchStep
         ↔ IsFalse (stands step.now (history core.now.run)) }
 {
+    if !core.has_step(step) {
+        return Err(CauseRefusal::NoSuchStep);
+    }
     let entries = core.legal_entries();
     let Some(at) = place_of(entries, step) else {
         return Err(CauseRefusal::NoSuchStep);

@@ -11,7 +11,7 @@ ghost use Rattle.tb_cause.specs.Chains.{IsCone, causes_of, events_at, placed_at}
 use crate::cone::Cone;
 use crate::naming::{named, ordinal_before, ordinal_behind};
 use std::alloc::{AllocError, Global};
-use tb_core::{Entry, needs};
+use tb_core::{Entry, may_wait, needs, needs_if};
 use tb_model::{Event, StepId};
 
 /// The step at this place with all that need it.
@@ -89,8 +89,9 @@ fn needs_some(entries: &[Entry], later: usize, event: &Event, places: &[u32]) ->
     ensures { list_any (Needs.needs (history_of (take later entries.now)) event.now)
         (events_at entries.now places.now) ≡ result }
 {
+    let waits = may_wait(&entries[..later], event);
     for place in places {
-        if needs(&entries[..later], event, &entries[*place as usize].event) {
+        if needs_if(&entries[..later], event, waits, &entries[*place as usize].event) {
             return true;
         }
     }

@@ -1,5 +1,7 @@
 pub mod ScanLemmas
 pub mod MemberLemmas
+pub mod GroupLemmas
+pub mod WalkLemmas
 pub mod NeedsLemmas
 pub mod FirstLemmas
 pub mod FillingLemmas

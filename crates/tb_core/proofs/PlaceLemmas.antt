@@ -43,3 +43,10 @@ module _ (first : Cells) (root_line limit : ℕ) (es : List Entry) (tables : Tab
   pub none_stands : o ≡ option_map standing_of (task_of root_line left i.task) → o ≡ None → stands i (history_of es) ≡ true → ⊥
   none_stands told n s =
       stands_acts i (history_of es) (no_acts i.task (history_of es) (unacted_in first (history_of es) sound.legal i.task (not_there run i.task o told n))) s
+
+  pub stands_not : o ≡ option_map standing_of (task_of root_line left i.task) → o ≡ None → false ≡ stands i (history_of es)
+  stands_not told n = out (stands i (history_of es)) refl
+    where
+      out : (b : Bool) → stands i (history_of es) ≡ b → false ≡ b
+      out true s = absurd (none_stands told n s)
+      out false s = refl

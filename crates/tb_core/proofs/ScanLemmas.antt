@@ -1,12 +1,13 @@
 -- The history of entries, cut at one of them, and the places of steps.
-use Rattle.std.proofs.Common.{◌≡◌, ◌==◌, ◌&&◌, ◌||◌, ◌<◌, ◌+◌, ℕ, suc, Bool, List, [], ◌∷◌, ◌++◌, true, false, refl, sym, ap, ◌∙◌, length, map, take, drop, reverse, Some, arith, get_or, eq-eqb, eqb-true, append_assoc, ◌≤◌, ◌≢◌, ◌-◌}
+use Rattle.std.proofs.Common.{◌≡◌, ◌==◌, ◌&&◌, ◌||◌, ◌<◌, ◌+◌, ℕ, suc, Bool, List, [], ◌∷◌, ◌++◌, true, false, refl, sym, ap, ◌∙◌, length, map, take, drop, reverse, Some, arith, get_or, eq-eqb, eqb-true, append_assoc, ◌≤◌, ◌≢◌, ◌-◌, ⊎_elim}
 use Rattle.std.proofs.Math.Seq.{split_at}
 use Rattle.std.proofs.lemmas.List.{reverse-append, map-append}
 use Rattle.std.proofs.lemmas.Option.{slice_get_read}
-use Rattle.std.proofs.lemmas.Bool.{or_left, or_right, and_from}
+use Rattle.std.proofs.lemmas.Bool.{false≢true, or_cases, or_left, or_right, and_from, and_parts}
 use Rattle.std.proofs.lemmas.Grind.{common_steps}
 use Rattle.tb_model.specs.Names.{Name}
 use Rattle.tb_model.specs.declared.action.Action.{Action}
+use Rattle.tb_model.specs.declared.event.Event.{Event}
 use Rattle.tb_model.specs.declared.step_id.StepId.{StepId}
 use Rattle.tb_model.specs.Facts.{History, is_of, own}
 use Rattle.tb_model.specs.Lines.{Departure}
@@ -71,6 +72,58 @@ module _ (entries : List Entry) (at : ℕ) (e : Entry) (i : StepId) (count : ℕ
   pub found_step_at : step_at entries at ≡ Some i
   found_step_at =
       ap (step_behind (take at entries)) (slice_get_read entries (length entries) at e refl within here) ∙ ap Some (the_step i front e.event step)
+
+-- a further event takes none of the task's steps away
+own_longer : (t : Name) (v : Event) (H : History) → length (own t H) ≤ length (own t (v ∷ H))
+own_longer t v H = by_task (is_of t v) refl
+  where
+    by_task : (b : Bool) → is_of t v ≡ b → length (own t H) ≤ length (own t (v ∷ H))
+    by_task true mine = let more : length (own t (v ∷ H)) ≡ suc (length (own t H)) = ap length (own_mine t v H mine) in omega (arith, more)
+    by_task false other = let same : length (own t (v ∷ H)) ≡ length (own t H) = ap length (own_other t v H other) in omega (arith, same)
+
+-- a step that stands has one of the numbers of its task's steps
+pub numbered : (i : StepId) (H : History) → stands i H ≡ true → (1 ≤ i.k) × (i.k ≤ length (own i.task H))
+numbered i [] h = absurd (false≢true h)
+numbered i (v ∷ H) h = ⊎_elim here (λ l. let rest = numbered i H l in (rest.0, omega (arith, rest.1, own_longer i.task v H))) (or_cases (is_step i H v) (stands i H) h)
+  where
+    here : is_step i H v ≡ true → (1 ≤ i.k) × (i.k ≤ length (own i.task (v ∷ H)))
+    here is =
+        let o = and_parts (is_of i.task v) (i.k == suc (length (own i.task H))) is in
+        let number : i.k ≡ suc (length (own i.task H)) = eqb-true i.k _ o.1 in
+        let more : length (own i.task (v ∷ H)) ≡ suc (length (own i.task H)) = ap length (own_mine i.task v H o.0) in
+        (omega (arith, number), omega (arith, number, more))
+
+-- and each of those numbers is that of one
+pub has_numbered : (i : StepId) (H : History) → 1 ≤ i.k → i.k ≤ length (own i.task H) → stands i H ≡ true
+has_numbered i [] some most = absurd (omega (arith, some, most))
+has_numbered i (v ∷ H) some most = by_task (λ m. has_numbered i H some m) (is_of i.task v) refl
+  where
+    by_number : (i.k ≤ length (own i.task H) → stands i H ≡ true) → is_of i.task v ≡ true → (b : Bool) → (i.k == suc (length (own i.task H))) ≡ b → stands i (v ∷ H) ≡ true
+    by_number rest mine true q = or_left (is_step i H v) _ (and_from (is_of i.task v) _ mine q)
+    by_number rest mine false q =
+        let more : length (own i.task (v ∷ H)) ≡ suc (length (own i.task H)) = ap length (own_mine i.task v H mine) in
+        let other : i.k ≢ suc (length (own i.task H)) = (λ e. false≢true (sym q ∙ eq-eqb i.k _ e)) in
+        or_right (is_step i H v) _ (rest (omega (arith, most, more, other)))
+    by_task : (i.k ≤ length (own i.task H) → stands i H ≡ true) → (b : Bool) → is_of i.task v ≡ b → stands i (v ∷ H) ≡ true
+    by_task rest true mine = by_number rest mine (i.k == suc (length (own i.task H))) refl
+    by_task rest false foreign =
+        let same : length (own i.task (v ∷ H)) ≡ length (own i.task H) = ap length (own_other i.task v H foreign) in
+        or_right (is_step i H v) _ (rest (omega (arith, most, same)))
+
+-- no step has the number 0, or a number beyond those of its task's steps
+pub has_none : (i : StepId) (H : History) → i.k ≡ 0 → false ≡ stands i H
+has_none i H none = out (stands i H) refl
+  where
+    out : (b : Bool) → stands i H ≡ b → false ≡ b
+    out true s = absurd (omega (arith, none, (numbered i H s).0))
+    out false s = refl
+
+pub has_not_so_many : (i : StepId) (H : History) (steps : ℕ) → steps ≡ length (own i.task H) → steps < i.k → false ≡ stands i H
+has_not_so_many i H steps counted beyond = out (stands i H) refl
+  where
+    out : (b : Bool) → stands i H ≡ b → false ≡ b
+    out true s = absurd (omega (arith, beyond, counted, (numbered i H s).1))
+    out false s = refl
 
 -- ---- the same from the newest entry on
 

@@ -6,5 +6,7 @@ pub mod Naming
 pub mod Outcomes
 pub mod Soundness
 pub mod Scans
+pub mod Listed
+pub mod Groups
 pub mod Rolled
 pub mod Unwinding

@@ -1,6 +1,5 @@
 -- What goes where a step is taken back with all that need it, and what that leaves.
-use Rattle.std.specs.Prelude.{◌≡◌, ◌≤◌, ◌+◌, ℕ, List, [], ◌∷◌, length, reverse, vec_len, vec_capacity}
-use Rattle.std.specs.List.{AllByRecursion}
+use Rattle.std.specs.Prelude.{◌≡◌, ℕ, List, [], ◌∷◌, length, reverse}
 use Rattle.tb_model.specs.declared.step_id.StepId.{StepId}
 use Rattle.tb_model.specs.Facts.{History, prepend_if}
 use Rattle.tb_model.specs.Lines.{without_lines}
@@ -28,14 +27,11 @@ removals e (v ∷ H) = prepend_if (is_removed e H v) (record { id = step_of H v;
 
 -- ---- the call
 
--- these are the step and all that need it, and the room is there: for each that goes, and for each behind the first of them
-pub record IsReady (H : History) (r : Rollback) : Type 0 where
+-- of this history these are the step and all that need it, and it has so many events
+pub record IsOfHistory (H : History) (r : Rollback) : Type 0 where
   pub places : r.places.items ≡ reverse (removed_places r.step H)
   pub steps : r.steps.items ≡ reverse (removed_steps r.step H)
-  pub none_kept : r.kept.items ≡ []
-  pub none_removed : r.removed.items ≡ []
-  pub kept_room : AllByRecursion (λ at. length H ≤ at + vec_capacity r.kept) r.places.items
-  pub removed_room : vec_len r.places ≤ vec_capacity r.removed
+  pub count : r.count ≡ length H
 
 -- the step and all that need it are gone, and nothing else; they are told in the order of the history
 pub record RollsBack (s : Seen) (e : StepId) (new : Seen) (answer : List Removed) : Type 0 where

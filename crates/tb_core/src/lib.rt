@@ -4,6 +4,7 @@
 mod answers;
 mod entry;
 mod filling;
+mod groups;
 mod needing;
 mod places;
 mod removed;
@@ -15,7 +16,7 @@ mod undo_refusal;
 mod unwinding;
 
 pub use entry::Entry;
-pub use needing::{first_needer, is_apart, is_before, is_covered, needs};
+pub use needing::{first_needer, is_apart, is_before, is_covered, may_wait, needs, needs_if};
 pub use places::{ordinal_of, place_of, step_at};
 pub use removed::Removed;
 pub use rollback::Rollback;

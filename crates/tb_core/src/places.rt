@@ -2,7 +2,7 @@
 
 ghost use Rattle.std.specs.Prelude.{◌≡◌, ◌<◌, ◌≤◌, ◌↔◌, IfOk, IfSome, IsSome, IsTrue, Some, length, reverse};
 ghost use Rattle.tb_model.specs.declared.step_id.StepId.{StepId};
-ghost use Rattle.tb_model.specs.Facts.{own};
+ghost use Rattle.tb_model.specs.Facts.{History, own};
 ghost use Rattle.tb_model.specs.Equivalent.{stands};
 ghost use Rattle.tb_core.specs.Scans.{history_of, step_at};
 ghost use Rattle.tb_core.specs.Unwinding.{AreTied};
@@ -45,6 +45,19 @@ pub fn place_from_newest(tables: &Tables, entries: &[Entry], id: &StepId) -> Opt
     }
 }
 
+/// Whether a task with this many steps has the step.
+pub fn is_number_of(id: &StepId, steps: usize) -> bool
+    ensures { (H : History) → steps ≡ length (own id.now.task H) → result ≡ stands id.now H }
+{
+    if id.k == 0 {
+        return false;
+    }
+    if steps < id.k as usize {
+        return false;
+    }
+    true
+}
+
 /// The place of a step whose task has this many steps.
 #[tactic(auto, using(crate::proofs::ScanLemmas::among_other, crate::proofs::ScanLemmas::among_some, crate::proofs::ScanLemmas::among_stands, crate::proofs::ScanLemmas::among_mine))]
 fn place_among(entries: &[Entry], id: &StepId, steps: usize) -> Option<usize>
@@ -53,6 +66,9 @@ fn place_among(entries: &[Entry], id: &StepId, steps: usize) -> Option<usize>
     ensures step { IfSome result (λ at. step_at entries.now at ≡ Some id.now) }
     ensures within { IfSome result (λ at. at < length entries.now) }
 {
+    if !is_number_of(id, steps) {
+        return None;
+    }
     let mut left = steps;
     let mut at = entries.len();
     'back: while 0 < at {
@@ -88,7 +104,7 @@ pub fn ordinal_of(entries: &[Entry], at: usize) -> u32
 }
 
 /// How many of the entries are the task's.
-fn steps_of(entries: &[Entry], t: &TaskName) -> usize
+pub(crate) fn steps_of(entries: &[Entry], t: &TaskName) -> usize
     ensures count { result ≡ length (own t.now (history_of entries.now)) }
     ensures within { result ≤ length entries.now }
 {

@@ -1,8 +1,11 @@
 //! The history, step by step.
 
+mod state;
+
 ghost use Rattle.std.specs.Prelude.{◌≡◌, ◌≢◌, ◌<◌, ◌≤◌, ◌+◌, ◌↔◌, [], ◌∷◌, OnOk, IfOk, IfErr, OnErr, IfSome, IfNone, IsOk, IsSome, IsErrOf, IsTrue, length, reverse, slice_get, Some, None, if◌then◌else◌, map};
 ghost use Rattle.std.specs.Option.{option_copied, option_map};
 ghost use Rattle.tb_model.specs.Facts.{is_spawned, own, items_of, before, apart};
+ghost use Rattle.tb_model.specs.Equivalent.{stands};
 ghost use Rattle.tb_model.specs.Legal.{Legal};
 ghost use Rattle.tb_model.specs.State.{printed, open_groups};
 ghost use Rattle.tb_model.specs.LeastNames.{IsLeastName};
@@ -15,14 +18,14 @@ ghost use Rattle.tb_core.specs.Situation.{config_of};
 ghost use Rattle.tb_core.specs.Outcomes.{event_of, has_ended, hindrance_of, Fits, IsCurrent, IsOpen, IsKept, Refuses, Steps, Stepped, IsFree, IsPlaceOf, TakesBack, Keeps, Undone};
 ghost use Rattle.tb_core.specs.Soundness.{AreRecords, seen};
 ghost use Rattle.tb_core.specs.declared.step_refusal.StepRefusal.TheVariants.{Memory};
-ghost use Rattle.tb_core.specs.Rolled.{IsReady, RollsBack};
+ghost use Rattle.tb_core.specs.Rolled.{IsOfHistory, RollsBack};
 ghost use Rattle.tb_core.specs.Scans.{AreLegal};
 
 use crate::answers::{config, named, stale, stands_so};
 use crate::entry::Entry;
 use crate::filling::{copy_event, copy_of, fill_in, planned, spare_names};
 use crate::needing::first_needer;
-use crate::places::{place_from_newest, step_at};
+use crate::places::{is_number_of, place_from_newest, step_at};
 use crate::removed::Removed;
 use crate::rollback::Rollback;
 use crate::step_refusal::StepRefusal;
@@ -112,6 +115,16 @@ impl Core {
         ensures { result ≡ has_ended self.now.run task.now }
     {
         self.tables.has_ended(task)
+    }
+
+    /// Whether the step is in the history. It isn't looked for: its task's steps are counted.
+    pub fn has_step(&self, id: &StepId) -> bool
+        ensures { result ≡ stands id.now (history self.now.run) }
+    {
+        match self.tables.standing(&id.task) {
+            Some(standing) => is_number_of(id, standing.steps as usize),
+            None => false,
+        }
     }
 
     /// The situation of a task that is there.
@@ -377,7 +390,7 @@ impl Core {
     /// Takes a step back with all that need it, each by its own record, from the newest on. It
     /// takes no memory, and what stands behind the first of them is moved once.
     pub fn take_out_all(&mut self, rollback: Rollback) -> Vec<Removed>
-        requires { IsReady (history self.old.run) rollback }
+        requires { IsOfHistory (history self.old.run) rollback }
         ensures { RollsBack self.old.run rollback.step self.new.run result.items }
     {
         self.reserved = None;

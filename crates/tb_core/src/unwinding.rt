@@ -2,7 +2,7 @@
 //! it. So each is moved twice at most, however many go.
 
 ghost use Rattle.std.specs.Prelude.{◌≡◌, ◌≤◌, ◌+◌, ◌++◌, reverse, vec_len, vec_capacity};
-ghost use Rattle.tb_core.specs.Rolled.{IsReady};
+ghost use Rattle.tb_core.specs.Rolled.{IsOfHistory};
 ghost use Rattle.tb_core.specs.Unwinding.{events, AreTied, Unwound};
 
 use crate::entry::Entry;
@@ -19,7 +19,7 @@ pub fn unwind(
     rollback: Rollback,
 ) -> (Vec<Entry>, Vec<Removed>)
     requires tied { AreTied (reverse entries.old.items) tables.old }
-    requires ready { IsReady (events (reverse entries.old.items)) rollback }
+    requires ready { IsOfHistory (events (reverse entries.old.items)) rollback }
     ensures unwound { Unwound rollback.step entries.old.items tables.old entries.new.items
         result.0.items tables.new result.1.items }
     ensures capacity { vec_capacity entries.new ≡ vec_capacity entries.old }
@@ -29,6 +29,7 @@ pub fn unwind(
         step: _,
         mut places,
         mut steps,
+        count: _,
         mut kept,
         mut removed,
     } = rollback;

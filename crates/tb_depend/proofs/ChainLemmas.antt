@@ -124,13 +124,13 @@ module _ (items : List Item) (links : List Link) (heads : Heads) (chained : AreC
   pub meeting_all : new.place ≡ All → IsLast (is_met new) items (length items) (length items)
   meeting_all e = last_all (is_met new) items (length items) (all_met new e)
 
-  -- what comes before is met
-  pub before_met : (n meeting r : ℕ) → IsLast (is_met new) items n meeting → IsLast (meets is_before new) items meeting r → IsLast (meets is_before new) items n r
-  before_met n meeting r m b = record {
-    within = omega (arith, m.within, b.within);
-    last = λ k i h e t. b.last k i (m.last k i h e (and_parts (is_met new i) (is_before (relation new.kind i.kind)) t).0) e t;
-    passes = b.passes;
-  }
+-- what comes before is met
+pub before_met : (new : Item) (items : List Item) (n meeting r : ℕ) → IsLast (is_met new) items n meeting → IsLast (meets is_before new) items meeting r → IsLast (meets is_before new) items n r
+before_met new items n meeting r m b = record {
+  within = omega (arith, m.within, b.within);
+  last = λ k i h e t. b.last k i (m.last k i h e (and_parts (is_met new i) (is_before (relation new.kind i.kind)) t).0) e t;
+  passes = b.passes;
+}
 
 -- ---- a step towards the front
 

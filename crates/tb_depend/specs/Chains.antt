@@ -33,6 +33,10 @@ AreSameHeads old new = (p : Place) → head new p ≡ head old p
 abbrev pub KeepsHeads : Heads → Heads → Type 0
 KeepsHeads old new = (p : Place) → has_head old p ≡ true → has_head new p ≡ true
 
+-- the same, by the cells alone
+abbrev pub KeepsNames : List (ℕ × ℕ) → List (ℕ × ℕ) → Type 0
+KeepsNames old new = (p : Place) → is_named old p ≡ true → is_named new p ≡ true
+
 -- the very same place: a cell isn't all memory
 abbrev pub is_place : Place → Place → Bool
 is_place (Cell c) (Cell d) = c == d
@@ -63,3 +67,23 @@ pub record AreChained (items : List Item) (links : List Link) (heads : Heads) : 
   pub count : length links ≡ length items
   pub linked : (n : ℕ) (i : Item) (link : Link) → slice_get items n ≡ Some i → slice_get links n ≡ Some link → IsLink items n i link
   pub headed : (p : Place) → IsLast (is_of p) items (length items) (head heads p)
+
+-- what a contract sees of that list: the items, how many items and links can be added with no memory, and the cells that
+-- have room for their last item
+pub record ItemList : Type 0 where
+  pub items : List Item
+  pub item_places : ℕ
+  pub link_places : ℕ
+  pub cells : List (ℕ × ℕ)
+
+-- these items can be added with no memory
+pub record HasItemRoom (list : ItemList) (new : List Item) : Type 0 where
+  pub items : length new ≤ list.item_places
+  pub links : length new ≤ list.link_places
+  pub heads : (i : Item) → Contains new i → is_named list.cells i.place ≡ true
+
+-- no room is given back
+pub record KeepsItemRoom (old new : ItemList) : Type 0 where
+  pub items : old.item_places ≤ new.item_places
+  pub links : old.link_places ≤ new.link_places
+  pub cells : KeepsNames old.cells new.cells

@@ -1,11 +1,15 @@
 //! The items of all children in one list, each with what it knows of those in front of it.
 
-ghost use Rattle.std.specs.Prelude.{◌≡◌, ◌<◌, ◌≤◌, ◌+◌, ◌-◌, [], ◌∷◌, ◌++◌, true, OnOk, IsOk, length, take, vec_len, vec_capacity};
-ghost use Rattle.tb_depend.specs.Chains.{has_head, HasHeadsFor, KeepsHeads, is_met, IsLast, IsLink, AreChained};
+ghost use Rattle.std.specs.Prelude.{◌≡◌, ◌<◌, ◌≤◌, ◌+◌, ◌-◌, [], ◌∷◌, ◌++◌, true, OnOk, IsOk, Some, length, take, slice_get};
+ghost use Rattle.tb_model.specs.declared.item.Item.{Item as AnItem};
+ghost use Rattle.tb_model.specs.Items.{is_before, meets};
+ghost use Rattle.tb_depend.specs.Table.{is_named};
+ghost use Rattle.tb_depend.specs.Chains.{is_met, IsLast, IsLink, HasItemRoom, KeepsNames, KeepsItemRoom};
 
 use crate::heads::Heads;
 use crate::link::Link;
 use std::alloc::{AllocError, Global};
+use std::marker::Model;
 use tb_model::{Item, Place};
 
 /// The items of all children, one child's behind another's, with the links of each, and the last
@@ -17,10 +21,21 @@ pub(crate) struct Chain {
     pub heads: Heads,
 }
 
+impl Model for Chain {
+    ghost use Rattle.std.specs.Prelude.{◌-◌, vec_len, vec_capacity};
+    ghost use Rattle.tb_model.specs.Items.{is_before, meets};
+ghost use Rattle.tb_depend.specs.Chains.{ItemList, AreChained};
+
+    ghost Value = { ItemList };
+
+    ghost view = { λ c. record { items = c.items.items; item_places = vec_capacity c.items - vec_len c.items; link_places = vec_capacity c.links - vec_len c.links; cells = c.heads.cells.entries } };
+
+    ghost invariant = { λ c. AreChained c.items.items c.links.items c.heads };
+}
+
 impl Chain {
     pub fn new(alloc: Global) -> Chain
-        ensures items { result.items.items ≡ [] }
-        ensures chained { AreChained result.items.items result.links.items result.heads }
+        ensures { result.items ≡ [] }
     {
         Chain {
             items: Vec::new(alloc),
@@ -29,20 +44,51 @@ impl Chain {
         }
     }
 
+    /// How many items there are.
+    pub fn len(&self) -> usize
+        ensures { result ≡ length self.now.items }
+    {
+        self.items.len()
+    }
+
+    pub fn items(&self) -> &[Item]
+        ensures { result.now ≡ self.now.items }
+    {
+        self.items.as_slice()
+    }
+
+    /// The item at this place.
+    pub fn item(&self, at: usize) -> Item
+        requires { at < length self.now.items }
+        ensures { slice_get self.now.items at ≡ Some result }
+    {
+        self.items[at]
+    }
+
+    /// One above the last item in front of this one that names its storage location.
+    pub fn meeting(&self, at: usize) -> usize
+        requires { at < length self.now.items }
+        ensures { (i : AnItem) → slice_get self.now.items at ≡ Some i
+            → IsLast (is_met i) self.now.items at result }
+    {
+        self.links[at].meeting
+    }
+
+    /// One above the last item in front of this one that comes before it.
+    pub fn before(&self, at: usize) -> usize
+        requires { at < length self.now.items }
+        ensures { (i : AnItem) → slice_get self.now.items at ≡ Some i
+            → IsLast (meets is_before i) self.now.items at result }
+    {
+        self.links[at].before
+    }
+
     /// Makes the room that `extend` needs for these items, and changes nothing else.
     pub fn reserve(&mut self, new: &[Item]) -> Result<(), AllocError>
-        requires { AreChained self.old.items.items self.old.links.items self.old.heads }
-        ensures items { self.new.items.items ≡ self.old.items.items }
-        ensures chained { AreChained self.new.items.items self.new.links.items self.new.heads }
-        ensures ok { OnOk result (HasHeadsFor self.new.heads new.now
-            × (vec_len self.new.items + length new.now ≤ vec_capacity self.new.items)
-            × (vec_len self.new.links + length new.now ≤ vec_capacity self.new.links)) }
-        ensures succeeds { HasHeadsFor self.old.heads new.now
-            → length new.now ≤ vec_capacity self.old.items - vec_len self.old.items
-            → length new.now ≤ vec_capacity self.old.links - vec_len self.old.links → IsOk result }
-        ensures heads { KeepsHeads self.old.heads self.new.heads }
-        ensures places { vec_capacity self.old.items ≤ vec_capacity self.new.items }
-        ensures links { vec_capacity self.old.links ≤ vec_capacity self.new.links }
+        ensures items { self.new.items ≡ self.old.items }
+        ensures ok { OnOk result (HasItemRoom self.new new.now) }
+        ensures succeeds { HasItemRoom self.old new.now → IsOk result }
+        ensures keeps { KeepsItemRoom self.old self.new }
     {
         self.items.reserve(new.len())?;
         self.links.reserve(new.len())?;
@@ -51,8 +97,7 @@ impl Chain {
 
     /// One above the last item that names the storage location of the new one.
     pub fn last_met(&self, new: Item) -> usize
-        requires { AreChained self.now.items.items self.now.links.items self.now.heads }
-        ensures { IsLast (is_met new) self.now.items.items (length self.now.items.items) result }
+        ensures { IsLast (is_met new) self.now.items (length self.now.items) result }
     {
         match new.place {
             Place::Cell(_) => self.heads.head(new.place).max(self.heads.all),
@@ -62,8 +107,7 @@ impl Chain {
 
     /// What an item knows of those in the list.
     fn link(&self, item: Item) -> Link
-        requires { AreChained self.now.items.items self.now.links.items self.now.heads }
-        ensures { IsLink self.now.items.items (length self.now.items.items) item result }
+        ensures { IsLink self.now.items (length self.now.items) item result }
     {
         let meeting = self.last_met(item);
         Link {
@@ -75,15 +119,13 @@ impl Chain {
 
     /// Adds an item behind the others, in the room that is there.
     fn push(&mut self, item: Item)
-        requires chained { AreChained self.old.items.items self.old.links.items self.old.heads }
-        requires a_place { vec_len self.old.items < vec_capacity self.old.items }
-        requires a_link { vec_len self.old.links < vec_capacity self.old.links }
-        requires a_head { has_head self.old.heads item.place ≡ true }
-        ensures items { self.new.items.items ≡ self.old.items.items ++ item ∷ [] }
-        ensures chained { AreChained self.new.items.items self.new.links.items self.new.heads }
-        ensures heads { KeepsHeads self.old.heads self.new.heads }
-        ensures places { vec_capacity self.old.items ≤ vec_capacity self.new.items }
-        ensures links { vec_capacity self.old.links ≤ vec_capacity self.new.links }
+        requires a_place { 0 < self.old.item_places }
+        requires a_link { 0 < self.old.link_places }
+        requires a_head { is_named self.old.cells item.place ≡ true }
+        ensures items { self.new.items ≡ self.old.items ++ item ∷ [] }
+        ensures item_places { self.new.item_places + 1 ≡ self.old.item_places }
+        ensures link_places { self.new.link_places + 1 ≡ self.old.link_places }
+        ensures cells { KeepsNames self.old.cells self.new.cells }
     {
         let link = self.link(item);
         self.items.push_reserved(item);
@@ -93,15 +135,11 @@ impl Chain {
 
     /// Adds these items behind the others, in the room that is there.
     pub fn extend(&mut self, new: &[Item])
-        requires chained { AreChained self.old.items.items self.old.links.items self.old.heads }
-        requires places { vec_len self.old.items + length new.now ≤ vec_capacity self.old.items }
-        requires links { vec_len self.old.links + length new.now ≤ vec_capacity self.old.links }
-        requires heads { HasHeadsFor self.old.heads new.now }
-        ensures items { self.new.items.items ≡ self.old.items.items ++ new.now }
-        ensures chained { AreChained self.new.items.items self.new.links.items self.new.heads }
-        ensures heads { KeepsHeads self.old.heads self.new.heads }
-        ensures places { vec_capacity self.old.items ≤ vec_capacity self.new.items }
-        ensures links { vec_capacity self.old.links ≤ vec_capacity self.new.links }
+        requires { HasItemRoom self.old new.now }
+        ensures items { self.new.items ≡ self.old.items ++ new.now }
+        ensures item_places { self.new.item_places + length new.now ≡ self.old.item_places }
+        ensures link_places { self.new.link_places + length new.now ≡ self.old.link_places }
+        ensures cells { KeepsNames self.old.cells self.new.cells }
     {
         for item in new {
             self.push(*item);
@@ -110,12 +148,12 @@ impl Chain {
 
     /// Takes the last item off, and keeps its room.
     fn pop(&mut self)
-        requires { AreChained self.old.items.items self.old.links.items self.old.heads }
-        ensures items { self.new.items.items ≡ take (length self.old.items.items - 1) self.old.items.items }
-        ensures chained { AreChained self.new.items.items self.new.links.items self.new.heads }
-        ensures heads { KeepsHeads self.old.heads self.new.heads }
-        ensures places { vec_capacity self.new.items ≡ vec_capacity self.old.items }
-        ensures links { vec_capacity self.new.links ≡ vec_capacity self.old.links }
+        ensures items { self.new.items ≡ take (length self.old.items - 1) self.old.items }
+        ensures item_places { self.new.item_places + length self.new.items
+            ≡ self.old.item_places + length self.old.items }
+        ensures link_places { self.new.link_places + length self.new.items
+            ≡ self.old.link_places + length self.old.items }
+        ensures cells { KeepsNames self.old.cells self.new.cells }
     {
         if let (Some(item), Some(link)) = (self.items.pop(), self.links.pop()) {
             self.heads.set(item.place, link.same);
@@ -124,14 +162,14 @@ impl Chain {
 
     /// Takes off all items behind the first so many, and keeps their room.
     pub fn truncate(&mut self, len: usize)
-        requires { AreChained self.old.items.items self.old.links.items self.old.heads }
-        ensures items { self.new.items.items ≡ take len self.old.items.items }
-        ensures chained { AreChained self.new.items.items self.new.links.items self.new.heads }
-        ensures heads { KeepsHeads self.old.heads self.new.heads }
-        ensures places { vec_capacity self.new.items ≡ vec_capacity self.old.items }
-        ensures links { vec_capacity self.new.links ≡ vec_capacity self.old.links }
+        ensures items { self.new.items ≡ take len self.old.items }
+        ensures item_places { self.new.item_places + length self.new.items
+            ≡ self.old.item_places + length self.old.items }
+        ensures link_places { self.new.link_places + length self.new.items
+            ≡ self.old.link_places + length self.old.items }
+        ensures cells { KeepsNames self.old.cells self.new.cells }
     {
-        while self.items.len() > len {
+        while self.len() > len {
             self.pop();
         }
     }

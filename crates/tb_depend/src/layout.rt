@@ -3,7 +3,7 @@
 ghost use Rattle.std.specs.Prelude.{◌≡◌, ◌<◌, ◌≤◌, ◌+◌, ◌-◌, [], ◌∷◌, ◌++◌, length, take, slice_index, vec_len, vec_capacity};
 ghost use Rattle.tb_depend.specs.Relations.{items_at};
 ghost use Rattle.tb_depend.specs.Layout.{AreEnds, rows_from, start_at, end_of, IsRow};
-ghost use Rattle.tb_depend.specs.Chains.{AreChained, HasHeadsFor, KeepsHeads};
+ghost use Rattle.tb_depend.specs.Chains.{HasItemRoom, KeepsNames};
 
 use crate::chain::Chain;
 use tb_model::Item;
@@ -55,46 +55,35 @@ fn end_of(ends: &[usize]) -> usize
 
 /// Adds a child with these items behind the others, in the room that is there.
 pub(crate) fn push_row(chain: &mut Chain, ends: &mut Vec<usize>, new: &[Item])
-    requires chained { AreChained chain.old.items.items chain.old.links.items chain.old.heads }
-    requires ends { AreEnds 0 ends.old.items (length chain.old.items.items) }
+    requires ends { AreEnds 0 ends.old.items (length chain.old.items) }
     requires a_place { vec_len ends.old < vec_capacity ends.old }
-    requires its_items { vec_len chain.old.items + length new.now ≤ vec_capacity chain.old.items }
-    requires its_links { vec_len chain.old.links + length new.now ≤ vec_capacity chain.old.links }
-    requires its_heads { HasHeadsFor chain.old.heads new.now }
-    ensures rows { rows_from 0 ends.new.items chain.new.items.items
-        ≡ rows_from 0 ends.old.items chain.old.items.items ++ new.now ∷ [] }
-    ensures ends { AreEnds 0 ends.new.items (length chain.new.items.items) }
-    ensures chained { AreChained chain.new.items.items chain.new.links.items chain.new.heads }
+    requires its_items { HasItemRoom chain.old new.now }
+    ensures rows { rows_from 0 ends.new.items chain.new.items
+        ≡ rows_from 0 ends.old.items chain.old.items ++ new.now ∷ [] }
+    ensures ends { AreEnds 0 ends.new.items (length chain.new.items) }
     ensures places { vec_capacity ends.old - vec_len ends.old
         ≤ vec_capacity ends.new - vec_len ends.new + 1 }
-    ensures item_places { vec_capacity chain.old.items - vec_len chain.old.items
-        ≤ vec_capacity chain.new.items - vec_len chain.new.items + length new.now }
-    ensures link_places { vec_capacity chain.old.links - vec_len chain.old.links
-        ≤ vec_capacity chain.new.links - vec_len chain.new.links + length new.now }
-    ensures heads { KeepsHeads chain.old.heads chain.new.heads }
+    ensures item_places { chain.new.item_places + length new.now ≡ chain.old.item_places }
+    ensures link_places { chain.new.link_places + length new.now ≡ chain.old.link_places }
+    ensures cells { KeepsNames chain.old.cells chain.new.cells }
 {
-    let end = chain.items.len() + new.len();
     chain.extend(new);
-    ends.push_reserved(end);
+    ends.push_reserved(chain.len());
 }
 
 /// Takes the last child off, and keeps its room.
 pub(crate) fn pop_row(chain: &mut Chain, ends: &mut Vec<usize>)
-    requires chained { AreChained chain.old.items.items chain.old.links.items chain.old.heads }
-    requires ends { AreEnds 0 ends.old.items (length chain.old.items.items) }
-    ensures rows { rows_from 0 ends.new.items chain.new.items.items
-        ≡ take (length ends.old.items - 1) (rows_from 0 ends.old.items chain.old.items.items) }
-    ensures ends { AreEnds 0 ends.new.items (length chain.new.items.items) }
-    ensures chained { AreChained chain.new.items.items chain.new.links.items chain.new.heads }
+    requires ends { AreEnds 0 ends.old.items (length chain.old.items) }
+    ensures rows { rows_from 0 ends.new.items chain.new.items
+        ≡ take (length ends.old.items - 1) (rows_from 0 ends.old.items chain.old.items) }
+    ensures ends { AreEnds 0 ends.new.items (length chain.new.items) }
     ensures places { 0 < vec_len ends.old →
         vec_capacity ends.new - vec_len ends.new ≡ vec_capacity ends.old - vec_len ends.old + 1 }
-    ensures item_places { vec_capacity chain.new.items - vec_len chain.new.items
-        ≡ vec_capacity chain.old.items - vec_len chain.old.items
-        + length (items_at (rows_from 0 ends.old.items chain.old.items.items) (length ends.old.items)) }
-    ensures link_places { vec_capacity chain.new.links - vec_len chain.new.links
-        ≡ vec_capacity chain.old.links - vec_len chain.old.links
-        + length (items_at (rows_from 0 ends.old.items chain.old.items.items) (length ends.old.items)) }
-    ensures heads { KeepsHeads chain.old.heads chain.new.heads }
+    ensures item_places { chain.new.item_places ≡ chain.old.item_places
+        + length (items_at (rows_from 0 ends.old.items chain.old.items) (length ends.old.items)) }
+    ensures link_places { chain.new.link_places ≡ chain.old.link_places
+        + length (items_at (rows_from 0 ends.old.items chain.old.items) (length ends.old.items)) }
+    ensures cells { KeepsNames chain.old.cells chain.new.cells }
     ensures keeps { vec_capacity ends.old - vec_len ends.old
         ≤ vec_capacity ends.new - vec_len ends.new }
 {

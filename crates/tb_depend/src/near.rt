@@ -5,7 +5,7 @@
 ghost use Rattle.std.specs.Prelude.{◌≡◌, ◌<◌, ◌≤◌, ℕ, IsTrue, Some, ◌↔◌, length, slice_get};
 ghost use Rattle.tb_model.specs.declared.item.Item.{Item as AnItem};
 ghost use Rattle.tb_model.specs.declared.place.Place.TheVariants.{Cell};
-ghost use Rattle.tb_depend.specs.Chains.{AreChained, is_met};
+ghost use Rattle.tb_depend.specs.Chains.{is_met};
 ghost use Rattle.tb_depend.specs.Layout.{AreEnds, rows_from};
 ghost use Rattle.tb_depend.specs.Nearness.{IsClosed, AreOver, AreOverFor, child_at, AreItemsClosed, AreItemsOver};
 
@@ -32,16 +32,16 @@ fn is_over<T: Over>(over: &T, ends: &[usize], at: usize) -> bool
 
 /// Whether those of the first `from` items that come before one of all memory are over.
 fn all_over<T: Over>(chain: &Chain, ends: &[usize], new: Item, from: usize, over: &T) -> bool
-    requires ends { AreEnds 0 ends.now (length chain.now.items.items) }
-    requires from { from ≤ length chain.now.items.items }
-    ensures { AreItemsClosed chain.now.items.items (λ k. T.over over.now (child_at ends.now k)) →
-        IsTrue result ↔ AreItemsOver chain.now.items.items
+    requires ends { AreEnds 0 ends.now (length chain.now.items) }
+    requires from { from ≤ length chain.now.items }
+    ensures { AreItemsClosed chain.now.items (λ k. T.over over.now (child_at ends.now k)) →
+        IsTrue result ↔ AreItemsOver chain.now.items
         (λ k. T.over over.now (child_at ends.now k)) new from }
 {
     let mut at = from;
     while at > 0 {
         at -= 1;
-        let old = chain.items[at];
+        let old = chain.item(at);
         if is_before(new, old) {
             if !is_over(over, ends, at) {
                 return false;
@@ -56,12 +56,11 @@ fn all_over<T: Over>(chain: &Chain, ends: &[usize], new: Item, from: usize, over
 
 /// Whether those of the first `from` items that come before one of a cell are over.
 fn cell_over<T: Over>(chain: &Chain, ends: &[usize], new: Item, from: usize, over: &T) -> bool
-    requires chained { AreChained chain.now.items.items chain.now.links.items chain.now.heads }
-    requires ends { AreEnds 0 ends.now (length chain.now.items.items) }
-    requires from { from ≤ length chain.now.items.items }
+    requires ends { AreEnds 0 ends.now (length chain.now.items) }
+    requires from { from ≤ length chain.now.items }
     requires a_cell { (c : ℕ) × (new.place ≡ Cell c) }
-    ensures { AreItemsClosed chain.now.items.items (λ k. T.over over.now (child_at ends.now k)) →
-        IsTrue result ↔ AreItemsOver chain.now.items.items
+    ensures { AreItemsClosed chain.now.items (λ k. T.over over.now (child_at ends.now k)) →
+        IsTrue result ↔ AreItemsOver chain.now.items
         (λ k. T.over over.now (child_at ends.now k)) new from }
 {
     let mut at = chain.last_before(new, from);
@@ -71,13 +70,13 @@ fn cell_over<T: Over>(chain: &Chain, ends: &[usize], new: Item, from: usize, ove
     if !is_over(over, ends, at - 1) {
         return false;
     }
-    let kind = chain.items[at - 1].kind;
+    let kind = chain.item(at - 1).kind;
     if comes_behind_all(kind) {
         return true;
     }
     at = chain.next_met(new, at);
     while at > 0 {
-        let old = chain.items[at - 1];
+        let old = chain.item(at - 1);
         if is_met(new, old) {
             if comes_behind(kind, old.kind) {
                 break;
@@ -93,11 +92,10 @@ fn cell_over<T: Over>(chain: &Chain, ends: &[usize], new: Item, from: usize, ove
 
 /// Whether those of the first `from` items that come before this one are over.
 fn those_over<T: Over>(chain: &Chain, ends: &[usize], new: Item, from: usize, over: &T) -> bool
-    requires chained { AreChained chain.now.items.items chain.now.links.items chain.now.heads }
-    requires ends { AreEnds 0 ends.now (length chain.now.items.items) }
-    requires from { from ≤ length chain.now.items.items }
-    ensures { AreItemsClosed chain.now.items.items (λ k. T.over over.now (child_at ends.now k)) →
-        IsTrue result ↔ AreItemsOver chain.now.items.items
+    requires ends { AreEnds 0 ends.now (length chain.now.items) }
+    requires from { from ≤ length chain.now.items }
+    ensures { AreItemsClosed chain.now.items (λ k. T.over over.now (child_at ends.now k)) →
+        IsTrue result ↔ AreItemsOver chain.now.items
         (λ k. T.over over.now (child_at ends.now k)) new from }
 {
     match new.place {
@@ -109,18 +107,17 @@ fn those_over<T: Over>(chain: &Chain, ends: &[usize], new: Item, from: usize, ov
 /// One above the last of the first `from` items that names the storage location of the item, which
 /// stands behind these.
 fn front(chain: &Chain, item: usize, from: usize) -> usize
-    requires chained { AreChained chain.now.items.items chain.now.links.items chain.now.heads }
-    requires item { (from ≤ item) × (item < length chain.now.items.items) }
+    requires item { (from ≤ item) × (item < length chain.now.items) }
     ensures within { result ≤ from }
-    ensures last { (new : AnItem) → slice_get chain.now.items.items item ≡ Some new →
-        (k : ℕ) (old : AnItem) → k < from → slice_get chain.now.items.items k ≡ Some old
+    ensures last { (new : AnItem) → slice_get chain.now.items item ≡ Some new →
+        (k : ℕ) (old : AnItem) → k < from → slice_get chain.now.items k ≡ Some old
         → IsTrue (is_met new old) → k < result }
 {
-    let new = chain.items[item];
+    let new = chain.item(item);
     let Place::Cell(_) = new.place else {
         return from;
     };
-    let mut at = chain.links[item].meeting;
+    let mut at = chain.meeting(item);
     while at > from {
         at = chain.next_met(new, at);
     }
@@ -130,26 +127,24 @@ fn front(chain: &Chain, item: usize, from: usize) -> usize
 /// Whether those of the first `from` items that come before the item, which stands behind these,
 /// are over.
 fn item_over<T: Over>(chain: &Chain, ends: &[usize], item: usize, from: usize, over: &T) -> bool
-    requires chained { AreChained chain.now.items.items chain.now.links.items chain.now.heads }
-    requires ends { AreEnds 0 ends.now (length chain.now.items.items) }
-    requires item { (from ≤ item) × (item < length chain.now.items.items) }
-    ensures { AreItemsClosed chain.now.items.items (λ k. T.over over.now (child_at ends.now k)) →
-        (new : AnItem) → slice_get chain.now.items.items item ≡ Some new →
-        IsTrue result ↔ AreItemsOver chain.now.items.items
+    requires ends { AreEnds 0 ends.now (length chain.now.items) }
+    requires item { (from ≤ item) × (item < length chain.now.items) }
+    ensures { AreItemsClosed chain.now.items (λ k. T.over over.now (child_at ends.now k)) →
+        (new : AnItem) → slice_get chain.now.items item ≡ Some new →
+        IsTrue result ↔ AreItemsOver chain.now.items
         (λ k. T.over over.now (child_at ends.now k)) new from }
 {
     let near = front(chain, item, from);
-    those_over(chain, ends, chain.items[item], near, over)
+    those_over(chain, ends, chain.item(item), near, over)
 }
 
 /// Whether all on which the nth child depends are over.
 pub(crate) fn preds_over<T: Over>(chain: &Chain, ends: &[usize], n: usize, over: &T) -> bool
-    requires chained { AreChained chain.now.items.items chain.now.links.items chain.now.heads }
-    requires ends { AreEnds 0 ends.now (length chain.now.items.items) }
-    ensures { IsClosed (rows_from 0 ends.now chain.now.items.items) (T.over over.now) →
-        IsTrue result ↔ AreOver (rows_from 0 ends.now chain.now.items.items) (T.over over.now) n }
+    requires ends { AreEnds 0 ends.now (length chain.now.items) }
+    ensures { IsClosed (rows_from 0 ends.now chain.now.items) (T.over over.now) →
+        IsTrue result ↔ AreOver (rows_from 0 ends.now chain.now.items) (T.over over.now) n }
 {
-    let (from, to) = bounds(&chain.items, ends, n);
+    let (from, to) = bounds(chain.items(), ends, n);
     for item in from..to {
         if !item_over(chain, ends, item, from, over) {
             return false;
@@ -160,21 +155,19 @@ pub(crate) fn preds_over<T: Over>(chain: &Chain, ends: &[usize], n: usize, over:
 
 /// Whether all are over on which a further child with this item would depend.
 fn new_over<T: Over>(chain: &Chain, ends: &[usize], new: Item, over: &T) -> bool
-    requires chained { AreChained chain.now.items.items chain.now.links.items chain.now.heads }
-    requires ends { AreEnds 0 ends.now (length chain.now.items.items) }
-    ensures { AreItemsClosed chain.now.items.items (λ k. T.over over.now (child_at ends.now k)) →
-        IsTrue result ↔ AreItemsOver chain.now.items.items
-        (λ k. T.over over.now (child_at ends.now k)) new (length chain.now.items.items) }
+    requires ends { AreEnds 0 ends.now (length chain.now.items) }
+    ensures { AreItemsClosed chain.now.items (λ k. T.over over.now (child_at ends.now k)) →
+        IsTrue result ↔ AreItemsOver chain.now.items
+        (λ k. T.over over.now (child_at ends.now k)) new (length chain.now.items) }
 {
     those_over(chain, ends, new, chain.last_met(new), over)
 }
 
 /// Whether all are over on which a further child with these items would depend.
 pub(crate) fn further_over<T: Over>(chain: &Chain, ends: &[usize], items: &[Item], over: &T) -> bool
-    requires chained { AreChained chain.now.items.items chain.now.links.items chain.now.heads }
-    requires ends { AreEnds 0 ends.now (length chain.now.items.items) }
-    ensures { IsClosed (rows_from 0 ends.now chain.now.items.items) (T.over over.now) →
-        IsTrue result ↔ AreOverFor (rows_from 0 ends.now chain.now.items.items) (T.over over.now) items.now }
+    requires ends { AreEnds 0 ends.now (length chain.now.items) }
+    ensures { IsClosed (rows_from 0 ends.now chain.now.items) (T.over over.now) →
+        IsTrue result ↔ AreOverFor (rows_from 0 ends.now chain.now.items) (T.over over.now) items.now }
 {
     for item in items {
         if !new_over(chain, ends, *item, over) {

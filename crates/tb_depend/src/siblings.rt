@@ -33,13 +33,12 @@ impl Model for Siblings {
     ghost use Rattle.std.specs.Prelude.{◌≡◌, ◌-◌, [], length, vec_len, vec_capacity};
     ghost use Rattle.tb_depend.specs.Table.{Table};
     ghost use Rattle.tb_depend.specs.Layout.{AreEnds, rows_from};
-    ghost use Rattle.tb_depend.specs.Chains.{AreChained};
 
     ghost Value = { Table };
 
-    ghost view = { λ s. record { siblings = rows_from 0 s.ends.items s.chain.items.items; places = vec_capacity s.ends - vec_len s.ends; item_places = vec_capacity s.chain.items - vec_len s.chain.items; link_places = vec_capacity s.chain.links - vec_len s.chain.links; cells = s.chain.heads.cells.entries; number_places = vec_capacity s.spare } };
+    ghost view = { λ s. record { siblings = rows_from 0 s.ends.items s.chain.items; places = vec_capacity s.ends - vec_len s.ends; item_places = s.chain.item_places; link_places = s.chain.link_places; cells = s.chain.cells; number_places = vec_capacity s.spare } };
 
-    ghost invariant = { λ s. AreEnds 0 s.ends.items (length s.chain.items.items) × AreChained s.chain.items.items s.chain.links.items s.chain.heads × (s.spare.items ≡ []) };
+    ghost invariant = { λ s. AreEnds 0 s.ends.items (length s.chain.items) × (s.spare.items ≡ []) };
 }
 
 impl Siblings {
@@ -67,7 +66,7 @@ impl Siblings {
     pub fn items(&self, n: usize) -> &[Item]
         ensures { result.now ≡ items_at self.now.siblings n }
     {
-        row(&self.chain.items, &self.ends, n)
+        row(self.chain.items(), &self.ends, n)
     }
 
     /// Whether the nth child depends on the mth. A number that is no child's depends on none.

@@ -4,7 +4,7 @@ ghost use Rattle.std.specs.Prelude.{◌≡◌, ◌<◌, ◌≤◌, ◌-◌, ℕ,
 ghost use Rattle.tb_model.specs.declared.item.Item.{Item as AnItem};
 ghost use Rattle.tb_model.specs.declared.place.Place.TheVariants.{Cell};
 ghost use Rattle.tb_model.specs.Items.{is_before, relation, same_place, meets};
-ghost use Rattle.tb_depend.specs.Chains.{is_place, is_met, IsLast, AreChained};
+ghost use Rattle.tb_depend.specs.Chains.{is_place, is_met, IsLast};
 
 use crate::chain::Chain;
 use tb_model::{Item, Kind, Place};
@@ -53,18 +53,17 @@ impl Chain {
     /// One above the last of the first `from` items that comes before a new one. Takes two turns,
     /// but where an item of all memory is of a kind that may run in any order.
     pub fn last_before(&self, new: Item, from: usize) -> usize
-        requires chained { AreChained self.now.items.items self.now.links.items self.now.heads }
-        requires from { from ≤ length self.now.items.items }
-        ensures { IsLast (meets is_before new) self.now.items.items from result }
+        requires from { from ≤ length self.now.items }
+        ensures { IsLast (meets is_before new) self.now.items from result }
     {
         let mut at = from;
         while at > 0 {
-            let old = self.items[at - 1];
+            let old = self.item(at - 1);
             if is_before(new, old) {
                 break;
             }
             at = if is_place(new.place, old.place) {
-                self.links[at - 1].before
+                self.before(at - 1)
             } else {
                 at - 1
             };
@@ -75,15 +74,14 @@ impl Chain {
     /// One above an item in front of that below `at`, such that none between them is of the new
     /// one's storage location, which is a cell.
     pub fn next_met(&self, new: Item, at: usize) -> usize
-        requires chained { AreChained self.now.items.items self.now.links.items self.now.heads }
         requires a_cell { (c : ℕ) × (new.place ≡ Cell c) }
-        requires at { (0 < at) × (at ≤ length self.now.items.items) }
+        requires at { (0 < at) × (at ≤ length self.now.items) }
         ensures within { result < at }
-        ensures none { (k : ℕ) (old : AnItem) → suc k < at → slice_get self.now.items.items k ≡ Some old
+        ensures none { (k : ℕ) (old : AnItem) → suc k < at → slice_get self.now.items k ≡ Some old
             → IsTrue (is_met new old) → k < result }
     {
-        if is_met(new, self.items[at - 1]) {
-            self.links[at - 1].meeting
+        if is_met(new, self.item(at - 1)) {
+            self.meeting(at - 1)
         } else {
             at - 1
         }

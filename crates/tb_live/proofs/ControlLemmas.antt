@@ -109,7 +109,7 @@ lawful_none H n = record {
 
 -- ---- a seat's claim in place of its former one
 
-given_at : (claims : Claims) (seat other : ℕ) (o : Option Name) (t : Name) → claim_of (with_claim claims seat o) other ≡ Some t → ((other ≡ seat) × (o ≡ Some t)) ⊎ (claim_of claims other ≡ Some t)
+pub given_at : (claims : Claims) (seat other : ℕ) (o : Option Name) (t : Name) → claim_of (with_claim claims seat o) other ≡ Some t → ((other ≡ seat) × (o ≡ Some t)) ⊎ (claim_of claims other ≡ Some t)
 given_at [] seat other o t h = inr h
 given_at (c ∷ claims) zero zero o t h = inl (refl, h)
 given_at (c ∷ claims) zero (suc other) o t h = inr h

@@ -18,115 +18,12 @@ use Rattle.tb_model.proofs.TestLemmas.{same_true, same_refl}
 use Rattle.tb_model.proofs.LeastNameLemmas.{one_least, least_found}
 use Rattle.tb_live.specs.Claims.{Claims, IsHeldBeside}
 use Rattle.tb_core.specs.Seen.{Seen, history}
+
 use Rattle.tb_live.specs.declared.asked.Asked.{Asked}
 use Rattle.tb_live.specs.declared.asked.Asked.TheVariants.{Free, Held, Kept}
 use Rattle.tb_live.specs.Plans.{CanTake, IsAsked, is_free, is_held_or}
 use Rattle.tb_ready.specs.Tasks.{IsBehind}
 use Rattle.tb_undo.specs.Readings.{IsUnendedBehind}
-
--- ---- how many tasks are left
-
-abbrev is_less : Ordering → Bool
-is_less Less = true
-is_less _ = false
-
-abbrev is_behind : Option Name → Name → Bool
-is_behind None u = true
-is_behind (Some t) u = is_less (name_cmp t u)
-
-abbrev count_behind : Option Name → List Name → ℕ
-count_behind after [] = 0
-count_behind after (u ∷ us) = cond (is_behind after u) (suc (count_behind after us)) (count_behind after us)
-
--- the tasks behind a name
-abbrev pub tasks_behind : Option Name → History → ℕ
-tasks_behind after H = count_behind after (spawned_names H)
-
-never_behind_itself : (t : Name) → is_less (name_cmp t t) ≡ false
-never_behind_itself t = at (name_cmp t t) refl
-  where
-    at : (o : Ordering) → name_cmp t t ≡ o → is_less (name_cmp t t) ≡ false
-    at Less e = cc (name_cmp_total.antisymm t t, e, ap ordering_reverse e)
-    at Equal e = ap is_less e
-    at Greater e = ap is_less e
-
-less_only : (o : Ordering) → is_less o ≡ true → o ≡ Less
-less_only Less h = refl
-less_only Equal h = absurd (false≢true h)
-less_only Greater h = absurd (false≢true h)
-
--- what is behind a later name is behind the earlier
-still_behind : (after : Option Name) (t u : Name) → IsBehind after t → is_less (name_cmp t u) ≡ true → is_behind after u ≡ true
-still_behind None t u b h = refl
-still_behind (Some a) t u b h = ap is_less (name_cmp_total.trans a t u b (less_only (name_cmp t u) h))
-
-behind_test : (after : Option Name) (t : Name) → IsBehind after t → is_behind after t ≡ true
-behind_test None t b = refl
-behind_test (Some a) t b = ap is_less b
-
-grows : (b c : Bool) (m n : ℕ) → (b ≡ true → c ≡ true) → m ≤ n → cond b (suc m) m ≤ cond c (suc n) n
-grows true true m n f l = omega (arith, l)
-grows true false m n f l = absurd (false≢true (f refl))
-grows false true m n f l = omega (arith, l)
-grows false false m n f l = l
-
-no_more : (after : Option Name) (t : Name) (us : List Name) → IsBehind after t → count_behind (Some t) us ≤ count_behind after us
-no_more after t [] b = omega arith
-no_more after t (u ∷ us) b = grows (is_less (name_cmp t u)) (is_behind after u) (count_behind (Some t) us) (count_behind after us) (still_behind after t u b) (no_more after t us b)
-
-one_fewer : (b c : Bool) (m n : ℕ) → b ≡ false → c ≡ true → m ≤ n → cond b (suc m) m < cond c (suc n) n
-one_fewer true c m n e f l = absurd (false≢true (sym e))
-one_fewer false true m n e f l = omega (arith, l)
-one_fewer false false m n e f l = absurd (false≢true f)
-
-grows_less : (b c : Bool) (m n : ℕ) → (b ≡ true → c ≡ true) → m < n → cond b (suc m) m < cond c (suc n) n
-grows_less true true m n f l = omega (arith, l)
-grows_less true false m n f l = absurd (false≢true (f refl))
-grows_less false true m n f l = omega (arith, l)
-grows_less false false m n f l = l
-
-fewer_among : (after : Option Name) (t : Name) (us : List Name) → IsBehind after t → list_any (same_name t) us ≡ true → count_behind (Some t) us < count_behind after us
-fewer_among after t [] b i = absurd (false≢true i)
-fewer_among after t (u ∷ us) b i = at (same_name t u) refl (fewer_among after t us b)
-  where
-    at : (s : Bool) → same_name t u ≡ s → (list_any (same_name t) us ≡ true → count_behind (Some t) us < count_behind after us) → count_behind (Some t) (u ∷ us) < count_behind after (u ∷ us)
-    at true e rest =
-        let same : t ≡ u = same_true t u e in
-        one_fewer (is_less (name_cmp t u)) (is_behind after u) (count_behind (Some t) us) (count_behind after us)
-        (ap (λ w. is_less (name_cmp t w)) (sym same) ∙ never_behind_itself t)
-        (subst (λ w. is_behind after w ≡ true) same (behind_test after t b))
-        (no_more after t us b)
-    at false e rest =
-        grows_less (is_less (name_cmp t u)) (is_behind after u) (count_behind (Some t) us) (count_behind after us) (still_behind after t u b)
-        (rest (⊎_elim (λ s. absurd (both_ways (same_name t u) e s)) (λ z. z) (or_cases (same_name t u) (list_any (same_name t) us) i)))
-
--- ---- a task is among the names
-
-none_where : (p : Name → Bool) (us : List Name) → list_any p us ≡ false → least_where p us ≡ None
-none_where p [] h = refl
-none_where p (u ∷ us) h =
-    let parts = or_parts (p u) (list_any p us) h in
-    at (p u) parts.0 (none_where p us parts.1)
-  where
-    at : (x : Bool) → x ≡ false → least_where p us ≡ None → cond x (Some (lesser_name u (least_where p us))) (least_where p us) ≡ None
-    at true f g = absurd (false≢true (sym f))
-    at false f g = g
-
-among : (H : History) (t : Name) → IsSpawned H t → list_any (same_name t) (spawned_names H) ≡ true
-among H t s = at (list_any (same_name t) (spawned_names H)) refl
-  where
-    found : IsLeast (same_name t) (least_where (same_name t) (spawned_names H))
-    found = least_found H (same_name t) (λ u h. subst (IsSpawned H) (same_true t u h) s)
-
-    at : (b : Bool) → list_any (same_name t) (spawned_names H) ≡ b → list_any (same_name t) (spawned_names H) ≡ true
-    at true e = e
-    at false e =
-        let l = found.least t (same_refl t) in
-        cc (none_where (same_name t) (spawned_names H) e, l.1)
-
--- each task that is asked leaves fewer
-pub fewer : (H : History) (after : Option Name) (t : Name) → IsUnendedBehind H after t → tasks_behind (Some t) H < tasks_behind after H
-fewer H after t u = fewer_among after t (spawned_names H) u.behind (among H t (and_parts (is_spawned H t) (not (list_any (ends t) H)) u.unended).0)
 
 -- ---- what the walk knows
 

@@ -39,6 +39,7 @@ pub work_so : (P : Program) (run : Seen) (H : History) (t : Name) (w : Work) →
 work_so P run H t w f leaves k = record {
   config = k.config ∙ config_so P run t f ∙ ap (λ K. configuration P K t) leaves;
   line = k.line;
+  position = k.position;
   instr = k.instr;
   cells = k.cells;
 }

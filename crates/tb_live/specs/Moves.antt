@@ -56,7 +56,8 @@ pub record StepsFor (seat : ℕ) (s : Session) (t : Name) (new : Session) (i : S
 abbrev pub Steps : Session → Name → Session → StepId → Type 0
 Steps = StepsFor 0
 
--- when a task takes no step; memory may be wanted where the task is there and goes on
+-- when a task takes no step; memory may be wanted where the task is there and goes on, at a full journal too: what is in the
+-- way, which comes before a full journal, is known only once the statement is evaluated, and that takes memory
 abbrev pub Refuses : Session → Name → StepRefusal → Type 0
 Refuses s t NoSuchTask = refusal_for s t ≡ Some IsMissing
 Refuses s t Ended = refusal_for s t ≡ Some IsOver

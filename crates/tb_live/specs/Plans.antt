@@ -103,6 +103,7 @@ Enters limit seat run p new old entries before after (Err e) = (new ≡ run) × 
 pub record IsWorkOf (P : Program) (run : Seen) (t : Name) (w : Work) : Type 0 where
   pub config : w.config ≡ config_of run t
   pub line : w.instr.line ≡ w.config.at
+  pub position : IsPosition P w.config.at
   pub instr : instruction w.instr ≡ instr_at P w.config.at
   pub cells : w.instr.cells ≡ length P.cells
 

@@ -10,7 +10,7 @@ use Rattle.tb_model.specs.Hindrances.{next_event}
 use Rattle.tb_model.specs.Program.{Program}
 use Rattle.tb_read.specs.declared.planned.Plan.{Plan}
 use Rattle.tb_core.specs.Outcomes.{IsOpen, event_of}
-use Rattle.tb_core.specs.Rolled.{IsReady}
+use Rattle.tb_core.specs.Rolled.{IsOfHistory}
 use Rattle.tb_core.specs.Seen.{Held, history}
 use Rattle.tb_roll.specs.declared.readied.Ready.{Ready}
 use Rattle.tb_live.specs.declared.prepared.Prepared.{Prepared}
@@ -59,7 +59,7 @@ pub record IsReadied (limit : ℕ) (core : Held) (p : Plan) (entries : List Entr
 pub record IsRollReadied (limit : ℕ) (core : Held) (i : StepId) (entries : List Entry) (spare : ℕ) (ready : Ready) : Type 0 where
   pub stands : IsTrue (stands i (history core.run))
   pub step : ready.rollback.step ≡ i
-  pub readied : IsReady (history core.run) ready.rollback
+  pub readied : IsOfHistory (history core.run) ready.rollback
   pub room : IsFalse (has_no_place limit entries)
   pub free : 0 < spare
 

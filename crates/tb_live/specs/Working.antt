@@ -5,6 +5,7 @@ use Rattle.tb_model.specs.Facts.{History, own, is_spawned}
 use Rattle.tb_model.specs.LeastNames.{IsLeastName}
 use Rattle.tb_model.specs.Program.{Program, instr_at, situation}
 use Rattle.tb_read.specs.declared.config.Config.{Config}
+use Rattle.tb_read.specs.Meaning.{IsPosition}
 use Rattle.tb_read.specs.Plans.{instruction}
 use Rattle.tb_live.specs.declared.work.Work.{Work}
 use Rattle.tb_live.specs.declared.claim.Claim.{Claim}
@@ -25,6 +26,7 @@ configuration P H t = record { task = t; steps = length (own t H); at = (situati
 pub record IsWork (P : Program) (H : History) (t : Name) (w : Work) : Type 0 where
   pub config : w.config ≡ configuration P H t
   pub line : w.instr.line ≡ w.config.at
+  pub position : IsPosition P w.config.at
   pub instr : instruction w.instr ≡ instr_at P w.config.at
   pub cells : w.instr.cells ≡ length P.cells
 

@@ -5,6 +5,7 @@ mod committing;
 mod inside;
 mod pausing;
 mod running;
+mod state;
 
 ghost use Rattle.std.specs.Prelude.{◌≡◌, ◌≢◌, ◌<◌, ◌≤◌, IfOk, IfErr, OnErr, IfSome, IfNone, IsOk, Some, None, length, reverse, slice_get};
 ghost use Rattle.std.specs.Option.{option_copied};

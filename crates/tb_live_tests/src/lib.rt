@@ -6,6 +6,8 @@
 #[cfg(test)]
 mod commits;
 #[cfg(test)]
+mod groups;
+#[cfg(test)]
 mod moves;
 #[cfg(test)]
 mod seats;

@@ -207,6 +207,9 @@ fn claim_while_paused(rt: &(impl Abort + AllocGlobal), live: &mut Live) {
     claim_all(rt, live, [(1, "", 103)].as_slice());
     assert!(rt; !has_claim(live, 1));
     claim_all(rt, live, [(1, "0.1", 6)].as_slice());
+    live.withdraw_all();
+    assert!(rt; !has_claim(live, 1));
+    assert!(rt; !has_claim(live, 2));
 }
 
 #[test]

@@ -15,7 +15,7 @@ use Rattle.tb_races.specs.declared.conflict.Conflict.TheVariants.{Cell}
 use Rattle.tb_races.specs.Orders.{WithExclusion}
 use Rattle.tb_races.specs.Racing.{IsRace, unordered}
 use Rattle.tb_one_run.specs.Outcomes.{HasRace, leading, as_read, IsReal}
-use Rattle.tb_one_run.proofs.PassLemmas.{found_by_pass}
+use Rattle.tb_races.proofs.PassLemmas.{found_by_pass}
 use Rattle.tb_one_run.proofs.ListedLemmas.{unraced}
 use Rattle.tb_one_run.proofs.RunExampleLemmas.{step}
 use Rattle.tb_one_run.proofs.FirstRaceLemmas.{first_real}

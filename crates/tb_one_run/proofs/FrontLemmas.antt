@@ -18,7 +18,7 @@ use Rattle.tb_races.specs.Racing.{conflict, unordered}
 use Rattle.tb_races.proofs.KindLemmas.{kind_some}
 use Rattle.tb_one_run.specs.Outcomes.{HasRace, is_in_front}
 use Rattle.tb_one_run.proofs.SharedLemmas.{own_longer}
-use Rattle.tb_one_run.proofs.PassLemmas.{found_by_pass, followers_none}
+use Rattle.tb_races.proofs.PassLemmas.{found_by_pass, followers_none}
 
 -- ---- the kinds of ends all count
 

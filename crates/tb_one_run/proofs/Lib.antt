@@ -9,7 +9,6 @@ pub mod StepLemmas
 pub mod OutcomeLemmas
 pub mod TwinLemmas
 pub mod TransferLemmas
-pub mod PassLemmas
 pub mod ListedLemmas
 pub mod PassingLemmas
 pub mod FrontLemmas

@@ -12,7 +12,7 @@ use Rattle.tb_races.specs.Kinds.{need_kind}
 use Rattle.tb_races.specs.Orders.{Order, Synchronised, WithExclusion, counts, counts_some, ComesAfter, directly, by_way, comes_after}
 use Rattle.tb_races.specs.Racing.{conflict, IsRace, unordered, contested, as_race, newest_race, race_of, races}
 use Rattle.tb_one_run.specs.Outcomes.{HasRace}
-use Rattle.tb_one_run.proofs.PassLemmas.{found_by_pass}
+use Rattle.tb_races.proofs.PassLemmas.{found_by_pass}
 
 -- ---- exclusion orders more
 

@@ -1,5 +1,5 @@
 -- A task is generated once and ends once, so its one spawn and its one end stay where it was generated or has ended.
-use Rattle.std.proofs.Common.{◌≡◌, List, [], ◌∷◌, ◌++◌, Bool, true, false, ◌⊎◌, inl, inr, ⊎_elim, refl, subst}
+use Rattle.std.proofs.Common.{◌≡◌, List, [], ◌∷◌, ◌++◌, Bool, true, false, ⊎_elim, refl, subst}
 use Rattle.std.specs.List.{list_any}
 use Rattle.std.proofs.lemmas.Bool.{or_cases, or_left, or_parts, both_ways, false_from_ne_true}
 use Rattle.tb_model.specs.declared.event.Event.{Event}
@@ -11,6 +11,7 @@ use Rattle.tb_model.proofs.FactsLemmas.{begun, not_started, ends_own, not_runnin
 use Rattle.tb_model.proofs.NeighboursLemmas.{legal_below}
 use Rattle.tb_model.proofs.PartsLemmas.{any_up}
 use Rattle.tb_model.proofs.SettledLemmas.{ended_later, spawned_later}
+use Rattle.tb_races.proofs.PassLemmas.{any_put}
 use Rattle.tb_one_run.proofs.SharedLemmas.{has, part, part_gone}
 
 -- nothing of a task follows its end
@@ -45,11 +46,6 @@ module _ (cells : Cells) (t : Name) (u : Event) (F : History) where
       ⊎_elim
       (λ a. both_ways (spawns t x) (not_again cells (b ++ u ∷ F) l.0 x l.1 t (spawned_later t b (u ∷ F) (spawned_by t (u ∷ F) (or_left (spawns t u) _ e)))) a)
       (λ a. both_ways (list_any (spawns t) b) (no_spawn_after b l.0 e) a) (or_cases (spawns t x) (list_any (spawns t) b) h))
-
--- one that passes is the first, where that was put in front, or one of the rest
-pub any_put : {A : Type 0} (p : A → Bool) (b : Bool) (x : A) (xs : List A) → list_any p (prepend_if b x xs) ≡ true → ((b ≡ true) × (p x ≡ true)) ⊎ (list_any p xs ≡ true)
-any_put p true x xs h = ⊎_elim (λ a. inl (refl, a)) (λ a. inr a) (or_cases (p x) (list_any p xs) h)
-any_put p false x xs h = inr h
 
 -- where one of those that stay passes, the only one of all that passes stays
 pub only_stays : (K : History) (p : Event → Bool) (b : History) (u : Event) (F : History) → list_any p b ≡ false → list_any p F ≡ false → list_any p (part K (b ++ u ∷ F)) ≡ true → has K (u ∷ F) ≡ true

@@ -10,7 +10,7 @@ use Rattle.tb_races.specs.declared.race.Race.{Race}
 use Rattle.tb_races.specs.Orders.{Order, Synchronised, WithExclusion, comes_after}
 use Rattle.tb_races.specs.Racing.{conflict, IsRace, unordered, contested, is_apart, as_race, newest_race, race_of}
 use Rattle.tb_one_run.specs.Rows.{order_of, IsRow}
-use Rattle.tb_one_run.proofs.PassLemmas.{found_by_pass}
+use Rattle.tb_races.proofs.PassLemmas.{found_by_pass}
 use Rattle.tb_one_run.proofs.ListedLemmas.{contested_some, none_races, less_race, named}
 
 -- the newest event of K with which v, after H, has a race

@@ -16,7 +16,7 @@ ghost use Rattle.tb_one_run.specs.Rows.{IsRow};
 ghost use Rattle.tb_one_run.specs.Outcomes.{IsFinished, HasRace, leading, IsReal};
 
 /// The pass over a history finds exactly what an order puts in front of an event.
-#[tactic(auto, using(crate::proofs::PassLemmas::found_by_pass))]
+#[tactic(auto, using(tb_races::proofs::PassLemmas::found_by_pass))]
 pub fn order_by_pass()
     ensures { (o : Order) (later : History) (v u : Event) (front : History) →
         IsTrue (comes_after o (step_of front u) (later ++ u ∷ front) v)

@@ -1,9 +1,9 @@
 -- What is answered of the entries.
-use Rattle.std.proofs.Common.{◌≡◌, ◌<◌, ◌≤◌, ◌+◌, ℕ, suc, List, [], ◌∷◌, ◌++◌, Bool, true, false, ◌||◌, not, cond, length, take, drop, reverse, refl, sym, ap, ap₂, ◌∙◌, subst, arith, Some, None, Option, get_or, slice_get, append-nil}
+use Rattle.std.proofs.Common.{◌≡◌, ◌<◌, ◌+◌, ℕ, suc, List, [], ◌∷◌, ◌++◌, Bool, true, false, ◌||◌, cond, length, take, drop, reverse, refl, sym, ap, ap₂, ◌∙◌, subst, Some, None, Option, get_or, slice_get, append-nil}
 use Rattle.std.specs.List.{list_any}
-use Rattle.std.specs.Option.{option_or, option_to_list, option_map}
+use Rattle.std.specs.Option.{option_to_list, option_map}
 use Rattle.std.proofs.lemmas.Bool.{or_left}
-use Rattle.std.proofs.lemmas.List.{reverse-append, take-take, get_or-take, length-take}
+use Rattle.std.proofs.lemmas.List.{reverse-append}
 use Rattle.std.proofs.lemmas.Option.{slice_get_read}
 use Rattle.tb_model.specs.declared.event.Event.{Event}
 use Rattle.tb_model.specs.declared.step_id.StepId.{StepId}
@@ -15,15 +15,15 @@ use Rattle.tb_core.specs.declared.entry.Entry.{Entry}
 use Rattle.tb_core.specs.Scans.{history_of, step_at}
 use Rattle.tb_core.proofs.FirstLemmas.{step_read}
 use Rattle.tb_core.proofs.ScanLemmas.{history_more, history_cut}
-use Rattle.tb_cause.proofs.ConeLemmas.{some_same, there}
+use Rattle.tb_cause.proofs.ConeLemmas.{some_same}
 use Rattle.tb_races.specs.declared.cause.Cause.{Cause}
 use Rattle.tb_races.specs.declared.conflict.Conflict.{Conflict}
 use Rattle.tb_races.specs.declared.need_kind.NeedKind.{NeedKind}
 use Rattle.tb_races.specs.declared.race.Race.{Race}
 use Rattle.tb_races.specs.Immediate.{needs_by_way, cause, as_cause, immediate, immediate_of}
 use Rattle.tb_races.specs.Kinds.{need_kind}
-use Rattle.tb_races.specs.Orders.{Order, comes_after}
-use Rattle.tb_races.specs.Racing.{conflict, contested, newest_race, as_race, race_of, races, is_apart}
+use Rattle.tb_races.specs.Orders.{comes_after}
+use Rattle.tb_races.specs.Racing.{conflict, contested, race_of, races}
 use Rattle.tb_order.specs.declared.relation.Relation.{Relation}
 use Rattle.tb_order.specs.declared.relation.Relation.TheVariants.{Needs, Order as InOrder}
 use Rattle.tb_order.specs.Linking.{is_linked, order_of, chained, beyond}
@@ -161,66 +161,6 @@ module _ (entries : List Entry) (at : ℕ) (x : Entry) (within : at < length ent
 pub nothing : {A : Type 0} (o : Option A) → ((x : A) → o ≡ Some x → ⊥) → o ≡ None
 nothing (Some x) h = absurd (h x refl)
 nothing None h = refl
-
--- ---- the newest race
-
-apart_unless : (exclusion : Bool) → is_apart (order_of exclusion) ≡ not exclusion
-apart_unless true = refl
-apart_unless false = refl
-
-module _ (exclusion : Bool) (entries : List Entry) (at p left : ℕ) (next : left ≡ p + 1) (inside : left ≤ at) (within : at < length entries) (x : Entry) (here : x ≡ get_or entries at x) (o : Option Conflict)
-    (told : (u : Entry) → slice_get (take at entries) p ≡ Some u → o ≡ contested (order_of exclusion) (history_of (take at entries)) (get_or entries at x).event (history_of (take p (take at entries))) u.event)
-    (so_far : (v : Entry) → slice_get entries at ≡ Some v → newest_race (order_of exclusion) (history_of (take at entries)) v.event (history_of (take left entries)) ≡ newest_race (order_of exclusion) (history_of (take at entries)) v.event (history_of (take at entries)))
-  where
-    abbrev front : History
-    front = history_of (take at entries)
-
-    abbrev order : Order
-    order = order_of exclusion
-
-    abbrev P : History
-    P = history_of (take p entries)
-
-    behind : p < length entries
-    behind = omega (arith, next, inside, within)
-
-    abbrev y : Entry
-    y = (there entries p behind).0
-
-    y_here : y ≡ get_or entries p y
-    y_here = (there entries p behind).1
-
-    same_entry : (v : Entry) → slice_get entries at ≡ Some v → x ≡ v
-    same_entry v is = some_same _ _ (sym (slice_get_read entries (length entries) at x refl within here) ∙ is)
-
-    named : (v : Entry) → slice_get entries at ≡ Some v → o ≡ contested order front v.event P y.event
-    named v is =
-        told y (slice_get_read (take at entries) (length (take at entries)) p y refl (omega (arith, next, inside, length-take at entries, within)) (y_here ∙ sym (get_or-take at entries p y (omega (arith, next, inside)))))
-        ∙ ap (λ (es : List Entry). contested order front (get_or entries at x).event (history_of es) y.event) (take-take p at entries (omega (arith, next, inside)))
-        ∙ ap (λ (z : Entry). contested order front z.event P y.event) (sym here ∙ same_entry v is)
-
-    unfolded : (v : Entry) → slice_get entries at ≡ Some v → newest_race order front v.event front ≡ option_or (option_map (as_race order (step_of P y.event) (step_of front v.event)) o) (newest_race order front v.event P)
-    unfolded v is =
-        sym (so_far v is)
-        ∙ ap (newest_race order front v.event) (ap (λ n. history_of (take n entries)) next ∙ history_more entries p y behind y_here)
-        ∙ ap (λ q. option_or (option_map (as_race order (step_of P y.event) (step_of front v.event)) q) (newest_race order front v.event P)) (sym (named v is))
-
-    pub race_passed : o ≡ None → (v : Entry) → slice_get entries at ≡ Some v → newest_race order front v.event P ≡ newest_race order front v.event front
-    race_passed none v is =
-        sym (unfolded v is ∙ ap (λ q. option_or (option_map (as_race order (step_of P y.event) (step_of front v.event)) q) (newest_race order front v.event P)) none)
-
-    pub race_found : (shares : Conflict) → o ≡ Some shares → (e f : StepId) → step_at entries p ≡ Some e → step_at entries at ≡ Some f → (v : Entry) → slice_get entries at ≡ Some v
-        → Some (record { earlier = e; later = f; conflict = shares; apart = not exclusion }) ≡ newest_race order front v.event front
-    race_found shares some e f e_is f_is v is =
-        let first = some_same _ _ (sym (step_read entries p y behind y_here) ∙ e_is) in
-        let last = some_same _ _ (sym (step_read entries at x within here) ∙ f_is) ∙ refl in
-        let last_too : step_of front v.event ≡ f = ap (λ (z : Entry). step_of front z.event) (sym (same_entry v is)) ∙ last in
-        sym
-        (unfolded v is ∙ ap (λ q. option_or (option_map (as_race order (step_of P y.event) (step_of front v.event)) q) (newest_race order front v.event P)) some
-        ∙ ap₂ (λ i j. Some (as_race order i j shares)) first last_too
-        ∙ ap (λ b. Some (record { earlier = e; later = f; conflict = shares; apart = b })) (apart_unless exclusion))
-
--- ---- the step whose causes they are
 
 immediate_here : (v : Event) (later front : History) → immediate_of (step_of front v) (later ++ v ∷ front) ≡ immediate front v front
 immediate_here v [] front = ap (λ b. cond b (immediate front v front) (immediate_of (step_of front v) front)) (its_step front v)

@@ -1,2 +1,4 @@
 pub mod ChainLemmas
 pub mod AnswerLemmas
+pub mod SharingLemmas
+pub mod LaneLemmas

@@ -4,6 +4,7 @@
 mod asking;
 mod immediate;
 mod kinds;
+mod lanes;
 mod passing;
 mod racing;
 mod relation;

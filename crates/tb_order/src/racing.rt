@@ -6,9 +6,11 @@ ghost use Rattle.tb_core.specs.declared.entry.Entry.{Entry};
 ghost use Rattle.tb_core.specs.Scans.{AreLegal, history_of, step_at};
 ghost use Rattle.tb_races.specs.Orders.{comes_after};
 ghost use Rattle.tb_races.specs.Racing;
+ghost use Rattle.tb_order.specs.Lanes.{IsLane};
 ghost use Rattle.tb_order.specs.Linking.{order_of};
 
 use crate::kinds::{conflict, is_linked};
+use crate::lanes::{lane_for, note};
 use crate::passing::is_by_way;
 use crate::relation::Relation;
 use std::alloc::{AllocError, Global};
@@ -24,25 +26,34 @@ pub fn races_among(alloc: Global, entries: &[Entry]) -> Result<Vec<Race>, AllocE
         races.items ≡ reverse (Racing.races (history_of entries.now))) }
 {
     let mut races = Vec::new(alloc);
+    let mut lanes = Vec::new(alloc);
     for at in 0..entries.len() {
-        if let Some(race) = race_at(alloc, entries, at)? {
+        let lane = lane_for(&lanes, &entries[at].event.action);
+        if let Some(race) = race_at(alloc, entries, at, lane)? {
             races.push(race)?;
         }
+        note(alloc, &mut lanes, entries, at)?;
     }
     Ok(races)
 }
 
-/// The race that is named for the entry at this place.
-fn race_at(alloc: Global, entries: &[Entry], at: usize) -> Result<Option<Race>, AllocError>
+/// The race that is named for the entry at this place. The lane has those with which it may race.
+fn race_at(
+    alloc: Global,
+    entries: &[Entry],
+    at: usize,
+    lane: &[usize],
+) -> Result<Option<Race>, AllocError>
     requires legal { AreLegal entries.now }
     requires bound { length entries.now ≤ 1000000 }
     requires within { at < length entries.now }
+    requires lane { IsLane entries.now at lane.now }
     ensures { IfOk result (λ o. (v : Entry) → slice_get entries.now at ≡ Some v →
         o ≡ Racing.race_of (history_of (take at entries.now)) v.event) }
 {
-    match newest_race(alloc, true, entries, at)? {
+    match newest_race(alloc, true, entries, at, lane)? {
         Some(race) => Ok(Some(race)),
-        None => newest_race(alloc, false, entries, at),
+        None => newest_race(alloc, false, entries, at, lane),
     }
 }
 
@@ -53,26 +64,26 @@ fn newest_race(
     exclusion: bool,
     entries: &[Entry],
     at: usize,
+    lane: &[usize],
 ) -> Result<Option<Race>, AllocError>
     requires legal { AreLegal entries.now }
     requires bound { length entries.now ≤ 1000000 }
     requires within { at < length entries.now }
+    requires lane { IsLane entries.now at lane.now }
     ensures { IfOk result (λ o. (v : Entry) → slice_get entries.now at ≡ Some v →
         o ≡ Racing.newest_race (order_of exclusion) (history_of (take at entries.now)) v.event
         (history_of (take at entries.now))) }
 {
-    let mut left = at;
-    'back: while 0 < left {
-        left -= 1;
+    for first in lane {
         if let Some(shares) = contested(
             alloc,
             exclusion,
             &entries[..at],
             &entries[at].event,
-            left,
+            *first,
         )? {
             return Ok(Some(Race {
-                earlier: step_at(entries, left)?,
+                earlier: step_at(entries, *first)?,
                 later: step_at(entries, at)?,
                 conflict: shares,
                 apart: !exclusion,

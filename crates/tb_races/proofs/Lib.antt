@@ -1,2 +1,3 @@
 pub mod KindLemmas
 mod ImmediateLemmas
+pub mod PassLemmas

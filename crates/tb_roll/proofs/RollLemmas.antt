@@ -1,8 +1,8 @@
 -- A rollback is ready once all memory for it is taken, and tells the chosen step first.
 use Rattle.std.proofs.Common.{◌≡◌, ◌<◌, ◌≤◌, ◌+◌, ◌-◌, ℕ, List, [], ◌∷◌, ◌++◌, Bool, true, false, IsTrue, length, map, reverse, refl, sym, ap, ◌∙◌, subst, arith, vec_len, vec_capacity}
-use Rattle.std.specs.List.{All, AllByRecursion}
+use Rattle.std.specs.List.{All}
 use Rattle.std.proofs.lemmas.List.{length-map, length-reverse, reverse-append, map-append}
-use Rattle.std.proofs.lemmas.List.Elements.{recursion_from_All}
+use Rattle.std.proofs.lemmas.List.Elements.{All-weaker}
 use Rattle.tb_model.specs.declared.action.Action.{Action}
 use Rattle.tb_model.specs.declared.step_id.StepId.{StepId}
 use Rattle.tb_model.specs.Equivalent.{stands}
@@ -12,7 +12,7 @@ use Rattle.tb_model.specs.Needs.{is_removed, step_of}
 use Rattle.tb_core.specs.declared.entry.Entry.{Entry}
 use Rattle.tb_core.specs.declared.removed.Removed.{Removed}
 use Rattle.tb_core.specs.declared.rollback.Rollback.{Rollback}
-use Rattle.tb_core.specs.Rolled.{removed_places, removed_steps, removals, IsReady}
+use Rattle.tb_core.specs.Rolled.{removed_places, removed_steps, removals, IsOfHistory}
 use Rattle.tb_core.specs.Scans.{history_of}
 use Rattle.tb_core.specs.Seen.{Seen, history}
 use Rattle.tb_core.specs.Soundness.{departure}
@@ -27,21 +27,17 @@ count : (entries : List Entry) → length (history_of entries) ≡ length entrie
 count entries =
     length-map (map departure (reverse entries)) (λ (d : Departure). d.event) ∙ length-map (reverse entries) departure ∙ length-reverse entries
 
-enough : (n at room : ℕ) → n ≤ at + room → (places : List ℕ) → AllByRecursion (λ p. at ≤ p) places → AllByRecursion (λ p. n ≤ p + room) places
-enough n at room h [] a = tt
-enough n at room h (p ∷ places) a = (omega (arith, h, a.0), enough n at room h places a.1)
-
-pub is_ready : (entries : List Entry) (at : ℕ) (e : StepId) (c : Cone) (r : Rollback) → at < length entries → IsCone e (history_of entries) c → All (λ p. at ≤ p) c.places.items
-    → r.step ≡ e → r.places ≡ c.places → r.steps ≡ c.steps → r.kept.items ≡ [] → r.removed.items ≡ [] → length entries - at ≤ vec_capacity r.kept → vec_len c.places ≤ vec_capacity r.removed → IsReady (history_of entries) r
-is_ready entries at e c r within cone behind step places steps none_kept none_removed kept removed = record {
+pub is_of_history : (entries : List Entry) (at : ℕ) (e : StepId) (c : Cone) (r : Rollback) → IsCone e (history_of entries) c
+    → r.step ≡ e → r.places ≡ c.places → r.steps ≡ c.steps → r.count ≡ length entries → IsOfHistory (history_of entries) r
+is_of_history entries at e c r cone step places steps counted = record {
   places = ap (λ v. v.items) places ∙ cone.places ∙ ap (λ i. reverse (removed_places i (history_of entries))) (sym step);
   steps = ap (λ v. v.items) steps ∙ cone.steps ∙ ap (λ i. reverse (removed_steps i (history_of entries))) (sym step);
-  none_kept = none_kept;
-  none_removed = none_removed;
-  kept_room = subst (λ v. AllByRecursion (λ p. length (history_of entries) ≤ p + vec_capacity r.kept) v.items) (sym places)
-      (enough (length (history_of entries)) at (vec_capacity r.kept) (omega (arith, count entries, kept)) c.places.items (recursion_from_All _ _ behind));
-  removed_room = subst (λ v. vec_len v ≤ vec_capacity r.removed) (sym places) removed;
+  count = counted ∙ sym (count entries);
 }
+
+-- the room behind the first place serves for the others
+pub kept_room : (n at room : ℕ) (places : List ℕ) → n - at ≤ room → at ≤ n → All (λ p. at ≤ p) places → All (λ p. n ≤ p + room) places
+kept_room n at room places kept within behind = All-weaker (λ p. at ≤ p) (λ p. n ≤ p + room) (λ p h. omega (arith, kept, within, h)) places behind
 
 -- ---- the answer
 

@@ -5,8 +5,8 @@ ghost use Rattle.std.specs.Prelude.{◌≡◌};
 use tb_core::Rollback;
 use tb_model::StepId;
 
-/// A step with all that need it, and the room in which they are taken back. It is of one history:
-/// once that has changed it serves no more.
+/// A step with all that need it, and the room in which they are taken back, which is always there.
+/// It is of one history: once that has changed it serves no more.
 #[derive(Drop)]
 pub struct Ready {
     pub rollback: Rollback,
@@ -36,6 +36,7 @@ fn name_every_field(ready: &Ready) {
         step: _,
         places: _,
         steps: _,
+        count: _,
         kept: _,
         removed: _,
     } = rollback;

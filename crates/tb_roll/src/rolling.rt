@@ -2,7 +2,7 @@
 
 ghost use Rattle.std.specs.Prelude.{◌≡◌, ◌<◌, ◌≤◌, IfOk, IfErr, OnOk, OnErr, IsTrue, Some, length};
 ghost use Rattle.tb_model.specs.Equivalent.{stands};
-ghost use Rattle.tb_core.specs.Rolled.{IsReady, RollsBack};
+ghost use Rattle.tb_core.specs.Rolled.{IsOfHistory, RollsBack};
 ghost use Rattle.tb_core.specs.Scans.{AreLegal, history_of, step_at};
 ghost use Rattle.tb_core.specs.Seen.{history};
 ghost use Rattle.tb_roll.specs.Outcomes.{TellsFirst, Stays};
@@ -16,11 +16,14 @@ use tb_model::StepId;
 
 /// Finds what goes with a step, and takes all memory for the rollback.
 pub fn ready(alloc: Global, core: &Core, step: &StepId) -> Result<Ready, RollRefusal>
-    ensures ready { IfOk result (λ r. IsReady (history core.now.run) r.rollback) }
+    ensures ready { IfOk result (λ r. IsOfHistory (history core.now.run) r.rollback) }
     ensures step { IfOk result (λ r. r.rollback.step ≡ step.now) }
     ensures stands { OnOk result (IsTrue (stands step.now (history core.now.run))) }
     ensures refused { IfErr result (Stays core.now.run step.now) }
 {
+    if !core.has_step(step) {
+        return Err(RollRefusal::NoSuchStep);
+    }
     let entries = core.legal_entries();
     let Some(at) = place_of(entries, step) else {
         return Err(RollRefusal::NoSuchStep);
@@ -33,7 +36,7 @@ pub fn ready(alloc: Global, core: &Core, step: &StepId) -> Result<Ready, RollRef
 
 /// Takes the steps back. It takes no memory, and can't fail.
 pub fn finish(core: &mut Core, ready: Ready) -> Vec<Removed>
-    requires { IsReady (history core.old.run) ready.rollback }
+    requires { IsOfHistory (history core.old.run) ready.rollback }
     ensures { RollsBack core.old.run ready.rollback.step core.new.run result.items }
 {
     core.take_out_all(ready.rollback)
@@ -64,7 +67,7 @@ fn prepare(
     requires bound { length entries.now ≤ 1000000 }
     requires within { at < length entries.now }
     requires here { step_at entries.now at ≡ Some step.now }
-    ensures ready { IfOk result (IsReady (history_of entries.now)) }
+    ensures ready { IfOk result (IsOfHistory (history_of entries.now)) }
     ensures step { IfOk result (λ r. r.step ≡ step.now) }
 {
     let Cone { places, steps } = cone_of(alloc, entries, at, step)?;
@@ -74,6 +77,7 @@ fn prepare(
         step: step.clone()?,
         places,
         steps,
+        count: entries.len() as u32,
         kept,
         removed,
     })

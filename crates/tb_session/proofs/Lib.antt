@@ -10,6 +10,9 @@ pub mod EndLemmas
 pub mod TotalLemmas
 pub mod NumberLemmas
 pub mod CourseLemmas
+pub mod AloneLemmas
+pub mod TurnLemmas
+pub mod SeatLemmas
 pub mod RolledLemmas
 pub mod CommandLemmas
 pub mod BodyLemmas

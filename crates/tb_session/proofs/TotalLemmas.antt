@@ -1,5 +1,5 @@
 -- Each line has one reply, and leaves a sound journal sound.
-use Rattle.std.proofs.Common.{◌≡◌, ℕ, zero, suc, List, [], refl, sym, ◌∙◌, subst, Option, Some, None, Bool, true, false, not, cond, IsTrue}
+use Rattle.std.proofs.Common.{◌≡◌, ℕ, zero, suc, List, [], refl, sym, ap, ◌∙◌, subst, Option, Some, None, Bool, true, false, not, cond, IsTrue}
 use Rattle.std.specs.Prelude.{option_map}
 use Rattle.std.specs.Option.{option_or}
 use Rattle.tb_model.specs.declared.step_id.StepId.{StepId}
@@ -21,16 +21,18 @@ use Rattle.tb_live.specs.Session.{Session, opened, history, is_full, with_entry}
 use Rattle.tb_live.specs.Moves.{refusal_for, least_task, coming}
 use Rattle.tb_session.specs.Commands.{asked}
 use Rattle.tb_session.specs.Texts.{told_step, stepped, stepped_by}
+use Rattle.tb_session.specs.Turns.{IsGo}
+use Rattle.tb_session.proofs.TurnLemmas.{go_sound, some_go, one_go}
 use Rattle.tb_session.specs.Refusals.{refusal_line, step_refusal, undo_refusal, roll_refusal, break_refusal, clear_refusal}
 use Rattle.tb_session.specs.Bodies.{body_line}
 use Rattle.tb_session.specs.Rolled.{step_named, rolled_text}
-use Rattle.tb_session.specs.Course.{Course, stopped, behind, is_stopped_by_break, unless_stopped, next_step, course}
-use Rattle.tb_session.specs.Replies.{Answers, ReplyTo, Reply, StepReply, UndoReply, RollReply, RolledReply, BreakReply, BodyReply, ClearReply}
+use Rattle.tb_session.specs.Course.{Course, stopped, behind, next_step, course, course_text}
+use Rattle.tb_session.specs.Replies.{Answers, ReplyTo, Reply, StepReply, UndoReply, RollReply, RolledReply, GoReply, BreakReply, BodyReply, ClearReply}
 use Rattle.tb_session.specs.Reading.{IsProgram}
 use Rattle.tb_session.specs.Laws.{IsSound}
 use Rattle.tb_session.specs.declared.command.Command.{Command}
 use Rattle.tb_session.specs.declared.command.Command.TheVariants.{Step, Undo, Roll, Run, Go, Break as AddBreak, BreakBody, Clear, Show}
-use Rattle.tb_session.specs.declared.stop.Stop.TheVariants.{Break as AtBreak, Full}
+use Rattle.tb_session.specs.declared.stop.Stop.TheVariants.{Full}
 use Rattle.tb_session.specs.declared.asked.Asked.{Asked}
 use Rattle.tb_session.specs.declared.asked.Asked.TheVariants.{Nothing, Command as Asks, Fault}
 
@@ -58,25 +60,19 @@ step_sound s new t out None e h reply =
     let next = (refused_next s.program (history s) t h.well_formed legal).0 (no_reason (refusal_for s t) _ e) in
     subst IsSound (sym reply.1) (stepped_sound 0 s t h next)
 
--- a course that stops at a breakpoint leaves what its last step left
-unless_stopped_sound : (stop : Bool) (s : Session) (rest : Course) → IsSound s → IsSound rest.session → IsSound (cond stop (stopped AtBreak s) rest).session
-unless_stopped_sound true s rest h more = h
-unless_stopped_sound false s rest h more = more
-
-next_sound : (seat : ℕ) (s : Session) (o : Option Name) (most : ℕ) → ((u : Session) → IsSound u → IsSound (course seat most u).session) → least_task s ≡ o → IsSound s → IsSound (next_step seat o s (course seat most)).session
-next_sound seat s None most rest e h = h
-next_sound seat s (Some t) most rest e h = by_room (is_full s)
+next_sound : (s : Session) (o : Option Name) (most : ℕ) → ((u : Session) → IsSound u → IsSound (course most u).session) → least_task s ≡ o → IsSound s → IsSound (next_step o s (course most)).session
+next_sound s None most rest e h = h
+next_sound s (Some t) most rest e h = by_room (is_full s)
   where
-    by_room : (full : Bool) → IsSound (cond full (stopped Full s) (behind (told_step s t) 1 (unless_stopped seat (stepped_by seat s t) (course seat most (stepped_by seat s t))))).session
+    by_room : (full : Bool) → IsSound (cond full (stopped Full s) (behind (told_step s t) 1 (course most (stepped s t)))).session
     by_room true = h
     by_room false =
         let legal = journal_legal s.program s.journal h.sound in
-        let sound = stepped_sound seat s t h ((least_next s.program (history s) h.well_formed legal).found t e) in
-        unless_stopped_sound (is_stopped_by_break seat (stepped_by seat s t)) (stepped_by seat s t) (course seat most (stepped_by seat s t)) sound (rest (stepped_by seat s t) sound)
+        rest (stepped s t) (stepped_sound 0 s t h ((least_next s.program (history s) h.well_formed legal).found t e))
 
-course_sound : (seat most : ℕ) (s : Session) → IsSound s → IsSound (course seat most s).session
-course_sound seat zero s h = h
-course_sound seat (suc most) s h = next_sound seat s (least_task s) most (course_sound seat most) refl h
+course_sound : (most : ℕ) (s : Session) → IsSound s → IsSound (course most s).session
+course_sound zero s h = h
+course_sound (suc most) s h = next_sound (resumed s) (least_task s) most (course_sound most) refl (resumed_sound s h)
 
 -- what isn't refused stands
 stands_unless : (b : Bool) (first other : Option (List ℕ)) (r : List ℕ) → first ≡ Some r → cond (not b) first other ≡ None → IsTrue b
@@ -114,8 +110,8 @@ reply_sound : (s new : Session) (command : Command) (out : List ℕ) → IsSound
 reply_sound s new (Step t) out h reply = step_sound (resumed s) new t out (step_refusal (resumed s) t) refl (resumed_sound s h) reply
 reply_sound s new (Undo id) out h reply = undo_sound s new id out (undo_refusal s id) refl h reply
 reply_sound s new (Roll target) out h reply = roll_sound s new (step_named (history s) target) out h reply
-reply_sound s new (Run most) out h reply = subst IsSound (sym reply.1) (course_sound 0 most (resumed s) (resumed_sound s h))
-reply_sound s new (Go most) out h reply = subst IsSound (sym reply.1) (course_sound 1 most (resumed s) (resumed_sound s h))
+reply_sound s new (Run most) out h reply = subst IsSound (sym reply.1) (course_sound most (resumed s) (resumed_sound s h))
+reply_sound s new (Go most) out h reply = subst IsSound (sym reply.2.1) (go_sound 1 most s reply.0 h reply.1)
 reply_sound s new (AddBreak at) out h reply = break_sound s new at out (break_refusal s at) h reply
 reply_sound s new (BreakBody name) out h reply = body_sound s new (body_line name s.program) out h reply
 reply_sound s new (Clear number) out h reply = clear_sound s new number out (clear_refusal s number) h reply
@@ -159,12 +155,15 @@ some_clear : (s : Session) (number : ℕ) (refusal : Option (List ℕ)) → (out
 some_clear s number (Some r) = (r, s, (refl, refl))
 some_clear s number None = (_, with_points s (without_break number s.control.breakpoints), (refl, refl))
 
+some_gone : (s : Session) (most : ℕ) → (c : Course) × IsGo 1 most s c → (out : List ℕ) × (new : Session) × GoReply 1 most s out new
+some_gone s most g = (course_text g.0, g.0.session, (g.0, g.1, (refl, refl)))
+
 some_reply : (s : Session) (command : Command) → (out : List ℕ) × (new : Session) × Reply s command out new
 some_reply s (Step t) = some_step (resumed s) t (step_refusal (resumed s) t)
 some_reply s (Undo id) = some_undo s id (undo_refusal s id)
 some_reply s (Roll target) = some_roll s (step_named (history s) target)
-some_reply s (Run most) = (_, (course 0 most (resumed s)).session, (refl, refl))
-some_reply s (Go most) = (_, (course 1 most (resumed s)).session, (refl, refl))
+some_reply s (Run most) = (_, (course most (resumed s)).session, (refl, refl))
+some_reply s (Go most) = some_gone s most (some_go most s)
 some_reply s (AddBreak at) = some_break s at (break_refusal s at)
 some_reply s (BreakBody name) = some_body s (body_line name s.program)
 some_reply s (Clear number) = some_clear s number (clear_refusal s number)
@@ -213,7 +212,9 @@ one_reply s new other (Step t) out more a b = one_step (resumed s) new other t o
 one_reply s new other (Undo id) out more a b = one_undo s new other id out more (undo_refusal s id) a b
 one_reply s new other (Roll target) out more a b = one_roll s new other (step_named (history s) target) out more a b
 one_reply s new other (Run most) out more a b = (a.0 ∙ sym b.0, a.1 ∙ sym b.1)
-one_reply s new other (Go most) out more a b = (a.0 ∙ sym b.0, a.1 ∙ sym b.1)
+one_reply s new other (Go most) out more a b =
+    let same : a.0 ≡ b.0 = one_go most s a.0 b.0 a.1 b.1 in
+    (a.2.0 ∙ (ap course_text same ∙ sym b.2.0), a.2.1 ∙ (ap (λ (c : Course). c.session) same ∙ sym b.2.1))
 one_reply s new other (AddBreak at) out more a b = one_break s new other at out more (break_refusal s at) a b
 one_reply s new other (BreakBody name) out more a b = one_body s new other (body_line name s.program) out more a b
 one_reply s new other (Clear number) out more a b = one_clear s new other number out more (clear_refusal s number) a b

@@ -5,6 +5,8 @@ pub mod Refusals
 pub mod Bodies
 pub mod Rolled
 pub mod Course
+pub mod Turns
+pub mod Alone
 pub mod Replies
 pub mod Laws
 pub mod Reading

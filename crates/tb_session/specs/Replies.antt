@@ -21,6 +21,7 @@ use Rattle.tb_session.specs.Refusals.{step_refusal, undo_refusal, roll_refusal, 
 use Rattle.tb_session.specs.Bodies.{body_line}
 use Rattle.tb_session.specs.Rolled.{step_named, rolled_text}
 use Rattle.tb_session.specs.Course.{Course, course, course_text}
+use Rattle.tb_session.specs.Turns.{IsGo}
 use Rattle.tb_live.specs.declared.break_refusal.BreakRefusal.TheVariants.{NoSuchBody}
 use Rattle.tb_session.specs.declared.command.Command.{Command}
 use Rattle.tb_session.specs.declared.command.Command.TheVariants.{Step, Undo, Roll, Run, Go, Break as AddBreak, BreakBody, Clear, Show}
@@ -49,6 +50,10 @@ RollReply s (Some id) out new = RolledReply (roll_refusal s id) s id out new
 -- the course is told, and taken
 abbrev pub RunReply : Course → List ℕ → Session → Type 0
 RunReply c out new = (out ≡ course_text c) × (new ≡ c.session)
+
+-- the turns of so many workers, at most so many, are told and taken
+abbrev pub GoReply : ℕ → ℕ → Session → List ℕ → Session → Type 0
+GoReply workers most s out new = (c : Course) × IsGo workers most s c × RunReply c out new
 
 -- a refusal changes nothing; else the breakpoint has the next number
 abbrev pub BreakReply : Option (List ℕ) → Session → Break → List ℕ → Session → Type 0
@@ -79,9 +84,9 @@ abbrev pub Reply : Session → Command → List ℕ → Session → Type 0
 Reply s (Step t) out new = StepReply (step_refusal (resumed s) t) (resumed s) t out new
 Reply s (Undo id) out new = UndoReply (undo_refusal s id) s id out new
 Reply s (Roll target) out new = RollReply s (step_named (history s) target) out new
-Reply s (Run most) out new = RunReply (course 0 most (resumed s)) out new
--- by one worker, which has seat 1
-Reply s (Go most) out new = RunReply (course 1 most (resumed s)) out new
+Reply s (Run most) out new = RunReply (course most (resumed s)) out new
+-- by one worker
+Reply s (Go most) out new = GoReply 1 most s out new
 Reply s (AddBreak at) out new = BreakReply (break_refusal s at) s at out new
 Reply s (BreakBody name) out new = BodyReply (body_line name s.program) s out new
 Reply s (Clear number) out new = ClearReply (clear_refusal s number) s number out new

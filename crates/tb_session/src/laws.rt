@@ -1,15 +1,17 @@
 //! Laws of replies, over the definitions alone.
 
-ghost use Rattle.std.specs.Prelude.{◌≡◌, ◌<◌, ℕ, false, is_some, List};
+ghost use Rattle.std.specs.Prelude.{◌≡◌, ◌∷◌, ℕ, true, false, is_some, IsFalse, List, Some};
+ghost use Rattle.tb_model.specs.declared.entry.Entry.TheVariants.{Stepped};
 ghost use Rattle.tb_model.specs.Names.{Name};
 ghost use Rattle.tb_model.specs.Program.{Program};
-ghost use Rattle.tb_live.specs.declared.mode.Mode.TheVariants.{Resumed};
+ghost use Rattle.tb_live.specs.Modes.{counted, counting, is_paused};
+ghost use Rattle.tb_live.specs.Moves.{coming};
 ghost use Rattle.tb_live.specs.Session.{Session, opened};
 ghost use Rattle.tb_session.specs.Reading.{IsProgram};
 ghost use Rattle.tb_session.specs.Replies.{Answers};
-ghost use Rattle.tb_session.specs.Texts.{stepped_by};
-ghost use Rattle.tb_session.specs.Course.{is_stopped_by_break};
-ghost use Rattle.tb_session.specs.Laws.{IsSound, met_by};
+ghost use Rattle.tb_session.specs.Turns.{stop_of, turned};
+ghost use Rattle.tb_session.specs.Laws.{IsSound, is_break, met_by};
+ghost use Rattle.tb_session.specs.declared.stop.Stop.TheVariants.{Break, Limit};
 
 /// In every session each line has a reply, and one alone: it is a function of the session.
 #[tactic(auto, using(crate::proofs::TotalLemmas::some_answer, crate::proofs::TotalLemmas::one_answer))]
@@ -30,12 +32,23 @@ pub fn sound_journals()
         IsSound s → Answers s line out new → IsSound new }
 {}
 
-/// A worker's step is the last of its `go` exactly where it meets a breakpoint that stands, and the
-/// run goes on behind every other.
-#[tactic(auto, using(crate::proofs::CourseLemmas::stops_where_met, crate::proofs::CourseLemmas::goes_on_unmet))]
+/// A step that is taken in a run that goes on pauses it for a breakpoint exactly where it meets one
+/// that stands; else the steps that were asked for are one fewer.
+#[tactic(auto, using(crate::proofs::TurnLemmas::stops_where_met, crate::proofs::TurnLemmas::goes_on_unmet))]
 pub fn stops_at_breakpoints()
-    ensures stops { (s : Session) (seat : ℕ) (t : Name) → 0 < seat → s.control.mode ≡ Resumed →
-        is_stopped_by_break seat (stepped_by seat s t) ≡ is_some (met_by s t) }
-    ensures goes_on { (s : Session) (seat : ℕ) (t : Name) → s.control.mode ≡ Resumed →
-        is_some (met_by s t) ≡ false → (stepped_by seat s t).control.mode ≡ Resumed }
+    ensures stops { (s : Session) (seat : ℕ) (t : Name) → IsFalse (is_paused s.control.mode) →
+        is_break (turned seat s t).control.mode ≡ is_some (met_by s t) }
+    ensures goes_on { (s : Session) (seat : ℕ) (t : Name) →
+        is_some (met_by s t) ≡ false → (turned seat s t).control.mode ≡ counted s.control.mode }
+{}
+
+/// The turns of a `go`, of however many workers: what follows a turn has that turn's step as its
+/// newest entry, of the seat that took it, and no other entry is new. A breakpoint ends a `go`, and
+/// so does the last of its steps.
+#[tactic(auto, using(crate::proofs::TurnLemmas::turn_enters, crate::proofs::TurnLemmas::break_ends, crate::proofs::TurnLemmas::limit_ends))]
+pub fn turns()
+    ensures enters { (s : Session) (seat : ℕ) (t : Name) →
+        (turned seat s t).journal ≡ Stepped seat (coming s t) ∷ s.journal }
+    ensures breaks { (s : Session) → is_break s.control.mode ≡ true → stop_of s ≡ Some Break }
+    ensures limit { (s : Session) → s.control.mode ≡ counting 0 → stop_of s ≡ Some Limit }
 {}

@@ -5,6 +5,7 @@ ghost use Rattle.tb_view.specs.Lines.{line};
 ghost use Rattle.tb_session.specs.Texts.{fault_word, newest_line};
 ghost use Rattle.tb_session.specs.Refusals.{step_refusal, undo_refusal};
 ghost use Rattle.tb_session.specs.Replies.{Answers, Reply, StepReply, UndoReply};
+ghost use Rattle.tb_session.specs.Turns.{HasSeats};
 ghost use Rattle.tb_live.specs.Runs.{resumed};
 ghost use Rattle.tb_model.specs.Spelling.{step_id_text};
 
@@ -12,6 +13,7 @@ use crate::asked::{Asked, CommandFault};
 use crate::asking::read_line;
 use crate::breaking::{body_reply, break_reply, clear_reply};
 use crate::command::Command;
+use crate::going::go_reply;
 use crate::newest::append_newest;
 use crate::refusing::{refused, refused_for, refused_with};
 use crate::rolling::roll_reply;
@@ -94,14 +96,15 @@ fn undo_reply(alloc: Global, live: &mut Live, id: &StepId) -> Result<String, All
 
 /// Does what a command asks for, and tells it.
 fn reply(alloc: Global, live: &mut Live, command: Command) -> Result<Vec<u8>, AllocError>
+    requires { HasSeats live.old.session }
     ensures { IfOk result (λ text. Reply live.old.session command text.items live.new.session) }
 {
     match command {
         Command::Step { task } => Ok(step_reply(alloc, live, &task)?.into_bytes()),
         Command::Undo { id } => Ok(undo_reply(alloc, live, &id)?.into_bytes()),
         Command::Roll { target } => Ok(roll_reply(alloc, live, &target)?.into_bytes()),
-        Command::Run { most } => Ok(run_reply(alloc, live, 0, most)?.into_bytes()),
-        Command::Go { most } => Ok(run_reply(alloc, live, 1, most)?.into_bytes()),
+        Command::Run { most } => Ok(run_reply(alloc, live, most)?.into_bytes()),
+        Command::Go { most } => Ok(go_reply(alloc, live, most)?.into_bytes()),
         Command::Break { at } => Ok(break_reply(alloc, live, at)?.into_bytes()),
         Command::BreakBody { name } => Ok(body_reply(alloc, live, name.as_slice())?.into_bytes()),
         Command::Clear { number } => Ok(clear_reply(alloc, live, number)?.into_bytes()),
@@ -111,6 +114,7 @@ fn reply(alloc: Global, live: &mut Live, command: Command) -> Result<Vec<u8>, Al
 
 /// Does what a line asks for, and tells it. An `Err` may come when it is done and can't be told.
 pub fn answer(alloc: Global, live: &mut Live, line: &[u8]) -> Result<Vec<u8>, AllocError>
+    requires { HasSeats live.old.session }
     ensures { IfOk result (λ text. Answers live.old.session line.now text.items live.new.session) }
 {
     match read_line(alloc, line)? {

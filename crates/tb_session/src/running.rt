@@ -2,14 +2,14 @@
 
 ghost use Rattle.std.specs.Prelude.{◌≡◌, ◌++◌, IfOk, OnOk, codes, decimal, string_bytes};
 ghost use Rattle.tb_view.specs.Lines.{line};
-ghost use Rattle.tb_session.specs.Course.{course, stop_word, is_stopped_by_break, IsCourse};
+ghost use Rattle.tb_session.specs.Course.{course, stop_word, IsCourse};
 ghost use Rattle.tb_session.specs.Replies.{RunReply};
 ghost use Rattle.tb_live.specs.Runs.{resumed};
 
 use crate::newest::append_newest;
 use crate::stop::Stop;
 use std::alloc::{AllocError, Global};
-use tb_live::{Live, Mode, PausedBy, StepRefusal};
+use tb_live::{Live, StepRefusal};
 
 /// How many steps were taken, and why no more.
 #[derive(Clone, Copy, Debug, PartialEq, Eq)]
@@ -18,27 +18,15 @@ pub struct Taken {
     pub stop: Stop,
 }
 
-/// Whether the seat takes no step more, since the last one met a breakpoint.
-fn is_stopped_by_break(live: &Live, seat: u32) -> bool
-    ensures { result ≡ is_stopped_by_break seat live.now.session }
-{
-    let is_break = matches!(
-        live.mode(),
-        Mode::Paused {
-            by: PausedBy::Break { .. }
-        }
-    );
-    0 < seat && is_break
-}
-
-/// Takes the steps for the seat, and appends the line of each as soon as it is taken.
-fn take_steps(text: &mut String, live: &mut Live, seat: u32, most: u32) -> Result<Taken, AllocError>
-    ensures { IfOk result (λ taken. IsCourse (course seat most live.old.session) (string_bytes text.old)
+/// Takes the steps, each after a resume, and appends the line of each as soon as it is taken.
+fn take_steps(text: &mut String, live: &mut Live, most: u32) -> Result<Taken, AllocError>
+    ensures { IfOk result (λ taken. IsCourse (course most live.old.session) (string_bytes text.old)
         (string_bytes text.new) taken live.new.session) }
 {
     let mut count = 0;
     'steps: while count < most {
-        match live.step_least_for(seat) {
+        live.resume();
+        match live.step_least() {
             Ok(Some(id)) => append_newest(text, live, &id)?,
             Ok(None) => return Ok(Taken {
                 count,
@@ -52,12 +40,6 @@ fn take_steps(text: &mut String, live: &mut Live, seat: u32, most: u32) -> Resul
             Err(_) => unreachable!(),
         }
         count += 1;
-        if is_stopped_by_break(live, seat) {
-            return Ok(Taken {
-                count,
-                stop: Stop::Break,
-            });
-        }
     }
     Ok(Taken {
         count,
@@ -66,7 +48,7 @@ fn take_steps(text: &mut String, live: &mut Live, seat: u32, most: u32) -> Resul
 }
 
 /// Appends the last line of a run.
-fn append_end(text: &mut String, taken: Taken) -> Result<(), AllocError>
+pub fn append_end(text: &mut String, taken: Taken) -> Result<(), AllocError>
     ensures { OnOk result (string_bytes text.new ≡ string_bytes text.old
         ++ line (codes "ran " ++ decimal taken.count ++ codes " " ++ stop_word taken.stop)) }
 {
@@ -75,15 +57,14 @@ fn append_end(text: &mut String, taken: Taken) -> Result<(), AllocError>
     writeln!(text, "ran {count} {word}")
 }
 
-/// Lets the run go on, takes up to so many steps for the seat, and tells them. A worker stops at a
-/// breakpoint; the session itself, which has seat 0, doesn't.
-pub fn run_reply(alloc: Global, live: &mut Live, seat: u32, most: u32) -> Result<String, AllocError>
-    ensures { IfOk result (λ text. RunReply (course seat most (resumed live.old.session))
+/// Lets the run go on, takes up to so many steps, and tells them. Breakpoints don't stop it.
+pub fn run_reply(alloc: Global, live: &mut Live, most: u32) -> Result<String, AllocError>
+    ensures { IfOk result (λ text. RunReply (course most (resumed live.old.session))
         (string_bytes text) live.new.session) }
 {
     live.resume();
     let mut text = String::new(alloc);
-    let taken = take_steps(&mut text, live, seat, most)?;
+    let taken = take_steps(&mut text, live, most)?;
     append_end(&mut text, taken)?;
     Ok(text)
 }

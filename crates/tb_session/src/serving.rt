@@ -3,6 +3,7 @@
 ghost use Rattle.std.specs.Prelude.{◌≡◌, ◌+◌, ◌-◌, ◌<◌, ◌^◌, ◌↔◌, [], IfOk, OnOk, IsErrOf};
 ghost use Rattle.std.specs.Io.KnownBytes.{prepend_known};
 ghost use Rattle.tb_session.specs.Stages.{Answered, Served};
+ghost use Rattle.tb_session.specs.Turns.{HasSeats};
 
 use crate::halt::Halt;
 use crate::line_reader::{LineEnd, LineFault, LineReader};
@@ -20,7 +21,8 @@ pub fn answer_line<K: Sink>(
     sink: &mut K,
     line: &[u8],
 ) -> Result<(), Halt>
-    requires { K.failures sink.old < 2 ^ 64 - 1 }
+    requires seats { HasSeats live.old.session }
+    requires failures { K.failures sink.old < 2 ^ 64 - 1 }
     ensures answered { Answered live.old.session line.now live.new.session
         (K.taken sink.old) (K.taken sink.new) result }
     ensures write { IsErrOf result Halt.Write → K.failures sink.new ≡ K.failures sink.old + 1 }
@@ -46,6 +48,7 @@ pub fn serve<R: Wait, S: Source, K: Sink>(
     source: &mut S,
     sink: &mut K,
 ) -> Result<(), Halt>
+    requires seats { HasSeats live.old.session }
     requires source { S.failures source.old < 2 ^ 64 - 1 }
     requires sink { K.failures sink.old < 2 ^ 64 - 1 }
     ensures served { Served live.old.session (prepend_known reader.old (S.left source.old))

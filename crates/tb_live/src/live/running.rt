@@ -26,7 +26,7 @@ impl Live {
     }
 
     /// Withdraws all claims.
-    fn withdraw_all(&mut self)
+    pub fn withdraw_all(&mut self)
         ensures { self.new.session ≡ unclaimed self.old.session }
     {
         self.control.claims.withdraw_all();

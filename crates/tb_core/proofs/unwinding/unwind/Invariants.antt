@@ -10,7 +10,7 @@ invariant-back l =
     let old = l.fn.entries.items in
     let to_go = l.places.items ++ option_to_list l.next in
     record {
-      unwinds : Unwinds l.rollback.step old l.entries.items l.kept.items to_go l.steps.items l.removed.items;
+      unwinds : Unwinds l.fn.rollback.step old l.entries.items l.kept.items to_go l.steps.items l.removed.items;
       tied : StayTied (reverse old) l.fn.tables (l.kept.items ++ reverse l.entries.items) l.tables;
       count : vec_len l.kept + vec_len l.entries ≤ vec_len l.fn.entries;
       capacity : vec_capacity l.entries ≡ vec_capacity l.fn.entries;

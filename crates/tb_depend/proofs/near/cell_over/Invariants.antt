@@ -6,7 +6,7 @@ use Rattle.tb_depend.proofs.near.cell_over.Given as goal
 abbrev pub invariant-loop-at : goal.invariant-loop-at
 invariant-loop-at g l = record {
   within : l.at ≤ l.initial.at;
-  over : AreOverFrom l.chain.items.items (λ k. g.T.Over.over l.over (child_at l.ends k)) l.new l.from l.at;
+  over : AreOverFrom l.chain.items (λ k. g.T.Over.over l.over (child_at l.ends k)) l.new l.from l.at;
 }
 
 abbrev pub decreases-loop-at : goal.decreases-loop-at

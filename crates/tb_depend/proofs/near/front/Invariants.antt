@@ -5,8 +5,8 @@ use Rattle.tb_depend.proofs.near.front.Given as goal
 
 abbrev pub invariant-loop-at : goal.invariant-loop-at
 invariant-loop-at l = record {
-  within : l.at ≤ length l.chain.items.items;
-  none : AreNoneBehind (is_met l.new) l.chain.items.items l.from l.at;
+  within : l.at ≤ length l.chain.items;
+  none : AreNoneBehind (is_met l.new) l.chain.items l.from l.at;
 }
 
 abbrev pub decreases-loop-at : goal.decreases-loop-at

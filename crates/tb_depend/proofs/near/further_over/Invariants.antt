@@ -7,5 +7,5 @@ use Rattle.tb_depend.proofs.near.further_over.Given as goal
 -- for the items so far, all are over
 abbrev pub invariant-loop-item : goal.invariant-loop-item
 invariant-loop-item g l =
-    IsClosed (rows_from 0 l.ends l.chain.items.items) (g.T.Over.over l.over) → (j : ℕ) (new : Item) → j < l.item-index → slice_get l.items j ≡ Some new →
-    AreItemsOver l.chain.items.items (λ k. g.T.Over.over l.over (child_at l.ends k)) new (length l.chain.items.items)
+    IsClosed (rows_from 0 l.ends l.chain.items) (g.T.Over.over l.over) → (j : ℕ) (new : Item) → j < l.item-index → slice_get l.items j ≡ Some new →
+    AreItemsOver l.chain.items (λ k. g.T.Over.over l.over (child_at l.ends k)) new (length l.chain.items)

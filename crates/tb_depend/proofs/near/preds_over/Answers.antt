@@ -7,9 +7,9 @@ use Rattle.tb_depend.proofs.near.preds_over.Goals as goal
 
 pub returns-then-not-item_over : goal.returns-then-not-item_over
 returns-then-not-item_over g c closed =
-    let items = c.args.chain.now.items.items in
+    let items = c.args.chain.now.items in
     let over = g.T.Over.over c.args.over.now in
-    let row = subst (λ xs. IsRow c.args.ends.now (length xs) c.args.n c.bounds-from.result.0 c.bounds-from.result.1) c.deref.ensures.value c.bounds-from.ensures in
+    let row = subst (λ xs. IsRow c.args.ends.now (length xs) c.args.n c.bounds-from.result.0 c.bounds-from.result.1) c.items.ensures c.bounds-from.ensures in
     let here = there items c.loop-item.item (omega (arith, c.loop-item-test.true, row.within)) in (
       λ f. absurd (false≢true f),
       λ all. absurd (some_not c.args.ends.now items c.requires.ends over c.args.n c.bounds-from.result.0 c.bounds-from.result.1 row c.loop-item.item here.0 here.1
@@ -22,14 +22,14 @@ loop-item-preserved g c closed i new low high e = elim (cases_lt i c.loop-item.i
   | inl h ↦ c.loop-item.invariant closed i new low h e
   | inr h ↦
       let s : i ≡ c.loop-item.item = omega (arith, h, high) in
-      (c.item_over.ensures (items_closed c.args.ends.now c.args.chain.now.items.items c.requires.ends (g.T.Over.over c.args.over.now) closed) new (subst (λ k. slice_get c.args.chain.now.items.items k ≡ Some new) s e)).0 c.if-not-item_over.false
+      (c.item_over.ensures (items_closed c.args.ends.now c.args.chain.now.items c.requires.ends (g.T.Over.over c.args.over.now) closed) new (subst (λ k. slice_get c.args.chain.now.items k ≡ Some new) s e)).0 c.if-not-item_over.false
 ]
 
 pub returns : goal.returns
 returns g c closed =
-    let items = c.args.chain.now.items.items in
+    let items = c.args.chain.now.items in
     let over = g.T.Over.over c.args.over.now in
-    let row = subst (λ xs. IsRow c.args.ends.now (length xs) c.args.n c.bounds-from.result.0 c.bounds-from.result.1) c.deref.ensures.value c.bounds-from.ensures in (
+    let row = subst (λ xs. IsRow c.args.ends.now (length xs) c.args.n c.bounds-from.result.0 c.bounds-from.result.1) c.items.ensures c.bounds-from.ensures in (
       λ t. all_are c.args.ends.now items c.requires.ends over c.args.n c.bounds-from.result.0 c.bounds-from.result.1 row
           (λ i new low high e. c.loop-item.invariant closed i new low (omega (arith, high, c.loop-item-test.false)) e),
       λ all. refl,

@@ -1,6 +1,7 @@
 use Rattle.std.proofs.Common.{refl, sym, subst, Some, ◌∙◌}
 use Rattle.tb_core.specs.Seen.{history}
-use Rattle.tb_live.proofs.ReadyLemmas.{Walked, fewer, walked_on, free_taken, found_free, found_none, found_done, found_later}
+use Rattle.tb_core.proofs.WalkLemmas.{fewer}
+use Rattle.tb_live.proofs.ReadyLemmas.{Walked, walked_on, free_taken, found_free, found_none, found_done, found_later}
 use Rattle.tb_live.proofs.WorkLemmas.{found_work}
 use Rattle.tb_live.proofs.ready.free_work.Goals as goal
 

@@ -1,6 +1,7 @@
 use Rattle.std.specs.Option.{option_copied}
 use Rattle.tb_core.specs.Seen.{history}
-use Rattle.tb_live.proofs.ReadyLemmas.{Walked, tasks_behind}
+use Rattle.tb_core.proofs.WalkLemmas.{tasks_behind}
+use Rattle.tb_live.proofs.ReadyLemmas.{Walked}
 use Rattle.tb_live.proofs.ready.free_work.Given as goal
 
 abbrev pub invariant-tasks : goal.invariant-tasks

@@ -4,7 +4,8 @@ use Rattle.tb_read.specs.declared.planned.Plan.{Plan}
 use Rattle.tb_live.specs.Plans.{IsPlanOf}
 use Rattle.tb_core.specs.Seen.{history}
 use Rattle.tb_live.proofs.PlanLemmas.{plan_ready}
-use Rattle.tb_live.proofs.ReadyLemmas.{fewer, passed_on, none_ready, next_ready}
+use Rattle.tb_core.proofs.WalkLemmas.{fewer}
+use Rattle.tb_live.proofs.ReadyLemmas.{passed_on, none_ready, next_ready}
 use Rattle.tb_live.proofs.ready.ready_plan.Goals as goal
 
 pub tasks-smaller : goal.tasks-smaller

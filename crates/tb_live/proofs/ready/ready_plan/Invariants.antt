@@ -1,6 +1,7 @@
 use Rattle.std.specs.Option.{option_copied}
 use Rattle.tb_core.specs.Seen.{history}
-use Rattle.tb_live.proofs.ReadyLemmas.{Passed, tasks_behind}
+use Rattle.tb_core.proofs.WalkLemmas.{tasks_behind}
+use Rattle.tb_live.proofs.ReadyLemmas.{Passed}
 use Rattle.tb_live.proofs.ready.ready_plan.Given as goal
 
 abbrev pub invariant-tasks : goal.invariant-tasks

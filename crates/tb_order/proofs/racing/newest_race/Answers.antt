@@ -1,6 +1,8 @@
-use Rattle.std.proofs.Common.{◌≡◌, ◌+◌, ◌-◌, arith}
+use Rattle.std.proofs.Common.{get_or, refl, arith}
+use Rattle.std.proofs.lemmas.List.{length-take}
 use Rattle.tb_core.proofs.FirstLemmas.{front_legal}
-use Rattle.tb_order.proofs.AnswerLemmas.{race_passed, race_found, nothing}
+use Rattle.tb_order.specs.Linking.{order_of}
+use Rattle.tb_order.proofs.LaneLemmas.{race_passed, race_found, race_nowhere, in_front}
 use Rattle.tb_order.proofs.racing.newest_race.Goals as goal
 
 pub contested-requires-clause-legal : goal.contested-requires-clause-legal
@@ -8,19 +10,34 @@ contested-requires-clause-legal c =
     let x = c.index-entries-at in
     front_legal c.args.entries.now c.args.at x.result c.requires.within x.is c.requires.legal
 
-pub returns-in-Some : goal.returns-in-Some
-returns-in-Some c =
-    let l = c.back in
+pub contested-requires-clause-within : goal.contested-requires-clause-within
+contested-requires-clause-within c =
     let x = c.index-entries-at in
-    let next : l.left ≡ (l.left - 1) + 1 = omega (arith, c.back-test.true) in
-    race_found c.args.exclusion c.args.entries.now c.args.at (l.left - 1) l.left next l.invariant.within c.requires.within x.result x.is c.in_ok-shares.field-0 c.in_ok-shares.ensures l.invariant.rest
-    c.in-Some.shares c.in-Some.is c.in_ok-step_at.field-0 c.in_ok-step_at-2.field-0 c.in_ok-step_at.ensures c.in_ok-step_at-2.ensures
+    omega (arith, length-take c.args.at c.args.entries.now, c.requires.within, in_front c.args.entries.now c.args.at x.result c.requires.within x.is c.args.lane.now c.requires.lane c.loop-first.first-index c.loop-first-test.true)
 
-pub back-preserved : goal.back-preserved
-back-preserved c =
-    let l = c.back in
+pub step_at-requires-clause-within : goal.step_at-requires-clause-within
+step_at-requires-clause-within c =
     let x = c.index-entries-at in
-    let next : l.left ≡ (l.left - 1) + 1 = omega (arith, c.back-test.true) in record {
-      within = omega (arith, l.invariant.within);
-      rest = race_passed c.args.exclusion c.args.entries.now c.args.at (l.left - 1) l.left next l.invariant.within c.requires.within x.result x.is c.in_ok-shares.field-0 c.in_ok-shares.ensures l.invariant.rest (nothing c.in_ok-shares.field-0 c.in_default.not-Some);
-    }
+    omega (arith, c.requires.within, in_front c.args.entries.now c.args.at x.result c.requires.within x.is c.args.lane.now c.requires.lane c.loop-first.first-index c.loop-first-test.true)
+
+pub returns-in-Some : goal.returns-in-Some
+returns-in-Some c v is =
+    let i = c.loop-first.first-index in
+    let entries = c.args.entries.now in
+    let lane = c.args.lane.now in
+    let x = c.index-entries-at in
+    race_found c.args.exclusion entries c.args.at (get_or lane i 0) (in_front entries c.args.at x.result c.requires.within x.is lane c.requires.lane i c.loop-first-test.true) c.requires.within x.result x.is c.in_ok-shares.field-0 c.in_ok-shares.ensures
+    v is lane i c.loop-first-test.true refl (c.loop-first.invariant v is) (c.requires.lane v is) c.in-Some.shares c.in-Some.is c.in_ok-step_at.field-0 c.in_ok-step_at-2.field-0 c.in_ok-step_at.ensures c.in_ok-step_at-2.ensures
+
+pub loop-first-preserved : goal.loop-first-preserved
+loop-first-preserved c v is =
+    let i = c.loop-first.first-index in
+    let entries = c.args.entries.now in
+    let lane = c.args.lane.now in
+    let x = c.index-entries-at in
+    race_passed c.args.exclusion entries c.args.at (get_or lane i 0) (in_front entries c.args.at x.result c.requires.within x.is lane c.requires.lane i c.loop-first-test.true) c.requires.within x.result x.is c.in_ok-shares.field-0 c.in_ok-shares.ensures
+    v is lane i c.loop-first-test.true refl (c.loop-first.invariant v is) c.in_default.is
+
+pub returns : goal.returns
+returns c v is =
+    race_nowhere (order_of c.args.exclusion) c.args.entries.now c.args.at c.requires.within v.event c.args.lane.now c.loop-first.first-index c.loop-first-test.false (c.requires.lane v is) (c.loop-first.invariant v is)

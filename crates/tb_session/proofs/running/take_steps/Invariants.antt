@@ -4,11 +4,11 @@ use Rattle.tb_session.specs.Course.{course, behind}
 use Rattle.tb_session.proofs.CourseLemmas.{Going}
 use Rattle.tb_session.proofs.running.take_steps.Given as goal
 
--- the rest of the course stands behind the steps so far
+-- the rest of the course stands after the steps so far
 abbrev pub invariant-steps : goal.invariant-steps
 invariant-steps l = record {
   within : l.count ≤ l.most;
-  going : Going l.seat (behind (string_bytes l.initial.text) 0 (course l.seat l.most l.initial.live.session)) (string_bytes l.text) l.count (l.most - l.count) l.live.session;
+  going : Going (behind (string_bytes l.initial.text) 0 (course l.most l.initial.live.session)) (string_bytes l.text) l.count (l.most - l.count) l.live.session;
 }
 
 abbrev pub decreases-steps : goal.decreases-steps

@@ -1,4 +1,5 @@
 use Rattle.std.proofs.Common.{rules}
+use Rattle.tb_session.proofs.SeatLemmas.{line_seats}
 use Rattle.tb_session.proofs.ServeLemmas.{serve_halts, serve_more, serve_ends}
 use Rattle.tb_session.proofs.serving.serve.Goals as goal
 
@@ -10,6 +11,7 @@ pub lines-preserved : goal.lines-preserved
 lines-preserved g c = record {
   can = tt;
   ends = tt;
+  seats = line_seats c.lines.live.session c.answer_line.new.live.session _ _ c.in-Ok-answer_line.ensures.answered.0 c.lines.invariant.seats c.deref.ensures.value c.in-Ok-answer_line.ensures.answered.1;
   served = serve_more _ _ _ _ _ _ _ _ _ _ _ c.in-Ok.end c.lines.invariant.served c.in-Ok.ensures.line c.deref.ensures.value c.in-Ok-answer_line.ensures.answered c.in-Feed.is;
   reads = search rules;
   writes = search rules;

@@ -1,14 +1,12 @@
-use Rattle.std.proofs.Common.{◌≡◌, ◌≤◌, ◌++◌, take}
-use Rattle.std.specs.Prelude.{vec_capacity}
-use Rattle.tb_depend.specs.Chains.{AreChained, KeepsHeads}
+use Rattle.std.proofs.Common.{◌≡◌, ◌+◌, ◌++◌, take}
+use Rattle.tb_depend.specs.Chains.{KeepsNames}
 use Rattle.tb_depend.proofs.chain.Chain.extend.Given as goal
 
--- the items so far, with room for those that are left
+-- the items so far, in the room that was there
 abbrev pub invariant-loop-item : goal.invariant-loop-item
 invariant-loop-item l = record {
-  chained : AreChained l.self.items.items l.self.links.items l.self.heads;
-  items : l.self.items.items ≡ l.fn.self.items.items ++ take l.item-index l.new;
-  heads : KeepsHeads l.fn.self.heads l.self.heads;
-  places : vec_capacity l.fn.self.items ≤ vec_capacity l.self.items;
-  links : vec_capacity l.fn.self.links ≤ vec_capacity l.self.links;
+  items : l.self.items ≡ l.fn.self.items ++ take l.item-index l.new;
+  item_places : l.self.item_places + l.item-index ≡ l.fn.self.item_places;
+  link_places : l.self.link_places + l.item-index ≡ l.fn.self.link_places;
+  cells : KeepsNames l.fn.self.cells l.self.cells;
 }

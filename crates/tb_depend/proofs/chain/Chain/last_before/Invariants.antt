@@ -6,7 +6,7 @@ use Rattle.tb_depend.proofs.chain.Chain.last_before.Given as goal
 abbrev pub invariant-loop-at : goal.invariant-loop-at
 invariant-loop-at l = record {
   within : l.at ≤ l.from;
-  none : AreNoneBehind (meets is_before l.new) l.self.items.items l.from l.at;
+  none : AreNoneBehind (meets is_before l.new) l.self.items l.from l.at;
 }
 
 abbrev pub decreases-loop-at : goal.decreases-loop-at

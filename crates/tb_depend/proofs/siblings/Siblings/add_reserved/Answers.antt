@@ -1,8 +1,8 @@
-use Rattle.std.proofs.Common.{◌≡◌, true, Contains, subst, sym}
-use Rattle.tb_model.specs.declared.item.Item.{Item}
-use Rattle.tb_depend.specs.Table.{is_named}
+use Rattle.std.proofs.Common.{subst, sym}
+use Rattle.tb_depend.specs.Table.{HasRoomFor}
 use Rattle.tb_depend.proofs.siblings.Siblings.add_reserved.Goals as goal
 
-pub push_row-requires-clause-its_heads : goal.push_row-requires-clause-its_heads
-push_row-requires-clause-its_heads c =
-    subst (λ t. (i : Item) → Contains c.args.items.now i → is_named t.cells i.place ≡ true) (sym c.self.view_is) c.requires.its_heads
+pub push_row-requires-clause-its_items : goal.push_row-requires-clause-its_items
+push_row-requires-clause-its_items c =
+    let r = subst (λ t. HasRoomFor t c.args.items.now) (sym c.self.view_is) c.requires in
+    record { items = r.its_items; links = r.its_links; heads = r.its_heads; }

@@ -9,13 +9,17 @@ use Rattle.tb_model.specs.Needs.{is_step, step_of}
 use Rattle.tb_model.proofs.RemovalLemmas.{own_grows, not_step, its_step}
 use Rattle.tb_model.proofs.LeastLemmas.{later_not_step}
 use Rattle.tb_races.specs.Orders.{Order, links, ComesAfter, directly, by_way, followers, comes_after}
-use Rattle.tb_one_run.proofs.OnceLemmas.{any_put}
 
-put_rest : {A : Type 0} (p : A → Bool) (b : Bool) (x : A) (xs : List A) → list_any p xs ≡ true → list_any p (prepend_if b x xs) ≡ true
+-- one that passes is the first, where that was put in front, or one of the rest
+pub any_put : {A : Type 0} (p : A → Bool) (b : Bool) (x : A) (xs : List A) → list_any p (prepend_if b x xs) ≡ true → ((b ≡ true) × (p x ≡ true)) ⊎ (list_any p xs ≡ true)
+any_put p true x xs h = ⊎_elim (λ a. inl (refl, a)) (λ a. inr a) (or_cases (p x) (list_any p xs) h)
+any_put p false x xs h = inr h
+
+pub put_rest : {A : Type 0} (p : A → Bool) (b : Bool) (x : A) (xs : List A) → list_any p xs ≡ true → list_any p (prepend_if b x xs) ≡ true
 put_rest p true x xs h = or_right (p x) (list_any p xs) h
 put_rest p false x xs h = h
 
-put_here : {A : Type 0} (p : A → Bool) (b : Bool) (x : A) (xs : List A) → b ≡ true → p x ≡ true → list_any p (prepend_if b x xs) ≡ true
+pub put_here : {A : Type 0} (p : A → Bool) (b : Bool) (x : A) (xs : List A) → b ≡ true → p x ≡ true → list_any p (prepend_if b x xs) ≡ true
 put_here p b x xs e h = subst (λ c. list_any p (prepend_if c x xs) ≡ true) (sym e) (or_left (p x) (list_any p xs) h)
 
 module _ (o : Order) where
@@ -75,7 +79,7 @@ module _ (o : Order) where
   -- ---- and whatever comes after it is found
 
   -- what an event that follows takes with it follows
-  takes : (e : StepId) (x : Event) (K : History) → follows e K x ≡ true → (p : Event → Bool) (b : History) → list_any p (followers o (step_of K x) (b ++ x ∷ K)) ≡ true → list_any p (followers o e (b ++ x ∷ K)) ≡ true
+  pub takes : (e : StepId) (x : Event) (K : History) → follows e K x ≡ true → (p : Event → Bool) (b : History) → list_any p (followers o (step_of K x) (b ++ x ∷ K)) ≡ true → list_any p (followers o e (b ++ x ∷ K)) ≡ true
   takes e x K g p [] h =
       ⊎_elim (λ a. put_here p (follows e K x) x (followers o e K) g a.1)
       (λ a. absurd (false≢true (sym (ap (list_any p) (none_yet x K)) ∙ a)))
@@ -110,7 +114,7 @@ module _ (o : Order) where
   )
 
   -- what links to an event that follows is found
-  passing : (p : Event → Bool) (e : StepId) (b : History) (u : Event) (front : History) → follows e front u ≡ true → p u ≡ true → list_any p (followers o e (b ++ u ∷ front)) ≡ true
+  pub passing : (p : Event → Bool) (e : StepId) (b : History) (u : Event) (front : History) → follows e front u ≡ true → p u ≡ true → list_any p (followers o e (b ++ u ∷ front)) ≡ true
   passing p e [] u front g h = put_here p (follows e front u) u (followers o e front) g h
   passing p e (w ∷ b) u front g h = put_rest p (follows e (b ++ u ∷ front) w) w (followers o e (b ++ u ∷ front)) (passing p e b u front g h)
 

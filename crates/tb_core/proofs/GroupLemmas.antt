@@ -1,0 +1,143 @@
+-- Scans of a task's actions from the newest: its open groups, and who is a member of one.
+use Rattle.std.proofs.Common.{◌≡◌, ◌≢◌, ◌<◌, ◌≤◌, ◌-◌, ◌+◌, ℕ, zero, suc, List, [], ◌∷◌, ◌++◌, Bool, true, false, ◌||◌, nat_le, cond, length, map, drop, take, get_or, ℤ, refl, sym, ap, ◌∙◌, append_assoc, arith}
+use Rattle.std.specs.List.{list_any}
+use Rattle.tb_model.specs.declared.item.Item.{Item}
+use Rattle.tb_model.specs.declared.action.Action.{Action}
+use Rattle.tb_model.specs.declared.action.Action.TheVariants.{Start, Let, Load, Store, Print, Spawn, Wait, Open, Close, Test, End, Fault}
+use Rattle.tb_model.specs.declared.step_id.StepId.{StepId}
+use Rattle.tb_model.specs.Names.{Name, is_within}
+use Rattle.tb_model.specs.Facts.{is_of, own}
+use Rattle.tb_model.specs.State.{open_groups, children_since, is_member_of}
+use Rattle.tb_core.specs.declared.entry.Entry.{Entry}
+use Rattle.tb_core.specs.Groups.{makes_member}
+use Rattle.tb_core.specs.Scans.{history_of}
+use Rattle.tb_model.proofs.FactsLemmas.{own_other}
+use Rattle.tb_core.proofs.ScanLemmas.{history_newest, own_newest}
+
+-- the groups of t that stay open where so many more are closed after these actions
+abbrev pub open_behind : Name → ℕ → List Action → List StepId
+open_behind t closed acts = map (λ k. record { task = t; k = k }) (drop closed (open_groups acts))
+
+-- the action opens no group and closes none
+abbrev pub is_plain : Action → Bool
+is_plain Open = false
+is_plain Close = false
+is_plain _ = true
+
+pub plain_unless : (a : Action) → a ≢ Open → a ≢ Close → is_plain a ≡ true
+plain_unless Start o c = refl
+plain_unless (Let r x) o c = refl
+plain_unless (Load r d x) o c = refl
+plain_unless (Store d x) o c = refl
+plain_unless (Print x) o c = refl
+plain_unless (Spawn u body args items deferred) o c = refl
+plain_unless (Wait items) o c = refl
+plain_unless Open o c = absurd (o refl)
+plain_unless Close o c = absurd (c refl)
+plain_unless (Test answer) o c = refl
+plain_unless End o c = refl
+plain_unless Fault o c = refl
+
+at_plain : (t : Name) (closed : ℕ) (a : Action) (acts : List Action) → is_plain a ≡ true → open_behind t closed (a ∷ acts) ≡ open_behind t closed acts
+at_plain t closed Start acts e = refl
+at_plain t closed (Let r x) acts e = refl
+at_plain t closed (Load r c x) acts e = refl
+at_plain t closed (Store c x) acts e = refl
+at_plain t closed (Print x) acts e = refl
+at_plain t closed (Spawn u body args items deferred) acts e = refl
+at_plain t closed (Wait items) acts e = refl
+at_plain t closed Open acts e = cc
+at_plain t closed Close acts e = cc
+at_plain t closed (Test answer) acts e = refl
+at_plain t closed End acts e = refl
+at_plain t closed Fault acts e = refl
+
+at_close : (t : Name) (closed : ℕ) (acts : List Action) → open_behind t closed (Close ∷ acts) ≡ open_behind t (closed + 1) acts
+at_close t closed acts =
+    let more : suc closed ≡ closed + 1 = omega arith in
+    ap (map (λ k. record { task = t; k = k })) (drop_one closed (open_groups acts) ∙ ap (λ n. drop n (open_groups acts)) more)
+  where
+    drop_one : (k : ℕ) (gs : List ℕ) → drop k (drop 1 gs) ≡ drop (suc k) gs
+    drop_one zero [] = refl
+    drop_one (suc k) [] = refl
+    drop_one k (g ∷ gs) = refl
+
+at_open_inside : (t : Name) (closed : ℕ) (acts : List Action) → closed ≢ 0 → open_behind t closed (Open ∷ acts) ≡ open_behind t (closed - 1) acts
+at_open_inside t zero acts h = absurd (h refl)
+at_open_inside t (suc k) acts h =
+    let less : k ≡ suc k - 1 = omega arith in
+    ap (λ n. open_behind t n acts) less
+
+-- the newest entry, of another task
+pub other_behind : (t : Name) (rest : List Entry) (e : Entry) → 1 ≤ length rest → e ≡ get_or rest (length rest - 1) e → is_of t e.event ≡ false → own t (history_of (take (length rest - 1) rest)) ≡ own t (history_of rest)
+other_behind t rest e some here other = sym (ap (own t) (history_newest rest e some here) ∙ own_other t e.event (history_of (take (length rest - 1) rest)) other)
+
+module _ (t : Name) (rest : List Entry) (e : Entry) (some : 1 ≤ length rest) (here : e ≡ get_or rest (length rest - 1) e) (mine : is_of t e.event ≡ true) where
+  -- the actions in front of it
+  abbrev older : List Action
+  older = own t (history_of (take (length rest - 1) rest))
+
+  pub one_more : length (own t (history_of rest)) ≡ suc (length older)
+  one_more = ap length (own_newest t rest e e.event.action some here mine refl)
+
+  pub behind_plain : (closed : ℕ) → is_plain e.event.action ≡ true → open_behind t closed older ≡ open_behind t closed (own t (history_of rest))
+  behind_plain closed is = sym (ap (open_behind t closed) (own_newest t rest e e.event.action some here mine refl) ∙ at_plain t closed e.event.action older is)
+
+  pub behind_close : (closed : ℕ) → e.event.action ≡ Close → open_behind t (closed + 1) older ≡ open_behind t closed (own t (history_of rest))
+  behind_close closed is = sym (ap (open_behind t closed) (own_newest t rest e Close some here mine is) ∙ at_close t closed older)
+
+  pub behind_inner : (closed : ℕ) → e.event.action ≡ Open → closed ≢ 0 → open_behind t (closed - 1) older ≡ open_behind t closed (own t (history_of rest))
+  behind_inner closed is inside = sym (ap (open_behind t closed) (own_newest t rest e Open some here mine is) ∙ at_open_inside t closed older inside)
+
+  pub behind_open : (closed left : ℕ) (ids pushed : List StepId) → e.event.action ≡ Open → closed ≡ 0 → left ≡ length (own t (history_of rest)) → pushed ≡ ids ++ (record { task = t; k = left }) ∷ []
+      → pushed ++ open_behind t closed older ≡ ids ++ open_behind t closed (own t (history_of rest))
+  behind_open closed left ids pushed is none counted push =
+      let at : left ≡ suc (length older) = counted ∙ one_more in
+      let whole : open_behind t 0 (own t (history_of rest)) ≡ (record { task = t; k = left }) ∷ open_behind t 0 older =
+      ap (open_behind t 0) (own_newest t rest e Open some here mine is) ∙ ap (λ k. (record { task = t; k = k }) ∷ open_behind t 0 older) (sym at) in
+      ap (λ n. pushed ++ open_behind t n older) none
+      ∙ (ap (λ l. l ++ open_behind t 0 older) push
+      ∙ (append_assoc ids ((record { task = t; k = left }) ∷ []) (open_behind t 0 older)
+      ∙ (ap (λ l. ids ++ l) (sym whole) ∙ ap (λ n. ids ++ open_behind t n (own t (history_of rest))) (sym none))))
+
+  -- ---- members
+
+  -- a newer step than the kth
+  since : (k : ℕ) (m : Name) (a : Action) (acts : List Action) → nat_le k (length acts) ≡ true → is_member_of k (a ∷ acts) m ≡ (makes_member a m || is_member_of k acts m)
+  since k m a acts h = ap (λ b. list_any (λ c. is_within c m) (cond b (Rattle.tb_model.specs.State.with_child a (children_since k acts)) [])) h ∙ by_child a
+    where
+      by_child : (a : Action) → list_any (λ c. is_within c m) (Rattle.tb_model.specs.State.with_child a (children_since k acts)) ≡ (makes_member a m || is_member_of k acts m)
+      by_child Start = refl
+      by_child (Let r x) = refl
+      by_child (Load r c x) = refl
+      by_child (Store c x) = refl
+      by_child (Print x) = refl
+      by_child (Spawn u body args items deferred) = refl
+      by_child (Wait items) = refl
+      by_child Open = refl
+      by_child Close = refl
+      by_child (Test answer) = refl
+      by_child End = refl
+      by_child Fault = refl
+
+  not_since : (k : ℕ) (m : Name) (a : Action) (acts : List Action) → nat_le k (length acts) ≡ false → is_member_of k (a ∷ acts) m ≡ false
+  not_since k m a acts h = ap (λ b. list_any (λ c. is_within c m) (cond b (Rattle.tb_model.specs.State.with_child a (children_since k acts)) [])) h
+
+  module _ (k : ℕ) (m : Name) (left : ℕ) (counted : left ≡ length (own t (history_of rest))) where
+    abbrev whole : Bool
+    whole = is_member_of k (own t (history_of rest)) m
+
+    pub no_member : left ≤ k → whole ≡ false
+    no_member h =
+        ap (λ acts. is_member_of k acts m) (own_newest t rest e e.event.action some here mine refl)
+        ∙ not_since k m e.event.action older (grind (arith, h, counted, one_more))
+
+    pub some_member : (left ≤ k → ⊥) → makes_member e.event.action m ≡ true → whole ≡ true
+    some_member h is =
+        ap (λ acts. is_member_of k acts m) (own_newest t rest e e.event.action some here mine refl)
+        ∙ (since k m e.event.action older (grind (arith, h, counted, one_more)) ∙ ap (λ b. b || is_member_of k older m) is)
+
+    pub member_behind : (left ≤ k → ⊥) → makes_member e.event.action m ≡ false → is_member_of k older m ≡ whole
+    member_behind h is =
+        sym (ap (λ acts. is_member_of k acts m) (own_newest t rest e e.event.action some here mine refl)
+        ∙ (since k m e.event.action older (grind (arith, h, counted, one_more)) ∙ ap (λ b. b || is_member_of k older m) is))

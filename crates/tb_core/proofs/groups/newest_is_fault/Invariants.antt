@@ -1,0 +1,13 @@
+use Rattle.std.proofs.Common.{◌≡◌, ◌≤◌, length}
+use Rattle.tb_model.specs.Facts.{own}
+use Rattle.tb_core.specs.Scans.{history_of}
+use Rattle.tb_core.proofs.groups.newest_is_fault.Given as goal
+
+abbrev pub invariant-back : goal.invariant-back
+invariant-back l = record {
+  same : own l.t (history_of l.rest) ≡ own l.t (history_of l.entries);
+  within : length l.rest ≤ length l.entries;
+}
+
+abbrev pub decreases-back : goal.decreases-back
+decreases-back l = length l.rest

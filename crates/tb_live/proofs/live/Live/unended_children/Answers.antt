@@ -1,0 +1,11 @@
+use Rattle.std.proofs.Common.{ap, ◌∙◌, subst}
+use Rattle.std.specs.Prelude.{IfOk, IsTrue}
+use Rattle.tb_model.specs.State.{is_unended_child}
+use Rattle.tb_core.specs.Listed.{AreAll}
+use Rattle.tb_live.specs.Session.{Held, history}
+use Rattle.tb_live.proofs.live.Live.unended_children.Goals as goal
+
+pub returns : goal.returns
+returns c =
+    let left = c.self.invariant.0.leaves ∙ ap (λ (h : Held). history h.session) c.self.view_is in
+    subst (λ H. IfOk c.unended_children.result (λ us. AreAll (λ u. IsTrue (is_unended_child H c.args.task.now u)) us.items)) left c.unended_children.ensures

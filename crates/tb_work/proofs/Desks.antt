@@ -1,0 +1,56 @@
+-- What a desk keeps, and what an entry more leaves of it.
+use Rattle.std.proofs.Common.{ℕ, ◌+◌, ◌<◌, ◌≡◌, suc, List, [], ◌∷◌, ◌++◌, Some, Option, map, take, length, get_or, refl, ap, sym, subst, ◌∙◌, arith, rules}
+use Rattle.std.specs.Prelude.{reverse, slice_index}
+use Rattle.std.proofs.lemmas.List.{map-append, reverse-append, length-map}
+use Rattle.std.proofs.Math.Seq.{take-suc}
+use Rattle.tb_model.specs.declared.entry.Entry.{Entry}
+use Rattle.tb_model.specs.declared.entry.Entry.TheVariants.{Opened, Stepped, Rolled}
+use Rattle.tb_model.specs.Program.{Program}
+use Rattle.tb_live.specs.Breaks.{Points}
+use Rattle.tb_live.specs.declared.control.Control.{Control}
+use Rattle.tb_live.specs.Session.{Session, with_entry, control_behind}
+use Rattle.tb_work.specs.Changes.{entries}
+
+-- an entry leaves the breakpoints, and as many seats as there were
+pub points_stay : (P : Program) (J : List Entry) (c : Control) (e : Entry) → (control_behind P J c e).breakpoints ≡ c.breakpoints
+points_stay P J c Opened = refl
+points_stay P J c (Stepped seat v) = refl
+points_stay P J c (Rolled seat i) = refl
+
+pub seats_stay : (P : Program) (J : List Entry) (c : Control) (e : Entry) → length (control_behind P J c e).claims ≡ length c.claims
+seats_stay P J c Opened = refl
+seats_stay P J c (Stepped seat v) = length-map c.claims _
+seats_stay P J c (Rolled seat i) = length-map c.claims _
+
+-- what is told of the run, its notes and its book
+pub record Agrees (P : Program) (limit : ℕ) (points : Points) (seats : ℕ) (all : List ℕ) (s : Session) (total : ℕ) (cells : List ℕ) (known : List (Option Entry)) : Type 0 where
+  pub program : s.program ≡ P
+  pub limited : s.limit ≡ limit
+  pub breakpoints : s.control.breakpoints ≡ points
+  pub seated : length s.control.claims ≡ seats
+  pub counted : total + 1 ≡ length s.journal
+  pub named : cells ≡ take (length s.journal) all
+  pub noted : known ≡ map (λ e. Some e) (entries s)
+
+-- one entry more
+pub agrees_more : (P : Program) (limit : ℕ) (points : Points) (seats : ℕ) (all : List ℕ) (old mid new : Session) (e : Entry)
+    (total later : ℕ) (cells more : List ℕ) (known told : List (Option Entry)) (place : ℕ)
+    → Agrees P limit points seats all old total cells known
+    → mid ≡ old → new ≡ with_entry mid e → place ≡ length old.journal → place < length all
+    → later ≡ total + 1 → more ≡ cells ++ slice_index all place ∷ [] → told ≡ known ++ Some e ∷ []
+    → Agrees P limit points seats all new later more told
+agrees_more P limit points seats all old mid new e total later cells more known told place a same now at lt one cell note =
+    let is : new ≡ with_entry old e = now ∙ ap (λ s. with_entry s e) same in
+    let J = old.journal in
+    let longer : length new.journal ≡ suc (length J) = ap (λ s. length s.journal) is in
+    let taken : take (suc (length J)) all ≡ take (length J) all ++ get_or all (length J) 0 ∷ [] = take-suc all (length J) 0 (omega (arith, at, lt)) in
+    let listed : entries new ≡ entries old ++ e ∷ [] = ap entries is ∙ reverse-append (e ∷ []) J in
+    record {
+      program = ap (λ s. s.program) is ∙ a.program;
+      limited = ap (λ s. s.limit) is ∙ a.limited;
+      breakpoints = ap (λ s. s.control.breakpoints) is ∙ points_stay old.program J old.control e ∙ a.breakpoints;
+      seated = ap (λ s. length s.control.claims) is ∙ seats_stay old.program J old.control e ∙ a.seated;
+      counted = omega (arith, a.counted, one, longer);
+      named = cell ∙ ap (λ l. l ++ get_or all place 0 ∷ []) a.named ∙ ap (λ k. take (length J) all ++ get_or all k 0 ∷ []) at ∙ sym taken ∙ ap (λ n. take n all) (sym longer);
+      noted = note ∙ ap (λ l. l ++ Some e ∷ []) a.noted ∙ sym (map-append (λ x. Some x) (entries old) (e ∷ [])) ∙ ap (map (λ x. Some x)) (sym listed);
+    }

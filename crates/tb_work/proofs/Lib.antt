@@ -1,0 +1,10 @@
+pub mod Rising
+pub mod Desks
+pub mod Seats
+pub mod Releases
+pub mod Standing
+pub mod Claims
+pub mod Growing
+pub mod Numbered
+pub mod Distinct
+pub mod Whole

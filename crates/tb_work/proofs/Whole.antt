@@ -1,0 +1,195 @@
+-- Receipts of all seats that stand in the journal, and are as many as its entries after the first, are all of these by place.
+use Rattle.std.proofs.Common.{ℕ, ◌+◌, ◌<◌, ◌≤◌, ◌≡◌, zero, suc, List, [], ◌∷◌, ◌++◌, Bool, true, false, ◌&&◌, cond, nat_eq, nat_lt, map, drop, length, get_or, refl, ap, sym, subst, ◌∙◌, arith, All, Option, None, Some, length-append, append_assoc}
+use Rattle.std.proofs.lemmas.Bool.Decides.{nat_tests}
+use Rattle.std.proofs.lemmas.List.{length-map, get_or-map}
+use Rattle.std.proofs.lemmas.List.Sums.{sum_by-cons, sum_by-append}
+use Rattle.std.proofs.lemmas.List.Sorted.{All-permutation, sum_by-IsPermutation, IsNonDecreasingBy-from_sort}
+use Rattle.std.specs.Prelude.{IsPermutation, IsSortedByKey}
+use Rattle.std.specs.List.Sorted.{IsNonDecreasingBy}
+use Rattle.std.specs.Ordering.{nat_cmp}
+use Rattle.std.specs.List.{sum_by}
+use Rattle.tb_model.specs.declared.entry.Entry.{Entry}
+use Rattle.tb_model.specs.declared.entry.Entry.TheVariants.{Opened}
+use Rattle.tb_work.specs.declared.receipt.Receipt.{Receipt}
+use Rattle.tb_work.specs.Receipts.{Seated, seat_of, receipt, rises_from, all_of, IsRow, Stands, first_gap, all_receipts, receipts_in, receipts_from}
+use Rattle.tb_work.proofs.Numbered.{Rises, AllAtMost, all_places, from}
+use Rattle.tb_work.proofs.Distinct.{hit, hits, above, hits-append, hit_same, Owned, concat, Good, once, strict}
+
+-- a receipt's place
+abbrev pub place_of : Receipt → ℕ
+place_of r = r.place
+
+abbrev pub places : List Receipt → List ℕ
+places rs = map place_of rs
+
+-- r is the journal's entry at its place
+abbrev pub IsAt : List Entry → Receipt → Type 0
+IsAt J r = (r.place < length J) × (get_or J r.place r.entry ≡ r.entry)
+
+-- ---- parts of a list
+
+all_head : {X : Type 0} (P : X → Type 0) (x : X) (xs : List X) → All P (x ∷ xs) → P x
+all_head P x xs a = a 0 x (omega arith)
+
+all_tail : {X : Type 0} (P : X → Type 0) (x : X) (xs : List X) → All P (x ∷ xs) → All P xs
+all_tail P x xs a k d lt = a (suc k) d (omega (arith, lt))
+
+all_left : {X : Type 0} (P : X → Type 0) (xs ys : List X) → All P (xs ++ ys) → All P xs
+all_left P [] ys a k d lt = absurd (omega (arith, lt))
+all_left P (x ∷ xs) ys a zero d lt = all_head P x (xs ++ ys) a
+all_left P (x ∷ xs) ys a (suc k) d lt = all_left P xs ys (all_tail P x (xs ++ ys) a) k d (omega (arith, lt))
+
+all_right : {X : Type 0} (P : X → Type 0) (xs ys : List X) → All P (xs ++ ys) → All P ys
+all_right P [] ys a = a
+all_right P (x ∷ xs) ys a = all_right P xs ys (all_tail P x (xs ++ ys) a)
+
+-- ---- no gap
+
+no_gap : (n : ℕ) (rs : List Receipt) → first_gap n rs ≡ None → All (λ r. r.place < n) rs
+no_gap n [] is = λ k d lt. absurd (omega (arith, lt))
+no_gap n (r ∷ rs) is = by (nat_lt r.place n) refl is (no_gap n rs)
+  where
+    by : (b : Bool) → nat_lt r.place n ≡ b → cond b (first_gap n rs) (Some r.place) ≡ None → (first_gap n rs ≡ None → All (λ x. x.place < n) rs) → All (λ x. x.place < n) (r ∷ rs)
+    by true below rest others zero d lt = grind (arith, nat_tests)
+    by true below rest others (suc k) d lt = others rest k d (omega (arith, lt))
+    by false below rest others k d lt = absurd cc
+
+at_their_places : (J : List Entry) (rs : List Receipt) → first_gap (length J) rs ≡ None → All (Stands J) rs → All (IsAt J) rs
+at_their_places J rs is stand k d lt = (no_gap (length J) rs is k d lt, stand k d lt (no_gap (length J) rs is k d lt))
+
+-- ---- each seat's places rise, and are its own
+
+rises_of : (n : ℕ) (rs : List Receipt) → rises_from n rs ≡ true → Rises n (places rs)
+rises_of n [] is = tt
+rises_of n (r ∷ rs) is =
+    let first : nat_lt n r.place ≡ true = grind arith in
+    let rest : rises_from r.place rs ≡ true = grind arith in
+    (grind (arith, nat_tests), rises_of r.place rs rest)
+
+-- whose entry stands at the place
+abbrev pub own : List Entry → ℕ → ℕ
+own J q = seat_of (get_or J q Opened)
+
+get_or_any : {X : Type 0} (xs : List X) (k : ℕ) (d e : X) → k < length xs → get_or xs k d ≡ get_or xs k e
+get_or_any [] k d e lt = absurd (omega (arith, lt))
+get_or_any (x ∷ xs) zero d e lt = refl
+get_or_any (x ∷ xs) (suc k) d e lt = get_or_any xs k d e (omega (arith, lt))
+
+owned_by : (J : List Entry) (n : ℕ) (rs : List Receipt) → all_of n rs ≡ true → All (IsAt J) rs → Owned (own J) n (places rs)
+owned_by J n [] is at = tt
+owned_by J n (r ∷ rs) is at =
+    let here = all_head (IsAt J) r rs at in
+    let first : nat_eq (seat_of r.entry) n ≡ true = grind arith in
+    let rest : all_of n rs ≡ true = grind arith in
+    let seat : seat_of r.entry ≡ n = grind (arith, nat_tests) in
+    (ap seat_of (get_or_any J r.place Opened r.entry here.0 ∙ here.1) ∙ seat, owned_by J n rs rest (all_tail (IsAt J) r rs at))
+
+abbrev pub rows_of : List Seated → List (List ℕ)
+rows_of seats = map (λ s. places s.receipts) seats
+
+good_rows : (J : List Entry) (m : ℕ) (seats : List Seated) → ((i : ℕ) (d : Seated) → i < length seats → (get_or seats i d).number ≡ m + i)
+    → All IsRow seats → All (IsAt J) (all_receipts seats) → Good (own J) m (rows_of seats)
+good_rows J m [] numbers rows at = tt
+good_rows J m (s ∷ ss) numbers rows at =
+    let row = all_head IsRow s ss rows in
+    let number : s.number ≡ m = omega (arith, numbers 0 s (omega arith)) in (
+      rises_of 0 s.receipts row.rises,
+      owned_by J m s.receipts (subst (λ n. all_of n s.receipts ≡ true) number row.own) (all_left (IsAt J) s.receipts (all_receipts ss) at),
+      good_rows J (m + 1) ss (λ i d lt. omega (arith, numbers (suc i) d (omega (arith, lt)))) (all_tail IsRow s ss rows) (all_right (IsAt J) s.receipts (all_receipts ss) at),
+    )
+
+-- ---- how often a place stands in a list of receipts
+
+hits_summed : (q : ℕ) (rs : List Receipt) → hits q (places rs) ≡ sum_by (λ r. hit q r.place) rs
+hits_summed q [] = refl
+hits_summed q (r ∷ rs) = omega (arith, hits_summed q rs, sum_by-cons (λ (x : Receipt). hit q x.place) r rs)
+
+hits_rows : (q : ℕ) (seats : List Seated) → hits q (concat (rows_of seats)) ≡ sum_by (λ r. hit q r.place) (all_receipts seats)
+hits_rows q [] = refl
+hits_rows q (s ∷ ss) =
+    let f : Receipt → ℕ = λ x. hit q x.place in
+    omega (arith, hits-append q (places s.receipts) (concat (rows_of ss)), hits_summed q s.receipts, hits_rows q ss, sum_by-append f s.receipts (all_receipts ss))
+
+count_all : (seats : List Seated) → length (all_receipts seats) ≡ receipts_in seats
+count_all [] = refl
+count_all (s ∷ ss) = omega (arith, length-append s.receipts (all_receipts ss), count_all ss, sum_by-cons (λ (x : Seated). length x.receipts) s ss)
+
+-- ---- the sorted list
+
+at_most : (J : List Entry) (m : ℕ) (rs : List Receipt) → length J ≡ m + 1 → All (IsAt J) rs → AllAtMost m (places rs)
+at_most J m [] is at = tt
+at_most J m (r ∷ rs) is at = (omega (arith, (all_head (IsAt J) r rs at).0, is), at_most J m rs is (all_tail (IsAt J) r rs at))
+
+get_at : {X : Type 0} (xs : List X) (y : X) (ys : List X) (d : X) → get_or (xs ++ y ∷ ys) (length xs) d ≡ y
+get_at [] y ys d = refl
+get_at (x ∷ xs) y ys d = get_at xs y ys d
+
+-- receipts at places that follow one another are the entries there
+spelled : (J front back : List Entry) (rs : List Receipt) (a : ℕ) → J ≡ front ++ back → length front ≡ a + 1 → length back ≡ length rs
+    → places rs ≡ from a (length rs) → All (IsAt J) rs → rs ≡ receipts_from (a + 1) back
+spelled J front [] [] a is long same ps at = refl
+spelled J front (e ∷ back) [] a is long same ps at = absurd (omega (arith, same))
+spelled J front [] (r ∷ rs) a is long same ps at = absurd (omega (arith, same))
+spelled J front (e ∷ back) (r ∷ rs) a is long same ps at =
+    let here = all_head (IsAt J) r rs at in
+    let place : r.place ≡ a + 1 = ap (λ l. get_or l 0 0) ps in
+    let later : places rs ≡ from (a + 1) (length rs) = ap (drop 1) ps in
+    let found : get_or J r.place r.entry ≡ e = ap (λ l. get_or l r.place r.entry) is ∙ ap (λ k. get_or (front ++ e ∷ back) k r.entry) (place ∙ sym long) ∙ get_at front e back r.entry in
+    let entry : r.entry ≡ e = sym here.1 ∙ found in
+    let next : J ≡ (front ++ e ∷ []) ++ back = is ∙ sym (append_assoc front (e ∷ []) back) in
+    let rest = spelled J (front ++ e ∷ []) back rs (a + 1) next (omega (arith, length-append front (e ∷ []), long)) (omega (arith, same)) later (all_tail (IsAt J) r rs at) in
+    let first : r ≡ receipt (a + 1) e = ap (λ k. receipt k r.entry) place ∙ ap (receipt (a + 1)) entry in
+    let others : rs ≡ receipts_from (suc (a + 1)) back = rest ∙ ap (λ k. receipts_from k back) (omega arith) in
+    ap (λ x. x ∷ rs) first ∙ ap (λ l. receipt (a + 1) e ∷ l) others
+
+-- the first entry, and those after it
+behind : (J : List Entry) (n : ℕ) → length J ≡ n + 1 → (e : Entry) × (J ≡ e ∷ drop 1 J) × (length (drop 1 J) ≡ n)
+behind [] n is = absurd (omega (arith, is))
+behind (e ∷ J) n is = (e, refl, omega (arith, is))
+
+lowest : (ps : List ℕ) → hits 0 ps ≡ 0 → 0 < length ps → 0 < get_or ps 0 0
+lowest [] none lt = absurd (omega (arith, lt))
+lowest (zero ∷ ps) none lt = absurd (omega (arith, none, hit_same 0))
+lowest (suc p ∷ ps) none lt = omega arith
+
+-- nothing stands at place 0
+none_at_0 : (J : List Entry) (seats : List Seated) (m : ℕ) → Good (own J) m (rows_of seats) → hits 0 (concat (rows_of seats)) ≡ 0
+none_at_0 J [] m good = refl
+none_at_0 J (s ∷ ss) m good = omega (arith, hits-append 0 (places s.receipts) (concat (rows_of ss)), above 0 0 (places s.receipts) good.0 (omega arith), none_at_0 J ss (m + 1) good.2)
+
+not_less : (a b : ℕ) → a ≤ b → nat_lt b a ≡ false
+not_less a b le = grind (arith, nat_tests)
+
+falls_not : (xs : List Receipt) → IsNonDecreasingBy place_of xs → (k : ℕ) (d : ℕ) → suc k < length xs → nat_lt (get_or (places xs) (suc k) d) (get_or (places xs) k d) ≡ false
+falls_not xs up k d lt =
+    let r = receipt d Opened in
+    let a = get_or-map place_of xs k r d (omega (arith, lt)) in
+    let b = get_or-map place_of xs (suc k) r d lt in
+    rw (a, b) (not_less (get_or xs k r).place (get_or xs (suc k) r).place (up k (suc k) r (omega arith) lt))
+
+length_counted : (rs : List Receipt) → length rs ≡ sum_by (λ r. 1) rs
+length_counted [] = refl
+length_counted (r ∷ rs) = omega (arith, length_counted rs, sum_by-cons (λ (x : Receipt). 1) r rs)
+
+pub whole : (J : List Entry) (seats : List Seated) (xs : List Receipt)
+    → ((i : ℕ) (d : Seated) → i < length seats → (get_or seats i d).number ≡ i)
+    → All IsRow seats → All (Stands J) (all_receipts seats) → first_gap (length J) (all_receipts seats) ≡ None
+    → receipts_in seats + 1 ≡ length J → IsPermutation (all_receipts seats) xs → IsSortedByKey place_of nat_cmp xs
+    → xs ≡ receipts_from 1 (drop 1 J)
+whole J seats xs numbers rows stand gap count same sorted =
+    let at_all = at_their_places J (all_receipts seats) gap stand in
+    let at = All-permutation (IsAt J) (all_receipts seats) xs same at_all in
+    let good = good_rows J 0 seats (λ i d lt. omega (arith, numbers i d lt)) rows at_all in
+    let ps = places xs in
+    let many : length ps ≡ length xs = length-map xs place_of in
+    let one : Receipt → ℕ = λ r. 1 in
+    let total : length xs ≡ receipts_in seats = length_counted xs ∙ sum_by-IsPermutation one (all_receipts seats) xs same ∙ sym (length_counted (all_receipts seats)) ∙ count_all seats in
+    let long : length J ≡ length xs + 1 = omega (arith, total, count) in
+    let hit_as : (q : ℕ) → hits q ps ≡ hits q (concat (rows_of seats)) = λ q. hits_summed q xs ∙ sum_by-IsPermutation (λ r. hit q r.place) (all_receipts seats) xs same ∙ sym (hits_rows q seats) in
+    let rising = IsNonDecreasingBy-from_sort place_of xs sorted in
+    let low : (k : ℕ) (d : ℕ) → suc k < length ps → nat_lt (get_or ps (suc k) d) (get_or ps k d) ≡ false = λ k d lt. falls_not xs rising k d (omega (arith, lt, many)) in
+    let rises = strict 0 ps low (λ q. omega (arith, hit_as q, once (own J) q 0 (rows_of seats) good)) (lowest ps (hit_as 0 ∙ none_at_0 J seats 0 good)) in
+    let bound : AllAtMost (0 + length ps) ps = subst (λ n. AllAtMost n ps) (omega (arith, many)) (at_most J (length xs) xs long at) in
+    let spelt : ps ≡ from 0 (length xs) = all_places 0 ps rises bound ∙ ap (from 0) many in
+    let parts = behind J (length xs) long in
+    spelled J (parts.0 ∷ []) (drop 1 J) xs 0 parts.1 refl parts.2 spelt at

@@ -1,0 +1,20 @@
+use Rattle.std.proofs.Common.{rules, ◌≡◌, ◌≤◌, length, arith, ap, sym, ◌∙◌}
+use Rattle.tb_work.proofs.shared.Shared.adopt.Goals as goal
+
+pub invariant_of-new : goal.invariant_of-new
+invariant_of-new g c =
+    let told = c.in-Ok-tell_run.ensures in
+    let live = c.requires.live in
+    let room = c.in-Ok.ensures in
+    let within : length c.args.live.session.journal ≤ c.args.live.session.limit = search rules in
+    record {
+      program = live.0;
+      limit = live.1;
+      breakpoints = live.2;
+      seats = live.3;
+      none_spare = search rules;
+      room_for_all = (room.none, omega (arith, within, room.room, c.limit.ensures), omega (arith, live.1, room.room, c.limit.ensures));
+      counted = told.total;
+      cells = told.cells;
+      known = told.known;
+    }

@@ -1,0 +1,5 @@
+pub mod Receipts
+pub mod Changes
+pub mod Closing
+pub mod Claiming
+pub mod Growing

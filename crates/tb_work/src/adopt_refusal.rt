@@ -1,0 +1,38 @@
+//! Why a run isn't taken in.
+
+use crate::unmade::Unmade;
+use std::alloc::AllocError;
+
+/// Why no team shares the run.
+#[derive(Clone, Copy, Debug, Drop, PartialEq, Eq)]
+pub enum AdoptRefusal {
+    /// 0: A growth was refused.
+    Memory,
+    /// 11: The cell of a place that stands is written already.
+    CellTaken,
+}
+
+impl AdoptRefusal {
+    /// The number by which the refusal is known.
+    pub fn number(&self) -> u8 {
+        match self {
+            AdoptRefusal::Memory => 0,
+            AdoptRefusal::CellTaken => 11,
+        }
+    }
+}
+
+impl From<AllocError> for AdoptRefusal {
+    fn from(_error: AllocError) -> AdoptRefusal {
+        AdoptRefusal::Memory
+    }
+}
+
+impl From<Unmade> for AdoptRefusal {
+    fn from(unmade: Unmade) -> AdoptRefusal {
+        match unmade {
+            Unmade::Memory => AdoptRefusal::Memory,
+            Unmade::CellTaken => AdoptRefusal::CellTaken,
+        }
+    }
+}

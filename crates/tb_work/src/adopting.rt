@@ -1,0 +1,237 @@
+//! A run is taken in: its entries are written to the places' cells, and each seat gets the receipts of
+//! its own.
+
+ghost use Rattle.std.specs.Prelude.{◌≡◌, ◌+◌, ◌<◌, ◌≤◌, ◌^◌, ◌++◌, [], ◌∷◌, Some, true, IsTrue, length, slice_index, vec_len, vec_capacity, map, take, IfOk, OnOk, IfErr};
+ghost use Rattle.tb_work.specs.Changes.{entries};
+ghost use Rattle.tb_work.specs.Receipts.{seat_of, all_below, HaveNumbers, AreBelow, receipts_in};
+
+use crate::adopt_refusal::AdoptRefusal;
+use crate::copying::copy_of;
+use crate::desk::Desk;
+use crate::entering::{enter, tell};
+use crate::places::Places;
+use crate::receipt::Receipt;
+use crate::seat::Seat;
+use crate::shared::Shared;
+use crate::team::Team;
+use crate::told::Told;
+use std::alloc::{AllocError, Global};
+use std::sync::Mutex;
+use std::sync::ledger::{Blank, Book, Share};
+use tb_live::Live;
+use tb_model::Entry;
+
+/// Which seat made the entry.
+fn seat_of(entry: &Entry) -> u32
+    ensures { result ≡ seat_of entry.now }
+{
+    match entry {
+        Entry::Opened => 0,
+        Entry::Stepped { seat, .. } => *seat,
+        Entry::Rolled { seat, .. } => *seat,
+    }
+}
+
+/// Whether each entry is of one of so many seats.
+fn are_below(seats: u32, entries: &[Entry]) -> bool
+    ensures { result ≡ all_below seats entries.now }
+{
+    entries.iter().all(|entry| seat_of(entry) < seats)
+}
+
+/// Whether each entry of the run's journal is of one of its seats.
+pub fn is_seated(live: &Live) -> bool
+    ensures { result ≡ all_below (length live.now.session.control.claims) (entries live.now.session) }
+{
+    are_below(live.seats(), journal_of(live))
+}
+
+/// The journal, and how long it is.
+pub fn journal_of(live: &Live) -> &[Entry]
+    ensures entries { result.now ≡ entries live.now.session }
+    ensures length { length result.now ≡ length live.now.session.journal }
+{
+    live.journal()
+}
+
+/// Whether the journal has begun and is within its limit. That of each run is, but no call tells it.
+fn is_within(live: &Live) -> bool
+    ensures begun { IsTrue result → 0 < length live.now.session.journal }
+    ensures within { IsTrue result → length live.now.session.journal ≤ live.now.session.limit }
+    ensures fits { IsTrue result → length live.now.session.journal < 2 ^ 32 }
+{
+    let limit = live.limit() as usize;
+    let length = journal_of(live).len();
+    0 < length && length <= limit
+}
+
+/// Room for so many receipts.
+fn room_for(alloc: Global, count: u32) -> Result<Vec<Receipt>, AllocError>
+    ensures none { IfOk result (λ room. vec_len room ≡ 0) }
+    ensures room { IfOk result (λ room. count ≤ vec_capacity room) }
+{
+    Vec::with_capacity(alloc, count as usize)
+}
+
+/// One seat for each part of the share.
+fn seats_for<N: Team>(
+    alloc: Global,
+    count: u32,
+    rest: &mut Share<N>,
+) -> Result<Vec<Seat<N>>, AllocError>
+    requires parts { (rest.old.parts ≡ count) × (rest.old.amount ≡ 0) }
+    requires count { count ≤ N.seats }
+    ensures rest { OnOk result ((rest.new.parts ≡ 0) × (rest.new.amount ≡ 0)) }
+    ensures len { IfOk result (λ v. vec_len v ≡ count) }
+    ensures numbers { IfOk result (λ v. HaveNumbers v.items) }
+    ensures below { IfOk result (λ v. AreBelow 1 v.items) }
+    ensures none { IfOk result (λ v. receipts_in v.items ≡ 0) }
+{
+    let mut seats = Vec::new(alloc);
+    for number in 0..count {
+        let share = rest.split_off(1, 0);
+        seats.push(Seat::new(alloc, number, share))?;
+    }
+    Ok(seats)
+}
+
+/// Gives the receipt of the entry at the place to the seat that made it.
+fn give<N: Team>(
+    alloc: Global,
+    places: &Places,
+    told: &mut Vec<Told>,
+    book: &mut Book<N>,
+    seats: &mut [Seat<N>],
+    place: u32,
+    entry: Entry,
+) -> Result<(), AdoptRefusal>
+    requires cells { places.now ≡ N.cells }
+    requires place { place < length places.now }
+    requires seat { seat_of entry < length seats.old }
+    requires numbers { HaveNumbers seats.old }
+    requires above { AreBelow place seats.old }
+    ensures numbers { OnOk result (HaveNumbers seats.new) }
+    ensures above { OnOk result (AreBelow (place + 1) seats.new) }
+    ensures total { OnOk result (book.new.total ≡ book.old.total + 1) }
+    ensures receipts { OnOk result (receipts_in seats.new ≡ receipts_in seats.old + 1) }
+    ensures cells { OnOk result (map (λ t. t.note.cell) told.new.items ≡ map (λ t. t.note.cell) told.old.items ++ slice_index N.cells place ∷ []) }
+    ensures known { OnOk result (map (λ t. t.note.known) told.new.items ≡ map (λ t. t.note.known) told.old.items ++ Some entry ∷ []) }
+{
+    let seat = &mut seats[seat_of(&entry) as usize];
+    enter(alloc, places, told, book, seat, place, entry)?;
+    Ok(())
+}
+
+/// Writes all entries to their places' cells, and gives the seats their receipts.
+fn tell_all<N: Team>(
+    alloc: Global,
+    journal: &[Entry],
+    places: &Places,
+    book: &mut Book<N>,
+    seats: &mut [Seat<N>],
+) -> Result<Vec<Told>, AdoptRefusal>
+    requires cells { places.now ≡ N.cells }
+    requires enough { length journal.now ≤ length places.now }
+    requires fits { length journal.now < 2 ^ 32 }
+    requires begun { 0 < length journal.now }
+    requires total { book.old.total ≡ 0 }
+    requires own { all_below (length seats.old) journal.now ≡ true }
+    requires numbers { HaveNumbers seats.old }
+    requires above { AreBelow 1 seats.old }
+    requires none { receipts_in seats.old ≡ 0 }
+    ensures receipts { OnOk result (receipts_in seats.new + 1 ≡ length journal.now) }
+    ensures total { OnOk result (book.new.total + 1 ≡ length journal.now) }
+    ensures cells { IfOk result (λ t. map (λ t. t.note.cell) t.items ≡ take (length journal.now) N.cells) }
+    ensures known { IfOk result (λ t. map (λ t. t.note.known) t.items ≡ map (λ e. Some e) journal.now) }
+    ensures numbers { OnOk result (HaveNumbers seats.new) }
+{
+    let mut told = Vec::new(alloc);
+    for place in 0..journal.len() {
+        let entry = &journal[place];
+        if place == 0 {
+            tell(alloc, places, &mut told, 0, entry)?;
+        } else {
+            let copy = copy_of(entry)?;
+            give(alloc, places, &mut told, book, seats, place as u32, copy)?;
+        }
+    }
+    Ok(told)
+}
+
+/// The same over the run and all its seats.
+fn tell_run<N: Team>(
+    alloc: Global,
+    live: &Live,
+    places: &Places,
+    book: &mut Book<N>,
+    seats: &mut Vec<Seat<N>>,
+) -> Result<Vec<Told>, AdoptRefusal>
+    requires cells { places.now ≡ N.cells }
+    requires enough { length live.now.session.journal ≤ length places.now }
+    requires fits { length live.now.session.journal < 2 ^ 32 }
+    requires begun { 0 < length live.now.session.journal }
+    requires total { book.old.total ≡ 0 }
+    requires own { all_below (vec_len seats.old) (entries live.now.session) ≡ true }
+    requires numbers { HaveNumbers seats.old.items }
+    requires above { AreBelow 1 seats.old.items }
+    requires none { receipts_in seats.old.items ≡ 0 }
+    ensures receipts { OnOk result (receipts_in seats.new.items + 1 ≡ length live.now.session.journal) }
+    ensures total { OnOk result (book.new.total + 1 ≡ length live.now.session.journal) }
+    ensures cells { IfOk result (λ t. map (λ t. t.note.cell) t.items ≡ take (length live.now.session.journal) N.cells) }
+    ensures known { IfOk result (λ t. map (λ t. t.note.known) t.items ≡ map (λ e. Some e) (entries live.now.session)) }
+    ensures numbers { OnOk result (HaveNumbers seats.new.items) }
+    ensures len { vec_len seats.new ≡ vec_len seats.old }
+{
+    tell_all(alloc, journal_of(live), places, book, seats.as_mut_slice())
+}
+
+impl<N: Team> Shared<N> {
+    /// Takes a run in, and gives its seats, each with the receipts of its own entries. A refusal hands the
+    /// run back.
+    pub fn adopt(
+        alloc: Global,
+        live: Live,
+        places: Places,
+        blank: Blank,
+    ) -> Result<(Shared<N>, Vec<Seat<N>>), (Live, AdoptRefusal)>
+        requires name { (blank.name ≡ N.name) × (blank.parts ≡ N.parts) }
+        requires one_each { blank.parts ≡ N.seats }
+        requires places { (places ≡ N.cells) × (N.limit ≤ length places) }
+        requires live { (live.session.program ≡ N.program) × (live.session.limit ≡ N.limit) × (live.session.control.breakpoints ≡ N.breakpoints) × (length live.session.control.claims ≡ N.seats) }
+        requires own { all_below N.seats (entries live.session) ≡ true }
+        ensures seats { IfOk result (λ r. (vec_len r.1 ≡ N.seats) × HaveNumbers r.1.items) }
+        ensures receipts { IfOk result (λ r. receipts_in r.1.items + 1 ≡ length live.session.journal) }
+        ensures err { IfErr result (λ e. e.0 ≡ live) }
+    {
+        let (mut book, mut spare) = blank.open::<N>();
+        if !is_within(&live) {
+            return Err((live, AdoptRefusal::CellTaken));
+        }
+        let Ok(room) = room_for(alloc, live.limit()) else {
+            return Err((live, AdoptRefusal::Memory));
+        };
+        let Ok(mut seats) = seats_for(alloc, live.seats(), &mut spare) else {
+            return Err((live, AdoptRefusal::Memory));
+        };
+        let told = match tell_run(alloc, &live, &places, &mut book, &mut seats) {
+            Ok(told) => told,
+            Err(refusal) => return Err((live, refusal)),
+        };
+        let desk = Mutex::new(Desk {
+            alloc,
+            live,
+            told,
+            book,
+            spare,
+            room,
+        });
+        Ok((
+            Shared {
+                alloc,
+                places,
+                desk,
+            },
+            seats,
+        ))
+    }
+}

@@ -1,0 +1,11 @@
+//! What a team leaves.
+
+use crate::receipt::Receipt;
+use tb_live::Live;
+
+/// The run, and the receipts of all seats by their places.
+#[derive(Drop)]
+pub struct Closed {
+    pub live: Live,
+    pub receipts: Vec<Receipt>,
+}

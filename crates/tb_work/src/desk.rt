@@ -1,0 +1,218 @@
+//! What lies under the lock.
+
+ghost use Rattle.std.specs.Prelude.{◌≡◌, ◌+◌, ◌<◌, ◌≤◌, Some, reverse, length, vec_len, vec_capacity, map, take, IfOk, OnOk, OnErr};
+ghost use Rattle.tb_work.specs.Changes.{Commits, RollsBack, entries};
+ghost use Rattle.tb_work.specs.Claiming.{IsClaim, IsWorkFor};
+
+use crate::asking::{claim_one, claim_work, leave, pause, resume, resume_for};
+use crate::entering::enter;
+use crate::places::Places;
+use crate::receipt::Receipt;
+use crate::refused::Refused;
+use crate::seat::Seat;
+use crate::taking::{next_place, ready_undo, take_back, take_back_all, take_step};
+use crate::team::Team;
+use crate::told::Told;
+use crate::unmade::Unmade;
+use crate::why::Why;
+use std::alloc::{AllocError, Global};
+use std::sync::ledger::{Book, Share};
+use tb_live::{
+    Claim, ClaimRefusal, CommitRefusal, Live, Mode, PausedBy, Removed, RollRefusal, StepRefusal,
+    UndoRefusal, Work,
+};
+use tb_model::{StepId, TaskName};
+use tb_read::Plan;
+
+/// The run, with a note for each place of its journal, and the book of the team's ledger.
+#[derive(Drop)]
+pub struct Desk<N: Team> {
+    pub alloc: Global,
+    pub live: Live,
+    pub told: Vec<Told>,
+    pub book: Book<N>,
+    // takes the seats' shares at the end
+    pub spare: Share<N>,
+    // room for the receipts of all seats
+    pub room: Vec<Receipt>,
+    pub ghost program: { live.session.program ≡ N.program },
+    pub ghost limit: { live.session.limit ≡ N.limit },
+    pub ghost breakpoints: { live.session.control.breakpoints ≡ N.breakpoints },
+    pub ghost seats: { length live.session.control.claims ≡ N.seats },
+    pub ghost none_spare: { (spare.parts ≡ 0) × (spare.amount ≡ 0) },
+    pub ghost room_for_all: { (vec_len room ≡ 0) × (length live.session.journal ≤ vec_capacity room) × (N.limit ≤ vec_capacity room) },
+    pub ghost counted: { book.total + 1 ≡ length live.session.journal },
+    pub ghost cells: { map (λ t. t.note.cell) told.items ≡ take (length live.session.journal) N.cells },
+    pub ghost known: { map (λ t. t.note.known) told.items ≡ map (λ e. Some e) (entries live.session) },
+}
+
+impl<N: Team> Desk<N> {
+    /// Prepares, writes the entry to the place's cell, and commits.
+    pub fn commit(
+        &mut self,
+        places: &Places,
+        seat: &mut Seat<N>,
+        plan: Plan,
+    ) -> Result<u32, Refused<CommitRefusal>>
+        requires places { places.now ≡ N.cells }
+        requires enough { N.limit ≤ length N.cells }
+        ensures ok { IfOk result (Commits N.program plan seat.old seat.new) }
+        ensures err { OnErr result (seat.new ≡ seat.old) }
+    {
+        let Desk {
+            alloc,
+            live,
+            told,
+            book,
+            spare: _,
+            room: _,
+        } = self;
+        let entry = match live.prepare(seat.number(), &plan) {
+            Ok(entry) => entry,
+            Err(refusal) => return Err(Refused::Run { refusal }),
+        };
+        let place = next_place(live);
+        match enter(*alloc, places, told, book, seat, place, entry) {
+            Ok(()) => {}
+            Err(Unmade::CellTaken) => return Err(Refused::CellTaken),
+            Err(Unmade::Memory) => {
+                let refusal = StepRefusal::Memory;
+                return Err(Refused::Run {
+                    refusal: CommitRefusal::Step { refusal },
+                });
+            }
+        }
+        Ok(take_step(live, seat.number(), plan))
+    }
+
+    /// Prepares, writes the entry to the place's cell, and takes the step back with all that need it.
+    pub fn roll(
+        &mut self,
+        places: &Places,
+        seat: &mut Seat<N>,
+        id: &StepId,
+    ) -> Result<Vec<Removed>, Refused<RollRefusal>>
+        requires places { places.now ≡ N.cells }
+        requires enough { N.limit ≤ length N.cells }
+        ensures ok { OnOk result (RollsBack id.now seat.old seat.new) }
+        ensures err { OnErr result (seat.new ≡ seat.old) }
+    {
+        let Desk {
+            alloc,
+            live,
+            told,
+            book,
+            spare: _,
+            room: _,
+        } = self;
+        let _limit = live.limit();
+        let entry = match live.prepare_roll(seat.number(), id) {
+            Ok(entry) => entry,
+            Err(refusal) => return Err(Refused::Run { refusal }),
+        };
+        let place = next_place(live);
+        match enter(*alloc, places, told, book, seat, place, entry) {
+            Ok(()) => {}
+            Err(Unmade::CellTaken) => return Err(Refused::CellTaken),
+            Err(Unmade::Memory) => {
+                return Err(Refused::Run {
+                    refusal: RollRefusal::Memory,
+                });
+            }
+        }
+        Ok(take_back_all(live, seat.number(), id))
+    }
+
+    /// Prepares, writes the entry to the place's cell, and takes the step back, where nothing needs it.
+    pub fn undo(
+        &mut self,
+        places: &Places,
+        seat: &mut Seat<N>,
+        id: &StepId,
+    ) -> Result<Removed, Refused<UndoRefusal>>
+        requires places { places.now ≡ N.cells }
+        requires enough { N.limit ≤ length N.cells }
+        ensures ok { OnOk result (RollsBack id.now seat.old seat.new) }
+        ensures err { OnErr result (seat.new ≡ seat.old) }
+    {
+        let Desk {
+            alloc,
+            live,
+            told,
+            book,
+            spare: _,
+            room: _,
+        } = self;
+        let _limit = live.limit();
+        let entry = match ready_undo(live, seat.number(), id) {
+            Ok(entry) => entry,
+            Err(refusal) => return Err(Refused::Run { refusal }),
+        };
+        let place = next_place(live);
+        match enter(*alloc, places, told, book, seat, place, entry) {
+            Ok(()) => {}
+            Err(Unmade::CellTaken) => return Err(Refused::CellTaken),
+            Err(Unmade::Memory) => {
+                return Err(Refused::Run {
+                    refusal: UndoRefusal::Memory,
+                });
+            }
+        }
+        Ok(take_back(live, seat.number(), id))
+    }
+
+    /// The least task that can step, where no other seat claims it.
+    pub fn claim(&mut self, seat: &Seat<N>) -> Result<Claim, AllocError>
+        ensures { IfOk result (IsClaim N.program) }
+    {
+        claim_work(&mut self.live, seat.number())
+    }
+
+    /// A task, where no other seat claims it.
+    pub fn claim_task(&mut self, seat: &Seat<N>, task: &TaskName) -> Result<Work, ClaimRefusal>
+        ensures { IfOk result (IsWorkFor N.program task.now) }
+    {
+        claim_one(&mut self.live, seat.number(), task)
+    }
+
+    /// Ends the seat's claim.
+    pub fn let_go(&mut self, seat: &Seat<N>) {
+        leave(&mut self.live, seat.number());
+    }
+
+    /// Pauses the run.
+    pub fn pause(&mut self) {
+        pause(&mut self.live);
+    }
+
+    /// Lets the run go on.
+    pub fn resume(&mut self) {
+        resume(&mut self.live);
+    }
+
+    /// Lets the run go on for so many steps.
+    pub fn resume_for(&mut self, steps: u32) {
+        resume_for(&mut self.live, steps);
+    }
+
+    /// Why no step is taken now.
+    pub fn why(&self) -> Why {
+        let by = match self.live.mode() {
+            Mode::Paused { by } => Some(by),
+            _ => None,
+        };
+        match by {
+            Some(PausedBy::Break { .. }) => Why::Break,
+            Some(PausedBy::Count) => Why::Limit,
+            _ => {
+                if self.live.core().next_unended(None).is_none() {
+                    Why::Done
+                } else if self.live.is_full() {
+                    Why::Full
+                } else {
+                    Why::Asked
+                }
+            }
+        }
+    }
+}

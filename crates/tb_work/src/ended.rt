@@ -1,0 +1,12 @@
+//! How a worker ended.
+
+/// What ended a worker of a seat's last `go`, where it is a refusal that the `go` answers.
+#[derive(Clone, Copy, Drop, PartialEq, Eq)]
+pub enum Ended {
+    /// By none of these.
+    Well,
+    /// A place's cell was taken.
+    CellTaken,
+    /// A growth was refused.
+    Memory,
+}

@@ -1,0 +1,79 @@
+//! An entry is written to its place's cell, and its seat gets a receipt.
+
+ghost use Rattle.std.specs.Prelude.{◌≡◌, ◌<◌, ◌+◌, ◌++◌, [], ◌∷◌, slice_index, Some, length, map, IfOk, OnOk, OnErr};
+ghost use Rattle.tb_work.specs.Receipts.{seat_of, Grew};
+
+use crate::copying::copy_of;
+use crate::kept::Kept;
+use crate::places::Places;
+use crate::receipt::Receipt;
+use crate::seat::Seat;
+use crate::team::Team;
+use crate::told::Told;
+use crate::unmade::Unmade;
+use once_cell::race::Note;
+use std::alloc::Global;
+use std::marker::PhantomData;
+use std::sync::ledger::Book;
+use tb_model::Entry;
+
+/// Writes an entry to its place's cell, and notes that. What can fail comes before the cell is written.
+pub fn tell(
+    alloc: Global,
+    places: &Places,
+    told: &mut Vec<Told>,
+    place: u32,
+    entry: &Entry,
+) -> Result<Note<Entry>, Unmade>
+    requires { place < length places.now }
+    ensures cell { IfOk result (λ n. n.cell ≡ slice_index places.now place) }
+    ensures entry { IfOk result (λ n. n.known ≡ Some entry.now) }
+    ensures cells { OnOk result (map (λ t. t.note.cell) told.new.items ≡ map (λ t. t.note.cell) told.old.items ++ slice_index places.now place ∷ []) }
+    ensures known { OnOk result (map (λ t. t.note.known) told.new.items ≡ map (λ t. t.note.known) told.old.items ++ Some entry.now ∷ []) }
+    ensures refused { OnErr result (told.new.items ≡ told.old.items) }
+{
+    told.reserve(1)?;
+    let Ok(copy) = Box::new(alloc, copy_of(entry)?) else {
+        return Err(Unmade::Memory);
+    };
+    let Some(mut note) = places.write(place, copy) else {
+        return Err(Unmade::CellTaken);
+    };
+    let again = note.again();
+    told.push_reserved(Told { place, note: again });
+    Ok(note)
+}
+
+/// Makes an entry of the seat at the place, which has to be above the seat's last one.
+pub fn enter<N: Team>(
+    alloc: Global,
+    places: &Places,
+    told: &mut Vec<Told>,
+    book: &mut Book<N>,
+    seat: &mut Seat<N>,
+    place: u32,
+    entry: Entry,
+) -> Result<(), Unmade>
+    requires cells { places.now ≡ N.cells }
+    requires place { place < length places.now }
+    requires own { seat_of entry ≡ seat.old.number }
+    ensures grew { OnOk result (Grew seat.old seat.new place entry) }
+    ensures total { OnOk result (book.new.total ≡ book.old.total + 1) }
+    ensures cells { OnOk result (map (λ t. t.note.cell) told.new.items ≡ map (λ t. t.note.cell) told.old.items ++ slice_index N.cells place ∷ []) }
+    ensures known { OnOk result (map (λ t. t.note.known) told.new.items ≡ map (λ t. t.note.known) told.old.items ++ Some entry ∷ []) }
+    ensures refused { OnErr result ((seat.new ≡ seat.old) × (book.new.total ≡ book.old.total) × (told.new.items ≡ told.old.items)) }
+{
+    if place <= seat.last {
+        return Err(Unmade::CellTaken);
+    }
+    seat.kept.reserve(1)?;
+    let note = tell(alloc, places, told, place, &entry)?;
+    book.add(&mut seat.share, 1);
+    seat.kept.push_reserved(Kept {
+        receipt: Receipt { place, entry },
+        note,
+        team: PhantomData,
+    });
+    seat.last = place;
+    Ok(())
+}

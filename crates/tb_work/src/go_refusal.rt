@@ -1,0 +1,20 @@
+//! Why a `go` isn't answered. The steps that were taken stand.
+
+/// What ended a worker. The steps that were taken stand, and have their receipts.
+#[derive(Clone, Copy, Debug, Drop, PartialEq, Eq)]
+pub enum GoRefusal {
+    /// 11: A place's cell was taken.
+    CellTaken,
+    /// 0: A growth was refused.
+    Memory,
+}
+
+impl GoRefusal {
+    /// The number by which the refusal is known.
+    pub fn number(&self) -> u8 {
+        match self {
+            GoRefusal::CellTaken => 11,
+            GoRefusal::Memory => 0,
+        }
+    }
+}

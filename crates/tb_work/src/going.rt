@@ -1,0 +1,214 @@
+//! What any thread of a team asks of the run, and the workers.
+
+ghost use Rattle.std.specs.Prelude.{◌≡◌, ◌+◌, ◌<◌, ◌≤◌, length, IfOk, OnOk, OnErr};
+ghost use Rattle.tb_work.specs.Changes.{Commits, RollsBack};
+ghost use Rattle.tb_work.specs.Claiming.{IsClaim, IsWorkFor};
+ghost use Rattle.tb_work.specs.Growing.{GrewBySteps, AllGrew};
+ghost use Rattle.tb_work.specs.Receipts.{receipts_in};
+
+use crate::ended::Ended;
+use crate::gate::Gate;
+use crate::go_refusal::GoRefusal;
+use crate::ran::Ran;
+use crate::refused::Refused;
+use crate::seat::Seat;
+use crate::shared::Shared;
+use crate::team::Team;
+use crate::turn::{Turn, turn_behind};
+use std::alloc::AllocError;
+use std::sync::Wait;
+use std::thread;
+use std::thread::Threads;
+use tb_live::{Claim, ClaimRefusal, CommitRefusal, Removed, RollRefusal, UndoRefusal, Work};
+use tb_model::{StepId, TaskName};
+use tb_read::{Plan, plan};
+
+impl<N: Team> Shared<N> {
+    /// Gives up the seat's former claim, and gives it one on the least task that can step and that no
+    /// other seat claims.
+    pub fn claim<R: Wait>(&self, rt: &R, seat: &Seat<N>) -> Result<Claim, AllocError>
+        ensures { IfOk result (IsClaim N.program) }
+    {
+        self.desk.lock(rt).claim(seat)
+    }
+
+    /// Gives the seat a claim on the task in place of its former one.
+    pub fn claim_task<R: Wait>(
+        &self,
+        rt: &R,
+        seat: &Seat<N>,
+        task: &TaskName,
+    ) -> Result<Work, ClaimRefusal>
+        ensures { IfOk result (IsWorkFor N.program task.now) }
+    {
+        self.desk.lock(rt).claim_task(seat, task)
+    }
+
+    /// Ends the seat's claim.
+    pub fn let_go<R: Wait>(&self, rt: &R, seat: &Seat<N>) {
+        self.desk.lock(rt).let_go(seat);
+    }
+
+    /// Takes the step of a plan that was made for the task that the seat claims, and answers the place of
+    /// its entry. The claim ends.
+    pub fn commit<R: Wait>(
+        &self,
+        rt: &R,
+        seat: &mut Seat<N>,
+        plan: Plan,
+    ) -> Result<u32, Refused<CommitRefusal>>
+        ensures ok { IfOk result (Commits N.program plan seat.old seat.new) }
+        ensures err { OnErr result (seat.new ≡ seat.old) }
+    {
+        self.desk.lock(rt).commit(&self.places, seat, plan)
+    }
+
+    /// Takes a step back with all that need it, and tells them in the order of the history, the chosen one
+    /// first.
+    pub fn roll<R: Wait>(
+        &self,
+        rt: &R,
+        seat: &mut Seat<N>,
+        id: &StepId,
+    ) -> Result<Vec<Removed>, Refused<RollRefusal>>
+        ensures ok { OnOk result (RollsBack id.now seat.old seat.new) }
+        ensures err { OnErr result (seat.new ≡ seat.old) }
+    {
+        self.desk.lock(rt).roll(&self.places, seat, id)
+    }
+
+    /// Takes a step back that nothing needs.
+    pub fn undo<R: Wait>(
+        &self,
+        rt: &R,
+        seat: &mut Seat<N>,
+        id: &StepId,
+    ) -> Result<Removed, Refused<UndoRefusal>>
+        ensures ok { OnOk result (RollsBack id.now seat.old seat.new) }
+        ensures err { OnErr result (seat.new ≡ seat.old) }
+    {
+        self.desk.lock(rt).undo(&self.places, seat, id)
+    }
+
+    /// Pauses the run. What is paused stays as it is.
+    pub fn pause<R: Wait>(&self, rt: &R) {
+        self.desk.lock(rt).pause();
+    }
+
+    /// Lets the run go on.
+    pub fn resume<R: Wait>(&self, rt: &R) {
+        self.desk.lock(rt).resume();
+    }
+
+    #[tactic(auto, using(crate::proofs::Growing::grew_none, crate::proofs::Growing::grew_same, crate::proofs::Growing::grew_committed))]
+    /// Claims once, and commits what was claimed.
+    fn turn<R: Wait, G: Gate>(&self, rt: &R, seat: &mut Seat<N>, gate: &G, nth: &mut u64) -> Turn
+        ensures { GrewBySteps seat.old seat.new }
+    {
+        let work = match self.claim(rt, seat) {
+            Ok(Claim::Work(work)) => work,
+            Ok(Claim::Later) => return Turn::Later,
+            Ok(_) => return Turn::Over { ended: Ended::Well },
+            Err(_) => return Turn::Over {
+                ended: Ended::Memory,
+            },
+        };
+        let Ok(plan) = plan(self.alloc, &work.instr, &work.config) else {
+            return Turn::Over {
+                ended: Ended::Memory,
+            };
+        };
+        *nth = nth.saturating_add(1);
+        gate.between(seat.number(), *nth);
+        match self.commit(rt, seat, plan) {
+            Ok(_) => Turn::On,
+            Err(refusal) => turn_behind(&refusal),
+        }
+    }
+
+    #[tactic(auto, using(crate::proofs::Growing::grew_none, crate::proofs::Growing::grew_both, crate::proofs::Growing::grew_same))]
+    /// Claims and commits until there is nothing more to do.
+    fn work<R: Wait, G: Gate>(&self, rt: &R, seat: &mut Seat<N>, gate: &G)
+        ensures { GrewBySteps seat.old seat.new }
+    {
+        let mut nth = 0u64;
+        for _ in rt.forever() {
+            match self.turn(rt, seat, gate, &mut nth) {
+                Turn::On => {}
+                Turn::Later => thread::yield_now(),
+                Turn::Over { ended } => {
+                    self.let_go(rt, seat);
+                    seat.end(ended);
+                    break;
+                }
+            }
+        }
+    }
+
+    /// One worker a seat, and how many steps they took.
+    fn all_work<R: Threads + Wait + Sync, G: Gate + Sync>(
+        &self,
+        rt: &R,
+        seats: &mut [Seat<N>],
+        gate: &G,
+    ) -> u64
+    where
+        N: Send + Sync,
+        requires { (0 < length seats.old) × (length seats.old ≤ 65) }
+        ensures steps { result + receipts_in seats.old ≡ receipts_in seats.new }
+        ensures grew { AllGrew seats.old seats.new }
+    {
+        let threads = seats.len();
+        let worker = |_: usize, seat: &mut Seat<N>|
+            ensures { GrewBySteps seat.old seat.new }
+        { self.work(rt, seat, gate) };
+        let before = count(seats);
+        thread::for_each_mut(rt, seats, threads, &worker);
+        count(seats) - before
+    }
+
+    /// Lets one worker a seat take up to so many steps in all. Each worker has a thread of its own; where
+    /// one can't be started, another does its work. After a refusal, too, the steps that were taken
+    /// stand.
+    pub fn go<R: Threads + Wait + Sync, G: Gate + Sync>(
+        &self,
+        rt: &R,
+        seats: &mut [Seat<N>],
+        most: u32,
+        gate: &G,
+    ) -> Result<Ran, GoRefusal>
+    where
+        N: Send + Sync,
+        requires { (0 < length seats.old) × (length seats.old ≤ 65) }
+        ensures steps { IfOk result (λ r. r.steps + receipts_in seats.old ≡ receipts_in seats.new) }
+        ensures grew { AllGrew seats.old seats.new }
+    {
+        self.desk.lock(rt).resume_for(most);
+        let steps = self.all_work(rt, seats, gate);
+        if some_ended(seats, Ended::CellTaken) {
+            return Err(GoRefusal::CellTaken);
+        }
+        if some_ended(seats, Ended::Memory) {
+            return Err(GoRefusal::Memory);
+        }
+        let why = self.desk.lock(rt).why();
+        Ok(Ran { steps, why })
+    }
+}
+
+/// Whether some worker ended so.
+fn some_ended<N: Team>(seats: &[Seat<N>], ended: Ended) -> bool {
+    seats.iter().any(|seat| seat.ended == ended)
+}
+
+/// How many receipts there are.
+fn count<N: Team>(seats: &[Seat<N>]) -> u64
+    requires { length seats.now ≤ 65 }
+    ensures { result ≡ receipts_in seats.now }
+{
+    let mut sum = 0u64;
+    for seat in seats {
+        sum += u64::from(seat.len());
+    }
+    sum
+}

@@ -1,0 +1,19 @@
+//! A receipt with what is known of its place's cell.
+
+ghost use Rattle.std.specs.Prelude.{◌≡◌, slice_index, Some};
+
+use crate::receipt::Receipt;
+use crate::team::Team;
+use once_cell::race::Note;
+use std::marker::PhantomData;
+use tb_model::Entry;
+
+/// A receipt, and that the place's cell holds its entry.
+#[derive(Drop)]
+pub struct Kept<N: Team> {
+    pub receipt: Receipt,
+    pub note: Note<Entry>,
+    pub team: PhantomData<N>,
+    pub ghost at: { note.cell ≡ slice_index N.cells receipt.place },
+    pub ghost known: { note.known ≡ Some receipt.entry },
+}

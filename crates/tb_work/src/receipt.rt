@@ -1,0 +1,10 @@
+//! What a seat keeps of a change that it made.
+
+use tb_model::Entry;
+
+/// The entry that a seat made, and its place in the journal.
+#[derive(Debug, Drop)]
+pub struct Receipt {
+    pub place: u32,
+    pub entry: Entry,
+}

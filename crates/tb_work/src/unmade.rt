@@ -1,0 +1,18 @@
+//! Why an entry isn't made that the run would take.
+
+use std::alloc::AllocError;
+
+/// What keeps an entry from its place.
+#[derive(Clone, Copy, Debug, Drop, PartialEq, Eq)]
+pub enum Unmade {
+    /// A growth was refused.
+    Memory,
+    /// The place's cell is written already, or the place isn't above the last one of the seat.
+    CellTaken,
+}
+
+impl From<AllocError> for Unmade {
+    fn from(_error: AllocError) -> Unmade {
+        Unmade::Memory
+    }
+}

@@ -1,0 +1,16 @@
+//! Why a `go` stopped.
+
+/// Why no worker takes a further step.
+#[derive(Clone, Copy, Debug, Drop, PartialEq, Eq)]
+pub enum Why {
+    /// A step met a breakpoint.
+    Break,
+    /// As many steps were taken as were asked for.
+    Limit,
+    /// No task can step: all have ended.
+    Done,
+    /// The journal is full.
+    Full,
+    /// A pause was asked for, or what stopped the workers holds no longer.
+    Asked,
+}
