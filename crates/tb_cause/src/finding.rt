@@ -91,7 +91,12 @@ fn needs_some(entries: &[Entry], later: usize, event: &Event, places: &[u32]) ->
 {
     let waits = may_wait(&entries[..later], event);
     for place in places {
-        if needs_if(&entries[..later], event, waits, &entries[*place as usize].event) {
+        if needs_if(
+            &entries[..later],
+            event,
+            waits,
+            &entries[*place as usize].event,
+        ) {
             return true;
         }
     }

@@ -62,5 +62,5 @@ bare_waits_not H t u bare =
     or_from (before H u t) (apart H u t)
     (and_right (is_elder u t) _ (ap (λ xs. some_meet is_before xs (items_of u H)) bare))
     (or_from _ _
-        (and_right (is_elder u t) _ (ap (λ xs. some_meet is_apart xs (items_of u H)) bare))
-        (and_right (is_elder t u) _ (ap (some_meet is_apart (items_of u H)) bare ∙ meets_none is_apart (items_of u H))))
+    (and_right (is_elder u t) _ (ap (λ xs. some_meet is_apart xs (items_of u H)) bare))
+    (and_right (is_elder t u) _ (ap (some_meet is_apart (items_of u H)) bare ∙ meets_none is_apart (items_of u H))))

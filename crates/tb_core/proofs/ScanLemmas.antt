@@ -104,6 +104,7 @@ has_numbered i (v ∷ H) some most = by_task (λ m. has_numbered i H some m) (is
         let more : length (own i.task (v ∷ H)) ≡ suc (length (own i.task H)) = ap length (own_mine i.task v H mine) in
         let other : i.k ≢ suc (length (own i.task H)) = (λ e. false≢true (sym q ∙ eq-eqb i.k _ e)) in
         or_right (is_step i H v) _ (rest (omega (arith, most, more, other)))
+
     by_task : (i.k ≤ length (own i.task H) → stands i H ≡ true) → (b : Bool) → is_of i.task v ≡ b → stands i (v ∷ H) ≡ true
     by_task rest true mine = by_number rest mine (i.k == suc (length (own i.task H))) refl
     by_task rest false foreign =

@@ -24,7 +24,7 @@ pub(crate) struct Chain {
 impl Model for Chain {
     ghost use Rattle.std.specs.Prelude.{◌-◌, vec_len, vec_capacity};
     ghost use Rattle.tb_model.specs.Items.{is_before, meets};
-ghost use Rattle.tb_depend.specs.Chains.{ItemList, AreChained};
+    ghost use Rattle.tb_depend.specs.Chains.{ItemList, AreChained};
 
     ghost Value = { ItemList };
 

@@ -18,7 +18,6 @@ use Rattle.tb_model.proofs.TestLemmas.{same_true, same_refl}
 use Rattle.tb_model.proofs.LeastNameLemmas.{one_least, least_found}
 use Rattle.tb_live.specs.Claims.{Claims, IsHeldBeside}
 use Rattle.tb_core.specs.Seen.{Seen, history}
-
 use Rattle.tb_live.specs.declared.asked.Asked.{Asked}
 use Rattle.tb_live.specs.declared.asked.Asked.TheVariants.{Free, Held, Kept}
 use Rattle.tb_live.specs.Plans.{CanTake, IsAsked, is_free, is_held_or}

@@ -25,9 +25,11 @@ fn commit_work(alloc: Global, live: &mut Live, work: Work) -> Result<StepId, All
             task: work.config.task,
             k: work.config.steps + 1,
         }),
-        Err(CommitRefusal::Step {
-            refusal: StepRefusal::Memory,
-        }) => Err(AllocError),
+        Err(
+            CommitRefusal::Step {
+                refusal: StepRefusal::Memory,
+            },
+        ) => Err(AllocError),
         Err(_) => unreachable!(),
     }
 }

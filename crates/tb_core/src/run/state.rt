@@ -45,7 +45,11 @@ impl Core {
 
     /// The unended tasks that are children of the task, or members of its group of this step, in the
     /// order of their names.
-    fn unended_among(&self, task: &TaskName, group: Option<u32>) -> Result<Vec<TaskName>, AllocError>
+    fn unended_among(
+        &self,
+        task: &TaskName,
+        group: Option<u32>,
+    ) -> Result<Vec<TaskName>, AllocError>
         ensures { IfOk result (λ us. AreAll (λ u. IsTrue (is_unended_among (history self.now.run) task.now group u)) us.items) }
     {
         let mut found = Vec::new(self.alloc);

@@ -12,7 +12,7 @@ back-preserved-after-newest c =
     let mine = sym c.eq.ensures ∙ c.if-eq.true in
     let more = one_more t rest e some c.newest-item.is mine in
     elim c.match-newest.branch [
-      in-Open+then-closed-eq0+in_ok-step-in-Open+in_ok-push-in-Open w ↦ rw (w.ids-is, w.closed-is) (record {
+      | in-Open+then-closed-eq0+in_ok-step-in-Open+in_ok-push-in-Open w ↦ rw (w.ids-is, w.closed-is) (record {
         found =
             behind_open t rest e some c.newest-item.is mine c.back.closed c.back.left c.back.ids.items w.push.new.self.items w.in-Open.is w.if-closed-eq0.true c.back.invariant.counted
             (w.in_ok-push-in-Open.ensures.items ∙ ap (λ x. c.back.ids.items ++ x ∷ []) w.in_ok-step-in-Open.ensures)

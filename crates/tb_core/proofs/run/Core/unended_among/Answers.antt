@@ -22,11 +22,11 @@ tasks-preserved c =
     let test : c.is_among.result ≡ is_among (own t H) t group u = c.is_among.ensures ∙ ap (λ D. is_among (own t (events_of D)) t group u) c.legal_entries.ensures.steps in
     let unended : (v : Name) → IsTrue (is_unended_among H t group v) → is_unended H v ≡ true = λ v p. (and_parts (is_among (own t H) t group v) (is_unended H v) p).1 in
     elim c.if-is_among.branch [
-      then-is_among+in_ok-clone+in_ok-push w ↦
-      rw (w.found-is) (gathered_one H (λ v. IsTrue (is_unended_among H t group v)) unended _ c.tasks.found.items c.tasks.invariant u w.push.new.self.items c.in-Some.ensures
-        (and_from (is_among (own t H) t group u) (is_unended H u) (sym test ∙ w.if-is_among.true) (c.in-Some.ensures.found u refl).unended)
-        (w.in_ok-push.ensures.items ∙ ap (λ x. c.tasks.found.items ++ x ∷ []) (search rules)))
+      | then-is_among+in_ok-clone+in_ok-push w ↦
+          rw (w.found-is) (gathered_one H (λ v. IsTrue (is_unended_among H t group v)) unended _ c.tasks.found.items c.tasks.invariant u w.push.new.self.items c.in-Some.ensures
+          (and_from (is_among (own t H) t group u) (is_unended H u) (sym test ∙ w.if-is_among.true) (c.in-Some.ensures.found u refl).unended)
+          (w.in_ok-push.ensures.items ∙ ap (λ x. c.tasks.found.items ++ x ∷ []) (search rules)))
       | else-is_among w ↦
-      rw (w.found-is) (gathered_none H (λ v. IsTrue (is_unended_among H t group v)) unended _ c.tasks.found.items c.tasks.invariant u c.in-Some.ensures
-        (λ p. false≢true (sym (sym test ∙ w.if-is_among.false) ∙ (and_parts (is_among (own t H) t group u) (is_unended H u) p).0)))
+          rw (w.found-is) (gathered_none H (λ v. IsTrue (is_unended_among H t group v)) unended _ c.tasks.found.items c.tasks.invariant u c.in-Some.ensures
+          (λ p. false≢true (sym (sym test ∙ w.if-is_among.false) ∙ (and_parts (is_among (own t H) t group u) (is_unended H u) p).0)))
     ]

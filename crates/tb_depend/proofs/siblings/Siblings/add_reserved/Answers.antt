@@ -5,4 +5,4 @@ use Rattle.tb_depend.proofs.siblings.Siblings.add_reserved.Goals as goal
 pub push_row-requires-clause-its_items : goal.push_row-requires-clause-its_items
 push_row-requires-clause-its_items c =
     let r = subst (λ t. HasRoomFor t c.args.items.now) (sym c.self.view_is) c.requires in
-    record { items = r.its_items; links = r.its_links; heads = r.its_heads; }
+    record { items = r.its_items; links = r.its_links; heads = r.its_heads }
