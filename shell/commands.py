@@ -2,10 +2,11 @@
 
 import cmd
 import re
+import sys
 
 from shell import texts
 from shell.drawing import Drawing
-from shell.protocol import Ended, words_of
+from shell.protocol import Cut, Ended, Program, words_of
 from shell.session import is_step
 from shell.walking import Walking
 
@@ -15,6 +16,8 @@ OWN = ("help", "quit", "list", "save", "restart", "limit", "source", "back", "fi
        "last", "info", "graph", "lanes", "page")
 TAKES_TASK = ("step", "finish", "task", "deps", "rolltask", "list")
 TAKES_STEP = ("undo", "roll", "why", "who", "until", "causes", "lanes")
+# What asks for much in small pieces: Ctrl-C ends it after one. Any other command's reply is cut.
+PIECEWISE = ("step", "run", "go", "finish", "until", "random", "last", "back", "source", "graph", "lanes", "page")
 VIEWS = ("tasks", "task", "cells", "out", "ready", "waits", "deps", "breaks", "hist", "why", "who", "races", "causes")
 
 
@@ -32,6 +35,7 @@ class Shell(Walking, Drawing, cmd.Cmd):
         self.stepped = "0"
         self.busy = False
         self.interrupted = False
+        self.in_pieces = False
         self.status = 0
 
     # What is shown
@@ -50,9 +54,18 @@ class Shell(Walking, Drawing, cmd.Cmd):
 
     def show(self, lines):
         """Lines of a reply, each that shows steps followed by their source lines."""
-        for line in lines:
+        for line in self.up_to_interrupt(lines):
             self.say(line if self.plain else line + self.places_of(line))
         self.stdout.flush()
+
+    def up_to_interrupt(self, lines):
+        """The lines of a reply; Ctrl-C ends them where the reply isn't one of many."""
+        for at, line in enumerate(lines):
+            if self.interrupted and not self.in_pieces:
+                if not self.plain:
+                    self.note(f"stopped by Ctrl-C; {len(lines) - at} more lines")
+                return
+            yield line
 
     def places_of(self, line):
         """The source lines of the steps that a line shows."""
@@ -85,7 +98,7 @@ class Shell(Walking, Drawing, cmd.Cmd):
     def do_races(self, words):
         """The races, each with what would order the two steps."""
         reply = self.session.do(" ".join(["races"] + words))
-        for line in reply:
+        for line in self.up_to_interrupt(reply):
             self.show([line])
             if STEP.match(line) and not self.plain:
                 self.note(texts.race_words(line, self.session.places.spawned))
@@ -95,7 +108,7 @@ class Shell(Walking, Drawing, cmd.Cmd):
         """The steps that a step needs at once, each with why."""
         command = " ".join(["causes"] + words)
         reply = self.session.do(command)
-        for line in reply:
+        for line in self.up_to_interrupt(reply):
             self.show([line])
             if ": " in line and not self.plain:
                 text = texts.cause_words(line, words[0], self.session.places.line_of(words[0]))
@@ -136,17 +149,44 @@ class Shell(Walking, Drawing, cmd.Cmd):
         self.interrupted = False
         try:
             return self.carry_out(line)
+        except Cut:
+            return self.resume()
         except Ended as ended:
-            self.say(f"the program has ended: {ended}")
-            self.status = ended.status or 3
-            return True
+            return self.end(ended)
         finally:
             self.stdout.flush()
             self.busy = False
 
+    def end(self, ended):
+        """The program ended, and so does the shell."""
+        self.say(f"the program has ended: {ended}")
+        self.status = ended.status or 3
+        return True
+
+    def interrupt(self):
+        """Ctrl-C while a command is under way: a single reply is cut, and so is any at the second time."""
+        if self.interrupted or not self.in_pieces:
+            Program.cut()
+        self.interrupted = True
+
+    def resume(self):
+        """After a cut reply the program starts anew and does what was done; true where it can't."""
+        text = "stopped by Ctrl-C in a reply; the program starts anew and does the session so far again"
+        if self.plain:
+            print(text, file=sys.stderr)
+        else:
+            self.note(text)
+        self.stdout.flush()
+        try:
+            self.session.resume()
+        except Ended as ended:
+            return self.end(ended)
+        return False
+
     def carry_out(self, line):
         """One line: a command of the shell's own, or one of the program."""
         words = words_of(line)
+        self.in_pieces = bool(words) and self.expand(words[0]) in PIECEWISE
         if not words:
             if self.plain or not self.prompt:
                 self.show(self.session.do(line))
@@ -214,10 +254,11 @@ class Shell(Walking, Drawing, cmd.Cmd):
         if name == "info":
             words = words[1:]
             name = words[0] if words else "info"
-        # Ctrl-C would cut a reply in two.
+        # Ctrl-C would leave half of a reply unread.
         self.busy = True
         try:
-            return [word for word in self.fitting(name, words) if word.startswith(text)]
+            with Program.uncut():
+                return [word for word in self.fitting(name, words) if word.startswith(text)]
         except Ended:
             return []
         finally:

@@ -9,7 +9,7 @@ from shell.graph import graph_of, tree_of, write_graph
 from shell.lanes import lanes_of, text_rows
 from shell.lanes_svg import svg_of
 from shell.page import page_of
-from shell.protocol import Ended, Refused
+from shell.protocol import Cut, Ended, Refused
 from shell.session import Session
 from shell.source import Source, split_session
 
@@ -47,7 +47,9 @@ class Drawing:
         """What is to be drawn; None where Ctrl-C came first."""
         try:
             return make(self.session, *words, stop=lambda: self.interrupted)
-        except Stopped:
+        except (Cut, Stopped):
+            if self.session.program.is_cut:
+                raise
             self.note("stopped by Ctrl-C; nothing is drawn")
             return None
 

@@ -73,11 +73,11 @@ def set_history():
 
 
 def catch_interrupts(shell):
-    """Ctrl-C ends a long command after the piece that is under way, and else empties the line."""
+    """Ctrl-C ends the command that is under way, and else empties the line."""
     def interrupt(number, frame):
         if not shell.busy:
             raise KeyboardInterrupt
-        shell.interrupted = True
+        shell.interrupt()
     signal.signal(signal.SIGINT, interrupt)
 
 

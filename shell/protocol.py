@@ -1,5 +1,6 @@
 """The program as a child: commands go in one at a time, and each reply is read by its own counts."""
 
+import contextlib
 import re
 import subprocess
 import tempfile
@@ -24,6 +25,10 @@ class Ended(Exception):
         super().__init__(said or f"the program ended with status {status}")
         self.status = status
         self.said = said
+
+
+class Cut(Ended):
+    """The program was ended by Ctrl-C while its reply was awaited."""
 
 
 def words_of(line):
@@ -53,8 +58,13 @@ def count_of(line, word):
 class Program:
     """One running program, which has accepted its text."""
 
+    # The program whose reply is awaited now, and whether it may be cut.
+    awaited = None
+    may_be_cut = True
+
     def __init__(self, path, text, options=()):
         self._said = tempfile.TemporaryFile()
+        self.is_cut = False
         try:
             # A session of its own: Ctrl-C at the terminal is for the shell alone.
             self._child = subprocess.Popen(
@@ -74,10 +84,37 @@ class Program:
                 raise Refused(int(told[1]), told[2]) from None
             raise
 
+    @classmethod
+    def cut(cls):
+        """Ends the program whose reply is awaited, where there is one: a signal comes while it is read."""
+        if cls.awaited and cls.may_be_cut:
+            cls.awaited.is_cut = True
+            cls.awaited._child.kill()
+
+    @classmethod
+    @contextlib.contextmanager
+    def uncut(cls):
+        """What is asked for within it isn't cut."""
+        cls.may_be_cut = False
+        try:
+            yield
+        finally:
+            cls.may_be_cut = True
+
     def ask(self, command):
-        """The lines of the reply to one command; none where the line is empty."""
+        """The lines of the reply to one command; none where the line is empty. Raises Cut where it was cut."""
         if not has_reply(command):
             return []
+        Program.awaited = self
+        try:
+            lines = self._lines_of(command)
+        finally:
+            Program.awaited = None
+        if self.is_cut:
+            raise self._ended()
+        return lines
+
+    def _lines_of(self, command):
         words = words_of(command)
         word = words[0] if words else ""
         if word == "cells":
@@ -129,7 +166,7 @@ class Program:
 
     def _ended(self):
         status = self.close()
-        return Ended(status, self._last_words)
+        return (Cut if self.is_cut else Ended)(status, self._last_words)
 
     def close(self):
         """Ends the child, and returns its status."""

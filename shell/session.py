@@ -1,6 +1,6 @@
 """A session: the program with all that was asked of it, so that it can be saved and played again."""
 
-from shell.protocol import Program, words_of
+from shell.protocol import Cut, Program, words_of
 from shell.source import Places
 
 PIECE = 1000
@@ -84,7 +84,11 @@ class Session:
         self.places_now()
         taken = 0
         while True:
-            reply = self.program.ask(f"{prefix} {min(count - taken, piece)}")
+            try:
+                reply = self.program.ask(f"{prefix} {min(count - taken, piece)}")
+            except Cut:
+                self.log.append((f"{prefix} {taken}",) * 2)
+                raise
             why = reply[-1].split(" ")[2]
             for line in reply[:-1]:
                 self.places.took(line)
@@ -97,30 +101,40 @@ class Session:
         self.log.append((f"{prefix} {asked}", f"{prefix} {taken}"))
         return taken, why, stopped
 
+    def do_again(self, log):
+        """Starts the program anew, and does what was done: the same steps, of which no reply is shown."""
+        with Program.uncut():
+            self.start()
+            for _, again in log:
+                if again is not None:
+                    self.do(again)
+
+    def resume(self):
+        """Goes on after the program was cut, with all that was done before."""
+        log = self.log
+        self.do_again(log)
+        self.log = log
+
     def replay(self, limit):
         """Starts with another limit and does again what was done; returns whether all had room."""
         before = (self.limit, self.log)
         wanted = self.view("hist")
         self.limit = limit
-        self.start()
-        for _, again in before[1]:
-            if again is not None:
-                self.do(again)
-        if self.view("hist") == wanted:
-            return True
+        self.do_again(before[1])
+        with Program.uncut():
+            if self.view("hist") == wanted:
+                return True
         self.limit = before[0]
-        self.start()
-        for _, again in before[1]:
-            if again is not None:
-                self.do(again)
+        self.do_again(before[1])
         return False
 
     def restart(self):
         """Starts anew with the breakpoints that stand; returns how many these are."""
         stand = self.view("breaks")[1:]
-        self.start()
-        for line in stand:
-            self.do("break " + line.split(" ", 1)[1])
+        with Program.uncut():
+            self.start()
+            for line in stand:
+                self.do("break " + line.split(" ", 1)[1])
         return len(stand) + len(self.line_breaks)
 
     def text(self):
