@@ -86,7 +86,7 @@ class Shell(Walking, Drawing, cmd.Cmd):
             if told == ["error", "word"] and words_of(command)[0] in ("races", "causes"):
                 self.note("this build has no such view")
             else:
-                self.note(texts.ERRORS.get(told[-1], told[-1]))
+                self.note(texts.error_words(command, told[-1]))
         elif told[0] == "refused":
             text = texts.refusal_words(command, reply)
             if told[2] in ("Waiting", "Excluded"):

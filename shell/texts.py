@@ -33,12 +33,12 @@ HELP = {
     "hist": ("hist", "the steps that stand, from the oldest", "hist"),
     "why": ("why T#K", "the steps that a step needs", "why 0#4"),
     "who": ("who T#K", "the steps that need a step", "who 0.1#4"),
-    "races": ("races", "accesses of one cell that nothing orders", "races"),
-    "causes": ("causes T#K", "what a step's values come from", "causes 0#6"),
+    "races": ("races", "steps that luck alone ordered: accesses of one cell, or prints, that nothing orders", "races"),
+    "causes": ("causes T#K", "the steps that a step needs at once, and for what", "causes 0#6"),
     "graph": ("graph [FILE]", "the tasks as a tree with their order; to FILE as Graphviz draws it (.svg, .png), or .dot", "graph tasks.svg"),
     "lanes": ("lanes [T#K] [FILE]", "the history, a lane a task; what roll T#K would take is shaded; to FILE as SVG", "lanes 0.1#4"),
     "page": ("page FILE", "all that was done, as one page for a browser: program, history, tasks, races", "page race.html"),
-    "info": ("info VIEW", "as VIEW alone", "i tasks"),
+    "info": ("info VIEW", "a view by any beginning of its name, as `i ta` for `tasks`", "i tasks"),
     "save": ("save FILE", "writes the session so far, which gives the same replies", "save race.session"),
     "source": ("source [FILE]", "plays the commands of FILE; alone: the next command of the session file that was opened", "source more.session"),
     "restart": ("restart", "starts anew; breakpoints stay", "restart"),
@@ -96,6 +96,16 @@ def help_of(name):
     return lines + ([f"  short: {', '.join(short)}"] if short else [])
 
 
+def error_words(command, kind):
+    """What an error says, and where the words are wrong how the command is written."""
+    name = (words_of(command) or [""])[0]
+    text = ERRORS.get(kind, kind)
+    if kind != "count" or name not in HELP:
+        return text
+    usage, _, example = HELP[name]
+    return f"{text}: {usage}, for example: {example}"
+
+
 def needs_order(new, old):
     """How a new item stands to an earlier one: `after`, `apart`, or None where nothing follows."""
     (kind, cell), (other, place) = new.split(" "), old.split(" ")
@@ -132,7 +142,7 @@ def refusal_words(command, reply):
         "Group": f"{subject} stands at the end of a taskgroup, and {other} hasn't ended",
         "Undeferred": f"{subject} waits for its undeferred child {other}",
         "Full": "the journal is full; `limit N` gives it more room",
-        "Needed": f"{other} needs it; `roll {subject}` takes both back",
+        "Needed": f"{other} needs it; `roll {subject}` takes it back with all that need it",
         "NoSuchBody": "no body of the program has this name",
         "NoSuchCell": "the program has no such cell",
         "TooMany": "64 breakpoints stand already",

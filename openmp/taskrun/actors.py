@@ -1,7 +1,7 @@
 """Who took part in a run: the root, the tasks, and the parts of parallel regions between their barriers.
 
 A parallel region is a taskgroup of what met it. Between two barriers each thread's implicit task is a part of its
-own: a child in that group, or, where one part alone does something, as behind `single`, steps of what met the region.
+own: a child in that group, or, where one part alone does something, as in a `single`, steps of what met the region.
 """
 
 from collections import Counter

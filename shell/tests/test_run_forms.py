@@ -109,5 +109,15 @@ class Forms(unittest.TestCase):
             self.assertEqual(out.replace(b"\r\n", b"\n"), wanted.read())
 
 
+    def test_without_a_file_a_terminal_is_told_what_to_type(self):
+        end, terminal = pty.openpty()
+        with subprocess.Popen([RUN], stdin=terminal, stdout=terminal, stderr=subprocess.PIPE) as running:
+            os.close(terminal)
+            self.assertIn(b"./run FILE starts the shell", running.stderr.readline())
+            os.write(end, OK.encode() + b"---\nrun 9\n\x04")
+            self.assertIn(b"ran 3 done", read_all(end))
+            self.assertEqual((running.wait(timeout=300), running.stderr.read()), (0, b""))
+
+
 if __name__ == "__main__":
     unittest.main()
