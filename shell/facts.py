@@ -2,9 +2,13 @@
 
 from dataclasses import dataclass, field
 
+from shell.needs import Needs
 from shell.texts import matching_pairs
 
 NOT_THERE = ["error word"]
+# Up to so many steps the program is asked for the causes of each; for many more that takes minutes.
+MOST_ASKED = 2000
+COMPUTED = f"causes: of more than {MOST_ASKED} steps they are computed from the history"
 
 
 @dataclass
@@ -69,6 +73,13 @@ def race_of(line):
     return Race(first, second, " ".join(rest[:-1] if apart else rest), apart)
 
 
+def causes_of(lines):
+    """The lines of `causes` as pairs of kind and step."""
+    if lines is None:
+        return None
+    return [(kind, did.split(" ")[0]) for kind, did in (line.split(": ", 1) for line in lines)]
+
+
 class Stopped(Exception):
     """The user stopped a picture that was being drawn."""
 
@@ -91,12 +102,30 @@ class Facts:
         """The steps that stand, from the oldest."""
         return [step_of(line, self.session.places) for line in self.ask("hist")]
 
+    def ask_all(self, commands):
+        """The lines of many views after their counts, as `ask` has them."""
+        for reply in self.session.views(commands):
+            if self.stop():
+                raise Stopped
+            yield None if reply == NOT_THERE else reply[1:]
+
     def causes(self, step):
         """The immediate needs of a step as pairs of kind and step; None where the program doesn't show them."""
-        lines = self.ask(f"causes {step}")
-        if lines is None:
-            return None
-        return [(kind, did.split(" ")[0]) for kind, did in (line.split(": ", 1) for line in lines)]
+        return causes_of(self.ask(f"causes {step}"))
+
+    def all_causes(self, steps):
+        """The immediate needs of all steps that stand, by their names; None where the program doesn't show them."""
+        names = [step.name for step in steps]
+        if not steps or self.causes(names[0]) is None:
+            return None if steps else {}
+        if len(steps) <= MOST_ASKED:
+            return dict(zip(names, map(causes_of, self.ask_all([f"causes {name}" for name in names]))))
+        found, needs = {}, Needs()
+        for step in steps:
+            if self.stop():
+                raise Stopped
+            found[step.name] = [(kind, names[place]) for kind, place in needs.add(step.name, step.did)]
+        return found
 
     def needs(self, step):
         """The steps that a step needs."""
@@ -127,20 +156,20 @@ class Facts:
             found[name].waits = (why, other)
         return found
 
-    def order_of(self, task):
-        """Fills in a task's items, and the siblings on which it depends or that exclude it."""
-        for line in self.ask(f"deps {task.name}"):
-            other, how = line.split(" ")
-            (task.before if how == "before" else task.apart).append(other)
-        reply = self.session.view(f"task {task.name}")
-        at = next(place for place, line in enumerate(reply) if line.startswith("items "))
-        task.items = reply[at + 1:]
+    def fill_in(self, tasks):
+        """Each task's items, and the siblings on which it depends or that exclude it."""
+        for task, lines in zip(tasks, self.ask_all([f"deps {task.name}" for task in tasks])):
+            for line in lines:
+                other, how = line.split(" ")
+                (task.before if how == "before" else task.apart).append(other)
+        for task, lines in zip(tasks, self.ask_all([f"task {task.name}" for task in tasks])):
+            at = next(place for place, line in enumerate(lines) if line.startswith("items "))
+            task.items = lines[at + 1:]
 
     def tasks(self):
         """All tasks by names, with items and order."""
         found = self.task_states()
-        for task in found.values():
-            self.order_of(task)
+        self.fill_in(list(found.values()))
         return found
 
 

@@ -12,7 +12,7 @@ from dataclasses import dataclass
 if __name__ == "__main__":
     sys.path.insert(0, os.path.dirname(os.path.dirname(os.path.abspath(__file__))))
 
-from shell.facts import Facts, by_name  # noqa: E402
+from shell.facts import COMPUTED, MOST_ASKED, Facts, by_name  # noqa: E402
 
 NO_CAUSES = "this program shows no causes: their arrows are left out"
 NO_RACES = "this program shows no races: they are left out"
@@ -30,9 +30,10 @@ class Lanes:
     chosen: str | None = None
     shaded: frozenset = frozenset()
 
-    def left_out(self):
-        """What isn't drawn, since the program has no such view."""
-        return [text for view, text in ((self.causes, NO_CAUSES), (self.races, NO_RACES)) if view is None]
+    def remarks(self):
+        """What isn't drawn, since the program has no such view, and what the program didn't say itself."""
+        computed = [COMPUTED] if self.causes is not None and len(self.steps) > MOST_ASKED else []
+        return [text for view, text in ((self.causes, NO_CAUSES), (self.races, NO_RACES)) if view is None] + computed
 
     def arrows(self):
         """Each immediate need of another task's step: the earlier step, the later one, and the kind."""
@@ -43,12 +44,7 @@ def lanes_of(session, chosen=None, stop=lambda: False):
     """The lanes of a session at this moment; the shaded steps are those that `roll` of the chosen one would take."""
     facts = Facts(session, stop)
     steps = facts.steps()
-    causes = {}
-    for step in steps:
-        causes[step.name] = facts.causes(step.name)
-        if causes[step.name] is None:
-            causes = None
-            break
+    causes = facts.all_causes(steps)
     shaded = facts.taken_back(chosen) if chosen else frozenset()
     tasks = sorted(facts.task_states().values(), key=lambda task: by_name(task.name))
     return None if shaded is None else Lanes(session.source.name, tasks, steps, causes, facts.races(), chosen, frozenset(shaded))
@@ -111,7 +107,7 @@ def text_rows(lanes, width, shade=lambda text: text):
         rows.append(cut(f"  no lane fits for {len(hidden)} more tasks, from {hidden[0]} to {hidden[-1]}", width))
     if lanes.chosen:
         rows.append(cut(f"  * roll {lanes.chosen} would take these {len(lanes.shaded)} steps", width))
-    return rows + [cut("  " + text, width) for text in lanes.left_out()]
+    return rows + [cut("  " + text, width) for text in lanes.remarks()]
 
 
 def main(words):

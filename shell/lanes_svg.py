@@ -133,7 +133,7 @@ class Drawing:
                         f'stroke-dasharray="3 2"/><text x="{LEFT + 40}" y="{y}">roll {escape(self.lanes.chosen)} '
                         f'would take these {len(self.lanes.shaded)}</text>')
             y += 18
-        for text in self.lanes.left_out():
+        for text in self.lanes.remarks():
             rows.append(f'<text x="{LEFT}" y="{y}">{escape(text)}</text>')
             y += 18
         return rows, y

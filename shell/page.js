@@ -379,7 +379,7 @@
 
   const list = find("program").querySelector("ol");
   data.source.forEach((text) => { item(list, text || " ").append(Object.assign(document.createElement("span"), { className: "stand" })); });
-  find("left-out").textContent = data.leftOut.length ? "Left out: " + data.leftOut.join("; ") : "";
+  find("left-out").textContent = data.leftOut.map((text) => "Left out: " + text).concat(data.remarks).join("; ");
   listen();
   setMoment(data.commands.length);
 }());

@@ -103,23 +103,30 @@ class Program:
 
     def ask(self, command):
         """The lines of the reply to one command; none where the line is empty. Raises Cut where it was cut."""
-        if not has_reply(command):
-            return []
+        return self.ask_all([command])[0] if has_reply(command) else []
+
+    def ask_all(self, commands):
+        """The replies to some commands, each of which has one; they are sent together, so there are few of them."""
         Program.awaited = self
         try:
-            lines = self._lines_of(command)
+            # Where a faulty `cells` ends isn't told by a count; a faulty command after it does.
+            self._write("".join(command + "\n" + "step\n" * self._is_cells(command) for command in commands))
+            replies = [self._lines_of(command) for command in commands]
         finally:
             Program.awaited = None
         if self.is_cut:
             raise self._ended()
-        return lines
+        return replies
+
+    @staticmethod
+    def _is_cells(command):
+        return words_of(command)[:1] == ["cells"]
 
     def _lines_of(self, command):
         words = words_of(command)
         word = words[0] if words else ""
         if word == "cells":
-            return self._ask_cells(command)
-        self._write(command + "\n")
+            return self._cells()
         first = self._read()
         lines = [first]
         if first.startswith(("error ", "refused ")):
@@ -137,9 +144,8 @@ class Program:
             self._read_more(lines, count_of(first, word) or 0)
         return lines
 
-    def _ask_cells(self, command):
+    def _cells(self):
         """The reply counts the program's cells and not its own lines: a faulty command ends it."""
-        self._write(command + "\nstep\n")
         lines = [self._read()]
         while True:
             line = self._read()

@@ -4,6 +4,7 @@ from shell.protocol import Cut, Program, words_of
 from shell.source import Places
 
 PIECE = 1000
+TOGETHER = 100
 CHANGES = {"undo": "undone", "roll": "rolled", "rolltask": "rolled", "rollcell": "rolled",
            "rollprint": "rolled", "break": "break", "clear": "cleared"}
 
@@ -46,6 +47,11 @@ class Session:
     def view(self, command):
         """The reply to a view that the user didn't ask for; it isn't saved."""
         return self.program.ask(command)
+
+    def views(self, commands):
+        """The replies to many views."""
+        for at in range(0, len(commands), TOGETHER):
+            yield from self.program.ask_all(commands[at:at + TOGETHER])
 
     def places_now(self):
         """Where the tasks stand at this moment."""

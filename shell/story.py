@@ -1,6 +1,7 @@
 """A session told command by command, for the page: what stood after each command, by the program's own views."""
 
-from shell.facts import Facts, by_name, label_of
+from shell.facts import COMPUTED, MOST_ASKED, Facts, Stopped, by_name, causes_of, label_of
+from shell.needs import Needs
 from shell.protocol import words_of
 from shell.session import CHANGES, Session, is_step
 
@@ -27,6 +28,7 @@ class Story:
         self.cells, self.shown, self.needed = {}, {}, {}
         self.out, self.printed = [], []
         self.has_causes = self.has_races = True
+        self.has_computed = False
         try:
             self.note(0)
             for at, (command, _) in enumerate(session.log, 1):
@@ -83,20 +85,18 @@ class Story:
         now = self.facts.task_states()
         for name in [name for name in self.there if name not in now]:
             self.there.pop(name)["died"] = at
+        come = [task for name, task in now.items() if name not in self.there]
+        # Its order doesn't change while a task is there.
+        self.facts.fill_in(come)
+        for task in come:
+            self.there[task.name] = {"name": task.name, "body": task.body, "born": at, "died": None, "states": [], "task": task,
+                                     "step": self.spawner.get(task.name), "index": len(self.tasks)}
+            self.tasks.append(self.there[task.name])
         for name in now:
-            if name not in self.there:
-                self.add_task(at, now[name])
             task, state = now[name], self.there[name]["states"]
             told = [task.state, task.line, "can step" if task.ready else " ".join(task.waits) if task.waits else ""]
             if not state or state[-1][1:] != told:
                 state.append([at, *told])
-
-    def add_task(self, at, task):
-        """A task that came; its order doesn't change while it is there."""
-        self.facts.order_of(task)
-        self.there[task.name] = {"name": task.name, "body": task.body, "born": at, "died": None, "states": [], "task": task,
-                                 "step": self.spawner.get(task.name), "index": len(self.tasks)}
-        self.tasks.append(self.there[task.name])
 
     def explain_steps(self):
         """The causes and races of the steps that stand; they don't change while a step stands."""
@@ -106,17 +106,31 @@ class Story:
         self.has_races = races is not None
         for race in races or ():
             self.steps[self.standing[race.second]]["race"] = [self.standing[race.first], race.over, race.apart]
+        if self.has_causes and self.facts.causes(self.fresh[0]) is None:
+            self.has_causes = False
+        if not self.has_causes:
+            found = {name: self.whole_needs(name) for name in self.fresh}
+        elif len(self.standing) > MOST_ASKED:
+            found = self.computed_causes()
+        else:
+            asked = self.facts.ask_all([f"causes {name}" for name in self.fresh])
+            found = {name: [[kind, self.standing[early]] for kind, early in causes_of(lines)] for name, lines in zip(self.fresh, asked)}
         for name in self.fresh:
-            self.steps[self.standing[name]]["causes"] = self.causes_of(name)
+            self.steps[self.standing[name]]["causes"] = found[name]
         self.fresh = []
 
-    def causes_of(self, name):
-        """The immediate needs of a step: pairs of kind and place; without `causes` by `why`, and of no kind."""
-        if self.has_causes:
-            causes = self.facts.causes(name)
-            if causes is not None:
-                return [[kind, self.standing[early]] for kind, early in causes]
-            self.has_causes = False
+    def computed_causes(self):
+        """The immediate needs of all steps that stand, which are too many to ask for each."""
+        self.has_computed = True
+        needs, places, found = Needs(), list(self.standing.values()), {}
+        for name, place in self.standing.items():
+            if self.facts.stop():
+                raise Stopped
+            found[name] = [[kind, places[early]] for kind, early in needs.add(name, self.steps[place]["did"])]
+        return found
+
+    def whole_needs(self, name):
+        """The immediate needs of a step by `why`, for a program without `causes`: pairs of no kind and a place."""
         if len(self.steps) > MOST_WHOLE:
             return None
         # Newest first: what a need needs is no immediate need. Sets of steps are bits of numbers.
@@ -159,6 +173,7 @@ class Story:
         source = self.session.source
         return {
             "title": source.name, "source": source.lines, "commands": self.commands, "leftOut": left_out,
+            "remarks": [COMPUTED] if self.has_computed else [],
             "steps": [[step["name"], step["did"], step["line"], step["born"], step["died"], step["causes"], step["race"]] for step in self.steps],
             "tasks": [[task["name"], task["body"], task["step"], task["born"], task["died"], task["states"], task["before"], task["apart"]]
                       for task in self.tasks],

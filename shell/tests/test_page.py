@@ -8,7 +8,6 @@ import shutil
 import subprocess
 import tempfile
 import unittest
-import unittest.mock
 
 from support import EXAMPLES, PROGRAM, TOP, Terminal, contrast, example, needs_program, write_file
 from shell.commands import Shell
@@ -84,22 +83,6 @@ end
 def page_file(test, session):
     """The page of a session, as a file."""
     return write_file(test, page_of(session)[0], "page.html")
-
-
-def with_causes(page):
-    """The page of a program without causes, with those of a task's own steps and of spawns: enough to follow."""
-    head, data, tail = re.split(r'(?<=id="data">)(.*?)(?=</script>)', page, maxsplit=1, flags=re.S)
-    data = json.loads(data)
-    newest, spawned = {}, {}
-    for at, (name, did, *_) in enumerate(data["steps"]):
-        task = name.split("#")[0]
-        if data["steps"][at][5] is None:
-            early = newest.get(task, spawned.get(task))
-            data["steps"][at][5] = [] if early is None else [["task" if task in newest else "spawn", early]]
-        newest[task] = at
-        if did.startswith("spawn "):
-            spawned[did.split(" ")[1]] = at
-    return head + json.dumps(data) + tail
 
 
 def in_browser(path, script, size="1400,4000"):
@@ -336,15 +319,15 @@ class BrowserTest(unittest.TestCase):
 
     def test_ten_thousand_steps_stay_fluent(self):
         text = "cells 8\nbody main 0\n  while r0 < 90\n    task t r0\n    let r0 r0 + 1\n  end\nend\nbody t 1\n  while r1 < 26\n" \
-               "    let r1 r1 + 1\n    load r2 0\n    store 1 r1\n    let r3 r2\n  end\nend\n"
-        many = Session(PROGRAM, Source(text.replace("store 1 r1", "let r4 r1").replace("load r2 0", "let r2 r0"), "many.task"))
+               "    let r1 r1 + 1\n    load r2 0\n    let r4 r1\n    let r3 r2\n  end\nend\n"
+        many = Session(PROGRAM, Source(text, "many.task"))
         self.addCleanup(many.close)
         for _ in range(21):
             many.do("run 500")
-        # The page's own speed is tried: how long the program takes for its views is another matter.
-        with unittest.mock.patch.object(Facts, "causes", lambda *_: None), unittest.mock.patch.object(Facts, "races", lambda _: None):
-            page = page_of(many)[0]
-        path = write_file(self, with_causes(page), "page.html")
+        before = os.times().user
+        path = page_file(self, many)
+        # Of the processor, for what the page itself does; asking for the causes of each step would take minutes.
+        self.assertLess(os.times().user - before, 30)
         faults, times = in_browser(path, """
           const times = [], count = Number(find("at").max), box = find("lanes");
           const time = (act) => { let best = 1e9; for (let k = 0; k < 5; k++) { const from = performance.now(); act(k); document.body.offsetHeight; best = Math.min(best, performance.now() - from); } return best; };
