@@ -279,8 +279,9 @@ def shared_accesses(run):
     for access in run.accesses:
         if access.actor is run.root or access.size > LARGE:
             continue
-        for granule in range(access.low, access.high):
-            if first.setdefault(granule, access.actor) is not access.actor:
+        low, actor = access.low, access.actor
+        for granule in (low,) if access.high == low + 1 else range(low, access.high):
+            if first.setdefault(granule, actor) is not actor:
                 shared.add(granule)
             if access.is_write:
                 written.add(granule)

@@ -110,8 +110,9 @@ class Memory:
         for access in accesses:
             if access.quiet or access.mark & t.FREED:
                 continue
-            for granule in range(access.low, access.high):
-                if touched.setdefault(granule, access.home) is not access.home:
+            low, home = access.low, access.home
+            for granule in (low,) if access.high == low + 1 else range(low, access.high):
+                if touched.setdefault(granule, home) is not home:
                     touched[granule] = None
                 if access.is_write:
                     written.add(granule)

@@ -67,7 +67,7 @@ class Terminal:
         """Types this."""
         os.write(self.end, text.encode())
 
-    def read_until(self, wanted, seconds=30):
+    def read_until(self, wanted, seconds=120):
         """What is shown up to and with `wanted`; fails where it doesn't come."""
         limit = time.monotonic() + seconds
         while wanted not in self.seen:

@@ -46,14 +46,14 @@ class InterruptTest(unittest.TestCase):
 
     def wait_for(self, path):
         """Waits until the program stalls, so that its reply is awaited."""
-        limit = time.monotonic() + 30
+        limit = time.monotonic() + 120
         while not os.path.exists(path):
             self.assertLess(time.monotonic(), limit, "the program didn't come to the command")
             time.sleep(0.01)
 
     def press(self, shell, wanted):
         """Presses Ctrl-C until it is answered so (two that come at once count as one), and goes on at the prompt."""
-        for _ in range(30):
+        for _ in range(120):
             shell.send("\x03")
             try:
                 shell.read_until(wanted, 1)
@@ -132,7 +132,7 @@ class InterruptTest(unittest.TestCase):
         shell.stdin.flush()
         self.wait_for(told)
         shell.send_signal(2)
-        out, said = shell.communicate(timeout=60)
+        out, said = shell.communicate(timeout=240)
         self.assertEqual((out, said, shell.returncode), (
             "0#1 start\n0#2 spawn 0.1 add 1\nran 2 limit\nhist 2\n0#1 start\n0#2 spawn 0.1 add 1\n", TOLD + "\n", 0))
 
