@@ -1,0 +1,122 @@
+#!/usr/bin/env python3
+"""Measures `races` on long runs, on the built program.
+
+    bench/races.py [--program P] [--seconds S] [--tasks N] [--same] [WORD]
+
+Each row is a kind of program whose run is done first: what is timed is the command `races` itself,
+from its line to its reply. The run has 1,000 steps at first, and then ten times as many each time,
+until `races` takes more than S seconds (2) or the run is at its longest: 100,000 steps by N tasks
+(1,000), for one task alone 1,000,000. A tenth of the steps are done by a tenth of the tasks, or,
+with --same, by as many (N is 10 then). Printed are the time, the most memory that the program had,
+the races, and the growth: how much longer ten times the steps took. With a word, only the rows in
+whose name it is.
+"""
+import argparse
+import os
+import select
+import subprocess
+import time
+
+from steps import TOP
+
+
+def loop(count, *body):
+    """Lines that do `body` count times, with r0 from 0 on."""
+    return ['let r0 0', 'while r0 < %d' % count, *body, 'let r0 r0 + 1', 'end']
+
+
+def program(main, task):
+    return ['cells 2', 'body main 0', *main, 'end', 'body t 0', *task, 'end']
+
+
+def alone(steps, _):
+    """One task that counts, and stores what it counted. A round has three steps."""
+    return program(loop(steps // 3, 'store 0 r0'), [])
+
+
+def siblings(*spawn, body=('store 0 1',), after=()):
+    """A root that generates each task by these lines, and then does `after`; a task does the body in rounds."""
+    def lines(steps, tasks):
+        rounds = steps // tasks // (2 + len(body))
+        return program([*loop(tasks, *spawn), *after], loop(rounds, *body))
+    return lines
+
+
+ROWS = [
+    ('one task', alone),
+    ('siblings that nothing orders', siblings('task t', after=['taskwait'])),
+    ('siblings that only load', siblings('task t', body=['load r1 0'])),
+    ('siblings that load and store', siblings('task t', body=['load r1 0', 'store 0 r1'])),
+    ('siblings that print', siblings('task t', body=['print 1'])),
+    ('siblings one after another, by inout', siblings('task t depend inout 0')),
+    ('siblings that exclude each other', siblings('task t depend mutexinoutset 0')),
+    ('each waited for, by taskwait', siblings('task t', 'taskwait')),
+    ('each in a taskgroup', siblings('taskgroup', 'task t', 'end')),
+    ('undeferred tasks', siblings('task t if 0 < 0')),
+]
+
+
+def memory(child):
+    with open('/proc/%d/status' % child.pid) as status:
+        return [int(line.split()[1]) / 1024 for line in status if line.startswith('VmHWM')][0]
+
+
+def measure(program, lines, most):
+    """Steps of the run, seconds of `races`, memory in MB, and races; no seconds where it takes more than the most."""
+    child = subprocess.Popen([program, '--limit', '1000000'], stdin=subprocess.PIPE, stdout=subprocess.PIPE)
+    try:
+        child.stdin.write('\n'.join(lines).encode() + b'\n---\nrun 999999\n')
+        child.stdin.flush()
+        line = child.stdout.readline()
+        while not line.startswith(b'ran '):
+            if not line:
+                raise OSError('the program ended')
+            line = child.stdout.readline()
+        steps = int(line.split()[1])
+        given = time.perf_counter()
+        child.stdin.write(b'races\n')
+        child.stdin.flush()
+        if not select.select([child.stdout], [], [], most)[0]:
+            return steps, None, memory(child), 0
+        count = int(child.stdout.readline().split()[1])
+        for _ in range(count):
+            child.stdout.readline()
+        return steps, time.perf_counter() - given, memory(child), count
+    finally:
+        child.kill()
+        child.communicate()
+
+
+def row(given, lines):
+    """What is said of each size."""
+    before = None
+    for steps in (1000, 10000, 100000, 1000000):
+        if steps == 1000000 and lines is not alone:
+            return
+        tasks = given.tasks or 10 if given.same else max(1, steps * (given.tasks or 1000) // 100000)
+        done, taken, most, count = measure(os.path.abspath(given.program), lines(steps, tasks), 10 * given.seconds)
+        if taken is None:
+            yield '%d steps: more than %g s' % (done, 10 * given.seconds)
+            return
+        growth = ', growth %.1f' % (taken / before) if before else ''
+        yield '%d steps: %.3f s %.0f MB, %d races%s' % (done, taken, most, count, growth)
+        if taken > given.seconds:
+            return
+        before = taken
+
+
+def main():
+    args = argparse.ArgumentParser(description=__doc__, formatter_class=argparse.RawDescriptionHelpFormatter)
+    args.add_argument('--program', default=os.path.join(TOP, 'crates/taskback/out/taskback'))
+    args.add_argument('--seconds', type=float, default=2)
+    args.add_argument('--tasks', type=int)
+    args.add_argument('--same', action='store_true')
+    args.add_argument('word', nargs='?', default='')
+    given = args.parse_args()
+    for name, lines in ROWS:
+        if given.word in name:
+            print('%-40s' % name, '; '.join(row(given, lines)), flush=True)
+
+
+if __name__ == '__main__':
+    main()
