@@ -1,4 +1,5 @@
 pub mod PieceLemmas
+pub mod TextLemmas
 pub mod NumberLemmas
 pub mod HeadingLemmas
 pub mod ListLemmas

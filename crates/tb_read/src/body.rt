@@ -3,6 +3,6 @@
 /// A body, by its name and the line that begins it.
 #[derive(Debug, Drop)]
 pub struct Body {
-    pub name: Vec<u8>,
+    pub name: String,
     pub line: u32,
 }

@@ -1,6 +1,8 @@
 //! What the lines in front of a line tell, and the fault of a line behind them.
 
-ghost use Rattle.std.specs.Prelude.{◌≡◌, ℕ, List, ◌++◌, ◌∷◌, [], ◌<◌, ◌≤◌, ◌==◌, drop, length, map, reverse, slice_get, Some, IfOk, OnOk};
+ghost use Rattle.std.specs.Prelude.{◌≡◌, ℕ, List, ◌++◌, ◌∷◌, [], ◌<◌, ◌≤◌, ◌==◌, drop, length, map, reverse, slice_get, Some, IfOk, OnOk, IsTrue, string_bytes};
+ghost use Rattle.std.specs.List.{list_all};
+ghost use Rattle.tb_read.specs.Text.{is_text};
 ghost use Rattle.tb_read.specs.Context.{number_at, is_below, is_above, is_some_number, cell_at, was_given, is_outside, was_headed, is_negative, bad_number, unknown_body, is_miscalled, arity, arity_behind, is_turning, no_cells, cell_range, is_open, nesting, duplicate, too_large, is_second_cells, fault_behind, fault_of, last_fault, after, start, blank_cells, with_cell, blocks_behind};
 ghost use Rattle.tb_read.specs.declared.head.Head.TheVariants.{Body as ABody};
 ghost use Rattle.tb_read.specs.Bodies.{named};
@@ -393,6 +395,7 @@ impl Lines {
 
     /// Takes a line with these words in. An `Err` may have taken a part of it.
     pub fn accept(&mut self, alloc: Global, line: u32, words: &[&[u8]]) -> Result<(), AllocError>
+        requires { IsTrue (list_all is_text (map (λ word. word.now) words.now)) }
         ensures { OnOk result (self.new ≡ after line self.old (map (λ word. word.now) words.now)) }
     {
         match words {
@@ -417,10 +420,23 @@ impl Lines {
     }
 
     fn begin_body(&mut self, alloc: Global, line: u32, name: &[u8]) -> Result<(), AllocError>
+        requires { IsTrue (is_text name.now) }
         ensures { OnOk result (self.new ≡ record self.old { bodies = self.old.bodies ++ (record { name = name.now; line = line }) ∷ []; open_blocks = blocks_behind line ABody self.old.open_blocks }) }
     {
-        let name = Vec::from_slice(alloc, name)?;
+        let name = text_of(alloc, name)?;
         self.bodies.push(Body { name, line })?;
         put(&mut self.blocks, Block::Bodied { line })
+    }
+}
+
+/// The bytes as a text of its own.
+#[tactic(auto, using(crate::proofs::TextLemmas::text_is_utf8))]
+fn text_of(alloc: Global, bytes: &[u8]) -> Result<String, AllocError>
+    requires { IsTrue (is_text bytes.now) }
+    ensures { IfOk result (λ text. string_bytes text ≡ bytes.now) }
+{
+    match str::from_utf8(bytes) {
+        Ok(text) => String::from_str(alloc, text),
+        Err(_) => unreachable!(),
     }
 }

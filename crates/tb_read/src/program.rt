@@ -96,7 +96,7 @@ impl Program {
     }
 
     /// The name of the body that the line begins.
-    pub fn body_name(&self, line: u32) -> Option<&[u8]>
+    pub fn body_name(&self, line: u32) -> Option<&str>
         ensures { option_map (λ name. name.now) result ≡ name_at line self.now.bodies }
     {
         for body in &self.bodies {

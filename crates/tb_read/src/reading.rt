@@ -16,6 +16,7 @@ use crate::text::{before_comment, is_text, words_of};
 use std::alloc::Global;
 
 /// Takes a line in and adds what it is to those so far, where it is without a fault.
+#[tactic(auto, using(crate::proofs::TextLemmas::words_are_text))]
 fn read_line(
     alloc: Global,
     before: &mut Lines,

@@ -98,9 +98,7 @@ fn append_program(answer: &mut String, lines: usize, program: &Program) -> Resul
 fn append_name(answer: &mut String, program: &Program, instr: &Instr) -> Result<(), AllocError> {
     if let Statement::Start = &instr.statement {
         if let Some(name) = program.body_name(instr.line) {
-            if let Ok(name) = str::from_utf8(name) {
-                writeln!(answer, "body {} {name}", instr.line)?;
-            }
+            writeln!(answer, "body {} {name}", instr.line)?;
         }
     }
     Ok(())

@@ -21,7 +21,7 @@ fn a_refused_growth_of_read_leaves_its_answer(rt: HostRuntime) -> Result<(), Fai
     let program = read_twice(&rt, TEXT)?;
     assert_eq!(rt; program.cells(), [0, 5].as_slice());
     assert_eq!(rt; program.root_line(), 3);
-    assert_eq!(rt; program.body_name(10), Some(b"b".as_slice()));
+    assert_eq!(rt; program.body_name(10), Some("b"));
     let test = program.instr(4).ok_or("no test")?;
     assert_eq!(rt; (test.next, test.otherwise), (5, 7));
     let faulty = read_twice(&rt, b"cells 1\nbody main 0\nprint 1 2 3 4 5\nend\n");

@@ -11,7 +11,7 @@ fn an_accepted_text_is_a_program(rt: HostRuntime) -> Result<(), Fail> {
     let program = read(rt.alloc(), text)?;
     assert_eq!(rt; program.cells(), [0, 5, 0].as_slice());
     assert_eq!(rt; program.root_line(), 4);
-    assert_eq!(rt; program.body_name(10), Some(b"b".as_slice()));
+    assert_eq!(rt; program.body_name(10), Some("b"));
     assert_eq!(rt; program.body_name(9), None);
     let store = program.instr(5).ok_or("no store")?;
     assert_eq!(rt; (store.line, store.next, store.cells), (5, 8, 3));

@@ -16,7 +16,7 @@ fn begins(program: &Program, line: u32, name: &[u8]) -> bool
     ensures { result ≡ is_named name.now (name_at line program.now.bodies) }
 {
     match program.body_name(line) {
-        Some(found) => same_word(found, name),
+        Some(found) => same_word(found.as_bytes(), name),
         None => false,
     }
 }

@@ -1,6 +1,5 @@
 -- Lines of a reply, and the line of a step.
-use Rattle.std.specs.Prelude.{ℕ, List, [], ◌∷◌, ◌++◌, Option, Some, None, if◌then◌else◌}
-use Rattle.std.specs.Str.{is_utf8}
+use Rattle.std.specs.Prelude.{ℕ, List, [], ◌∷◌, ◌++◌, Option, Some, None}
 use Rattle.tb_model.specs.declared.event.Event.{Event}
 use Rattle.tb_model.specs.declared.step_id.StepId.{StepId}
 use Rattle.tb_model.specs.Facts.{History}
@@ -13,13 +12,9 @@ use Rattle.tb_view.specs.Step.{step_text, spawned_name}
 abbrev pub line : List ℕ → List ℕ
 line text = text ++ 10 ∷ []
 
--- the name of a body, which is text in each program that is accepted
-abbrev pub as_text : List ℕ → List ℕ
-as_text name = if is_utf8 name then name else []
-
 -- the line of an event of which this is the step
 abbrev pub event_line : Program → StepId → Event → List ℕ
-event_line P i v = line (step_text (as_text (spawned_name P v.action)) v.task i.k v.action)
+event_line P i v = line (step_text (spawned_name P v.action) v.task i.k v.action)
 
 -- nothing where there is no event
 abbrev pub line_if_any : Program → StepId → Option Event → List ℕ

@@ -10,7 +10,7 @@ use Rattle.tb_model.specs.Facts.{History, own, items_of}
 use Rattle.tb_model.specs.State.{Status, Pending, Running, Ended, Faulted, status_of, open_groups}
 use Rattle.tb_model.specs.Program.{Program, called, situation}
 use Rattle.tb_model.specs.Spelling.{name_text}
-use Rattle.tb_view.specs.Lines.{line, as_text}
+use Rattle.tb_view.specs.Lines.{line}
 use Rattle.tb_view.specs.Step.{name_at, kind_text, place_text, args_text}
 use Rattle.tb_view.specs.Listing.{listed, lines_of}
 
@@ -44,7 +44,7 @@ state_text P H t = status_text (situation P t H).line (status_of (own t H))
 
 -- the name of the body that a line begins
 abbrev pub body_text : Program → ℕ → List ℕ
-body_text P begins = as_text (name_at P.bodies begins)
+body_text P begins = name_at P.bodies begins
 
 -- a task with its body and its state
 abbrev pub task_line : Program → History → Named → List (List ℕ)

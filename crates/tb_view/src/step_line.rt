@@ -2,7 +2,7 @@
 
 ghost use Rattle.std.specs.Prelude.{◌≡◌, ◌++◌, OnOk, string_bytes};
 ghost use Rattle.tb_view.specs.Step.{spawned_name};
-ghost use Rattle.tb_view.specs.Lines.{as_text, event_line};
+ghost use Rattle.tb_view.specs.Lines.{event_line};
 ghost use Rattle.tb_view.specs.Tasks.{body_text};
 
 use crate::step_text::write_step;
@@ -10,29 +10,19 @@ use std::alloc::AllocError;
 use tb_model::{Action, TaskName};
 use tb_read::Program;
 
-/// The name of a body.
-pub(crate) fn as_text(name: &[u8]) -> &str
-    ensures { result.now ≡ as_text name.now }
-{
-    match str::from_utf8(name) {
-        Ok(text) => text,
-        Err(_) => "",
-    }
-}
-
 /// The name of the body that the line begins, and nothing for other lines.
 pub(crate) fn body_name(program: &Program, begins: u32) -> &str
     ensures { result.now ≡ body_text program.now begins }
 {
     match program.body_name(begins) {
-        Some(name) => as_text(name),
+        Some(name) => name,
         None => "",
     }
 }
 
 /// The name of the body that an action spawns, and nothing for other actions.
 fn spawned_name<'a>(program: &'a Program, action: &Action) -> &'a str
-    ensures { result.now ≡ as_text (spawned_name program.now action.now) }
+    ensures { result.now ≡ spawned_name program.now action.now }
 {
     match action {
         Action::Spawn { body, .. } => body_name(program, *body),
