@@ -56,6 +56,12 @@ def kept(n):
     return text + b'run %d\nstep 0.%d\nrun %d\n' % (3 * n + 3 + 1, n, n)
 
 
+def parent(n):
+    """n steps of a task and of the children that it waits for, after n tasks that it excludes."""
+    text = program('cells 1', 'body main 0', *loop(n, 'task t depend mutexinoutset 0'), 'end', 'body t 0', *loop(10 * n, 'task c', 'taskwait'), 'end', 'body c 0', 'end')
+    return text + b'run %d\nstep 0.%d\nrun %d\n' % (3 * n + 3 + 1, n, n)
+
+
 def waiting(n):
     """n steps of one task, after n parents that wait for a child."""
     text = program('cells 0', 'body main 0', *loop(n, 'task p'), 'task c', 'end', 'body p 0', 'task c', 'taskwait', 'end', 'body c 0', *loop(10 * n), 'end')
@@ -102,6 +108,7 @@ ROWS = [
     ('recursion with undeferred tasks', deep('task t r1 if 0 < 0')),
     ('recursion with groups', deep('task t r1', 'taskgroup')),
     ('steps after tasks that are excluded', kept),
+    ('ends after tasks that are excluded', parent),
     ('steps after tasks that wait', waiting),
     ('in then inoutset on one cell', runs('in', 'inoutset')),
     ('in then mutexinoutset on one cell', runs('in', 'mutexinoutset')),

@@ -1,6 +1,8 @@
 pub mod NewestLemmas
 pub mod PlanLemmas
 pub mod ReadyLemmas
+pub mod FloorLemmas
+pub mod FloorStepLemmas
 pub mod RunLemmas
 pub mod StepLemmas
 pub mod RollLemmas

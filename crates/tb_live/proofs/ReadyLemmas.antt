@@ -1,39 +1,29 @@
 -- The walk over the unended tasks, in the order of their names, to the least that can step.
-use Rattle.std.proofs.Common.{◌≡◌, ◌≢◌, ◌<◌, ◌≤◌, ℕ, suc, List, [], ◌∷◌, Bool, true, false, not, cond, refl, sym, ap, ◌∙◌, subst, arith, ⊎_elim, IsTrue, Option, Some, None, option_map}
-use Rattle.std.specs.Prelude.{is_none}
+use Rattle.std.proofs.Common.{◌≡◌, ℕ, Bool, true, false, not, refl, sym, ap, ◌∙◌, subst, IsTrue, Option, Some, None}
+use Rattle.std.specs.Prelude.{◌↔◌, is_some, IfSome, IfNone}
 use Rattle.std.specs.List.{list_any}
-use Rattle.std.specs.Ordering.{ordering_reverse, is_eq}
+use Rattle.std.specs.Ordering.{is_eq}
 use Rattle.std.specs.declared.cmp.Ordering.{Ordering}
 use Rattle.std.specs.declared.cmp.Ordering.TheVariants.{Less, Equal, Greater}
-use Rattle.std.proofs.lemmas.Bool.{false≢true, both_ways, and_parts, and_from, or_parts, or_cases}
-use Rattle.tb_model.specs.Names.{Name, same_name, name_cmp}
-use Rattle.tb_model.specs.NameLaws.{name_cmp_total, name_cmp_ties}
-use Rattle.tb_model.specs.Facts.{History, is_spawned, ends, IsSpawned}
+use Rattle.std.proofs.lemmas.Bool.{false≢true, both_ways, and_from}
+use Rattle.tb_model.specs.Names.{Name, name_cmp}
+use Rattle.tb_model.specs.NameLaws.{name_cmp_ties}
+use Rattle.tb_model.specs.Facts.{History, is_spawned, ends}
 use Rattle.tb_model.specs.State.{is_unended}
 use Rattle.tb_model.specs.LeastNames.{IsAtMost, IsLeastName}
 use Rattle.tb_model.specs.Program.{Program}
-use Rattle.tb_model.specs.Hindrances.{Hindrance, NoSuchTask, Ended, By, IsLeast, spawned_names, least_where, lesser_name, can_step, least_ready, in_the_way}
+use Rattle.tb_model.specs.Hindrances.{can_step, least_ready, in_the_way}
 use Rattle.tb_model.specs.Program.{planned, zero_ℤ}
-use Rattle.tb_model.proofs.TestLemmas.{same_true, same_refl}
+use Rattle.tb_model.proofs.TestLemmas.{same_true}
 use Rattle.tb_model.proofs.LeastNameLemmas.{one_least, least_found}
-use Rattle.tb_live.specs.Claims.{Claims, IsHeldBeside}
-use Rattle.tb_core.specs.Seen.{Seen, history}
-use Rattle.tb_live.specs.declared.asked.Asked.{Asked}
-use Rattle.tb_live.specs.declared.asked.Asked.TheVariants.{Free, Held, Kept}
-use Rattle.tb_live.specs.Plans.{CanTake, IsAsked, is_free, is_held_or}
+use Rattle.tb_live.specs.Claims.{Claims, IsFreeBeside, IsHeldBeside}
+use Rattle.tb_live.specs.Floor.{IsFloor, IsPassed}
+use Rattle.tb_live.specs.Plans.{CanTake}
+use Rattle.tb_live.proofs.FloorLemmas.{goes_on}
 use Rattle.tb_ready.specs.Tasks.{IsBehind}
 use Rattle.tb_undo.specs.Readings.{IsUnendedBehind}
 
 -- ---- what the walk knows
-
--- no task that was asked can step
-abbrev pub Passed : Program → History → Option Name → Type 0
-Passed P H after = (u : Name) → can_step P H u ≡ true → IsBehind after u
-
-goes_on : (b c : Bool) (o : Option Hindrance) → is_none (cond (not b) (Some NoSuchTask) (cond c (Some Ended) (option_map By o))) ≡ true → (b ≡ true) × (c ≡ false)
-goes_on true false o h = (refl, refl)
-goes_on true true o h = absurd (false≢true h)
-goes_on false c o h = absurd (false≢true h)
 
 pub can_spawned : (P : Program) (H : History) (t : Name) → can_step P H t ≡ true → is_spawned H t ≡ true
 can_spawned P H t h = (goes_on (is_spawned H t) (list_any (ends t) H) (in_the_way H t (planned P H t zero_ℤ)) h).0
@@ -43,7 +33,7 @@ can_unended P H t h =
     let g = goes_on (is_spawned H t) (list_any (ends t) H) (in_the_way H t (planned P H t zero_ℤ)) h in
     and_from (is_spawned H t) (not (list_any (ends t) H)) g.0 (ap not g.1)
 
-module _ (P : Program) (H : History) (after : Option Name) (passed : Passed P H after) where
+module _ (P : Program) (H : History) (after : Option Name) (passed : IsPassed P H after) where
   asked : (u : Name) → can_step P H u ≡ true → IsUnendedBehind H after u
   asked u h = record { unended = can_unended P H u h; behind = passed u h }
 
@@ -54,7 +44,7 @@ module _ (P : Program) (H : History) (after : Option Name) (passed : Passed P H 
       subst (λ w. IsAtMost w u) (sym s) m.2
 
   -- the next task can't step
-  pub passed_on : (t : Name) → IsLeastName (IsUnendedBehind H after) (Some t) → can_step P H t ≡ false → Passed P H (Some t)
+  pub passed_on : (t : Name) → IsLeastName (IsUnendedBehind H after) (Some t) → can_step P H t ≡ false → IsPassed P H (Some t)
   passed_on t l never u h = by_cmp (name_cmp t u) refl
     where
       by_cmp : (o : Ordering) → name_cmp t u ≡ o → name_cmp t u ≡ Less
@@ -115,55 +105,33 @@ module _ (H : History) (after : Option Name) (Q : Name → Type 0) (unended : (u
 
 -- ---- the walk for a seat
 
--- no task that was asked can be taken, and none can step unless one is held
-pub record Walked (P : Program) (H : History) (claims : Claims) (seat : ℕ) (after : Option Name) (later : Bool) : Type 0 where
-  pub untaken : (u : Name) → CanTake P H claims seat u → IsBehind after u
-  pub kept : later ≡ false → Passed P H after
-  pub held : later ≡ true → (u : Name) × (can_step P H u ≡ true)
+module _ (P : Program) (H : History) (claims : Claims) (seat : ℕ) where
+  -- none that the seat can take stands in front of the first that can step, which another seat claims
+  pub behind_first : (t : Name) → IsFloor P H (Some t) → (IsFreeBeside claims seat t → ⊥) → (u : Name) → CanTake P H claims seat u → IsBehind (Some t) u
+  behind_first t floor held u q = by_cmp (name_cmp t u) refl
+    where
+      by_cmp : (o : Ordering) → name_cmp t u ≡ o → name_cmp t u ≡ Less
+      by_cmp Less e = e
+      by_cmp Equal e = absurd (held (subst (IsFreeBeside claims seat) (sym (same_true t u (name_cmp_ties t u ∙ ap is_eq e))) q.1))
+      by_cmp Greater e = absurd (floor u q.0 e)
 
-module _ (P : Program) (H : History) (claims : Claims) (seat : ℕ) (after : Option Name) (later : Bool) (w : Walked P H claims seat after later) where
-  takers : (u : Name) → CanTake P H claims seat u → is_unended H u ≡ true
-  takers u q = can_unended P H u q.0
+  module _ (after : Name) (untaken : (u : Name) → CanTake P H claims seat u → IsBehind (Some after) u) where
+    takers : (u : Name) → CanTake P H claims seat u → is_unended H u ≡ true
+    takers u q = can_unended P H u q.0
 
-  -- it is held by another seat
-  pub walked_held : (t : Name) (other : ℕ) → IsLeastName (IsUnendedBehind H after) (Some t) → can_step P H t ≡ true → IsHeldBeside claims seat t other → Walked P H claims seat (Some t) true
-  walked_held t other l can held = record {
-    untaken = passed_by H after (CanTake P H claims seat) takers w.untaken t l (λ q. held.other_than (q.1 other held.claims_it));
-    kept = λ e. absurd (false≢true (sym e));
-    held = λ e. (t, can);
-  }
+    -- the next task isn't free
+    pub untaken_on : (t : Name) → IsLeastName (IsUnendedBehind H (Some after)) (Some t) → (CanTake P H claims seat t → ⊥) → (u : Name) → CanTake P H claims seat u → IsBehind (Some t) u
+    untaken_on t l never = passed_by H (Some after) (CanTake P H claims seat) takers untaken t l never
 
-  -- it can't step
-  pub walked_kept : (t : Name) → IsLeastName (IsUnendedBehind H after) (Some t) → can_step P H t ≡ false → Walked P H claims seat (Some t) later
-  walked_kept t l never = record {
-    untaken = passed_by H after (CanTake P H claims seat) takers w.untaken t l (λ q. both_ways (can_step P H t) never q.0);
-    kept = λ e. passed_on P H after (w.kept e) t l never;
-    held = w.held;
-  }
+    pub found_free : (t : Name) → IsLeastName (IsUnendedBehind H (Some after)) (Some t) → CanTake P H claims seat t → IsLeastName (CanTake P H claims seat) (Some t)
+    found_free t l q = next_has H (Some after) (CanTake P H claims seat) takers untaken t l q
 
-  -- whichever it is, but free
-  pub walked_on : (run : Seen) → history run ≡ H → (t : Name) (a : Asked) → IsLeastName (IsUnendedBehind H after) (Some t) → IsAsked P run claims seat t a → is_free a ≡ false → Walked P H claims seat (Some t) (is_held_or a later)
-  walked_on run same t Free l k e = absurd (false≢true (sym e))
-  walked_on run same t Held l k e = walked_held t k.1.0 l (subst (λ K. can_step P K t ≡ true) same k.0) k.1.1
-  walked_on run same t Kept l k e = walked_kept t l (subst (λ K. can_step P K t ≡ false) same k)
+    pub found_none : IsLeastName (IsUnendedBehind H (Some after)) None → IsLeastName (CanTake P H claims seat) None
+    found_none l = none_has H (Some after) (CanTake P H claims seat) takers untaken l
 
-  pub found_free : (t : Name) → IsLeastName (IsUnendedBehind H after) (Some t) → CanTake P H claims seat t → IsLeastName (CanTake P H claims seat) (Some t)
-  found_free t l q = next_has H after (CanTake P H claims seat) takers w.untaken t l q
-
-  pub found_none : IsLeastName (IsUnendedBehind H after) None → IsLeastName (CanTake P H claims seat) None
-  found_none l = none_has H after (CanTake P H claims seat) takers w.untaken l
-
-  pub found_done : later ≡ false → IsLeastName (IsUnendedBehind H after) None → least_ready P H ≡ None
-  found_done e l = none_ready P H after (w.kept e) l
-
-  pub found_later : later ≡ true → least_ready P H ≢ None
-  found_later e h =
-      let k = w.held e in
-      let m = (least_found H (can_step P H) (can_spawned P H)).least k.0 k.1 in
-      cc
-
--- a task that says it is free
-pub free_taken : (P : Program) (run : Seen) (claims : Claims) (seat : ℕ) (t : Name) (a : Asked) → IsAsked P run claims seat t a → is_free a ≡ true → CanTake P (history run) claims seat t
-free_taken P run claims seat t Free k e = k
-free_taken P run claims seat t Held k e = absurd (false≢true e)
-free_taken P run claims seat t Kept k e = absurd (false≢true e)
+-- a task that can step, by the seat that claims it beside this one
+pub taken_by : (P : Program) (H : History) (claims : Claims) (seat : ℕ) (t : Name) (b : Bool) (o : Option ℕ) → can_step P H t ≡ true → is_some o ≡ not b → IfSome o (IsHeldBeside claims seat t) → IfNone o (IsFreeBeside claims seat t) → (b ≡ true) ↔ CanTake P H claims seat t
+taken_by P H claims seat t true None can e held free = (λ h. (can, free), λ q. refl)
+taken_by P H claims seat t false None can e held free = absurd (false≢true e)
+taken_by P H claims seat t true (Some other) can e held free = absurd (false≢true (sym e))
+taken_by P H claims seat t false (Some other) can e held free = (λ h. absurd (false≢true h), λ q. absurd (held.other_than (q.1 other held.claims_it)))

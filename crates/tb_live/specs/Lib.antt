@@ -13,4 +13,5 @@ pub mod Runs
 pub mod Preparing
 pub mod Commits
 pub mod Numbers
+pub mod Floor
 pub use Rattle.tb_core.specs.Refusals

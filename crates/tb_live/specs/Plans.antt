@@ -1,5 +1,5 @@
 -- The plan of a task's next step by the program, and the entry that it becomes.
-use Rattle.std.specs.Prelude.{◌≡◌, ◌≢◌, ◌++◌, ℕ, List, [], ◌∷◌, Bool, true, false, nat_le, length, Option, Some, None, Result, Ok, Err, IsTrue, IsFalse, ⊤}
+use Rattle.std.specs.Prelude.{◌≡◌, ◌≢◌, ◌++◌, ℕ, List, [], ◌∷◌, Bool, nat_le, length, Option, Some, None, Result, Ok, Err, IsTrue, IsFalse, ⊤}
 use Rattle.tb_model.specs.declared.entry.Entry.{Entry}
 use Rattle.tb_model.specs.declared.entry.Entry.TheVariants.{Stepped}
 use Rattle.tb_model.specs.declared.step_id.StepId.{StepId}
@@ -19,8 +19,6 @@ use Rattle.tb_core.specs.declared.step_refusal.StepRefusal.TheVariants.{Memory, 
 use Rattle.tb_core.specs.Seen.{Seen, history}
 use Rattle.tb_core.specs.Situation.{config_of}
 use Rattle.tb_live.specs.declared.control.Control.{Control}
-use Rattle.tb_live.specs.declared.asked.Asked.{Asked}
-use Rattle.tb_live.specs.declared.asked.Asked.TheVariants.{Free, Held, Kept}
 use Rattle.tb_live.specs.declared.claim.Claim.{Claim}
 use Rattle.tb_live.specs.declared.claim.Claim.TheVariants.{Work as Works, Later, Done, Stopped}
 use Rattle.tb_live.specs.declared.work.Work.{Work}
@@ -123,21 +121,6 @@ pub record IsUnbarred (run : Seen) (claims : Claims) (seat : ℕ) (t : Name) : T
 -- the task can step, and no other seat claims it
 abbrev pub CanTake : Program → History → Claims → ℕ → Name → Type 0
 CanTake P H claims seat t = IsTrue (can_step P H t) × IsFreeBeside claims seat t
-
--- what a task says to a seat that asks for work
-abbrev pub IsAsked : Program → Seen → Claims → ℕ → Name → Asked → Type 0
-IsAsked P run claims seat t Free = CanTake P (history run) claims seat t
-IsAsked P run claims seat t Held = IsTrue (can_step P (history run) t) × ((other : ℕ) × IsHeldBeside claims seat t other)
-IsAsked P run claims seat t Kept = IsFalse (can_step P (history run) t)
-
-abbrev pub is_free : Asked → Bool
-is_free Free = true
-is_free _ = false
-
--- a task that can step is held by another seat, or an earlier one was
-abbrev pub is_held_or : Asked → Bool → Bool
-is_held_or Held earlier = true
-is_held_or _ earlier = earlier
 
 -- the answer is the task's work
 abbrev pub IsClaimOn : Program → Seen → Name → Claim → Type 0

@@ -1,16 +1,18 @@
 //! A plan that was made at some time, and is taken now.
 
-ghost use Rattle.std.specs.Prelude.{◌≡◌, ◌≢◌, ◌<◌, ◌-◌, ◌↔◌, IfOk, IfErr, IfSome, IfNone, IsOk, OnOk, IsTrue, IsFalse, None, length, vec_len, vec_capacity};
+ghost use Rattle.std.specs.Prelude.{◌≡◌, ◌≢◌, ◌<◌, ◌-◌, ◌↔◌, IfOk, IfErr, IfSome, IfNone, IsOk, OnOk, OnErr, IsTrue, IsFalse, None, length, vec_len, vec_capacity};
 ghost use Rattle.tb_model.specs.Facts.{is_spawned};
 ghost use Rattle.tb_core.specs.Outcomes.{IsOpen, has_ended};
 ghost use Rattle.tb_core.specs.Outcomes as outcomes;
 ghost use Rattle.tb_core.specs.Seen.{history};
+ghost use Rattle.tb_live.specs.Floor.{IsCarried};
 ghost use Rattle.tb_live.specs.Plans.{Enters, IsForeign, IsKeptFrom, IsNative, IsOfProgram, IsStaleAnswer, has_no_place};
 ghost use Rattle.tb_core.specs.declared.step_refusal.StepRefusal.TheVariants.{Memory};
 ghost use Rattle.tb_live.specs.Preparing.{HasRoom, HoldsStep, IsReadied};
 ghost use Rattle.tb_live.specs.Soundness.{Fits};
 
 use crate::control::Control;
+use crate::floor::Floor;
 use crate::prepared::{Prepared, holds_step, take_step};
 use crate::same_instr::is_same_instr;
 use crate::stepping::{enter_readied, ready_step};
@@ -65,6 +67,7 @@ fn event_for(
     core: &mut Core,
     journal: &mut Vec<Entry>,
     prepared: &mut Option<Prepared>,
+    floor: &mut Floor,
     limit: u32,
     seat: u32,
     plan: &Plan,
@@ -87,9 +90,10 @@ fn event_for(
         (vec_capacity journal.new - vec_len journal.new) prepared.new }
     ensures succeeds { HoldsStep prepared.old seat plan.now.config.task
         → IsOpen core.old.run plan.now → IsOk result }
+    ensures floor { floor.new ≡ floor.old }
 {
     if !holds_step(prepared, seat, &plan.config.task) {
-        return ready_step(core, journal, prepared, limit, plan);
+        return ready_step(core, journal, prepared, floor, limit, plan);
     }
     if let Some(refusal) = core.refusal(plan) {
         return Err(refusal);
@@ -108,6 +112,7 @@ pub fn enter_plan(
     journal: &mut Vec<Entry>,
     control: &mut Control,
     prepared: &mut Option<Prepared>,
+    floor: &mut Floor,
     limit: u32,
     seat: u32,
     plan: Plan,
@@ -124,9 +129,11 @@ pub fn enter_plan(
         (vec_capacity journal.new - vec_len journal.new) prepared.new }
     ensures succeeds { HoldsStep prepared.old seat plan.config.task
         → IsOpen core.old.run plan → IsOk result }
+    ensures carried { OnOk result (IsCarried (history core.new.run) floor.old floor.new) }
+    ensures stays { OnErr result (floor.new ≡ floor.old) }
 {
-    match event_for(program, core, journal, prepared, limit, seat, &plan) {
-        Ok(event) => Ok(enter_readied(core, journal, control, seat, plan, event)),
+    match event_for(program, core, journal, prepared, floor, limit, seat, &plan) {
+        Ok(event) => Ok(enter_readied(core, journal, control, floor, seat, plan, event)),
         Err(refusal) => Err(refusal),
     }
 }

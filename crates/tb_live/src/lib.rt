@@ -2,7 +2,6 @@
 #![tactic(auto)]
 
 mod answer;
-mod asked;
 mod break_refusal;
 mod breakpoint;
 mod breakpoints;
@@ -13,6 +12,7 @@ mod claims;
 mod commit_refusal;
 mod committing;
 mod control;
+mod floor;
 mod live;
 mod mode;
 mod moves;

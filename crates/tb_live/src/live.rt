@@ -19,6 +19,7 @@ ghost use Rattle.tb_live.specs.Moves.{StepsBy, LeastStepsBy, LeastStepsFor, Undo
 use crate::breakpoints::Breakpoints;
 use crate::claims::Claims;
 use crate::control::Control;
+use crate::floor::Floor;
 use crate::mode::Mode;
 use crate::newest::{newest_step, place_of_print, place_of_store};
 use crate::planning::plan_of;
@@ -44,6 +45,8 @@ pub struct Live {
     limit: u32,
     // what the next change finds ready
     prepared: Option<Prepared>,
+    // where the look for a task that can step begins
+    floor: Floor,
 }
 
 impl Model for Live {
@@ -51,12 +54,14 @@ impl Model for Live {
     ghost use Rattle.tb_live.specs.Session.{Held};
     ghost use Rattle.tb_live.specs.Soundness.{IsSound, IsLawful};
     ghost use Rattle.tb_live.specs.Preparing.{HasRoom, entry_of};
+    ghost use Rattle.tb_live.specs.Floor.{IsFloor};
+    ghost use Rattle.tb_core.specs.Seen.{history};
 
     ghost Value = { Held };
 
     ghost view = { λ l. record { session = record { program = l.program; limit = l.limit; journal = reverse l.journal.items; control = l.control }; prepared = option_map entry_of l.prepared } };
 
-    ghost invariant = { λ l. IsSound l.program l.limit (reverse l.journal.items) l.core.run × IsLawful (reverse l.journal.items) l.control × HasRoom l.limit l.program l.core l.journal.items (vec_capacity l.journal - vec_len l.journal) l.prepared };
+    ghost invariant = { λ l. IsSound l.program l.limit (reverse l.journal.items) l.core.run × IsLawful (reverse l.journal.items) l.control × HasRoom l.limit l.program l.core l.journal.items (vec_capacity l.journal - vec_len l.journal) l.prepared × IsFloor l.program (history l.core.run) l.floor };
 }
 
 impl Live {
@@ -84,6 +89,7 @@ impl Live {
             control,
             limit,
             prepared: None,
+            floor: Floor::none(),
         })
     }
 
@@ -153,6 +159,7 @@ impl Live {
             &mut self.journal,
             &mut self.control,
             &mut self.prepared,
+            &mut self.floor,
             self.limit,
             0,
             plan,
@@ -174,16 +181,18 @@ impl Live {
         ensures stepped { LeastStepsFor seat self.old.session self.new.session result }
         ensures kept { IfErr result (λ e. e ≢ Memory → self.new ≡ self.old) }
     {
-        let plan = match ready_plan(self.alloc, &self.program, &self.core) {
+        let plan = match ready_plan(self.alloc, &self.program, &self.core, &self.floor) {
             Ok(Some(plan)) => plan,
             Ok(None) => return Ok(None),
             Err(_) => return Err(StepRefusal::Memory),
         };
+        self.floor.raise(&plan.config.task);
         match enter_step(
             &mut self.core,
             &mut self.journal,
             &mut self.control,
             &mut self.prepared,
+            &mut self.floor,
             self.limit,
             seat,
             plan,
@@ -219,6 +228,7 @@ impl Live {
         match self.core.undo(id) {
             Ok(removed) => {
                 let name = take_name(&mut self.prepared, fresh, id);
+                self.floor.forget();
                 self.control.step_removed(&removed);
                 self.journal.push_reserved(Entry::Rolled { seat, id: name });
                 Ok(removed)
@@ -247,6 +257,7 @@ impl Live {
         ) {
             Ok(removed) => {
                 forget(&mut self.prepared);
+                self.floor.forget();
                 self.control.steps_removed(&removed);
                 Ok(removed)
             }

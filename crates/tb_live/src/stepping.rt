@@ -1,14 +1,17 @@
 //! A planned step, with its entry in the journal.
 
-ghost use Rattle.std.specs.Prelude.{◌≡◌, ◌≢◌, ◌<◌, ◌-◌, IfOk, IfErr, OnOk, Some, None, length, vec_len, vec_capacity};
+ghost use Rattle.std.specs.Prelude.{◌≡◌, ◌≢◌, ◌<◌, ◌-◌, IfOk, IfErr, OnOk, OnErr, Some, None, length, vec_len, vec_capacity};
 ghost use Rattle.tb_model.specs.Program.{Program};
 ghost use Rattle.tb_core.specs.declared.step_refusal.StepRefusal.TheVariants.{Memory};
 ghost use Rattle.tb_core.specs.Outcomes.{Fits, IsOpen, event_of};
+ghost use Rattle.tb_core.specs.Seen.{history};
 ghost use Rattle.tb_live.specs.Controls.{behind_step};
+ghost use Rattle.tb_live.specs.Floor.{IsCarried};
 ghost use Rattle.tb_live.specs.Plans.{Enters, IsEntered, IsKeptFrom, has_no_place};
 ghost use Rattle.tb_live.specs.Preparing.{HasRoom, IsReadied};
 
 use crate::control::Control;
+use crate::floor::Floor;
 use crate::prepared::{Prepared, forget};
 use tb_core::{Core, StepRefusal};
 use tb_model::{Entry, Event, StepId};
@@ -21,6 +24,7 @@ pub fn ready_step(
     core: &mut Core,
     journal: &mut Vec<Entry>,
     prepared: &mut Option<Prepared>,
+    floor: &mut Floor,
     limit: u32,
     plan: &Plan,
 ) -> Result<Event, StepRefusal>
@@ -40,6 +44,7 @@ pub fn ready_step(
         (vec_capacity journal.old - vec_len journal.old) prepared.old
         → HasRoom limit P core.new journal.new.items
         (vec_capacity journal.new - vec_len journal.new) prepared.new }
+    ensures floor { floor.new ≡ floor.old }
 {
     if limit as usize <= journal.as_slice().len() {
         return Err(core.refusal(plan).unwrap_or(StepRefusal::Full));
@@ -56,6 +61,7 @@ pub fn ready_step(
     if journal.reserve(1).is_err() {
         return Err(StepRefusal::Memory);
     }
+    floor.ready(plan);
     Ok(event)
 }
 
@@ -64,6 +70,7 @@ pub fn enter_readied(
     core: &mut Core,
     journal: &mut Vec<Entry>,
     control: &mut Control,
+    floor: &mut Floor,
     seat: u32,
     plan: Plan,
     event: Event,
@@ -76,9 +83,11 @@ pub fn enter_readied(
     ensures entered { IsEntered seat core.old.run plan core.new.run
         journal.old.items journal.new.items result }
     ensures control { control.new ≡ behind_step plan.config.at event control.old }
+    ensures floor { IsCarried (history core.new.run) floor.old floor.new }
 {
     let line = plan.config.at;
     let id = core.step_reserved(plan);
+    floor.step_taken(core);
     control.step_taken(line, &event);
     journal.push_reserved(Entry::Stepped { seat, event });
     id
@@ -91,6 +100,7 @@ pub fn enter_step(
     journal: &mut Vec<Entry>,
     control: &mut Control,
     prepared: &mut Option<Prepared>,
+    floor: &mut Floor,
     limit: u32,
     seat: u32,
     plan: Plan,
@@ -105,9 +115,11 @@ pub fn enter_step(
         (vec_capacity journal.old - vec_len journal.old) prepared.old
         → HasRoom limit P core.new journal.new.items
         (vec_capacity journal.new - vec_len journal.new) prepared.new }
+    ensures carried { OnOk result (IsCarried (history core.new.run) floor.old floor.new) }
+    ensures stays { OnErr result (floor.new ≡ floor.old) }
 {
-    match ready_step(core, journal, prepared, limit, &plan) {
-        Ok(event) => Ok(enter_readied(core, journal, control, seat, plan, event)),
+    match ready_step(core, journal, prepared, floor, limit, &plan) {
+        Ok(event) => Ok(enter_readied(core, journal, control, floor, seat, plan, event)),
         Err(refusal) => Err(refusal),
     }
 }

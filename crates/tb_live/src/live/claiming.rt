@@ -4,6 +4,7 @@ ghost use Rattle.std.specs.Prelude.{◌≡◌, ◌<◌, IfSome, IfNone, IfOk, On
 ghost use Rattle.tb_model.specs.Facts.{is_spawned};
 ghost use Rattle.tb_core.specs.Seen.{history};
 ghost use Rattle.tb_core.specs.Outcomes.{has_ended};
+ghost use Rattle.tb_live.specs.Floor.{IsFloor};
 ghost use Rattle.tb_live.specs.Plans.{IsFound, IsWorkOf, IsBarred, IsUnbarred};
 ghost use Rattle.tb_live.specs.Soundness.{Fits};
 ghost use Rattle.tb_live.specs.Working.{ClaimsTask, ClaimsWork, claimed};
@@ -12,6 +13,7 @@ use super::Live;
 use crate::claim::Claim;
 use crate::claim_refusal::ClaimRefusal;
 use crate::claims::Claims;
+use crate::floor::Floor;
 use crate::planning::work_of;
 use crate::ready::free_work;
 use crate::work::Work;
@@ -62,6 +64,7 @@ impl Live {
             &self.program,
             &self.core,
             &self.control.claims,
+            &mut self.floor,
             seat,
         ) {
             Ok((name, claim)) => {
@@ -106,12 +109,15 @@ fn named_work(
     program: &Program,
     core: &Core,
     claims: &Claims,
+    floor: &mut Floor,
     seat: u32,
 ) -> Result<(Option<TaskName>, Claim), AllocError>
-    requires { Fits program.now core.now.run }
-    ensures { IfOk result (λ r. (r.0 ≡ claimed r.1) × IsFound program.now core.now.run claims.now seat r.1) }
+    requires fits { Fits program.now core.now.run }
+    requires floor { IsFloor program.now (history core.now.run) floor.old }
+    ensures found { IfOk result (λ r. (r.0 ≡ claimed r.1) × IsFound program.now core.now.run claims.now seat r.1) }
+    ensures floor { IsFloor program.now (history core.now.run) floor.new }
 {
-    let claim = free_work(alloc, program, core, claims, seat)?;
+    let claim = free_work(alloc, program, core, claims, floor, seat)?;
     let name = name_of(&claim)?;
     Ok((name, claim))
 }

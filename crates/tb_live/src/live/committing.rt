@@ -35,6 +35,7 @@ impl Live {
             &mut self.core,
             &mut self.journal,
             &mut self.prepared,
+            &mut self.floor,
             self.limit,
             plan,
         ) {
@@ -70,6 +71,7 @@ impl Live {
             &mut self.journal,
             &mut self.control,
             &mut self.prepared,
+            &mut self.floor,
             self.limit,
             seat,
             plan,

@@ -1,38 +1,29 @@
-use Rattle.std.proofs.Common.{refl, sym, subst, Some, ◌∙◌}
+use Rattle.std.proofs.Common.{subst, Option}
+use Rattle.tb_read.specs.declared.planned.Plan.{Plan}
 use Rattle.tb_core.specs.Seen.{history}
-use Rattle.tb_core.proofs.WalkLemmas.{fewer}
-use Rattle.tb_live.proofs.ReadyLemmas.{Walked, walked_on, free_taken, found_free, found_none, found_done, found_later}
+use Rattle.tb_live.specs.Plans.{IsReady}
+use Rattle.tb_live.proofs.FloorStepLemmas.{floor_raised, first_free, least_can}
 use Rattle.tb_live.proofs.WorkLemmas.{found_work}
 use Rattle.tb_live.proofs.ready.free_work.Goals as goal
 
-pub tasks-smaller : goal.tasks-smaller
-tasks-smaller c = fewer (history c.args.core.now.run) _ c.in-Some.task.now (c.in-Some.ensures.found c.in-Some.task.now refl)
+pub work_on-requires-clause-can : goal.work_on-requires-clause-can
+work_on-requires-clause-can c =
+    let ready = subst (λ (o : Option Plan). IsReady c.args.program.now c.args.core.now.run o) c.in-Ok-Some.field-0-is c.in-Ok-Some.ensures in
+    least_can c.args.program.now (history c.args.core.now.run) c.in-Ok-Some.plan.config.task ready.1
 
-pub tasks-preserved : goal.tasks-preserved
-tasks-preserved c =
-    let P = c.args.program.now in
+pub returns-in-Some-clause-floor : goal.returns-in-Some-clause-floor
+returns-in-Some-clause-floor c =
+    let ready = subst (λ (o : Option Plan). IsReady c.args.program.now c.args.core.now.run o) c.in-Ok-Some.field-0-is c.in-Ok-Some.ensures in
+    floor_raised c.args.program.now (history c.args.core.now.run) c.in-Ok-Some.plan.config.task c.raise.new.self ready.1 c.raise.ensures
+
+pub returns-clause-found : goal.returns-clause-found
+returns-clause-found c =
     let run = c.args.core.now.run in
-    let claims = c.args.claims.now in
-    let seat = c.args.seat in
-    let t = c.in-Some.task.now in
-    subst (Walked P (history run) claims seat (Some t)) (sym c.is_held_or-later.ensures)
-    (walked_on P (history run) claims seat _ _ c.tasks.invariant run refl t c.in-Ok.asked c.in-Some.ensures c.in-Ok.ensures (sym c.is_free.ensures ∙ c.if-is_free.false))
+    let t = c.in-Ok-Some.plan.config.task in
+    let ready = subst (λ (o : Option Plan). IsReady c.args.program.now run o) c.in-Ok-Some.field-0-is c.in-Ok-Some.ensures in
+    found_work c.args.program.now run c.args.claims.now c.args.seat t c.work_on.result c.work_on.ensures (first_free c.args.program.now (history run) c.args.claims.now c.args.seat t ready.1 c.in-None.ensures.none)
 
-pub returns-then-is_free : goal.returns-then-is_free
-returns-then-is_free c =
-    let P = c.args.program.now in
-    let run = c.args.core.now.run in
-    let claims = c.args.claims.now in
-    let seat = c.args.seat in
-    let t = c.in-Some.task.now in
-    let k = free_taken P run claims seat t c.in-Ok.asked c.in-Ok.ensures (sym c.is_free.ensures ∙ c.if-is_free.true) in
-    found_work P run claims seat t c.work_on.result c.work_on.ensures (found_free P (history run) claims seat _ _ c.tasks.invariant t c.in-Some.ensures k)
-
-pub returns-then-later : goal.returns-then-later
-returns-then-later c =
-    let P = c.args.program.now in
-    let H = history c.args.core.now.run in
-    (found_none P H c.args.claims.now c.args.seat _ _ c.tasks.invariant c.in_default.ensures, found_later P H c.args.claims.now c.args.seat _ _ c.tasks.invariant c.if-later.true)
-
-pub returns-else-later : goal.returns-else-later
-returns-else-later c = found_done c.args.program.now (history c.args.core.now.run) c.args.claims.now c.args.seat _ _ c.tasks.invariant c.if-later.false c.in_default.ensures
+pub returns-clause-floor : goal.returns-clause-floor
+returns-clause-floor c =
+    let ready = subst (λ (o : Option Plan). IsReady c.args.program.now c.args.core.now.run o) c.in-Ok-Some.field-0-is c.in-Ok-Some.ensures in
+    floor_raised c.args.program.now (history c.args.core.now.run) c.in-Ok-Some.plan.config.task c.raise.new.self ready.1 c.raise.ensures

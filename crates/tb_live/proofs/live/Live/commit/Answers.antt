@@ -5,6 +5,7 @@ use Rattle.tb_live.specs.Moves.{coming}
 use Rattle.tb_live.specs.Session.{Held}
 use Rattle.tb_live.proofs.StepLemmas.{longer, same_held}
 use Rattle.tb_live.proofs.CommitLemmas.{offered_native, live_commits, may_open}
+use Rattle.tb_live.proofs.FloorStepLemmas.{floor_committed}
 use Rattle.tb_live.proofs.PreparedLemmas.{step_of_entry}
 use Rattle.tb_live.proofs.live.Live.commit.Goals as goal
 
@@ -22,8 +23,13 @@ invariant_of-self c =
     let native = offered_native i.program i.limit i.journal.items i.control i.core.run c.args.self.now.session (ap (λ (h : Held). h.session) c.self.view_is) c.self.invariant.0 c.args.seat c.args.plan c.in_default.ensures.none in
     let l = live_commits c.args.seat i.program i.limit i.journal.items i.control i.core.run c.args.self.now.session (ap (λ (h : Held). h.session) c.self.view_is) (c.self.invariant.0, c.self.invariant.1) c.args.plan c.in_default.ensures.none.claimed native
     (length c.as_slice.result.now) (ap length c.as_slice.ensures.value) c.enter_plan.new.journal.items c.enter_plan.new.control c.enter_plan.new.core.run c.enter_plan.result c.enter_plan.ensures.entered
-    in
-    (l.keeps.sound, l.keeps.lawful, c.enter_plan.ensures.serves)
+    in (
+      l.keeps.sound,
+      l.keeps.lawful,
+      c.enter_plan.ensures.serves,
+      floor_committed i.limit c.args.seat i.program i.core.run c.enter_plan.new.core.run c.args.plan i.journal.items c.enter_plan.new.journal.items i.control c.enter_plan.new.control c.enter_plan.result c.self.invariant.0.fits native
+          c.enter_plan.ensures.entered i.floor c.enter_plan.new.floor c.enter_plan.ensures.carried c.enter_plan.ensures.stays c.self.invariant.3,
+    )
 
 pub returns-in-Ok-clause-committed : goal.returns-in-Ok-clause-committed
 returns-in-Ok-clause-committed c =

@@ -8,4 +8,4 @@ pub invariant_of-self : goal.invariant_of-self
 invariant_of-self c =
     let i = c.self.inside in
     let H = hist (reverse i.journal.items) in
-    (c.self.invariant.0, subst (λ (cs : Claims). AreLawful H cs) (sym c.let_go.ensures) (lawful_let_go H i.control.claims c.args.seat c.self.invariant.1), c.self.invariant.2)
+    (c.self.invariant.0, subst (λ (cs : Claims). AreLawful H cs) (sym c.let_go.ensures) (lawful_let_go H i.control.claims c.args.seat c.self.invariant.1), c.self.invariant.2, c.self.invariant.3)

@@ -6,6 +6,7 @@ use Rattle.tb_live.specs.Preparing.{HasRoom, entry_of}
 use Rattle.tb_live.specs.Session.{Held}
 use Rattle.tb_core.specs.declared.step_refusal.StepRefusal.TheVariants.{Memory}
 use Rattle.tb_live.specs.declared.commit_refusal.CommitRefusal.TheVariants.{Step as NotTaken}
+use Rattle.tb_live.proofs.FloorStepLemmas.{floor_readied}
 use Rattle.tb_live.proofs.RunLemmas.{shown}
 use Rattle.tb_live.proofs.StepLemmas.{longer, stays, same_held}
 use Rattle.tb_live.proofs.CommitLemmas.{offered_native, native_fits, native_refused, room_kept, live_prepares}
@@ -32,6 +33,7 @@ invariant_of-self c =
       l.keeps.lawful,
       subst (HasRoom i.limit i.program c.ready_step.new.core c.ready_step.new.journal.items spare) (sym c.keep.ensures)
           (room_kept i.limit i.program i.core c.ready_step.new.core i.journal.items c.ready_step.new.journal.items spare c.args.plan.now c.in-Ok.event c.in-Ok-copy_of.copy c.self.invariant.0.fits native c.ready_step.ensures.run c.ready_step.ensures.entries c.in-Ok-copy_of.ensures c.in-Ok.ensures.readied),
+      floor_readied i.program i.core.run c.ready_step.new.core.run i.floor c.ready_step.new.floor c.ready_step.ensures.run c.ready_step.ensures.floor c.self.invariant.3,
     )
 
 pub returns-in-Ok-copy_of-clause-prepared : goal.returns-in-Ok-copy_of-clause-prepared
@@ -58,7 +60,7 @@ pub invariant_of-self-in-Err : goal.invariant_of-self-in-Err
 invariant_of-self-in-Err c =
     let i = c.self.inside in
     let l = stays i.program i.limit i.journal.items c.ready_step.new.journal.items i.control i.control i.core.run c.ready_step.new.core.run c.args.self.now.session (ap (λ (h : Held). h.session) c.self.view_is) (c.self.invariant.0, c.self.invariant.1) c.ready_step.ensures.run c.ready_step.ensures.entries refl in
-    (l.keeps.sound, l.keeps.lawful, c.ready_step.ensures.serves i.program c.self.invariant.2)
+    (l.keeps.sound, l.keeps.lawful, c.ready_step.ensures.serves i.program c.self.invariant.2, floor_readied i.program i.core.run c.ready_step.new.core.run i.floor c.ready_step.new.floor c.ready_step.ensures.run c.ready_step.ensures.floor c.self.invariant.3)
 
 pub returns-in-Err-clause-kept : goal.returns-in-Err-clause-kept
 returns-in-Err-clause-kept c =

@@ -1,4 +1,5 @@
 use Rattle.std.proofs.Common.{ap}
+use Rattle.tb_live.proofs.FloorStepLemmas.{floor_after}
 use Rattle.tb_live.proofs.StepLemmas.{longer, live_steps, enters_held}
 use Rattle.tb_live.specs.Session.{Held}
 use Rattle.tb_live.proofs.live.Live.step.Goals as goal
@@ -13,8 +14,13 @@ invariant_of-self c =
     let i = c.self.inside in
     let l = live_steps i.program i.limit i.journal.items i.control i.core.run c.args.self.now.session (ap (λ (h : Held). h.session) c.self.view_is) (c.self.invariant.0, c.self.invariant.1) c.args.task.now c.in-Ok.plan c.in-Ok.ensures.ok
     c.enter_step.new.journal.items c.enter_step.new.control c.enter_step.new.core.run c.enter_step.result c.enter_step.ensures.entered
-    in
-    (l.keeps.sound, l.keeps.lawful, c.enter_step.ensures.serves i.program c.self.invariant.2)
+    in (
+      l.keeps.sound,
+      l.keeps.lawful,
+      c.enter_step.ensures.serves i.program c.self.invariant.2,
+      floor_after i.limit 0 i.program i.core.run c.enter_step.new.core.run c.args.task.now c.in-Ok.plan i.journal.items c.enter_step.new.journal.items i.control c.enter_step.new.control c.enter_step.result c.self.invariant.0.fits c.in-Ok.ensures.ok
+          c.enter_step.ensures.entered i.floor c.enter_step.new.floor c.enter_step.ensures.carried c.enter_step.ensures.stays c.self.invariant.3,
+    )
 
 pub returns-clause-stepped : goal.returns-clause-stepped
 returns-clause-stepped c =

@@ -3,6 +3,8 @@ use Rattle.std.specs.Prelude.{◌≢◌, IfErr}
 use Rattle.tb_read.specs.declared.planned.Plan.{Plan}
 use Rattle.tb_live.specs.Plans.{IsReady}
 use Rattle.tb_core.specs.declared.step_refusal.StepRefusal.TheVariants.{Memory}
+use Rattle.tb_core.specs.Seen.{history}
+use Rattle.tb_live.proofs.FloorStepLemmas.{floor_after, floor_raised}
 use Rattle.tb_live.proofs.StepLemmas.{longer, held, for_least, for_least_held, enters_held, live_least}
 use Rattle.tb_live.proofs.RunLemmas.{shown}
 use Rattle.tb_live.specs.Moves.{LeastStepsFor}
@@ -21,8 +23,14 @@ invariant_of-self c =
     let ready = subst (λ (o : Option Plan). IsReady i.program i.core.run o) c.in-Ok-Some.field-0-is c.in-Ok-Some.ensures in
     let l = live_least c.args.seat i.program i.limit i.journal.items i.control i.core.run c.args.self.now.session (ap (λ (h : Held). h.session) c.self.view_is) (c.self.invariant.0, c.self.invariant.1) c.in-Ok-Some.plan ready
     c.enter_step.new.journal.items c.enter_step.new.control c.enter_step.new.core.run c.enter_step.result c.enter_step.ensures.entered
-    in
-    (l.keeps.sound, l.keeps.lawful, c.enter_step.ensures.serves i.program c.self.invariant.2)
+    in (
+      l.keeps.sound,
+      l.keeps.lawful,
+      c.enter_step.ensures.serves i.program c.self.invariant.2,
+      floor_after i.limit c.args.seat i.program i.core.run c.enter_step.new.core.run c.in-Ok-Some.plan.config.task c.in-Ok-Some.plan i.journal.items c.enter_step.new.journal.items i.control c.enter_step.new.control c.enter_step.result c.self.invariant.0.fits ready.0
+          c.enter_step.ensures.entered c.raise.new.self c.enter_step.new.floor c.enter_step.ensures.carried c.enter_step.ensures.stays
+          (floor_raised i.program (history i.core.run) c.in-Ok-Some.plan.config.task c.raise.new.self ready.1 c.raise.ensures),
+    )
 
 pub returns-clause-stepped : goal.returns-clause-stepped
 returns-clause-stepped c =
