@@ -1,12 +1,15 @@
 #!/usr/bin/env python3
 """Refuses each allocation in turn: of the tests whose name says `refused_growth`, and of whole sessions.
 
-    tools/refuse_memory.py [SESSION..]        after `rt ci`, or `rt test` in each crate and `./run` once
+    tools/refuse_memory.py [--program P] [SESSION..]        after `rt ci`, or `rt test` in each crate and `./run` once
 
-Without a session these are the examples and two stored cases. A test has to pass whichever allocation fails: it makes a refused call again, and asks that nothing
+Without a session these are the examples and two stored cases, of which one once more with four workers.
+A test has to pass whichever allocation fails: it makes a refused call again, and asks that nothing
 had changed. A session has to give its whole output, or a beginning of it that ends with a whole
-reply, and then `taskback: memory` and status 3.
+reply, and then `taskback: memory` and status 3. What several workers write is up to their schedule: of
+them whole lines are asked, and at status 0 the last two lines.
 """
+import argparse
 import glob
 import os
 import re
@@ -15,6 +18,8 @@ import sys
 import tempfile
 
 TOP = os.path.join(os.path.dirname(os.path.abspath(__file__)), '..')
+# whoever takes the steps, it ends with one number in its cell
+SUMS = 'sums_that_exclude_each_other'
 
 
 def run(command, library, number, text=b''):
@@ -40,12 +45,39 @@ def refuse_each(name, command, library, is_right, text=b''):
 
 
 def sessions():
-    stored = ('sums_that_exclude_each_other', 'views_of_order_and_exclusion')
+    stored = (SUMS, 'views_of_order_and_exclusion')
     return sorted(glob.glob(os.path.join(TOP, 'examples/*.session'))) + [os.path.join(TOP, 'crates/tb_session_rows/data', name + '.session') for name in stored]
 
 
+def has_workers(text):
+    """Whether some `go` of the session has several workers."""
+    return re.search(rb'^go ([2-9]|[1-9][0-9])\b', text, re.M) is not None
+
+
+def by_four(text):
+    """The session with four workers in place of one."""
+    return text.replace(b'\ngo 1 ', b'\ngo 4 ')
+
+
+def judge(whole, text):
+    """What tells whether an answer to the session is right, where with all memory it is `whole`."""
+    workers, lines = has_workers(text), whole.splitlines()
+
+    def is_right(status, out, err):
+        if status == 0:
+            return err == b'' and (out.splitlines()[-2:] == lines[-2:] if workers else out == whole)
+        ends = out == b'' or out.endswith(b'\n')
+        return status == 3 and err == b'taskback: memory\n' and ends and (workers or whole.startswith(out))
+
+    return is_right
+
+
 def main():
-    wrong = 0
+    args = argparse.ArgumentParser(description=__doc__, formatter_class=argparse.RawDescriptionHelpFormatter)
+    args.add_argument('--program', default=os.path.join(TOP, 'crates/taskback/out/taskback'))
+    args.add_argument('sessions', nargs='*')
+    given = args.parse_args()
+    program, wrong = os.path.abspath(given.program), 0
     with tempfile.TemporaryDirectory() as folder:
         library = os.path.join(folder, 'refuse.so')
         subprocess.run(['cc', '-shared', '-fPIC', '-O1', '-o', library, os.path.join(TOP, 'tools/refuse.c'), '-ldl'], check=True)
@@ -53,18 +85,14 @@ def main():
             listed = subprocess.run([tests, '--list'], capture_output=True, text=True).stdout
             for test in re.findall(r'[\w:]*refused_growth\w*', listed):
                 wrong += refuse_each(test, [tests, test], library, lambda status, out, err: status == 0)
-        program = os.path.join(TOP, 'crates/taskback/out/taskback')
-        for session in sys.argv[1:] or sessions():
+        for session in given.sessions or sessions():
             with open(session, 'rb') as opened:
-                text = opened.read()
-            whole = subprocess.run([program], input=text, capture_output=True).stdout
-
-            def is_right(status, out, err):
-                if status == 0:
-                    return out == whole and err == b''
-                return status == 3 and err == b'taskback: memory\n' and whole.startswith(out) and (out == b'' or out.endswith(b'\n'))
-
-            wrong += refuse_each(os.path.basename(session), [program], library, is_right, text)
+                stored = opened.read()
+            texts = [stored, by_four(stored)] if os.path.basename(session) == SUMS + '.session' else [stored]
+            for text in texts:
+                name = os.path.basename(session) + (' by four' if text != stored else '')
+                whole = subprocess.run([program], input=text, capture_output=True).stdout
+                wrong += refuse_each(name, [program], library, judge(whole, text), text)
     sys.exit(1 if wrong else 0)
 
 

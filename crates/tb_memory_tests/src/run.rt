@@ -1,0 +1,63 @@
+//! A run to ask, and what is asked for by name.
+
+ghost use Rattle.std.specs.Prelude.{◌≤◌};
+
+use std::alloc::{AllocGlobal, Global};
+use std::process::Abort;
+use tb_live::{Live, StepRefusal};
+use tb_model::{StepId, TaskName};
+use tb_read::read;
+
+/// A load and a later store of two tasks that race, and a group with a task that waits.
+const TEXT: &[u8] = b"cells 1\ncell 0 5\nbody main 0\ntask a\ntask b\ntaskgroup\n\
+    task c depend out 0\ntask c depend in 0\nend\nend\nbody a 0\nload r0 0\nprint r0\nend\n\
+    body b 0\nlet r0 1\nstore 0 9\nend\nbody c 0\nend\n";
+
+/// The tasks that have taken these steps.
+const STEPS: [&str; 13] = [
+    "0", "0", "0", "0", "0", "0", "0.1", "0.1", "0.1", "0.2", "0.2", "0.2", "0.2",
+];
+
+pub fn task(rt: &(impl Abort + AllocGlobal), text: &str) -> TaskName {
+    TaskName::parse(rt.alloc(), text.as_bytes()).expect(rt, text)
+}
+
+pub fn step(rt: &(impl Abort + AllocGlobal), text: &str) -> StepId {
+    StepId::parse(rt.alloc(), text.as_bytes()).expect(rt, text)
+}
+
+fn opened_once(alloc: Global, seats: u32) -> Option<Live>
+    requires { seats ≤ 65 }
+{
+    let program = match read(alloc, TEXT) {
+        Ok(program) => program,
+        Err(_) => return None,
+    };
+    match Live::open(alloc, program, 200, seats) {
+        Ok(live) => Some(live),
+        Err(_) => None,
+    }
+}
+
+/// A run without steps.
+pub fn opened(rt: &(impl Abort + AllocGlobal)) -> Live {
+    match opened_once(rt.alloc(), 3) {
+        Some(live) => live,
+        None => opened_once(rt.alloc(), 3).expect(rt, "memory is there again"),
+    }
+}
+
+/// A step of the task for seat 0.
+pub fn take(rt: &(impl Abort + AllocGlobal), live: &mut Live, name: &str) {
+    let task = task(rt, name);
+    let count = live.core().count();
+    let taken = again!(rt; live.step(&task), StepRefusal::Memory, live.core().count() == count);
+    assert!(rt; taken.is_ok(), "{name}");
+}
+
+/// Takes the steps that the other tests begin with.
+pub fn take_all(rt: &(impl Abort + AllocGlobal), live: &mut Live) {
+    for name in STEPS {
+        take(rt, live, name);
+    }
+}

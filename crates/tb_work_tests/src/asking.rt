@@ -1,0 +1,106 @@
+//! What a seat asks of a run, with the answers as numbers.
+
+use std::alloc::AllocGlobal;
+use std::process::Abort;
+use std::sync::Wait;
+use tb_live::{Claim, Work};
+use tb_model::{StepId, TaskName};
+use tb_read::{Plan, plan};
+use tb_work::{Refused, Seat, Shared, Team};
+
+fn task(rt: &(impl Abort + AllocGlobal), text: &str) -> TaskName {
+    TaskName::parse(rt.alloc(), text.as_bytes()).expect(rt, text)
+}
+
+fn step(rt: &(impl Abort + AllocGlobal), text: &str) -> StepId {
+    StepId::parse(rt.alloc(), text.as_bytes()).expect(rt, text)
+}
+
+fn evaluated(rt: &(impl Abort + AllocGlobal), work: &Work) -> Plan {
+    assert!(rt; work.instr.line == work.config.at);
+    plan(rt.alloc(), &work.instr, &work.config).expect(rt, "a plan")
+}
+
+/// The plan of the task, which the seat claims then.
+pub fn planned<N: Team, R: Wait + Abort + AllocGlobal>(
+    rt: &R,
+    shared: &Shared<N>,
+    seat: &Seat<N>,
+    name: &str,
+) -> Plan {
+    match shared.claim_task(rt, seat, &task(rt, name)) {
+        Ok(work) => evaluated(rt, &work),
+        Err(_) => panic!(rt; "a claim on {name}"),
+    }
+}
+
+/// The plan of the least task that no other seat claims. It stands at this line.
+pub fn planned_at<N: Team, R: Wait + Abort + AllocGlobal>(
+    rt: &R,
+    shared: &Shared<N>,
+    seat: &Seat<N>,
+    line: u32,
+) -> Plan {
+    match shared.claim(rt, seat) {
+        Ok(Claim::Work(work)) => {
+            assert_eq!(rt; work.config.at, line);
+            evaluated(rt, &work)
+        }
+        _ => panic!(rt; "work at {line}"),
+    }
+}
+
+/// The place of the entry, or 100 more than the number of the refusal.
+pub fn committed<N: Team, R: Wait>(
+    rt: &R,
+    shared: &Shared<N>,
+    seat: &mut Seat<N>,
+    plan: Plan,
+) -> u32 {
+    match shared.commit(rt, seat, plan) {
+        Ok(place) => place,
+        Err(Refused::CellTaken) => 111,
+        Err(Refused::Run { refusal }) => 100 + u32::from(refusal.number()),
+    }
+}
+
+/// How many steps go, or 100 more than the number of the refusal.
+pub fn rolled<N: Team, R: Wait + Abort + AllocGlobal>(
+    rt: &R,
+    shared: &Shared<N>,
+    seat: &mut Seat<N>,
+    id: &str,
+) -> usize {
+    match shared.roll(rt, seat, &step(rt, id)) {
+        Ok(removed) => removed.len(),
+        Err(Refused::CellTaken) => 111,
+        Err(Refused::Run { refusal }) => 100 + usize::from(refusal.number()),
+    }
+}
+
+/// 1 where the step goes, or 100 more than the number of the refusal.
+pub fn undone<N: Team, R: Wait + Abort + AllocGlobal>(
+    rt: &R,
+    shared: &Shared<N>,
+    seat: &mut Seat<N>,
+    id: &str,
+) -> u32 {
+    match shared.undo(rt, seat, &step(rt, id)) {
+        Ok(_) => 1,
+        Err(Refused::CellTaken) => 111,
+        Err(Refused::Run { refusal }) => 100 + u32::from(refusal.number()),
+    }
+}
+
+/// Steps of the tasks for the seat, one after another.
+pub fn step_all<N: Team, R: Wait + Abort + AllocGlobal>(
+    rt: &R,
+    shared: &Shared<N>,
+    seat: &mut Seat<N>,
+    names: &[&str],
+) {
+    for name in names {
+        let plan = planned(rt, shared, seat, *name);
+        assert!(rt; committed(rt, shared, seat, plan) < 100, "{name}");
+    }
+}

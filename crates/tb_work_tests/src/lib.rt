@@ -1,0 +1,23 @@
+//! Tests of a run that threads share, by the calls of `tb_work`.
+//! They stand apart from it, so that its proofs are not checked once more with them. One function owns
+//! the team of each test: to prove that a team is taken apart is dear.
+#![tactic(auto)]
+
+#[cfg(test)]
+mod asking;
+#[cfg(test)]
+mod beside;
+#[cfg(test)]
+mod gates;
+#[cfg(test)]
+mod goes;
+#[cfg(test)]
+mod meeting;
+#[cfg(test)]
+mod memory;
+#[cfg(test)]
+mod scenario;
+#[cfg(test)]
+mod team;
+#[cfg(test)]
+mod withdrawn;
