@@ -83,7 +83,7 @@ front_cut entries m n y low high here =
     history_cut (take m entries) n y (omega (arith, low, high, length-take m entries)) (here ∙ sym (get_or-take m entries n y low))
     ∙ ap (λ (es : List Entry). history_of (drop (suc n) (take m entries)) ++ y.event ∷ history_of es) (take-take n m entries (omega (arith, low)))
 
-one_more : (entries : List Entry) (n : ℕ) (y : Entry) → n < length entries → y ≡ get_or entries n y → history_of (take (suc n) entries) ≡ y.event ∷ history_of (take n entries)
+pub one_more : (entries : List Entry) (n : ℕ) (y : Entry) → n < length entries → y ≡ get_or entries n y → history_of (take (suc n) entries) ≡ y.event ∷ history_of (take n entries)
 one_more entries n y low here =
     let next : suc n ≡ n + 1 = omega arith in
     ap (λ (m : ℕ). history_of (take m entries)) next ∙ history_more entries n y low here
@@ -302,7 +302,7 @@ apart_unless true = refl
 apart_unless false = refl
 
 module _ (exclusion : Bool) (entries : List Entry) (at p : ℕ) (front : p < at) (within : at < length entries) (x : Entry) (here : x ≡ get_or entries at x) (o : Option Conflict)
-    (told : (u : Entry) → slice_get (take at entries) p ≡ Some u → o ≡ contested (order_of exclusion) (history_of (take at entries)) (get_or entries at x).event (history_of (take p (take at entries))) u.event)
+    (told : (v u : Entry) → slice_get entries at ≡ Some v → slice_get entries p ≡ Some u → o ≡ contested (order_of exclusion) (history_of (take at entries)) v.event (history_of (take p entries)) u.event)
     (v : Entry) (v_is : slice_get entries at ≡ Some v)
   where
     abbrev order : Order
@@ -327,10 +327,7 @@ module _ (exclusion : Bool) (entries : List Entry) (at p : ℕ) (front : p < at)
     same_entry = some_same v x (sym v_is ∙ read entries at x within here)
 
     named_so : o ≡ contested order G v.event P y.event
-    named_so =
-        told y (slice_get_read (take at entries) (length (take at entries)) p y refl (omega (arith, front, length-take at entries, within)) (y_here ∙ sym (get_or-take at entries p y front)))
-        ∙ ap (λ (es : List Entry). contested order G (get_or entries at x).event (history_of es) y.event) (take-take p at entries (omega (arith, front)))
-        ∙ ap (λ (z : Entry). contested order G z.event P y.event) (sym here ∙ sym same_entry)
+    named_so = told v y v_is (read entries p y behind y_here)
 
     race_named : race_with order entries at v.event p (slice_get entries p) ≡ option_map (as_race order (step_of P y.event) (step_of G v.event)) o
     race_named =

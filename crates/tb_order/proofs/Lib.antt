@@ -2,3 +2,10 @@ pub mod ChainLemmas
 pub mod AnswerLemmas
 pub mod SharingLemmas
 pub mod LaneLemmas
+pub mod AfterLemmas
+pub mod ClockLemmas
+pub mod LinkLemmas
+pub mod SoundLemmas
+pub mod OwnLemmas
+pub mod NumberLemmas
+pub mod TableLemmas

@@ -1,2 +1,4 @@
 pub mod Linking
 pub mod Lanes
+pub mod Clocks
+pub mod Numbering

@@ -22,7 +22,7 @@ pub fn is_linked(relation: Relation, front: &[Entry], v: &Event, u: &Event) -> b
 }
 
 /// Whether a need of the kind is one of synchronisation, where exclusion counts or doesn't.
-fn counts(exclusion: bool, kind: Option<NeedKind>) -> bool
+pub fn counts(exclusion: bool, kind: Option<NeedKind>) -> bool
     ensures { result ≡ Linking.counts_in exclusion kind }
 {
     match kind {

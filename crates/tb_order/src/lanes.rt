@@ -47,7 +47,7 @@ pub fn lane_for<'a>(lanes: &'a [Vec<usize>], action: &Action) -> &'a [usize]
     }
 }
 
-fn lane_at(lanes: &[Vec<usize>], i: usize) -> &[usize]
+pub fn lane_at(lanes: &[Vec<usize>], i: usize) -> &[usize]
     ensures { result.now ≡ kept_in lanes.now i }
 {
     if i < lanes.len() {

@@ -2,11 +2,16 @@
 #![tactic(auto)]
 
 mod asking;
+mod clocks;
 mod immediate;
 mod kinds;
 mod lanes;
+mod merging;
+mod numbering;
 mod passing;
 mod racing;
 mod relation;
+mod tasks;
+mod waiting;
 
 pub use asking::{causes, races};

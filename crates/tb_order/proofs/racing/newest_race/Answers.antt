@@ -1,32 +1,26 @@
 use Rattle.std.proofs.Common.{get_or, refl, arith}
-use Rattle.std.proofs.lemmas.List.{length-take}
-use Rattle.tb_core.proofs.FirstLemmas.{front_legal}
+use Rattle.tb_cause.proofs.ConeLemmas.{there}
 use Rattle.tb_order.specs.Linking.{order_of}
 use Rattle.tb_order.proofs.LaneLemmas.{race_passed, race_found, race_nowhere, in_front}
 use Rattle.tb_order.proofs.racing.newest_race.Goals as goal
 
-pub contested-requires-clause-legal : goal.contested-requires-clause-legal
-contested-requires-clause-legal c =
-    let x = c.index-entries-at in
-    front_legal c.args.entries.now c.args.at x.result c.requires.within x.is c.requires.legal
-
-pub contested-requires-clause-within : goal.contested-requires-clause-within
-contested-requires-clause-within c =
-    let x = c.index-entries-at in
-    omega (arith, length-take c.args.at c.args.entries.now, c.requires.within, in_front c.args.entries.now c.args.at x.result c.requires.within x.is c.args.lane.now c.requires.lane c.loop-first.first-index c.loop-first-test.true)
+pub contested-requires-clause-first : goal.contested-requires-clause-first
+contested-requires-clause-first c =
+    let x = there c.args.entries.now c.args.at c.requires.within in
+    in_front c.args.entries.now c.args.at x.0 c.requires.within x.1 c.args.lane.now c.requires.lane c.loop-first.first-index c.loop-first-test.true
 
 pub step_at-requires-clause-within : goal.step_at-requires-clause-within
 step_at-requires-clause-within c =
-    let x = c.index-entries-at in
-    omega (arith, c.requires.within, in_front c.args.entries.now c.args.at x.result c.requires.within x.is c.args.lane.now c.requires.lane c.loop-first.first-index c.loop-first-test.true)
+    let x = there c.args.entries.now c.args.at c.requires.within in
+    omega (arith, c.requires.within, in_front c.args.entries.now c.args.at x.0 c.requires.within x.1 c.args.lane.now c.requires.lane c.loop-first.first-index c.loop-first-test.true)
 
 pub returns-in-Some : goal.returns-in-Some
 returns-in-Some c v is =
     let i = c.loop-first.first-index in
     let entries = c.args.entries.now in
     let lane = c.args.lane.now in
-    let x = c.index-entries-at in
-    race_found c.args.exclusion entries c.args.at (get_or lane i 0) (in_front entries c.args.at x.result c.requires.within x.is lane c.requires.lane i c.loop-first-test.true) c.requires.within x.result x.is c.in_ok-shares.field-0 c.in_ok-shares.ensures
+    let x = there entries c.args.at c.requires.within in
+    race_found c.args.exclusion entries c.args.at (get_or lane i 0) (in_front entries c.args.at x.0 c.requires.within x.1 lane c.requires.lane i c.loop-first-test.true) c.requires.within x.0 x.1 c.contested.result c.contested.ensures
     v is lane i c.loop-first-test.true refl (c.loop-first.invariant v is) (c.requires.lane v is) c.in-Some.shares c.in-Some.is c.in_ok-step_at.field-0 c.in_ok-step_at-2.field-0 c.in_ok-step_at.ensures c.in_ok-step_at-2.ensures
 
 pub loop-first-preserved : goal.loop-first-preserved
@@ -34,8 +28,8 @@ loop-first-preserved c v is =
     let i = c.loop-first.first-index in
     let entries = c.args.entries.now in
     let lane = c.args.lane.now in
-    let x = c.index-entries-at in
-    race_passed c.args.exclusion entries c.args.at (get_or lane i 0) (in_front entries c.args.at x.result c.requires.within x.is lane c.requires.lane i c.loop-first-test.true) c.requires.within x.result x.is c.in_ok-shares.field-0 c.in_ok-shares.ensures
+    let x = there entries c.args.at c.requires.within in
+    race_passed c.args.exclusion entries c.args.at (get_or lane i 0) (in_front entries c.args.at x.0 c.requires.within x.1 lane c.requires.lane i c.loop-first-test.true) c.requires.within x.0 x.1 c.contested.result c.contested.ensures
     v is lane i c.loop-first-test.true refl (c.loop-first.invariant v is) c.in_default.is
 
 pub returns : goal.returns

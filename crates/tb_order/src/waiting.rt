@@ -1,0 +1,238 @@
+//! For which ends a step waits.
+
+ghost use Rattle.std.specs.Prelude.{◌≡◌, ◌<◌, ◌≤◌, ◌∷◌, ◌||◌, ℕ, List, Bool, length, take, slice_get, IsFalse, IsTrue, Some, false};
+ghost use Rattle.tb_model.specs.declared.action.Action.{Action};
+ghost use Rattle.tb_core.specs.declared.entry.Entry.{Entry};
+ghost use Rattle.tb_core.specs.Scans.{AreLegal, history_of};
+ghost use Rattle.tb_model.specs.Facts;
+ghost use Rattle.tb_model.specs.Names.{Name};
+ghost use Rattle.tb_model.specs.Items.{has_no_items, is_before, some_meet};
+ghost use Rattle.tb_model.specs.State.{items_in};
+ghost use Rattle.tb_races.specs.Kinds;
+ghost use Rattle.tb_order.specs.Clocks.{AreTasks, both_at, is_end_at, links_at, of_one};
+ghost use Rattle.tb_order.specs.Linking;
+ghost use Rattle.tb_order.specs.Linking.{order_of};
+
+use crate::kinds::counts;
+use crate::tasks::{Tasks, step_before};
+use tb_core::{Entry, is_member};
+use tb_model::{Action, Item, TaskName, some_apart, some_before};
+use tb_races::NeedKind;
+
+/// Whether the step at this place may be linked to ends of others.
+pub fn may_wait(entries: &[Entry], tasks: &Tasks, at: usize) -> bool
+    requires tasks { AreTasks entries.now tasks.now }
+    requires at { at < length entries.now }
+    ensures { IsFalse result → (exclusion : Bool) (x : ℕ) → x < at → IsTrue (is_end_at entries.now x)
+        → IsTrue (links_at (order_of exclusion) entries.now at x) → IsTrue (both_at of_one entries.now at x) }
+{
+    waits_by_itself(&entries[at].event.action) || is_held(entries, tasks, at)
+}
+
+/// Whether the action is one that waits.
+fn waits_by_itself(action: &Action) -> bool
+    ensures { IsFalse result → (H : Facts.History) (t u : Name) → Kinds.wait_kind H t action.now u ≡ None }
+{
+    matches!(action, Action::Start | Action::Wait { .. } | Action::Close)
+}
+
+/// Whether the task generated an undeferred child right in front of the step at this place.
+fn is_held(entries: &[Entry], tasks: &Tasks, at: usize) -> bool
+    requires tasks { AreTasks entries.now tasks.now }
+    requires at { at < length entries.now }
+    ensures { IsFalse result → (v : Entry) → slice_get entries.now at ≡ Some v → (u : Name) →
+        Facts.holds (Facts.own v.event.task (history_of (take at entries.now))) u ≡ false }
+{
+    match step_before(tasks, at) {
+        Some(before) => holds_some(&entries[before].event.action),
+        None => false,
+    }
+}
+
+fn holds_some(action: &Action) -> bool
+    ensures { IsFalse result → (acts : List Action) (u : Name) → Facts.holds (action.now ∷ acts) u ≡ false }
+{
+    match action {
+        Action::Spawn { deferred, .. } => !*deferred,
+        _ => false,
+    }
+}
+
+/// Whether the task of the step at this place stood at its undeferred child `u`.
+fn holds(entries: &[Entry], tasks: &Tasks, at: usize, u: &TaskName) -> bool
+    requires tasks { AreTasks entries.now tasks.now }
+    requires at { at < length entries.now }
+    ensures { (v : Entry) → slice_get entries.now at ≡ Some v →
+        result ≡ Facts.holds (Facts.own v.event.task (history_of (take at entries.now))) u.now }
+{
+    match step_before(tasks, at) {
+        Some(before) => is_undeferred(&entries[before].event.action, u),
+        None => false,
+    }
+}
+
+fn is_undeferred(action: &Action, u: &TaskName) -> bool
+    ensures { (acts : List Action) → result ≡ Facts.holds (action.now ∷ acts) u.now }
+{
+    match action {
+        Action::Spawn {
+            child,
+            deferred,
+            ..
+        } => !*deferred && child == u,
+        _ => false,
+    }
+}
+
+/// Whether the step at this place is linked to the end at the other, where exclusion counts or
+/// doesn't.
+pub fn waits(exclusion: bool, entries: &[Entry], tasks: &Tasks, at: usize, end: usize) -> bool
+    requires legal { AreLegal entries.now }
+    requires tasks { AreTasks entries.now tasks.now }
+    requires at { at < length entries.now }
+    requires end { end < at }
+    ensures { IsTrue (is_end_at entries.now end) → result ≡ links_at (order_of exclusion) entries.now at end }
+{
+    let v = &entries[at].event;
+    let u = &entries[end].event;
+    let items = items_of(entries, tasks, at);
+    let others = items_of(entries, tasks, end);
+    let held = holds(entries, tasks, at, &u.task);
+    u.is_of(&v.task)
+        || counts(
+            exclusion,
+            end_kind(
+                &entries[..at],
+                &v.task,
+                items,
+                &v.action,
+                &u.task,
+                others,
+                held,
+            ),
+        )
+}
+
+/// Why the action of `t` comes behind the end of `u`, where these are their items, and `t` stood at
+/// `u` or didn't.
+fn end_kind(
+    front: &[Entry],
+    t: &TaskName,
+    items: &[Item],
+    action: &Action,
+    u: &TaskName,
+    others: &[Item],
+    held: bool,
+) -> Option<NeedKind>
+    requires legal { AreLegal front.now }
+    requires items { items.now ≡ Facts.items_of t.now (history_of front.now) }
+    requires others { others.now ≡ Facts.items_of u.now (history_of front.now) }
+    requires held { held ≡ Facts.holds (Facts.own t.now (history_of front.now)) u.now }
+    ensures { result ≡ Kinds.end_kind (history_of front.now) t.now action.now u.now }
+{
+    match wait_kind(front, t, items, action, u, others) {
+        Some(kind) => Some(kind),
+        None => {
+            if held {
+                Some(NeedKind::Undeferred)
+            } else {
+                None
+            }
+        }
+    }
+}
+
+/// Why it waits for that end.
+fn wait_kind(
+    front: &[Entry],
+    t: &TaskName,
+    items: &[Item],
+    action: &Action,
+    u: &TaskName,
+    others: &[Item],
+) -> Option<NeedKind>
+    requires legal { AreLegal front.now }
+    requires items { items.now ≡ Facts.items_of t.now (history_of front.now) }
+    requires others { others.now ≡ Facts.items_of u.now (history_of front.now) }
+    ensures { result ≡ Kinds.wait_kind (history_of front.now) t.now action.now u.now }
+{
+    match action {
+        Action::Start => start_kind(front, t, items, u, others),
+        Action::Wait { items } => {
+            if t.is_parent_of(u) && covers(items.as_slice(), others) {
+                Some(NeedKind::Wait)
+            } else {
+                None
+            }
+        }
+        Action::Close => {
+            if is_member(front, t, u) {
+                Some(NeedKind::Group)
+            } else {
+                None
+            }
+        }
+        _ => None,
+    }
+}
+
+/// Whether a `taskwait` with these items waits for a child with the others.
+fn covers(items: &[Item], others: &[Item]) -> bool
+    ensures { result ≡ (has_no_items items.now || some_meet is_before items.now others.now) }
+{
+    items.is_empty() || some_before(items, others)
+}
+
+/// Why the start of `t` waits for the end of `u`.
+fn start_kind(
+    front: &[Entry],
+    t: &TaskName,
+    items: &[Item],
+    u: &TaskName,
+    others: &[Item],
+) -> Option<NeedKind>
+    requires items { items.now ≡ Facts.items_of t.now (history_of front.now) }
+    requires others { others.now ≡ Facts.items_of u.now (history_of front.now) }
+    ensures { result ≡ Linking.start_kind (history_of front.now) t.now u.now }
+{
+    if u.is_elder_of(t) && some_before(items, others) {
+        Some(NeedKind::Before)
+    } else if (u.is_elder_of(t) && some_apart(items, others))
+        || (t.is_elder_of(u) && some_apart(others, items))
+    {
+        Some(NeedKind::Apart)
+    } else {
+        None
+    }
+}
+
+/// The depend items of the task of the step at this place.
+fn items_of<'a>(entries: &'a [Entry], tasks: &Tasks, at: usize) -> &'a [Item]
+    requires legal { AreLegal entries.now }
+    requires tasks { AreTasks entries.now tasks.now }
+    requires at { at < length entries.now }
+    ensures { (n : ℕ) → at ≤ n → n < length entries.now → (v : Entry) → slice_get entries.now at ≡ Some v →
+        result.now ≡ Facts.items_of v.event.task (history_of (take n entries.now)) }
+{
+    let origin = tasks.origins[at];
+    if origin == 0 {
+        return &[];
+    }
+    named_items(entries, origin - 1)
+}
+
+fn named_items(entries: &[Entry], at: usize) -> &[Item]
+    requires { at < length entries.now }
+    ensures { (v : Entry) → slice_get entries.now at ≡ Some v → result.now ≡ items_in (Some v.event.action) }
+{
+    action_items(&entries[at].event.action)
+}
+
+fn action_items(action: &Action) -> &[Item]
+    ensures { result.now ≡ items_in (Some action.now) }
+{
+    match action {
+        Action::Spawn { items, .. } => items.as_slice(),
+        _ => &[],
+    }
+}
