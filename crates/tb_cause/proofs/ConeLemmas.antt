@@ -3,7 +3,7 @@ use Rattle.std.proofs.Common.{◌≡◌, ◌<◌, ◌≤◌, ◌+◌, ℕ, suc, 
 use Rattle.std.specs.List.{list_any, All}
 use Rattle.std.specs.Option.{option_to_list}
 use Rattle.std.proofs.lemmas.Bool.{or_left, and_right}
-use Rattle.std.proofs.lemmas.List.{at_drop_more, length-map, length-reverse, length-take-le, reverse-append, take_all}
+use Rattle.std.proofs.lemmas.List.{at_drop_more, length-map, map-append, length-reverse, length-take-le, reverse-append, take_all}
 use Rattle.std.proofs.lemmas.List.Elements.{All-push}
 use Rattle.std.proofs.lemmas.List.Sorted.{list_any-IsPermutation, IsPermutation-reverse}
 use Rattle.std.proofs.lemmas.Option.{slice_get_read, slice_get_cases}
@@ -24,7 +24,7 @@ use Rattle.tb_core.specs.Soundness.{departure}
 use Rattle.tb_core.proofs.FirstLemmas.{step_read}
 use Rattle.tb_core.proofs.ScanLemmas.{history_more}
 use Rattle.tb_cause.specs.declared.cone.Cone.{Cone}
-use Rattle.tb_cause.specs.Chains.{IsCone, events_at, placed_at}
+use Rattle.tb_cause.specs.Chains.{AreAllFound, IsCone, events_at, placed_at}
 
 -- ---- the tests of the entries at some places
 
@@ -32,24 +32,6 @@ or_false : (b c : Bool) → b ≡ false → (b || c) ≡ c
 or_false b c h = ap (λ x. x || c) h
 
 module _ (entries : List Entry) (places : List ℕ) (i d : ℕ) (e : Entry) (within : i < length places) (inside : get_or places i d < length entries) (here : e ≡ get_or entries (get_or places i d) e) where
-  module _ (q : Event → Bool) where
-    next_event : list_any q (events_at entries (drop i places)) ≡ (q e.event || list_any q (events_at entries (drop (i + 1) places)))
-    next_event =
-        at_drop_more (λ l. list_any q (events_at entries l)) places i d within
-        ∙ ap (λ (o : Option Entry). list_any q (map (λ (x : Entry). x.event) (option_to_list o) ++ events_at entries (drop (i + 1) places))) (slice_get_read entries (length entries) (get_or places i d) e refl inside here)
-
-    abbrev found : Bool
-    found = q (get_or entries (get_or places i d) e).event
-
-    same : q e.event ≡ found
-    same = ap (λ (x : Entry). q x.event) here
-
-    pub event_passes : found ≡ true → list_any q (events_at entries (drop i places)) ≡ true
-    event_passes h = next_event ∙ or_left (q e.event) _ (same ∙ h)
-
-    pub event_passed : found ≡ false → list_any q (events_at entries (drop i places)) ≡ list_any q (events_at entries (drop (i + 1) places))
-    event_passed h = next_event ∙ or_false (q e.event) _ (same ∙ h)
-
   module _ (u : Event) where
     abbrev placed : Option Entry → List Placed
     placed o = map (λ (x : Entry). record { event = x.event; front = history_of (take (get_or places i d) entries) }) (option_to_list o)
@@ -74,9 +56,9 @@ module _ (entries : List Entry) (places : List ℕ) (i d : ℕ) (e : Entry) (wit
 -- ---- what is found so far
 
 -- of the entries in front of later, these are e and all that need it; e is among them
-pub record Found (e : StepId) (entries : List Entry) (later : ℕ) (places : List ℕ) (steps : List StepId) : Type 0 where
+pub record Found (e : StepId) (entries : List Entry) (later : ℕ) (places : List ℕ) : Type 0 where
   pub their_places : places ≡ reverse (removed_places e (history_of (take later entries)))
-  pub their_steps : steps ≡ reverse (removed_steps e (history_of (take later entries)))
+  pub their_names : map (step_at entries) places ≡ map (λ (s : StepId). Some s) (reverse (removed_steps e (history_of (take later entries))))
   pub their_events : events_at entries places ≡ reverse (removed e (history_of (take later entries)))
   pub past : e.k ≤ length (own e.task (history_of (take later entries)))
 
@@ -116,10 +98,10 @@ module _ (entries : List Entry) (at : ℕ) (u : Entry) (within : at < length ent
   none : removed itself F ≡ []
   none = removed_none itself F (omega arith)
 
-  found_itself : Found itself entries (at + 1) (at ∷ []) (itself ∷ [])
+  found_itself : Found itself entries (at + 1) (at ∷ [])
   found_itself = record {
     their_places = places_are ∙ ap (λ H. reverse (removed_places itself H)) (sym more);
-    their_steps = steps_are ∙ ap (λ H. reverse (removed_steps itself H)) (sym more);
+    their_names = ap (λ (o : Option StepId). o ∷ []) (step_read entries at u within here) ∙ ap (map (λ (s : StepId). Some s)) (steps_are ∙ ap (λ H. reverse (removed_steps itself H)) (sym more));
     their_events = events_pushed entries [] at u within here ∙ events_are ∙ ap (λ H. reverse (removed itself H)) (sym more);
     past = subst (λ H. itself.k ≤ length (own itself.task H)) (sym more) (omega (arith, ap length (own_mine u.event.task u.event F (same_refl u.event.task))));
   }
@@ -146,16 +128,21 @@ some_same x y e = cc
 pub there : (entries : List Entry) (at : ℕ) → at < length entries → (e : Entry) × (e ≡ get_or entries at e)
 there entries at within = ⊎_elim (λ found. (found.0, sym found.3)) (λ past. absurd (omega (arith, past.0))) (slice_get_cases entries at).1
 
+-- an entry is read alike whatever stands for none
+pub one_entry : (entries : List Entry) (at : ℕ) (d e : Entry) → at < length entries → d ≡ get_or entries at d → e ≡ get_or entries at e → get_or entries at d ≡ e
+one_entry entries at d e within first second =
+    sym first ∙ some_same d e (sym (slice_get_read entries (length entries) at d refl within first) ∙ slice_get_read entries (length entries) at e refl within second)
+
 -- the pass begins with the step itself
-pub found_first : (entries : List Entry) (at : ℕ) (e : StepId) → at < length entries → step_at entries at ≡ Some e → (places : List ℕ) → places ≡ at ∷ [] → (steps : List StepId) → steps ≡ e ∷ [] → Found e entries (at + 1) places steps
-found_first entries at e within is places one_place steps one_step =
+pub found_first : (entries : List Entry) (at : ℕ) (e : StepId) → at < length entries → step_at entries at ≡ Some e → (places : List ℕ) → places ≡ at ∷ [] → Found e entries (at + 1) places
+found_first entries at e within is places one_place =
     let u = there entries at within in
     let same = some_same _ _ (sym (step_read entries at u.0 within u.1) ∙ is) in
-    let found = subst (λ i. Found i entries (at + 1) (at ∷ []) (i ∷ [])) same (found_itself entries at u.0 within u.1) in
-    subst (λ s. Found e entries (at + 1) places s) (sym one_step) (subst (λ p. Found e entries (at + 1) p (e ∷ [])) (sym one_place) found)
+    let found = subst (λ i. Found i entries (at + 1) (at ∷ [])) same (found_itself entries at u.0 within u.1) in
+    subst (λ p. Found e entries (at + 1) p) (sym one_place) found
 
 -- one entry more
-module _ (e : StepId) (entries : List Entry) (later : ℕ) (places : List ℕ) (steps : List StepId) (w : Entry) (within : later < length entries) (here : w ≡ get_or entries later w) (so_far : Found e entries later places steps) where
+module _ (e : StepId) (entries : List Entry) (later : ℕ) (places : List ℕ) (w : Entry) (within : later < length entries) (here : w ≡ get_or entries later w) (so_far : Found e entries later places) where
   abbrev H : History
   H = history_of (take later entries)
 
@@ -174,44 +161,69 @@ module _ (e : StepId) (entries : List Entry) (later : ℕ) (places : List ℕ) (
   past_on : e.k ≤ length (own e.task (history_of (take (later + 1) entries)))
   past_on = subst (λ X. e.k ≤ length (own e.task X)) (sym more) (omega (arith, so_far.past, own_grows e.task w.event H))
 
-  abbrev tested : Bool
-  tested = list_any (needs H (get_or entries later w).event) (events_at entries places)
-
-  same_test : list_any (needs H w.event) (events_at entries places) ≡ tested
-  same_test = ap (λ (x : Entry). list_any (needs H x.event) (events_at entries places)) here
-
-  pub found_same : tested ≡ false → (places' : List ℕ) → places' ≡ places → (steps' : List StepId) → steps' ≡ steps → Found e entries (later + 1) places' steps'
-  found_same h places' same_places steps' same_steps =
-      let g = goes false (same_test ∙ h) in record {
+  pub found_same : list_any (needs H w.event) (events_at entries places) ≡ false → (places' : List ℕ) → places' ≡ places → Found e entries (later + 1) places'
+  found_same h places' same_places =
+      let g = goes false h in record {
         their_places = same_places ∙ so_far.their_places ∙ ap (λ b. reverse (prepend_if b (length H) (removed_places e H))) (sym g) ∙ ap (λ X. reverse (removed_places e X)) (sym more);
-        their_steps = same_steps ∙ so_far.their_steps ∙ ap (λ b. reverse (prepend_if b (step_of H w.event) (removed_steps e H))) (sym g) ∙ ap (λ X. reverse (removed_steps e X)) (sym more);
+        their_names =
+            ap (map (step_at entries)) same_places ∙ so_far.their_names
+            ∙ ap (map (λ (s : StepId). Some s)) (ap (λ b. reverse (prepend_if b (step_of H w.event) (removed_steps e H))) (sym g) ∙ ap (λ X. reverse (removed_steps e X)) (sym more));
         their_events = ap (events_at entries) same_places ∙ so_far.their_events ∙ ap (λ b. reverse (prepend_if b w.event (removed e H))) (sym g) ∙ ap (λ X. reverse (removed e X)) (sym more);
         past = past_on;
       }
 
-  pub found_more : tested ≡ true → (id : StepId) → step_at entries later ≡ Some id → (places' : List ℕ) → places' ≡ places ++ later ∷ [] → (steps' : List StepId) → steps' ≡ steps ++ id ∷ [] → Found e entries (later + 1) places' steps'
-  found_more h id is places' with_place steps' with_step =
-      let g = goes true (same_test ∙ h) in
-      let name = some_same _ _ (sym is ∙ step_read entries later w within here) in record {
+  pub found_more : list_any (needs H w.event) (events_at entries places) ≡ true → (places' : List ℕ) → places' ≡ places ++ later ∷ [] → Found e entries (later + 1) places'
+  found_more h places' with_place =
+      let g = goes true h in
+      let name : StepId = step_of H w.event in record {
         their_places =
             with_place ∙ ap₂ (λ P n. P ++ n ∷ []) so_far.their_places (sym (count_front entries later (omega (arith, within)))) ∙ sym (reverse-append (length H ∷ []) (removed_places e H))
             ∙ ap (λ b. reverse (prepend_if b (length H) (removed_places e H))) (sym g) ∙ ap (λ X. reverse (removed_places e X)) (sym more);
-        their_steps =
-            with_step ∙ ap₂ (λ P (n : StepId). P ++ n ∷ []) so_far.their_steps name ∙ sym (reverse-append (step_of H w.event ∷ []) (removed_steps e H))
-            ∙ ap (λ b. reverse (prepend_if b (step_of H w.event) (removed_steps e H))) (sym g) ∙ ap (λ X. reverse (removed_steps e X)) (sym more);
+        their_names =
+            ap (map (step_at entries)) with_place ∙ map-append (step_at entries) places (later ∷ [])
+            ∙ ap₂ (λ N (o : Option StepId). N ++ o ∷ []) so_far.their_names (step_read entries later w within here)
+            ∙ sym (map-append (λ (s : StepId). Some s) (reverse (removed_steps e H)) (name ∷ []))
+            ∙ ap (map (λ (s : StepId). Some s))
+            (sym (reverse-append (name ∷ []) (removed_steps e H))
+            ∙ ap (λ b. reverse (prepend_if b name (removed_steps e H))) (sym g) ∙ ap (λ X. reverse (removed_steps e X)) (sym more));
         their_events =
             ap (events_at entries) with_place ∙ events_pushed entries places later w within here ∙ ap (λ R. R ++ w.event ∷ []) so_far.their_events ∙ sym (reverse-append (w.event ∷ []) (removed e H))
             ∙ ap (λ b. reverse (prepend_if b w.event (removed e H))) (sym g) ∙ ap (λ X. reverse (removed e X)) (sym more);
         past = past_on;
       }
 
+somes_same : (xs ys : List StepId) → map (λ (x : StepId). Some x) xs ≡ map (λ (y : StepId). Some y) ys → xs ≡ ys
+somes_same [] [] h = refl
+somes_same [] (y ∷ ys) h = absurd (no h)
+  where
+    no : ◌≡◌ {A = List (Option StepId)} [] (Some y ∷ map (λ (z : StepId). Some z) ys) → ⊥
+    no h = cc
+somes_same (x ∷ xs) [] h = absurd (no h)
+  where
+    no : ◌≡◌ {A = List (Option StepId)} (Some x ∷ map (λ (z : StepId). Some z) xs) [] → ⊥
+    no h = cc
+somes_same (x ∷ xs) (y ∷ ys) h = ap₂ (λ (z : StepId) zs. z ∷ zs) (some_same x y (first (Some x) (Some y) (map (λ (z : StepId). Some z) xs) (map (λ (z : StepId). Some z) ys) h)) (somes_same xs ys (rest (Some x) (Some y) (map (λ (z : StepId). Some z) xs) (map (λ (z : StepId). Some z) ys) h))
+  where
+    first : (a b : Option StepId) (ones others : List (Option StepId)) → a ∷ ones ≡ b ∷ others → a ≡ b
+    first a b ones others h = cc
+
+    rest : (a b : Option StepId) (ones others : List (Option StepId)) → a ∷ ones ≡ b ∷ others → ones ≡ others
+    rest a b ones others h = cc
+
 -- the pass ends with all
-pub found_all : (e : StepId) (entries : List Entry) (later : ℕ) (c : Cone) → later ≡ length entries → Found e entries later c.places.items c.steps.items → IsCone e (history_of entries) c
-found_all e entries later c end found =
+pub found_all : (e : StepId) (entries : List Entry) (later : ℕ) (places : List ℕ) → later ≡ length entries → Found e entries later places → AreAllFound e entries places
+found_all e entries later places end found =
     let all : take later entries ≡ entries = ap (λ n. take n entries) end ∙ take_all (length entries) entries (omega arith) in record {
       places = found.their_places ∙ ap (λ X. reverse (removed_places e (history_of X))) all;
-      steps = found.their_steps ∙ ap (λ X. reverse (removed_steps e (history_of X))) all;
+      names = found.their_names ∙ ap (λ X. map (λ (s : StepId). Some s) (reverse (removed_steps e (history_of X)))) all;
     }
+
+-- named, they are the cone
+pub named_cone : (e : StepId) (entries : List Entry) (c : Cone) → AreAllFound e entries c.places.items → map (λ (s : StepId). Some s) c.steps.items ≡ map (step_at entries) c.places.items → IsCone e (history_of entries) c
+named_cone e entries c found named = record {
+  places = found.places;
+  steps = somes_same c.steps.items (reverse (removed_steps e (history_of entries))) (named ∙ found.names);
+}
 
 pub all_pushed : (P : ℕ → Type 0) (xs xs' : List ℕ) (x : ℕ) → xs' ≡ xs ++ x ∷ [] → All P xs → P x → All P xs'
 all_pushed P xs xs' x same a p = subst (All P) (sym same) (All-push P xs x a p)

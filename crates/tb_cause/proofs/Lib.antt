@@ -2,3 +2,13 @@ pub mod ConeLemmas
 pub mod CauseLemmas
 pub mod NamingLemmas
 pub mod AnswerLemmas
+pub mod SetLemmas
+pub mod KeyLemmas
+pub mod KeyNeedLemmas
+pub mod ItemLemmas
+pub mod HasLemmas
+pub mod StandingLemmas
+pub mod KeyedLemmas
+pub mod NameLemmas
+pub mod SpawnLemmas
+pub mod GroupLemmas

@@ -18,17 +18,9 @@ use Rattle.tb_core.proofs.FirstLemmas.{step_read}
 use Rattle.tb_core.proofs.ScanLemmas.{history_more}
 use Rattle.tb_cause.specs.Chains.{first_number, placed_at}
 use Rattle.tb_cause.proofs.CauseLemmas.{placed_pushed}
-use Rattle.tb_cause.proofs.ConeLemmas.{Found, some_same, there, count_front}
+use Rattle.tb_cause.proofs.ConeLemmas.{some_same, there}
 
 -- ---- the step at a place
-
-own_within : (t : Name) (H : History) → length (own t H) ≤ length H
-own_within t [] = omega arith
-own_within t (v ∷ H) = at (is_of t v) (own_within t H)
-  where
-    at : (b : Bool) → length (own t H) ≤ length H → length (prepend_if b v.action (own t H)) ≤ suc (length H)
-    at true h = omega (arith, h)
-    at false h = omega (arith, h)
 
 module _ (entries : List Entry) (at : ℕ) (e : Entry) (within : at < length entries) (here : e ≡ get_or entries at e) where
   abbrev its : StepId
@@ -40,20 +32,9 @@ module _ (entries : List Entry) (at : ℕ) (e : Entry) (within : at < length ent
   is_that : (id : StepId) → step_at entries at ≡ Some id → its ≡ id
   is_that id h = some_same _ _ (sym is_its ∙ h)
 
-  -- its number is at most that of the entries
-  number_within : its.k ≤ length entries
-  number_within = omega (arith, own_within e.event.task (history_of (take at entries)), count_front entries at (omega (arith, within)), within)
-
   module _ (found : List StepId) (k : ℕ) (last : Some k ≡ first_number (get_or entries at e).event.task (reverse found)) where
     last_of : first_number its.task (reverse found) ≡ Some k
     last_of = ap (λ (x : Entry). first_number x.event.task (reverse found)) here ∙ sym last
-
-    module _ (in_front : (id : StepId) (n : ℕ) → step_at entries at ≡ Some id → first_number id.task (reverse found) ≡ Some n → id.k ≡ n + 1) where
-      pub behind_last : (id : StepId) → step_at entries at ≡ Some id → k + 1 ≡ id.k
-      behind_last id h = sym (in_front its k is_its last_of) ∙ ap (λ (i : StepId). i.k) (is_that id h)
-
-      pub behind_within : k + 1 ≤ length entries
-      behind_within = omega (arith, in_front its k is_its last_of, number_within)
 
     module _ (behind : (id : StepId) (n : ℕ) → step_at entries at ≡ Some id → first_number id.task (reverse found) ≡ Some n → n ≡ id.k + 1) where
       pub one_at_least : 1 ≤ k
@@ -62,52 +43,11 @@ module _ (entries : List Entry) (at : ℕ) (e : Entry) (within : at < length ent
       pub before_last : (id : StepId) → step_at entries at ≡ Some id → k ≡ id.k + 1
       before_last id h = behind its k is_its last_of ∙ ap (λ (i : StepId). i.k + 1) (is_that id h)
 
--- ---- of a task's steps those that go stand in a row, up to its last
-
 no_number : (k : ℕ) → ◌≡◌ {A = Option ℕ} None (Some k) → ⊥
 no_number k z = cc
 
 same_number : (m n : ℕ) → ◌≡◌ {A = Option ℕ} (Some m) (Some n) → m ≡ n
 same_number m n z = cc
-
-some_of : (e : StepId) (t : Name) (H : History) (k : ℕ) → first_number t (removed_steps e H) ≡ Some k → list_any (is_of t) (removed e H) ≡ true
-some_of e t [] k h = absurd (no_number k h)
-some_of e t (v ∷ H) k h = at (is_removed e H v) (some_of e t H k) h
-  where
-    mine : (c : Bool) → (first_number t (removed_steps e H) ≡ Some k → list_any (is_of t) (removed e H) ≡ true) → cond c (Some (suc (length (own v.task H)))) (first_number t (removed_steps e H)) ≡ Some k → (c || list_any (is_of t) (removed e H)) ≡ true
-    mine true more h = refl
-    mine false more h = more h
-
-    at : (b : Bool) → (first_number t (removed_steps e H) ≡ Some k → list_any (is_of t) (removed e H) ≡ true) → first_number t (prepend_if b (step_of H v) (removed_steps e H)) ≡ Some k → list_any (is_of t) (prepend_if b v (removed e H)) ≡ true
-    at true more h = mine (is_of t v) more h
-    at false more h = more h
-
-latest : (e : StepId) (t : Name) (H : History) (k : ℕ) → first_number t (removed_steps e H) ≡ Some k → k ≡ length (own t H)
-latest e t [] k h = absurd (no_number k h)
-latest e t (v ∷ H) k h = at (is_removed e H v) refl (is_of t v) refl (latest e t H k) h
-  where
-    at : (b : Bool) → is_removed e H v ≡ b → (c : Bool) → is_of t v ≡ c → (first_number t (removed_steps e H) ≡ Some k → k ≡ length (own t H))
-        → first_number t (prepend_if b (step_of H v) (removed_steps e H)) ≡ Some k → k ≡ length (own t (v ∷ H))
-    at true g true o more h =
-        let here = same_number _ _ (sym (ap (λ c. cond c (Some (suc (length (own v.task H)))) (first_number t (removed_steps e H))) o) ∙ h) in
-        sym here ∙ ap (λ u. suc (length (own u H))) (same_true v.task t o) ∙ sym (ap length (own_mine t v H o))
-    at true g false o more h =
-        more (sym (ap (λ c. cond c (Some (suc (length (own v.task H)))) (first_number t (removed_steps e H))) o) ∙ h) ∙ sym (ap length (own_other t v H o))
-    at false g true o more h =
-        let none = (or_parts (is_step e H v) (list_any (needs H v) (removed e H)) g).1 in
-        let free = none_weaker (is_of v.task) (needs H v) (λ x p. or_left (is_of v.task x) _ p) (removed e H) none in
-        absurd (both_ways _ free (subst (λ u. list_any (is_of u) (removed e H) ≡ true) (sym (same_true v.task t o)) (some_of e t H k h)))
-    at false g false o more h = more h ∙ sym (ap length (own_other t v H o))
-
--- so the last that was found is the one in front of the next
-pub in_front_of : (e : StepId) (entries : List Entry) (later : ℕ) (places : List ℕ) (steps : List StepId) → later < length entries → Found e entries later places steps
-    → (id : StepId) (k : ℕ) → step_at entries later ≡ Some id → first_number id.task (reverse steps) ≡ Some k → id.k ≡ k + 1
-in_front_of e entries later places steps within found id k is last =
-    let w = there entries later within in
-    let H = history_of (take later entries) in
-    let same = is_that entries later w.0 within w.1 id is in
-    let number = latest e id.task H k (ap (first_number id.task) (sym (ap reverse found.their_steps ∙ reverse-reverse (removed_steps e H))) ∙ last) in
-    sym (ap (λ (i : StepId). i.k) same) ∙ ap (λ u. suc (length (own u H))) (ap (λ (i : StepId). i.task) same) ∙ omega (arith, number)
 
 -- ---- of a task's steps those that are needed stand in a row, from its first
 

@@ -1,6 +1,7 @@
 -- What needs a step and what it needs, directly or through others. Lists come from the newest event.
-use Rattle.std.specs.Prelude.{◌≡◌, ℕ, List, [], ◌∷◌, ◌++◌, map, reverse, Option, Some, None, slice_get, take, if◌then◌else◌}
+use Rattle.std.specs.Prelude.{◌≡◌, ◌<◌, ◌≤◌, length, ℕ, Bool, List, [], ◌∷◌, ◌++◌, map, reverse, Option, Some, None, slice_get, take, if◌then◌else◌}
 use Rattle.std.specs.Option.{option_to_list}
+use Rattle.std.specs.List.{All, list_any}
 use Rattle.tb_model.specs.declared.step_id.StepId.{StepId}
 use Rattle.tb_model.specs.Facts.{History, prepend_if}
 use Rattle.tb_model.specs.Causes.{Placed, causes}
@@ -9,8 +10,10 @@ use Rattle.tb_model.specs.Needers.{is_needer}
 use Rattle.tb_model.specs.Needs.{is_step, step_of}
 use Rattle.tb_core.specs.declared.entry.Entry.{Entry}
 use Rattle.tb_core.specs.Rolled.{removed_places, removed_steps}
-use Rattle.tb_core.specs.Scans.{history_of}
+use Rattle.tb_core.specs.Scans.{history_of, step_at}
 use Rattle.tb_cause.specs.declared.cone.Cone.{Cone}
+use Rattle.tb_cause.specs.Indexes.{items_told}
+use Rattle.tb_cause.specs.Keys.{Key, gives}
 
 -- the steps that need e, itself not among them
 abbrev pub needers : StepId → History → List StepId
@@ -27,12 +30,27 @@ pub record IsCone (e : StepId) (H : History) (c : Cone) : Type 0 where
   pub places : c.places.items ≡ reverse (removed_places e H)
   pub steps : c.steps.items ≡ reverse (removed_steps e H)
 
+-- these are the places of e and of all that need it, and their names there are theirs
+pub record AreAllFound (e : StepId) (entries : List Entry) (found : List ℕ) : Type 0 where
+  pub places : found ≡ reverse (removed_places e (history_of entries))
+  pub names : map (step_at entries) found ≡ map (λ (s : StepId). Some s) (reverse (removed_steps e (history_of entries)))
+
+-- the same, where e stands at this place
+pub record AreAllBehind (e : StepId) (entries : List Entry) (at : ℕ) (places : List ℕ) : Type 0 where
+  pub found : AreAllFound e entries places
+  pub inside : All (λ p. p < length entries) places
+  pub behind : All (λ p. at ≤ p) places
+
 -- the events of the entries at these places
 abbrev pub events_at : List Entry → List ℕ → History
 events_at entries [] = []
 events_at entries (p ∷ places) = map (λ (x : Entry). x.event) (option_to_list (slice_get entries p)) ++ events_at entries places
 
--- the same, each with what stands in front of it
+-- these are the keys that the events at these places give
+abbrev pub AreGivenAt : List Entry → List ℕ → (Key → Bool) → Type 0
+AreGivenAt entries places f = (k : Key) → f k ≡ list_any (λ u. gives (items_told entries) u k) (events_at entries places)
+
+-- the same events, each with what stands in front of it
 abbrev pub placed_at : List Entry → List ℕ → List Placed
 placed_at entries [] = []
 placed_at entries (p ∷ places) =

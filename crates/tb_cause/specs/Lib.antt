@@ -1,2 +1,4 @@
 pub mod Refusals
 pub mod Chains
+pub mod Keys
+pub mod Indexes

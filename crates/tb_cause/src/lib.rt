@@ -5,7 +5,13 @@ mod asking;
 mod cause_refusal;
 mod cone;
 mod finding;
+mod giving;
+mod keys;
+mod names;
 mod naming;
+mod spawns;
+mod standing;
+mod taking;
 
 pub use asking::{needed_by, needs};
 pub use cause_refusal::CauseRefusal;

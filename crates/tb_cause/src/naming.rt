@@ -20,21 +20,6 @@ pub fn named(entries: &[Entry], at: usize, k: u32) -> Result<StepId, AllocError>
     Ok(StepId { task, k })
 }
 
-/// The number of the step at this place, where the last of its task that was found stands right in
-/// front of it.
-pub fn ordinal_behind(entries: &[Entry], at: usize, found: &[StepId]) -> u32
-    requires within { at < length entries.now }
-    requires bound { length entries.now ≤ 1000000 }
-    requires in_front { (id : StepId) (k : ℕ) → step_at entries.now at ≡ Some id →
-        first_number id.task (reverse found.now) ≡ Some k → id.k ≡ k + 1 }
-    ensures { (id : StepId) → step_at entries.now at ≡ Some id → result ≡ id.k }
-{
-    match last_number(found, &entries[at].event.task) {
-        Some(k) => k + 1,
-        None => ordinal_of(entries, at),
-    }
-}
-
 /// The number of the step at this place, where the last of its task that was found stands right
 /// behind it.
 pub fn ordinal_before(entries: &[Entry], at: usize, found: &[StepId]) -> u32

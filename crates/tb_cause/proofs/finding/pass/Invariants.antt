@@ -1,11 +1,14 @@
 use Rattle.std.proofs.Common.{◌<◌, ◌≤◌, length}
 use Rattle.std.specs.List.{All}
+use Rattle.tb_cause.specs.Chains.{AreGivenAt}
+use Rattle.tb_cause.specs.Keys.{has}
 use Rattle.tb_cause.proofs.ConeLemmas.{Found}
-use Rattle.tb_cause.proofs.finding.cone_of.Given as goal
+use Rattle.tb_cause.proofs.finding.pass.Given as goal
 
 abbrev pub invariant-loop-later : goal.invariant-loop-later
 invariant-loop-later l = record {
-  found : Found l.step l.entries l.later l.places.items l.steps.items;
+  found : Found l._step l.entries l.later l.places.items;
+  given : AreGivenAt l.entries l.places.items (has l.keys);
   inside : All (λ p. p < length l.entries) l.places.items;
   behind : All (λ p. l.at ≤ p) l.places.items;
 }

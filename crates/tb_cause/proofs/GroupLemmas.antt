@@ -1,0 +1,110 @@
+-- A scan of a task's actions from the newest, for a child of its innermost open group that passes a test.
+use Rattle.std.proofs.Common.{◌≡◌, ◌≢◌, ◌-◌, arith, ℕ, zero, suc, List, [], ◌∷◌, Bool, true, false, ◌&&◌, ◌||◌, refl, sym, ap, ◌∙◌, drop, map, ℤ, ◌≤◌, length, take, get_or}
+use Rattle.std.specs.List.{list_any}
+use Rattle.tb_model.specs.declared.item.Item.{Item}
+use Rattle.tb_model.specs.declared.action.Action.{Action}
+use Rattle.tb_model.specs.declared.action.Action.TheVariants.{Spawn, Open, Close}
+use Rattle.tb_model.specs.Names.{Name}
+use Rattle.tb_model.specs.Facts.{groups, innermost, is_of, own}
+use Rattle.tb_core.specs.declared.entry.Entry.{Entry}
+use Rattle.tb_core.specs.Scans.{history_of}
+use Rattle.tb_core.proofs.ScanLemmas.{own_newest}
+
+-- one of these groups is open
+abbrev pub some_open : List (List Name) → Bool
+some_open [] = false
+some_open (us ∷ uss) = true
+
+-- a child passes of the innermost of these groups, where found says that a later one does
+abbrev pub member_of_first : Bool → List (List Name) → (Name → Bool) → Bool
+member_of_first found gs f = (some_open gs && found) || list_any f (innermost gs)
+
+-- a child passes of the innermost group that stays open where so many more are closed behind these actions
+abbrev pub member_behind : ℕ → Bool → List Action → (Name → Bool) → Bool
+member_behind closed found acts f = member_of_first found (drop closed (groups acts)) f
+
+none_found : (gs : List (List Name)) (f : Name → Bool) → member_of_first false gs f ≡ list_any f (innermost gs)
+none_found [] f = refl
+none_found (us ∷ uss) f = refl
+
+pub at_first : (acts : List Action) (f : Name → Bool) → member_behind 0 false acts f ≡ list_any f (innermost (groups acts))
+at_first acts f = none_found (groups acts) f
+
+-- nothing is open behind no actions
+pub at_last : (closed : ℕ) (found : Bool) (f : Name → Bool) → member_behind closed found [] f ≡ false
+at_last zero found m = refl
+at_last (suc k) found m = refl
+
+-- ---- one action more
+
+pub at_close : (closed : ℕ) (found : Bool) (acts : List Action) (f : Name → Bool) → member_behind closed found (Close ∷ acts) f ≡ member_behind (suc closed) found acts f
+at_close closed found acts f = ap (λ gs. member_of_first found gs f) (drop_one closed (groups acts))
+  where
+    drop_one : (k : ℕ) (gs : List (List Name)) → drop k (drop 1 gs) ≡ drop (suc k) gs
+    drop_one zero [] = refl
+    drop_one (suc k) [] = refl
+    drop_one k (us ∷ gs) = refl
+
+or_true : (b : Bool) → (b || true) ≡ true
+or_true true = refl
+or_true false = refl
+
+or_false : (b : Bool) → (b || false) ≡ b
+or_false true = refl
+or_false false = refl
+
+pub at_open : (found : Bool) (acts : List Action) (f : Name → Bool) → member_behind 0 found (Open ∷ acts) f ≡ found
+at_open found acts f = or_false found
+
+at_spawn : (closed : ℕ) (found : Bool) (u : Name) (body : ℕ) (args : List ℤ) (items : List Item) (deferred : Bool) (acts : List Action) (f : Name → Bool)
+    → member_behind closed found (Spawn u body args items deferred ∷ acts) f ≡ member_behind closed (found || f u) acts f
+at_spawn closed found u body args items deferred acts f =
+    ap (λ gs. member_of_first found gs f) (drop-map closed (groups acts)) ∙ more (drop closed (groups acts))
+  where
+    drop-map : (k : ℕ) (gs : List (List Name)) → drop k (map (λ us. u ∷ us) gs) ≡ map (λ us. u ∷ us) (drop k gs)
+    drop-map zero gs = refl
+    drop-map (suc k) [] = refl
+    drop-map (suc k) (us ∷ gs) = drop-map k gs
+
+    regroup : (a b c : Bool) → (a || (b || c)) ≡ ((a || b) || c)
+    regroup true b c = refl
+    regroup false b c = refl
+
+    more : (gs : List (List Name)) → member_of_first found (map (λ us. u ∷ us) gs) f ≡ member_of_first (found || f u) gs f
+    more [] = refl
+    more (us ∷ gs) = regroup found (f u) (list_any f us)
+
+-- one open more
+at_open_inside : (closed : ℕ) (found : Bool) (acts : List Action) (f : Name → Bool) → closed ≢ 0 → member_behind closed found (Open ∷ acts) f ≡ member_behind (closed - 1) found acts f
+at_open_inside zero found acts f h = absurd (h refl)
+at_open_inside (suc k) found acts f h = ap (λ n. member_behind n found acts f) (omega arith)
+
+-- ---- the newest entry, where it is one of the task's
+
+module _ (t : Name) (f : Name → Bool) (rest : List Entry) (e : Entry) (some : 1 ≤ length rest) (here : e ≡ get_or rest (length rest - 1) e) (mine : is_of t e.event ≡ true) where
+  -- the actions in front of it
+  abbrev older : List Action
+  older = own t (history_of (take (length rest - 1) rest))
+
+  -- it opened a group that is closed
+  pub behind_open : (closed : ℕ) (found : Bool) → e.event.action ≡ Open → closed ≢ 0 → member_behind (closed - 1) found older f ≡ member_behind closed found (own t (history_of rest)) f
+  behind_open closed found is inside =
+      sym (ap (λ acts. member_behind closed found acts f) (own_newest t rest e Open some here mine is) ∙ at_open_inside closed found older f inside)
+
+  -- it generated one that m is within
+  pub behind_member : (closed : ℕ) (found : Bool) (u : Name) (body : ℕ) (args : List ℤ) (items : List Item) (deferred : Bool) → e.event.action ≡ Spawn u body args items deferred
+      → f u ≡ true → member_behind closed true older f ≡ member_behind closed found (own t (history_of rest)) f
+  behind_member closed found u body args items deferred is within =
+      sym
+      (ap (λ acts. member_behind closed found acts f) (own_newest t rest e (Spawn u body args items deferred) some here mine is)
+      ∙ at_spawn closed found u body args items deferred older f
+      ∙ ap (λ b. member_behind closed b older f) (ap (λ b. found || b) within ∙ or_true found))
+
+  -- or another
+  pub behind_other : (closed : ℕ) (found : Bool) (u : Name) (body : ℕ) (args : List ℤ) (items : List Item) (deferred : Bool) → e.event.action ≡ Spawn u body args items deferred
+      → f u ≡ false → member_behind closed found older f ≡ member_behind closed found (own t (history_of rest)) f
+  behind_other closed found u body args items deferred is within =
+      sym
+      (ap (λ acts. member_behind closed found acts f) (own_newest t rest e (Spawn u body args items deferred) some here mine is)
+      ∙ at_spawn closed found u body args items deferred older f
+      ∙ ap (λ b. member_behind closed b older f) (ap (λ b. found || b) within ∙ or_false found))

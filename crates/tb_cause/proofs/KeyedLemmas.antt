@@ -1,0 +1,93 @@
+-- The pass that finds what needs a step, by keys.
+use Rattle.std.proofs.Common.{◌≡◌, ◌<◌, ◌+◌, ℕ, suc, List, [], ◌∷◌, ◌++◌, Bool, true, false, ◌||◌, refl, sym, ap, ◌∙◌, subst, length, take, drop, reverse, get_or, append_assoc}
+use Rattle.std.specs.List.{list_any, AllByRecursion}
+use Rattle.std.proofs.lemmas.Bool.{and_from, or_left, or_right}
+use Rattle.std.proofs.lemmas.List.Folds.{list_any-append}
+use Rattle.std.proofs.lemmas.List.Sorted.{list_any-IsPermutation, IsPermutation-reverse}
+use Rattle.tb_model.specs.declared.event.Event.{Event}
+use Rattle.tb_model.specs.declared.item.Item.{Item}
+use Rattle.tb_model.specs.declared.step_id.StepId.{StepId}
+use Rattle.tb_model.specs.Names.{Name}
+use Rattle.tb_model.specs.Facts.{History, HasEnded, IsSpawned, is_end, is_of, ends, items_of, prepend_if}
+use Rattle.tb_model.specs.Legal.{Cells, Legal}
+use Rattle.tb_model.specs.Needs.{needs, is_removed, removed}
+use Rattle.tb_model.proofs.NeighboursLemmas.{legal_below}
+use Rattle.tb_model.proofs.SettledLemmas.{items_settled}
+use Rattle.tb_model.proofs.TestLemmas.{same_refl}
+use Rattle.tb_core.specs.declared.entry.Entry.{Entry}
+use Rattle.tb_core.specs.Scans.{AreLegal, history_of}
+use Rattle.tb_core.proofs.NeedsLemmas.{items_named}
+use Rattle.tb_core.proofs.ScanLemmas.{history_cut}
+use Rattle.tb_cause.specs.Chains.{AreGivenAt, events_at}
+use Rattle.tb_cause.specs.Indexes.{items_told}
+use Rattle.tb_cause.specs.Keys.{Key, gives, takes_any}
+use Rattle.tb_cause.proofs.ConeLemmas.{Found, events_pushed}
+use Rattle.tb_cause.proofs.ItemLemmas.{by_items}
+use Rattle.tb_cause.proofs.KeyNeedLemmas.{needed_by_keys, needs_of_given}
+
+all_weaker : {A : Type 0} (P Q : A → Type 0) → ((x : A) → P x → Q x) → (xs : List A) → AllByRecursion P xs → AllByRecursion Q xs
+all_weaker P Q f [] h = tt
+all_weaker P Q f (x ∷ xs) h = (f x h.0, all_weaker P Q f xs h.1)
+
+-- an end that goes is one of the history
+abbrev EndsIn : History → Event → Type 0
+EndsIn H u = is_end u.action ≡ true → HasEnded H u.task
+
+ended_in : (e : StepId) (H : History) → AllByRecursion (EndsIn H) (removed e H)
+ended_in e [] = tt
+ended_in e (v ∷ H) = by (is_removed e H v) (all_weaker (EndsIn H) (EndsIn (v ∷ H)) (λ u h z. or_right (ends u.task v) _ (h z)) (removed e H) (ended_in e H))
+  where
+    by : (b : Bool) → AllByRecursion (EndsIn (v ∷ H)) (removed e H) → AllByRecursion (EndsIn (v ∷ H)) (prepend_if b v (removed e H))
+    by true rest = (λ z. or_left (ends v.task v) _ (and_from (is_of v.task v) (is_end v.action) (same_refl v.task) z), rest)
+    by false rest = rest
+
+-- with those of one more
+pub given_more : (entries : List Entry) (places places' : List ℕ) (p : ℕ) (w : Entry) → p < length entries → w ≡ get_or entries p w → (f f' : Key → Bool) → AreGivenAt entries places f
+    → ((k : Key) → f' k ≡ (gives (items_told entries) w.event k || f k)) → places' ≡ places ++ p ∷ [] → AreGivenAt entries places' f'
+given_more entries places places' p w within here f f' given changed more k =
+    let q = λ (u : Event). gives (items_told entries) u k in
+    changed k ∙ ap (λ b. q w.event || b) (given k) ∙ turned (q w.event) (list_any q (events_at entries places))
+    ∙ sym (ap (λ ps. list_any q (events_at entries ps)) more ∙ ap (list_any q) (events_pushed entries places p w within here) ∙ list_any-append q (events_at entries places) (w.event ∷ []))
+  where
+    turned : (a b : Bool) → (a || b) ≡ (b || (a || false))
+    turned true true = refl
+    turned true false = refl
+    turned false true = refl
+    turned false false = refl
+
+module _ (e : StepId) (entries : List Entry) (later : ℕ) (places : List ℕ) (w : Entry) (within : later < length entries) (here : w ≡ get_or entries later w) (so_far : Found e entries later places) (legal : AreLegal entries) where
+  abbrev H : History
+  H = history_of (take later entries)
+
+  abbrev behind : History
+  behind = history_of (drop (suc later) entries)
+
+  abbrev I : Name → List Item
+  I = items_told entries
+
+  cut : history_of entries ≡ behind ++ w.event ∷ H
+  cut = history_cut entries later w within here
+
+  legal_here : Legal legal.cells (w.event ∷ H)
+  legal_here = legal_below legal.cells behind (w.event ∷ H) (subst (Legal legal.cells) cut legal.legal)
+
+  whole : history_of entries ≡ (behind ++ w.event ∷ []) ++ H
+  whole = cut ∙ sym (append_assoc behind (w.event ∷ []) H)
+
+  settled : (t : Name) → IsSpawned H t → I t ≡ items_of t H
+  settled t s =
+      sym (items_named entries t legal) ∙ ap (items_of t) whole
+      ∙ items_settled legal.cells (behind ++ w.event ∷ []) H t (subst (Legal legal.cells) whole legal.legal) s
+
+  each : AllByRecursion (λ u. needs H w.event u ≡ takes_any (gives I u) I H w.event) (removed e H)
+  each =
+      all_weaker (EndsIn H) (λ u. needs H w.event u ≡ takes_any (gives I u) I H w.event)
+      (λ u ended. needed_by_keys I H w.event u (λ z. by_items legal.cells H legal_here.0 I settled u.task (ended z) w.event.task w.event.action legal_here.1))
+      (removed e H) (ended_in e H)
+
+  among : (p : Event → Bool) → list_any p (events_at entries places) ≡ list_any p (removed e H)
+  among p = ap (list_any p) so_far.their_events ∙ sym (list_any-IsPermutation p (removed e H) (reverse (removed e H)) (IsPermutation-reverse (removed e H)))
+
+  -- the next event needs one of those found where it takes a key that they give
+  pub taken_is_needed : (f : Key → Bool) → AreGivenAt entries places f → (b : Bool) → b ≡ takes_any f I H w.event → list_any (needs H w.event) (events_at entries places) ≡ b
+  taken_is_needed f given b is = among (needs H w.event) ∙ needs_of_given I H w.event (removed e H) f (λ k. given k ∙ among (λ u. gives I u k)) each ∙ sym is

@@ -1,0 +1,53 @@
+use Rattle.std.proofs.Common.{◌≡◌, ◌≤◌, ◌<◌, ◌+◌, ◌∷◌, ◌++◌, [], length, take, sym, ap, ◌∙◌, subst, arith}
+use Rattle.std.specs.List.{All, list_any}
+use Rattle.tb_cause.specs.Chains.{events_at}
+use Rattle.tb_cause.specs.Indexes.{items_told}
+use Rattle.tb_cause.specs.Keys.{gives, has}
+use Rattle.tb_cause.proofs.ConeLemmas.{there, found_first, found_same, found_more, all_pushed, found_all}
+use Rattle.tb_cause.proofs.KeyedLemmas.{given_more, taken_is_needed}
+use Rattle.tb_cause.proofs.finding.pass.Goals as goal
+use Rattle.tb_cause.proofs.finding.pass.Goals.{then-branch+in_ok-enter, else-branch}
+
+pub loop-later-preserved : goal.loop-later-preserved
+loop-later-preserved c =
+    let l = c.loop-later in
+    let entries = c.args.entries.now in
+    let within = c.loop-later-test.true in
+    let w = there entries l.later within in
+    let needed = taken_is_needed c.args._step.now entries l.later l.places.items w.0 within w.1 l.invariant.found c.requires.legal (has l.keys) l.invariant.given c.in_ok-goes.field-0 (c.in_ok-goes.ensures w.0 w.1) in
+    elim c.if-branch.branch [
+      | then-branch+in_ok-enter x ↦
+          let places : c.if-branch.places.items ≡ l.places.items ++ l.later ∷ [] = ap (λ v. v.items) x.places-is ∙ x.in_ok-enter.ensures.places in record {
+            found = found_more c.args._step.now entries l.later l.places.items w.0 within w.1 l.invariant.found (needed ∙ x.if-branch.true) c.if-branch.places.items places;
+            given = given_more entries l.places.items c.if-branch.places.items l.later w.0 within w.1 (has l.keys) (has c.if-branch.keys) l.invariant.given
+                (λ k. ap (λ m. has m k) x.keys-is ∙ x.in_ok-enter.ensures.keys k w.0 w.1) places;
+            inside = all_pushed (λ p. p < length entries) l.places.items c.if-branch.places.items l.later places l.invariant.inside within;
+            behind = all_pushed (λ p. c.args.at ≤ p) l.places.items c.if-branch.places.items l.later places l.invariant.behind (omega (arith, l.auto.later));
+          }
+      | else-branch x ↦ record {
+        found = found_same c.args._step.now entries l.later l.places.items w.0 within w.1 l.invariant.found (needed ∙ x.if-branch.false) c.if-branch.places.items (ap (λ v. v.items) x.places-is);
+        given = λ k. ap (λ m. has m k) x.keys-is ∙ l.invariant.given k ∙ ap (λ v. list_any (λ u. gives (items_told entries) u k) (events_at entries v.items)) (sym x.places-is);
+        inside = subst (λ v. All (λ p. p < length entries) v.items) (sym x.places-is) l.invariant.inside;
+        behind = subst (λ v. All (λ p. c.args.at ≤ p) v.items) (sym x.places-is) l.invariant.behind;
+      }
+    ]
+
+pub loop-later-init : goal.loop-later-init
+loop-later-init c =
+    let entries = c.args.entries.now in
+    record {
+      found = found_first entries c.args.at c.args._step.now c.requires.within c.requires.here c.args.places.now.items c.requires.first;
+      given = c.requires.given;
+      inside = all_pushed (λ p. p < length entries) [] c.args.places.now.items c.args.at c.requires.first (λ k d h. absurd (omega (arith, h))) c.requires.within;
+      behind = all_pushed (λ p. c.args.at ≤ p) [] c.args.places.now.items c.args.at c.requires.first (λ k d h. absurd (omega (arith, h))) (omega arith);
+    }
+
+pub returns : goal.returns
+returns c =
+    let l = c.loop-later in
+    let end : l.later ≡ length c.args.entries.now = omega (arith, c.loop-later-test.false, l.auto.later-end (omega (arith, c.requires.within))) in
+    record {
+      found = found_all c.args._step.now c.args.entries.now l.later l.places.items end l.invariant.found;
+      inside = l.invariant.inside;
+      behind = l.invariant.behind;
+    }

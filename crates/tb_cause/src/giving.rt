@@ -1,0 +1,138 @@
+//! The keys that a step gives.
+
+ghost use Rattle.std.specs.Prelude.{◌≡◌, ◌≤◌, ◌&&◌, ◌||◌, ℕ, List, OnOk};
+ghost use Rattle.std.specs.List.{list_any};
+ghost use Rattle.indexmap.specs.IndexSet.{contains};
+ghost use Rattle.tb_model.specs.declared.item.Item.{Item as AnItem};
+ghost use Rattle.tb_model.specs.Names.{Name, same_name, is_within};
+ghost use Rattle.tb_cause.specs.Keys.{Key, has, gives, own_key, action_key, over_key, items_key, item_key, place_key, kind_number, same_item_key};
+
+use crate::keys::{Keys, put, put_cell, put_item};
+use indexmap::IndexSet;
+use std::alloc::AllocError;
+use tb_model::{Action, Event, Item, Kind, Place, TaskName};
+
+/// Puts the keys that the event gives, whose task has these items.
+pub(crate) fn give(keys: &mut Keys, event: &Event, items: &[Item]) -> Result<(), AllocError>
+    ensures { OnOk result ((k : Key) (I : Name → List AnItem) → I event.now.task ≡ items.now →
+        has keys.new k ≡ (gives I event.now k || has keys.old k)) }
+{
+    give_own(keys, &event.task)?;
+    give_action(keys, &event.action)?;
+    if event.action.is_end() {
+        give_over(keys, &event.task)?;
+        give_items(keys, &event.task, items)?;
+    }
+    Ok(())
+}
+
+/// Puts the key of a step of the task.
+fn give_own(keys: &mut Keys, task: &TaskName) -> Result<(), AllocError>
+    ensures { OnOk result ((k : Key) → has keys.new k ≡ (own_key task.now k || has keys.old k)) }
+{
+    put(&mut keys.tasks, task)
+}
+
+/// Puts the keys that the action gives by itself.
+fn give_action(keys: &mut Keys, action: &Action) -> Result<(), AllocError>
+    ensures { OnOk result ((k : Key) → has keys.new k ≡ (action_key action.now k || has keys.old k)) }
+{
+    match action {
+        Action::Spawn { child, .. } => put(&mut keys.tasks, child),
+        Action::Load { cell, .. } => put_cell(&mut keys.touched, *cell),
+        Action::Store { cell, .. } => {
+            put_cell(&mut keys.stored, *cell)?;
+            put_cell(&mut keys.touched, *cell)
+        }
+        Action::Print { .. } => {
+            keys.printed = true;
+            Ok(())
+        }
+        _ => Ok(()),
+    }
+}
+
+/// Puts the keys that the end of the task gives, but for its items.
+fn give_over(keys: &mut Keys, task: &TaskName) -> Result<(), AllocError>
+    ensures { OnOk result ((k : Key) → has keys.new k ≡ (over_key task.now k || has keys.old k)) }
+{
+    put(&mut keys.ended, task)?;
+    if let Some(parent) = task.parent()? {
+        put(&mut keys.parents, &parent)?;
+    }
+    put_above(&mut keys.within, task)
+}
+
+/// Puts the keys of the items of a task that has ended.
+fn give_items(keys: &mut Keys, task: &TaskName, items: &[Item]) -> Result<(), AllocError>
+    ensures { OnOk result ((k : Key) → has keys.new k ≡ (items_key task.now items.now k || has keys.old k)) }
+{
+    if items.is_empty() {
+        return Ok(());
+    }
+    match task.parent()? {
+        Some(parent) => put_items(&mut keys.items, &parent, items),
+        None => Ok(()),
+    }
+}
+
+/// Puts the task and those above it.
+fn put_above(set: &mut IndexSet<TaskName>, task: &TaskName) -> Result<(), AllocError>
+    ensures { OnOk result ((q : Name) → contains same_name set.new q ≡ (is_within q task.now || contains same_name set.old q)) }
+{
+    let mut next = Some(task.clone()?);
+    'up: while let Some(name) = next {
+        put(set, &name)?;
+        next = name.parent()?;
+    }
+    Ok(())
+}
+
+/// Puts the items of a child of the parent.
+fn put_items(
+    set: &mut IndexSet<(TaskName, u32, u32)>,
+    parent: &TaskName,
+    items: &[Item],
+) -> Result<(), AllocError>
+    ensures { OnOk result ((p : Name) (n c : ℕ) → contains same_item_key set.new (p, n, c)
+        ≡ ((same_name parent.now p && list_any (item_key n c) items.now) || contains same_item_key set.old (p, n, c))) }
+{
+    for item in items {
+        put_place(set, parent, number_of(item.kind), item.place)?;
+    }
+    Ok(())
+}
+
+/// Puts an item at this place, of the kind with this number.
+fn put_place(
+    set: &mut IndexSet<(TaskName, u32, u32)>,
+    parent: &TaskName,
+    number: u32,
+    place: Place,
+) -> Result<(), AllocError>
+    requires { number ≤ 12 }
+    ensures { OnOk result ((p : Name) (n c : ℕ) → contains same_item_key set.new (p, n, c)
+        ≡ ((same_name parent.now p && place_key number place n c) || contains same_item_key set.old (p, n, c))) }
+{
+    match place {
+        Place::Cell(cell) => {
+            put_item(set, parent, number + 1, 0)?;
+            put_item(set, parent, number, cell)
+        }
+        Place::All => put_item(set, parent, number + 2, 0),
+    }
+}
+
+/// The first of the three numbers of a kind.
+pub(crate) fn number_of(kind: Kind) -> u32
+    ensures number { result ≡ kind_number kind }
+    ensures bound { result ≤ 12 }
+{
+    match kind {
+        Kind::In => 0,
+        Kind::Out => 3,
+        Kind::Inout => 6,
+        Kind::Mutexinoutset => 9,
+        Kind::Inoutset => 12,
+    }
+}

@@ -1,0 +1,77 @@
+//! Where the tasks with depend items were spawned.
+
+ghost use Rattle.std.specs.Prelude.{◌≡◌, ◌≤◌, ◌<◌, IfOk, OnOk, Some, length, if◌then◌else◌};
+ghost use Rattle.std.specs.Option.{option_copied};
+ghost use Rattle.indexmap.specs.IndexMap.{get};
+ghost use Rattle.tb_model.specs.Names.{Name, same_name};
+ghost use Rattle.tb_model.specs.Facts.{is_spawn_of};
+ghost use Rattle.tb_cause.specs.Indexes.{items_placed, items_told, is_spawned_child, AreSpawns};
+
+use indexmap::IndexMap;
+use std::alloc::{AllocError, Global};
+use tb_core::Entry;
+use tb_model::{Action, Item, TaskName};
+
+/// The place of the spawn of each task.
+pub(crate) fn spawns_of(
+    alloc: Global,
+    entries: &[Entry],
+) -> Result<IndexMap<TaskName, u32>, AllocError>
+    requires bound { length entries.now ≤ 1000000 }
+    ensures { IfOk result (λ spawns. AreSpawns entries.now (length entries.now) (get same_name spawns)) }
+{
+    let mut spawns = IndexMap::new(alloc);
+    for at in 0..entries.len() {
+        if let Some(child) = spawned(&entries[at].event.action) {
+            put_spawn(&mut spawns, child, at as u32)?;
+        }
+    }
+    Ok(spawns)
+}
+
+/// The child that the action generates.
+fn spawned(action: &Action) -> Option<&TaskName>
+    ensures { (t : Name) → is_spawn_of t action.now ≡ is_spawned_child t (option_copied result) }
+{
+    match action {
+        Action::Spawn { child, .. } => Some(child),
+        _ => None,
+    }
+}
+
+fn put_spawn(
+    spawns: &mut IndexMap<TaskName, u32>,
+    child: &TaskName,
+    at: u32,
+) -> Result<(), AllocError>
+    ensures { OnOk result ((t : Name) → get same_name spawns.new t ≡ (if same_name child.now t then Some at else get same_name spawns.old t)) }
+{
+    spawns.insert(child.clone()?, at)?;
+    Ok(())
+}
+
+/// The depend items of the task.
+pub(crate) fn items_of<'a>(
+    entries: &'a [Entry],
+    spawns: &IndexMap<TaskName, u32>,
+    task: &TaskName,
+) -> &'a [Item]
+    requires spawns { AreSpawns entries.now (length entries.now) (get same_name spawns.now) }
+    ensures { result.now ≡ items_told entries.now task.now }
+{
+    match spawns.get(task) {
+        Some(at) => items_at(entries, *at as usize),
+        None => &[],
+    }
+}
+
+/// The items that the spawn at this place names.
+fn items_at<'a>(entries: &'a [Entry], at: usize) -> &'a [Item]
+    requires { at < length entries.now }
+    ensures { result.now ≡ items_placed entries.now at }
+{
+    match &entries[at].event.action {
+        Action::Spawn { items, .. } => items.as_slice(),
+        _ => &[],
+    }
+}

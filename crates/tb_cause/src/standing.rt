@@ -1,0 +1,62 @@
+//! Which steps come behind the end of an undeferred child of their task.
+
+ghost use Rattle.std.specs.Prelude.{◌≡◌, ◌≤◌, ◌∷◌, [], ℕ, IfOk, OnOk, Some, length, nat_eq, if◌then◌else◌};
+ghost use Rattle.indexmap.specs.IndexMap.{get};
+ghost use Rattle.tb_model.specs.Names.{Name, same_name};
+ghost use Rattle.tb_cause.specs.Indexes.{AreHeld};
+ghost use Rattle.tb_cause.specs.Keys.{held_by};
+
+use indexmap::IndexMap;
+use std::alloc::{AllocError, Global};
+use tb_core::Entry;
+use tb_model::{Action, Event, TaskName};
+
+/// By the place of each step before which its task's newest step had generated an undeferred child:
+/// that child.
+pub(crate) fn held_steps(
+    alloc: Global,
+    entries: &[Entry],
+) -> Result<IndexMap<u32, TaskName>, AllocError>
+    requires bound { length entries.now ≤ 1000000 }
+    ensures { IfOk result (λ held. AreHeld entries.now (length entries.now) (get nat_eq held)) }
+{
+    let mut standing = IndexMap::new(alloc);
+    let mut held = IndexMap::new(alloc);
+    for at in 0..entries.len() {
+        if let Some(child) = pass(&mut standing, &entries[at].event)? {
+            put_child(&mut held, at as u32, child)?;
+        }
+    }
+    Ok(held)
+}
+
+fn put_child(held: &mut IndexMap<u32, TaskName>, at: u32, child: TaskName) -> Result<(), AllocError>
+    ensures { OnOk result ((q : ℕ) → get nat_eq held.new q ≡ (if nat_eq at q then Some child else get nat_eq held.old q)) }
+{
+    held.insert(at, child)?;
+    Ok(())
+}
+
+/// The undeferred child at which the event's task stands; behind the event it stands at another or
+/// at none.
+fn pass(
+    standing: &mut IndexMap<TaskName, TaskName>,
+    event: &Event,
+) -> Result<Option<TaskName>, AllocError>
+    ensures left { IfOk result (λ o. o ≡ get same_name standing.old event.now.task) }
+    ensures standing { OnOk result ((t : Name) → get same_name standing.new t ≡
+        (if same_name event.now.task t then held_by (event.now.action ∷ []) else get same_name standing.old t)) }
+{
+    let left = standing.swap_remove(&event.task);
+    if let Action::Spawn {
+        child,
+        deferred,
+        ..
+    } = &event.action
+    {
+        if !*deferred {
+            standing.insert(event.task.clone()?, child.clone()?)?;
+        }
+    }
+    Ok(left)
+}
