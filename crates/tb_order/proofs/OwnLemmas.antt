@@ -1,5 +1,5 @@
 -- The steps of one task in front of a place, and its depend items.
-use Rattle.std.proofs.Common.{◌≡◌, ◌≢◌, ◌<◌, ◌≤◌, ℕ, zero, suc, List, [], ◌∷◌, Bool, true, false, ◌||◌, cond, length, take, drop, refl, sym, ap, ap₂, ◌∙◌, subst, arith, Some, ◌⊎◌, inl, inr, ⊎_elim, eq-eqb, eqb-true, get_or, slice_get}
+use Rattle.std.proofs.Common.{◌≡◌, ◌≢◌, ◌+◌, ◌<◌, ◌≤◌, ℕ, zero, suc, List, [], ◌∷◌, Bool, true, false, ◌||◌, cond, length, take, drop, refl, sym, ap, ap₂, ◌∙◌, subst, arith, Some, ◌⊎◌, inl, inr, ⊎_elim, eq-eqb, eqb-true, get_or, slice_get}
 use Rattle.std.specs.List.{list_any}
 use Rattle.std.proofs.lemmas.Bool.{or_cases, or_left, or_right, both_ways, false≢true, false_from_ne_true, cases_eq}
 use Rattle.tb_model.specs.declared.action.Action.{Action}
@@ -14,7 +14,7 @@ use Rattle.tb_model.proofs.NeighboursLemmas.{legal_below}
 use Rattle.tb_model.proofs.SettledLemmas.{items_settled}
 use Rattle.tb_model.proofs.SiblingsLemmas.{no_items}
 use Rattle.tb_model.proofs.StateLemmas.{items_of_spawn}
-use Rattle.tb_model.proofs.TestLemmas.{same_refl}
+use Rattle.tb_model.proofs.TestLemmas.{same_refl, same_true}
 use Rattle.tb_core.specs.declared.entry.Entry.{Entry}
 use Rattle.tb_core.specs.Scans.{AreLegal, history_of}
 use Rattle.tb_core.proofs.ScanLemmas.{history_cut}
@@ -212,3 +212,14 @@ module _ (entries : List Entry) (tasks : Tasks) (are : AreTasks entries tasks) (
   pub items_told : (legal : AreLegal entries) (n u : ℕ) → p ≤ n → n < length entries → u < length entries → origin tasks p ≡ suc u → (xs : List Item) → ((e : Entry) → slice_get entries u ≡ Some e → xs ≡ items_in (Some e.event.action)) → xs ≡ items_of v.event.task (H entries n)
   items_told legal n u l i iu is xs named =
       named (at Synchronised entries u iu) (at_read Synchronised entries u iu) ∙ sym (items_some_at entries tasks are p w legal n u l i iu is) ∙ ap (λ s. items_of s (H entries n)) same_task
+
+  -- the number of the step among those of its task
+  pub ordinal_here : (b : ℕ) → b < length entries → previous tasks p ≡ suc b → number tasks b ≡ number tasks p → (k : ℕ) → ((u : Entry) → slice_get entries b ≡ Some u → k ≡ suc (length (own u.event.task (H entries b)))) → k + 1 ≡ suc (length (own v.event.task (H entries p)))
+  ordinal_here b ib prev same k told =
+      let y = at Synchronised entries b ib in
+      let mine : both_at of_one entries p b ≡ true = sym (are.same p b w ib) ∙ eq-eqb (number tasks p) (number tasks b) (sym same) in
+      let names : y.event.task ≡ v.event.task = same_true y.event.task (at Synchronised entries p w).event.task (sym (both_is Synchronised entries p b w ib of_one) ∙ mine) ∙ same_task in
+      omega (arith, told y (at_read Synchronised entries b ib), ap length (held_here b y ib (at_is Synchronised entries b ib) prev same), ap (λ s. length (own s (H entries b))) names)
+
+  pub ordinal_first : (previous tasks p ≡ 0) ⊎ ((b : ℕ) × (previous tasks p ≡ suc b) × (number tasks b ≢ number tasks p)) → 1 ≡ suc (length (own v.event.task (H entries p)))
+  ordinal_first c = sym (ap (λ (acts : List Action). suc (length acts)) (held_none c))

@@ -124,3 +124,16 @@ module _ (entries : List Entry) (n : ℕ) (w : n < length entries) (x : Entry) (
       other : (y : ℕ) → y < n + 1 → IsTrue (is_end_at entries y) → (y ≡ n) ⊎ (y ≢ n) → y < n
       other y l q (inl s) = absurd (both_ways (is_end_at entries n) (end_here false h) (subst (λ m. is_end_at entries m ≡ true) s q))
       other y l q (inr d) = omega (arith, l, d)
+
+-- ---- one number more
+
+pub numbers_more : (P : ℕ → ℕ → Type 0) (old new : List ℕ) (k n : ℕ) → length old ≡ n → new ≡ old ++ k ∷ [] → ((p : ℕ) → p < n → P p (slice_index_or old p 0)) → P n k → (p : ℕ) → p < n + 1 → P p (slice_index_or new p 0)
+numbers_more P old new k n len e each here p l = by (cases_eq p n)
+  where
+    by : (p ≡ n) ⊎ (p ≢ n) → P p (slice_index_or new p 0)
+    by (inl s) =
+        subst (λ m. P m (slice_index_or new m 0)) (sym s)
+        (subst (P n) (sym (ap₂ (λ (xs : List ℕ) (m : ℕ). get_or xs m 0) e (sym len) ∙ get_or-append_seam old k [] 0)) here)
+    by (inr d) =
+        let m : p < n = omega (arith, l, d) in
+        subst (P p) (sym (ap (λ (xs : List ℕ). get_or xs p 0) e ∙ get_or_append_left old (k ∷ []) 0 p (omega (arith, m, len)))) (each p m)

@@ -3,7 +3,7 @@ use Rattle.std.specs.Prelude.{ℕ, suc, ◌≡◌, ◌⊎◌, ◌<◌, ◌≤◌
 use Rattle.std.specs.declared.alloc.Global.{Global}
 use Rattle.tb_model.specs.declared.event.Event.{Event}
 use Rattle.tb_model.specs.declared.step_id.StepId.{StepId}
-use Rattle.tb_model.specs.Facts.{History, is_of, is_end, spawns}
+use Rattle.tb_model.specs.Facts.{History, is_of, is_end, own, spawns}
 use Rattle.tb_core.specs.declared.entry.Entry.{Entry}
 use Rattle.tb_core.specs.Scans.{history_of, step_at}
 use Rattle.tb_races.specs.Orders.{Order, links, comes_after}
@@ -152,3 +152,7 @@ pub record IsSound (o : Order) (entries : List Entry) (tasks : Tasks) (row : Lis
 -- the row tells of each end to which the step at p is linked
 abbrev pub TellsEnds : Order → List Entry → Tasks → List ℕ → ℕ → Type 0
 TellsEnds o entries tasks row p = (x : ℕ) → x < p → IsTrue (is_end_at entries x) → IsTrue (links_at o entries p x) → IsTrue (is_told o entries tasks row p x)
+
+-- each of the first n steps has its number among those of its task
+abbrev pub AreOrdinals : List Entry → ℕ → List ℕ → Type 0
+AreOrdinals entries n ks = (p : ℕ) → p < n → (v : Entry) → slice_get entries p ≡ Some v → slice_index_or ks p 0 ≡ suc (length (own v.event.task (history_of (take p entries))))

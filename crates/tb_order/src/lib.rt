@@ -8,6 +8,7 @@ mod kinds;
 mod lanes;
 mod merging;
 mod numbering;
+mod ordinals;
 mod passing;
 mod racing;
 mod relation;

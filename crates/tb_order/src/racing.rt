@@ -4,7 +4,7 @@ ghost use Rattle.std.specs.Prelude.{◌≡◌, ◌<◌, ◌≤◌, IfOk, Some, l
 ghost use Rattle.tb_core.specs.declared.entry.Entry.{Entry};
 ghost use Rattle.tb_core.specs.Scans.{AreLegal, history_of};
 ghost use Rattle.tb_races.specs.Racing;
-ghost use Rattle.tb_order.specs.Clocks.{AreClocks, AreTasks};
+ghost use Rattle.tb_order.specs.Clocks.{AreClocks, AreOrdinals, AreTasks};
 ghost use Rattle.tb_order.specs.Lanes.{IsLane};
 ghost use Rattle.tb_order.specs.Linking.{order_of};
 
@@ -13,9 +13,10 @@ use crate::kinds::conflict;
 use crate::lanes::{lane_for, note};
 use crate::merging::clocks_of;
 use crate::numbering::tasks_of;
+use crate::ordinals::{named, ordinals_of};
 use crate::tasks::Tasks;
 use std::alloc::{AllocError, Global};
-use tb_core::{Entry, step_at};
+use tb_core::Entry;
 use tb_races::{Conflict, Race};
 
 /// The race of each entry that has one.
@@ -26,13 +27,14 @@ pub fn races_among(alloc: Global, entries: &[Entry]) -> Result<Vec<Race>, AllocE
         races.items ≡ reverse (Racing.races (history_of entries.now))) }
 {
     let tasks = tasks_of(alloc, entries)?;
+    let ordinals = ordinals_of(alloc, entries, &tasks)?;
     let loose = clocks_of(alloc, false, entries, &tasks)?;
     let strict = clocks_of(alloc, true, entries, &tasks)?;
     let mut races = Vec::new(alloc);
     let mut lanes = Vec::new(alloc);
     for at in 0..entries.len() {
         let lane = lane_for(&lanes, &entries[at].event.action);
-        if let Some(race) = race_at(entries, &tasks, &loose, &strict, at, lane)? {
+        if let Some(race) = race_at(entries, &tasks, &ordinals, &loose, &strict, at, lane)? {
             races.push(race)?;
         }
         note(alloc, &mut lanes, entries, at)?;
@@ -44,6 +46,7 @@ pub fn races_among(alloc: Global, entries: &[Entry]) -> Result<Vec<Race>, AllocE
 fn race_at(
     entries: &[Entry],
     tasks: &Tasks,
+    ordinals: &[u32],
     loose: &Clocks,
     strict: &Clocks,
     at: usize,
@@ -52,15 +55,16 @@ fn race_at(
     requires tasks { AreTasks entries.now tasks.now }
     requires loose { AreClocks (order_of false) entries.now tasks.now (length entries.now) loose.now }
     requires strict { AreClocks (order_of true) entries.now tasks.now (length entries.now) strict.now }
-    requires bound { length entries.now ≤ 1000000 }
+    requires listed { length ordinals.now ≡ length entries.now }
+    requires told { AreOrdinals entries.now (length entries.now) ordinals.now }
     requires within { at < length entries.now }
     requires lane { IsLane entries.now at lane.now }
     ensures { IfOk result (λ o. (v : Entry) → slice_get entries.now at ≡ Some v →
         o ≡ Racing.race_of (history_of (take at entries.now)) v.event) }
 {
-    match newest_race(true, entries, tasks, strict, at, lane)? {
+    match newest_race(true, entries, tasks, ordinals, strict, at, lane)? {
         Some(race) => Ok(Some(race)),
-        None => newest_race(false, entries, tasks, loose, at, lane),
+        None => newest_race(false, entries, tasks, ordinals, loose, at, lane),
     }
 }
 
@@ -70,13 +74,15 @@ fn newest_race(
     exclusion: bool,
     entries: &[Entry],
     tasks: &Tasks,
+    ordinals: &[u32],
     clocks: &Clocks,
     at: usize,
     lane: &[usize],
 ) -> Result<Option<Race>, AllocError>
     requires tasks { AreTasks entries.now tasks.now }
     requires clocks { AreClocks (order_of exclusion) entries.now tasks.now (length entries.now) clocks.now }
-    requires bound { length entries.now ≤ 1000000 }
+    requires listed { length ordinals.now ≡ length entries.now }
+    requires told { AreOrdinals entries.now (length entries.now) ordinals.now }
     requires within { at < length entries.now }
     requires lane { IsLane entries.now at lane.now }
     ensures { IfOk result (λ o. (v : Entry) → slice_get entries.now at ≡ Some v →
@@ -86,8 +92,8 @@ fn newest_race(
     for first in lane {
         if let Some(shares) = contested(exclusion, entries, tasks, clocks, at, *first) {
             return Ok(Some(Race {
-                earlier: step_at(entries, *first)?,
-                later: step_at(entries, at)?,
+                earlier: named(entries, ordinals, *first)?,
+                later: named(entries, ordinals, at)?,
                 conflict: shares,
                 apart: !exclusion,
             }));

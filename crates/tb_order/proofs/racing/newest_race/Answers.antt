@@ -9,8 +9,8 @@ contested-requires-clause-first c =
     let x = there c.args.entries.now c.args.at c.requires.within in
     in_front c.args.entries.now c.args.at x.0 c.requires.within x.1 c.args.lane.now c.requires.lane c.loop-first.first-index c.loop-first-test.true
 
-pub step_at-requires-clause-within : goal.step_at-requires-clause-within
-step_at-requires-clause-within c =
+pub named-requires-clause-at : goal.named-requires-clause-at
+named-requires-clause-at c =
     let x = there c.args.entries.now c.args.at c.requires.within in
     omega (arith, c.requires.within, in_front c.args.entries.now c.args.at x.0 c.requires.within x.1 c.args.lane.now c.requires.lane c.loop-first.first-index c.loop-first-test.true)
 
@@ -21,7 +21,7 @@ returns-in-Some c v is =
     let lane = c.args.lane.now in
     let x = there entries c.args.at c.requires.within in
     race_found c.args.exclusion entries c.args.at (get_or lane i 0) (in_front entries c.args.at x.0 c.requires.within x.1 lane c.requires.lane i c.loop-first-test.true) c.requires.within x.0 x.1 c.contested.result c.contested.ensures
-    v is lane i c.loop-first-test.true refl (c.loop-first.invariant v is) (c.requires.lane v is) c.in-Some.shares c.in-Some.is c.in_ok-step_at.field-0 c.in_ok-step_at-2.field-0 c.in_ok-step_at.ensures c.in_ok-step_at-2.ensures
+    v is lane i c.loop-first-test.true refl (c.loop-first.invariant v is) (c.requires.lane v is) c.in-Some.shares c.in-Some.is c.in_ok-named.field-0 c.in_ok-named-2.field-0 c.in_ok-named.ensures c.in_ok-named-2.ensures
 
 pub loop-first-preserved : goal.loop-first-preserved
 loop-first-preserved c v is =

@@ -21,7 +21,7 @@ loop-at-preserved c =
     let x = there c.args.entries.now l.at c.loop-at-test.true in
     let o = c.in_ok-race.field-0 in
     let more = races_more c.args.entries.now l.at x.0 c.loop-at-test.true x.1 o c.in_ok-race.ensures l.races.items l.invariant.races in record {
-      races = elim c.match-branch-5.branch [
+      races = elim c.match-branch-6.branch [
         | in-Some+in_ok-push w ↦
             ap (λ v. v.items) w.races-is ∙ w.in_ok-push.ensures.items
             ∙ sym (ap (λ p. l.races.items ++ option_to_list p) w.in-Some.is) ∙ more
