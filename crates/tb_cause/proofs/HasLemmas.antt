@@ -1,11 +1,9 @@
 -- What keys there are once some more are put in.
-use Rattle.std.proofs.Common.{◌≡◌, ℕ, suc, List, [], ◌∷◌, Bool, true, false, nat_eq, ◌+◌, ◌&&◌, ◌||◌, Option, Some, None, refl, sym, ap, ap₂, ◌∙◌, length}
-use Rattle.std.specs.List.{list_any}
-use Rattle.tb_model.specs.declared.place.Place.{Place}
+use Rattle.std.proofs.Common.{◌≡◌, ℕ, suc, [], ◌∷◌, Bool, true, false, nat_eq, ◌+◌, ◌&&◌, ◌||◌, Option, Some, None, refl, sym, ap, ap₂, ◌∙◌, length}
 use Rattle.tb_model.specs.declared.place.Place.TheVariants.{Cell, All}
 use Rattle.tb_model.specs.Names.{Name, same_name, is_within, parent}
 use Rattle.tb_cause.specs.Keys.{place_key}
-use Rattle.tb_cause.proofs.KeyLemmas.{same_turned, or_none, eq_turned}
+use Rattle.tb_cause.proofs.KeyLemmas.{same_turned}
 
 -- ---- a task and those above it
 

@@ -1,25 +1,24 @@
 -- Among siblings of which one has ended and the other starts, the former was generated first, or the two only exclude each other.
-use Rattle.std.proofs.Common.{◌≡◌, ◌≢◌, ◌<◌, ℕ, List, [], ◌∷◌, ◌++◌, Bool, true, false, ◌&&◌, ◌||◌, not, refl, sym, ap, ap₂, ◌∙◌, subst, arith, IsTrue, nat_lt}
+use Rattle.std.proofs.Common.{◌≡◌, ◌≢◌, ℕ, List, [], ◌∷◌, Bool, true, false, ◌&&◌, ◌||◌, not, refl, sym, ap, ap₂, ◌∙◌, subst, arith, nat_lt}
 use Rattle.std.specs.List.{list_any}
-use Rattle.std.proofs.lemmas.Bool.{false≢true, or_right, ltb-true, ltb-false}
+use Rattle.std.proofs.lemmas.Bool.{or_right, ltb-true, ltb-false}
 use Rattle.std.proofs.lemmas.List.Folds.{list_any-append}
 use Rattle.tb_model.specs.declared.action.Action.{Action}
 use Rattle.tb_model.specs.declared.action.Action.TheVariants.{Start, Wait}
-use Rattle.tb_model.specs.declared.event.Event.{Event}
 use Rattle.tb_model.specs.declared.item.Item.{Item as AnItem}
 use Rattle.tb_model.specs.declared.kind.Kind.{Kind}
 use Rattle.tb_model.specs.declared.kind.Kind.TheVariants.{In, Out, Inout, Mutexinoutset, Inoutset}
 use Rattle.tb_model.specs.declared.place.Place.{Place}
 use Rattle.tb_model.specs.declared.place.Place.TheVariants.{Cell, All}
-use Rattle.tb_model.specs.Names.{Name, same_name, is_child, is_elder}
+use Rattle.tb_model.specs.Names.{Name, same_name, is_child}
 use Rattle.tb_model.specs.Items.{Relation, relation, is_before, is_apart, same_place, meets, some_meet, has_no_items}
-use Rattle.tb_model.specs.Facts.{History, HasEnded, HasStarted, IsSpawned, own, ends, items_of, before, apart, covers}
-use Rattle.tb_model.specs.Legal.{Cells, Legal, MayFollow, MayStart}
+use Rattle.tb_model.specs.Facts.{History, HasEnded, IsSpawned, own, ends, items_of, before, apart}
+use Rattle.tb_model.specs.Legal.{Cells, Legal, MayFollow}
 use Rattle.tb_model.proofs.AlikeLemmas.{any_same}
 use Rattle.tb_model.proofs.FactsLemmas.{not_started, ends_own, acted_spawned}
 use Rattle.tb_model.proofs.NeedsLemmas.{acted_started}
 use Rattle.tb_model.proofs.RulesLemmas.{rules, started_where}
-use Rattle.tb_model.proofs.TestLemmas.{same_true, same_refl}
+use Rattle.tb_model.proofs.TestLemmas.{same_true}
 use Rattle.tb_cause.specs.Keys.{comes_behind}
 use Rattle.tb_cause.proofs.KeyLemmas.{any_or, any_swap, and_more, or_none, and_none, eq_turned, same_turned}
 use Rattle.tb_cause.proofs.KeyNeedLemmas.{meet_by, some_behind, waits_by_items, behind_items}

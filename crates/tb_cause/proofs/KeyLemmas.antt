@@ -1,22 +1,19 @@
 -- Needs by keys.
-use Rattle.std.proofs.Common.{Option, Some, None, ◌≡◌, ℕ, ◌+◌, ◌==◌, List, [], ◌∷◌, ◌++◌, Bool, true, false, ◌&&◌, ◌||◌, not, refl, sym, ap, ap₂, ◌∙◌}
+use Rattle.std.proofs.Common.{Option, Some, None, ◌≡◌, ℕ, ◌+◌, ◌==◌, List, [], ◌∷◌, Bool, true, false, ◌&&◌, ◌||◌, refl, sym, ap, ap₂, ◌∙◌}
 use Rattle.std.specs.List.{list_any}
 use Rattle.std.proofs.lemmas.Bool.{false≢true, eq-eqb, eqb-true}
 use Rattle.tb_model.specs.declared.action.Action.{Action}
-use Rattle.tb_model.specs.declared.action.Action.TheVariants.{Start, Let, Load, Store, Print, Spawn, Wait, Open, Close, Test, End, Fault}
+use Rattle.tb_model.specs.declared.action.Action.TheVariants.{Start, Load, Store, Print, Wait, Close}
 use Rattle.tb_model.specs.declared.event.Event.{Event}
-use Rattle.tb_model.specs.Names.{Name, same_name, is_child, is_within}
+use Rattle.tb_model.specs.Names.{Name, same_name}
 use Rattle.tb_model.specs.declared.item.Item.{Item as AnItem}
-use Rattle.tb_model.specs.declared.kind.Kind.{Kind}
-use Rattle.tb_model.specs.declared.kind.Kind.TheVariants.{In, Out, Inout, Mutexinoutset, Inoutset}
 use Rattle.tb_model.specs.declared.place.Place.{Place}
 use Rattle.tb_model.specs.declared.place.Place.TheVariants.{Cell, All}
-use Rattle.tb_model.specs.Items.{some_meet, is_before, is_apart, has_no_items, same_place}
-use Rattle.tb_model.specs.Facts.{History, own, before, apart, covers, groups, innermost, is_member, is_end, is_print, is_store_to, touches, holds, spawns, is_of, items_of}
-use Rattle.tb_model.specs.Needs.{needs, conflicts, waits_for}
+use Rattle.tb_model.specs.Items.{has_no_items}
+use Rattle.tb_model.specs.Facts.{History, own, groups, innermost}
 use Rattle.tb_model.proofs.AlikeLemmas.{any_same}
 use Rattle.tb_model.proofs.TestLemmas.{same_true, same_refl}
-use Rattle.tb_cause.specs.Keys.{Key, Task, Ended, Parent, Within, Item, Stored, Touched, Printed, gives, own_key, action_key, end_key, held_by, held_any, action_any, wait_any, takes_any, place_key, item_key, kind_number, place_any, kind_any, item_any, items_any, kinds, comes_behind}
+use Rattle.tb_cause.specs.Keys.{Key, Task, Ended, Parent, Within, Item, Stored, Touched, Printed, gives, held_by, held_any, action_any, wait_any, takes_any, kind_number, place_any, kind_any, item_any, items_any, kinds, comes_behind}
 
 -- ---- tests of lists
 

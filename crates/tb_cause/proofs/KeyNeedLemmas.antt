@@ -1,5 +1,5 @@
 -- An event needs an earlier one where it takes a key of it.
-use Rattle.std.proofs.Common.{◌≡◌, ℕ, ◌+◌, ◌==◌, List, [], ◌∷◌, Bool, true, false, ◌&&◌, ◌||◌, not, Option, refl, sym, ap, ap₂, ◌∙◌}
+use Rattle.std.proofs.Common.{◌≡◌, ℕ, ◌+◌, ◌==◌, List, [], ◌∷◌, Bool, true, false, ◌&&◌, ◌||◌, not, refl, sym, ap, ap₂, ◌∙◌}
 use Rattle.std.specs.List.{list_any, AllByRecursion}
 use Rattle.tb_model.specs.declared.action.Action.{Action}
 use Rattle.tb_model.specs.declared.action.Action.TheVariants.{Start, Load, Store, Print, Spawn, Wait, Close}
@@ -14,7 +14,7 @@ use Rattle.tb_model.specs.Items.{has_no_items, same_place, some_meet, is_before}
 use Rattle.tb_model.specs.Facts.{History, own, groups, innermost, is_member, is_end, is_print, is_store_to, touches, holds, spawns, is_of, before, apart, covers, items_of}
 use Rattle.tb_model.specs.Needs.{needs, conflicts, waits_for}
 use Rattle.tb_model.proofs.AlikeLemmas.{any_same}
-use Rattle.tb_cause.specs.Keys.{Key, Task, Ended, Parent, Within, Item, Stored, Touched, Printed, gives, held_by, held_any, action_any, wait_any, takes_any, place_key, item_key, kind_number, place_any, kind_any, item_any, items_any, kinds, comes_behind}
+use Rattle.tb_cause.specs.Keys.{Key, Task, Item, gives, held_by, held_any, action_any, wait_any, takes_any, item_key, kind_number, place_any, kind_any, item_any, items_any, kinds, comes_behind}
 use Rattle.tb_cause.proofs.KeyLemmas.{any_or, any_swap, any_and, and_none, and_more, and_grouped, and_turned, or_none, eq_turned, same_turned, takes_same, taken_of_some}
 
 -- ---- items

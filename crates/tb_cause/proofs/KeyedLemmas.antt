@@ -1,5 +1,5 @@
 -- The pass that finds what needs a step, by keys.
-use Rattle.std.proofs.Common.{◌≡◌, ◌<◌, ◌+◌, ℕ, suc, List, [], ◌∷◌, ◌++◌, Bool, true, false, ◌||◌, refl, sym, ap, ◌∙◌, subst, length, take, drop, reverse, get_or, append_assoc}
+use Rattle.std.proofs.Common.{◌≡◌, ◌<◌, ℕ, suc, List, [], ◌∷◌, ◌++◌, Bool, true, false, ◌||◌, refl, sym, ap, ◌∙◌, subst, length, take, drop, reverse, get_or, append_assoc}
 use Rattle.std.specs.List.{list_any, AllByRecursion}
 use Rattle.std.proofs.lemmas.Bool.{and_from, or_left, or_right}
 use Rattle.std.proofs.lemmas.List.Folds.{list_any-append}
@@ -9,7 +9,7 @@ use Rattle.tb_model.specs.declared.item.Item.{Item}
 use Rattle.tb_model.specs.declared.step_id.StepId.{StepId}
 use Rattle.tb_model.specs.Names.{Name}
 use Rattle.tb_model.specs.Facts.{History, HasEnded, IsSpawned, is_end, is_of, ends, items_of, prepend_if}
-use Rattle.tb_model.specs.Legal.{Cells, Legal}
+use Rattle.tb_model.specs.Legal.{Legal}
 use Rattle.tb_model.specs.Needs.{needs, is_removed, removed}
 use Rattle.tb_model.proofs.NeighboursLemmas.{legal_below}
 use Rattle.tb_model.proofs.SettledLemmas.{items_settled}

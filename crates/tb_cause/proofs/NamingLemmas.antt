@@ -1,24 +1,23 @@
 -- The names of steps that are found one after another.
 use Rattle.std.proofs.Common.{◌≡◌, ◌<◌, ◌≤◌, ◌+◌, ℕ, suc, List, [], ◌∷◌, ◌++◌, Bool, true, false, ◌||◌, cond, length, take, reverse, refl, sym, ap, ◌∙◌, subst, arith, Some, None, Option, get_or}
 use Rattle.std.specs.List.{list_any}
-use Rattle.std.proofs.lemmas.Bool.{or_parts, or_left, or_right, both_ways, false_from_ne_true}
-use Rattle.std.proofs.lemmas.List.{reverse-append, reverse-reverse}
+use Rattle.std.proofs.lemmas.Bool.{or_left, or_right, both_ways, false_from_ne_true}
+use Rattle.std.proofs.lemmas.List.{reverse-append}
 use Rattle.std.proofs.lemmas.List.Folds.{list_any-append}
 use Rattle.tb_model.specs.declared.step_id.StepId.{StepId}
 use Rattle.tb_model.specs.Causes.{Placed, some_needs}
-use Rattle.tb_model.specs.Facts.{History, is_of, own, prepend_if}
+use Rattle.tb_model.specs.Facts.{History, is_of, own}
 use Rattle.tb_model.specs.Names.{Name, same_name}
-use Rattle.tb_model.specs.Needs.{needs, is_step, is_removed, removed, step_of}
+use Rattle.tb_model.specs.Needs.{needs, step_of}
 use Rattle.tb_model.proofs.FactsLemmas.{own_mine, own_other}
 use Rattle.tb_model.proofs.TestLemmas.{none_weaker, same_true, same_refl}
 use Rattle.tb_core.specs.declared.entry.Entry.{Entry}
-use Rattle.tb_core.specs.Rolled.{removed_steps}
 use Rattle.tb_core.specs.Scans.{history_of, step_at}
 use Rattle.tb_core.proofs.FirstLemmas.{step_read}
 use Rattle.tb_core.proofs.ScanLemmas.{history_more}
 use Rattle.tb_cause.specs.Chains.{first_number, placed_at}
 use Rattle.tb_cause.proofs.CauseLemmas.{placed_pushed}
-use Rattle.tb_cause.proofs.ConeLemmas.{some_same, there}
+use Rattle.tb_cause.proofs.ConeLemmas.{some_same}
 
 -- ---- the step at a place
 

@@ -1,5 +1,5 @@
 -- What a set has after a key is put into it.
-use Rattle.std.proofs.Common.{◌≡◌, Bool, true, false, ◌||◌, cond, refl, sym, ◌∙◌}
+use Rattle.std.proofs.Common.{◌≡◌, Bool, true, false, ◌||◌, cond, refl, ◌∙◌}
 
 cond_or : (b c : Bool) → cond b true c ≡ (b || c)
 cond_or true c = refl

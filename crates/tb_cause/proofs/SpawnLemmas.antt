@@ -1,16 +1,14 @@
 -- Where the tasks were spawned, entry by entry.
-use Rattle.std.proofs.Common.{◌≡◌, ◌<◌, ◌+◌, ℕ, List, [], Bool, true, false, cond, refl, sym, ap, ◌∙◌, subst, arith, length, take, Option, Some, None, slice_get, get_or, option_map}
+use Rattle.std.proofs.Common.{◌≡◌, ◌<◌, ◌+◌, ℕ, List, Bool, true, false, cond, refl, sym, ap, ◌∙◌, subst, arith, length, take, Option, Some, get_or, option_map}
 use Rattle.std.proofs.lemmas.Option.{slice_get_read}
 use Rattle.std.proofs.lemmas.List.{take_all}
-use Rattle.tb_model.specs.declared.action.Action.{Action}
-use Rattle.tb_model.specs.declared.item.Item.{Item}
 use Rattle.tb_model.specs.Names.{Name, same_name}
 use Rattle.tb_model.specs.Facts.{History, is_spawn_of}
-use Rattle.tb_model.specs.State.{spawn_of, spawn_or, items_in}
+use Rattle.tb_model.specs.State.{spawn_of, items_in}
 use Rattle.tb_core.specs.declared.entry.Entry.{Entry}
 use Rattle.tb_core.specs.Scans.{history_of}
 use Rattle.tb_core.proofs.ScanLemmas.{history_more}
-use Rattle.tb_cause.specs.Indexes.{AreSpawns, placed_action, is_spawned_child, items_placed}
+use Rattle.tb_cause.specs.Indexes.{AreSpawns, placed_action}
 
 module _ (entries : List Entry) (at : ℕ) (e : Entry) (within : at < length entries) (here : e ≡ get_or entries at e) (G : Name → Option ℕ) (so_far : AreSpawns entries at G) where
   abbrev H : History

@@ -1,9 +1,7 @@
-use Rattle.std.proofs.Common.{◌≡◌, ◌+◌, cond, length, take, get_or, subst, sym, ap, ◌∙◌}
+use Rattle.std.proofs.Common.{◌≡◌, ◌+◌, cond, get_or, subst, sym, ap, ◌∙◌}
 use Rattle.indexmap.specs.IndexMap.{get}
 use Rattle.tb_model.specs.Names.{Name, same_name}
-use Rattle.tb_model.specs.Facts.{own}
 use Rattle.tb_core.specs.declared.entry.Entry.{Entry}
-use Rattle.tb_core.specs.Scans.{history_of}
 use Rattle.tb_cause.specs.Indexes.{count_in}
 use Rattle.tb_cause.proofs.NameLemmas.{still_room, counted_more, numbered_one}
 use Rattle.tb_cause.proofs.names.numbers_of.Goals as goal
