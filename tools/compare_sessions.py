@@ -2,12 +2,16 @@
 """Compares the built program with another implementation on random sessions.
 
     tools/compare_sessions.py --other 'COMMAND' [--program P] [--count N] [--seed S] [--keep DIR]
+    tools/compare_sessions.py --judge 'COMMAND' [--workers W] ..
 
-COMMAND gets a session on standard input, with `--limit L` behind its words, and has to write what
-the program has to write: output, standard error and exit status are compared. A session that
-differs is kept in DIR. The programs are of the whole language, and some have faults. The commands
-are all that there are, `go` with one worker, and malformed ones among them. Most name tasks and steps that were there when the program was run on the session
-so far, so that undos and rollbacks meet the middle of a history.
+The COMMAND of `--other` gets a session on standard input, with `--limit L` behind its words, and has
+to write what the program has to write: output, standard error and exit status are compared. The
+COMMAND of `--judge` gets the names of files with the session and with the program's output, and then
+`--err FILE --status N --workers W --limit L`, and exits with 0 where that is a right answer: so `go`
+may have several workers, up to W (8 where none is given). A session that differs is kept in DIR. The
+programs are of the whole language, and some have faults. The commands are all that there are, and
+malformed ones among them. Most name tasks and steps that were there when the program was run on the
+session so far, so that undos and rollbacks meet the middle of a history.
 """
 import argparse
 import collections
@@ -17,6 +21,7 @@ import re
 import shlex
 import subprocess
 import sys
+import tempfile
 from concurrent.futures import ThreadPoolExecutor
 
 NUMBERS = ['0', '1', '2', '3', '-1', '-0', '007', '9', '16', '65535', '65536', '65537', '1000000',
@@ -157,12 +162,12 @@ def spell(r, words, wild):
     return text
 
 
-def pick_command(r, steps, newest, scattered, wild):
+def pick_command(r, steps, newest, scattered, wild, workers):
     """A command on a session that wrote these steps, each with its task, its number and its text."""
     if r.random() < wild:
         return r.choice(MALFORMED)
     if r.random() < 0.25:
-        return pick_break_or_view(r, steps)
+        return pick_break_or_view(r, steps, workers)
     kind = r.random()
     if kind < (0.7 if scattered else 0.4):
         return 'step ' + pick_task(r, steps)
@@ -180,11 +185,12 @@ def pick_command(r, steps, newest, scattered, wild):
     return r.choice(['cells', 'out', 'hist', 'why 0.2#2', 'who 0.1#1', 'undo 0.1#1', 'undo 0#%d' % r.randrange(1, 30)])
 
 
-def pick_break_or_view(r, steps):
-    """A breakpoint, a `go` of one worker that may meet it, or a view of tasks."""
+def pick_break_or_view(r, steps, workers):
+    """A breakpoint, a `go` that may meet it, or a view of tasks."""
+    several = r.randrange(2, workers + 1) if workers > 1 and r.random() < 0.8 else 1
     return r.choice([
-        'go 1 %d' % r.choice([0, 1, 2, 5, 20, 100]),
-        'go 1 %d' % r.choice([1, 3, 10]),
+        'go %d %d' % (several, r.choice([0, 1, 2, 5, 20, 100])),
+        'go %d %d' % (several, r.choice([1, 3, 10])),
         r.choice(['break print', 'break fault', 'break cell %d' % r.randrange(4), 'break task ' + pick_task(r, steps),
                   'break body ' + r.choice(['main', 'a', 'b', '_x1', 'longer_name', 'none'])]),
         'clear %d' % r.choice([1, 1, 2, 3, 4]),
@@ -219,12 +225,24 @@ def answer(command, text, limit):
     return done.stdout, done.stderr, done.returncode
 
 
+def judged(command, text, limit, workers, mine):
+    """What the judge says against the program's answer, and nothing where it is right."""
+    with tempfile.TemporaryDirectory() as folder:
+        names = [os.path.join(folder, name) for name in ('session', 'output', 'error')]
+        for name, content in zip(names, (text, mine[0], mine[1])):
+            with open(name, 'wb') as file:
+                file.write(content)
+        done = subprocess.run([*command, names[0], names[1], '--err', names[2], '--status', str(mine[2]),
+                               '--workers', str(workers), '--limit', str(limit)], capture_output=True, timeout=300)
+        return done.stdout + done.stderr if done.returncode else b''
+
+
 def steps_of(program, text, limit):
     """The steps that the program wrote, the newest last."""
     return [tuple(part.decode('latin-1') for part in step) for step in STEP.findall(answer(program, text, limit)[0])]
 
 
-def pick_session(seed, program):
+def pick_session(seed, program, workers):
     r = random.Random(seed)
     wild = r.choice([0, 0, 0, 0.02, 0.1, 0.3])
     faults = r.choice([0, 0, 0, 0, wild])
@@ -240,7 +258,7 @@ def pick_session(seed, program):
     for _ in range(r.choice([4, 6, 8] if scattered else [0, 1, 2, 3, 4])):
         steps = steps_of(program, '\n'.join(lines).encode('latin-1', 'replace') + b'\n', limit)
         newest = steps[-r.choice([3, 10, 30, 300]):]
-        lines += [spell(r, [pick_command(r, steps, newest, scattered, wild)], wild) for _ in range(r.choice([1, 5, 15]))]
+        lines += [spell(r, [pick_command(r, steps, newest, scattered, wild, workers)], wild) for _ in range(r.choice([1, 5, 15]))]
     text = '\n'.join(lines) + ('\n' if r.random() < 0.8 else '')
     return text.encode('latin-1', 'replace'), limit
 
@@ -262,24 +280,32 @@ def kinds_of(text):
 def main():
     top = os.path.join(os.path.dirname(os.path.abspath(__file__)), '..')
     args = argparse.ArgumentParser(description=__doc__, formatter_class=argparse.RawDescriptionHelpFormatter)
-    args.add_argument('--other', required=True)
+    against = args.add_mutually_exclusive_group(required=True)
+    against.add_argument('--other')
+    against.add_argument('--judge')
+    args.add_argument('--workers', type=int, default=8)
     args.add_argument('--program', default=os.path.join(top, 'crates/taskback/out/taskback'))
     args.add_argument('--count', type=int, default=2000)
     args.add_argument('--seed', type=int, default=1)
     args.add_argument('--keep', default='differing')
     given = args.parse_args()
-    other, program = shlex.split(given.other), [given.program]
+    workers = given.workers if given.judge else 1
+    program = [given.program] + (['--workers', str(workers)] if given.judge else [])
 
     def compare(seed):
-        text, limit = pick_session(seed, program)
-        return seed, text, limit, answer(program, text, limit), answer(other, text, limit)
+        text, limit = pick_session(seed, program, workers)
+        mine = answer(program, text, limit)
+        if given.judge:
+            against = judged(shlex.split(given.judge), text, limit, workers, mine)
+            return seed, text, limit, mine, against or mine
+        return seed, text, limit, mine, answer(shlex.split(given.other), text, limit)
 
     kinds, differing, refused, longest = collections.Counter(), 0, 0, 0
     with ThreadPoolExecutor(max_workers=os.cpu_count()) as pool:
         for seed, text, limit, mine, theirs in pool.map(compare, range(given.seed, given.seed + given.count)):
             refused += mine[2] == 1
             longest = max(longest, len(STEP.findall(mine[0])))
-            kinds.update(kinds_of(theirs[0]))
+            kinds.update(kinds_of(mine[0]))
             if mine != theirs:
                 differing += 1
                 os.makedirs(given.keep, exist_ok=True)

@@ -1,8 +1,8 @@
 -- What a desk keeps, and what an entry more leaves of it.
-use Rattle.std.proofs.Common.{ℕ, ◌+◌, ◌<◌, ◌≡◌, suc, List, [], ◌∷◌, ◌++◌, Some, Option, map, take, length, get_or, refl, ap, sym, subst, ◌∙◌, arith, rules}
+use Rattle.std.proofs.Common.{ℕ, ◌+◌, ◌<◌, ◌≤◌, ◌≡◌, suc, List, [], ◌∷◌, ◌++◌, Some, Option, map, take, length, get_or, refl, ap, sym, subst, ◌∙◌, arith, rules}
 use Rattle.std.specs.Prelude.{reverse, slice_index}
-use Rattle.std.proofs.lemmas.List.{map-append, reverse-append, length-map}
-use Rattle.std.proofs.Math.Seq.{take-suc}
+use Rattle.std.proofs.lemmas.List.{map-append, reverse-append, length-map, length-take, take-append-le}
+use Rattle.std.proofs.Math.Seq.{take-suc, take-length}
 use Rattle.tb_model.specs.declared.entry.Entry.{Entry}
 use Rattle.tb_model.specs.declared.entry.Entry.TheVariants.{Opened, Stepped, Rolled}
 use Rattle.tb_model.specs.Program.{Program}
@@ -22,24 +22,35 @@ seats_stay P J c Opened = refl
 seats_stay P J c (Stepped seat v) = length-map c.claims _
 seats_stay P J c (Rolled seat i) = length-map c.claims _
 
+-- the whole is a beginning
+pub all_begun : (es begun : List Entry) → es ≡ begun → take (length begun) es ≡ begun
+all_begun es begun is = ap (take (length begun)) is ∙ take-length begun
+
+-- a beginning stays one
+begins_more : (es begun : List Entry) (e : Entry) → take (length begun) es ≡ begun → take (length begun) (es ++ e ∷ []) ≡ begun
+begins_more es begun e begins =
+    let within : length begun ≤ length es = omega (arith, ap length begins, length-take (length begun) es) in
+    rw take-append-le begins
+
 -- what is told of the run, its notes and its book
-pub record Agrees (P : Program) (limit : ℕ) (points : Points) (seats : ℕ) (all : List ℕ) (s : Session) (total : ℕ) (cells : List ℕ) (known : List (Option Entry)) : Type 0 where
+pub record Agrees (P : Program) (limit : ℕ) (points : Points) (seats : ℕ) (all : List ℕ) (begun : List Entry) (s : Session) (total : ℕ) (cells : List ℕ) (known : List (Option Entry)) : Type 0 where
   pub program : s.program ≡ P
   pub limited : s.limit ≡ limit
   pub breakpoints : s.control.breakpoints ≡ points
   pub seated : length s.control.claims ≡ seats
+  pub begins : take (length begun) (entries s) ≡ begun
   pub counted : total + 1 ≡ length s.journal
   pub named : cells ≡ take (length s.journal) all
   pub noted : known ≡ map (λ e. Some e) (entries s)
 
 -- one entry more
-pub agrees_more : (P : Program) (limit : ℕ) (points : Points) (seats : ℕ) (all : List ℕ) (old mid new : Session) (e : Entry)
+pub agrees_more : (P : Program) (limit : ℕ) (points : Points) (seats : ℕ) (all : List ℕ) (begun : List Entry) (old mid new : Session) (e : Entry)
     (total later : ℕ) (cells more : List ℕ) (known told : List (Option Entry)) (place : ℕ)
-    → Agrees P limit points seats all old total cells known
+    → Agrees P limit points seats all begun old total cells known
     → mid ≡ old → new ≡ with_entry mid e → place ≡ length old.journal → place < length all
     → later ≡ total + 1 → more ≡ cells ++ slice_index all place ∷ [] → told ≡ known ++ Some e ∷ []
-    → Agrees P limit points seats all new later more told
-agrees_more P limit points seats all old mid new e total later cells more known told place a same now at lt one cell note =
+    → Agrees P limit points seats all begun new later more told
+agrees_more P limit points seats all begun old mid new e total later cells more known told place a same now at lt one cell note =
     let is : new ≡ with_entry old e = now ∙ ap (λ s. with_entry s e) same in
     let J = old.journal in
     let longer : length new.journal ≡ suc (length J) = ap (λ s. length s.journal) is in
@@ -50,6 +61,7 @@ agrees_more P limit points seats all old mid new e total later cells more known 
       limited = ap (λ s. s.limit) is ∙ a.limited;
       breakpoints = ap (λ s. s.control.breakpoints) is ∙ points_stay old.program J old.control e ∙ a.breakpoints;
       seated = ap (λ s. length s.control.claims) is ∙ seats_stay old.program J old.control e ∙ a.seated;
+      begins = ap (take (length begun)) listed ∙ begins_more (entries old) begun e a.begins;
       counted = omega (arith, a.counted, one, longer);
       named = cell ∙ ap (λ l. l ++ get_or all place 0 ∷ []) a.named ∙ ap (λ k. take (length J) all ++ get_or all k 0 ∷ []) at ∙ sym taken ∙ ap (λ n. take n all) (sym longer);
       noted = note ∙ ap (λ l. l ++ Some e ∷ []) a.noted ∙ sym (map-append (λ x. Some x) (entries old) (e ∷ [])) ∙ ap (map (λ x. Some x)) (sym listed);

@@ -198,6 +198,7 @@ impl<N: Team> Shared<N> {
         requires one_each { blank.parts ≡ N.seats }
         requires places { (places ≡ N.cells) × (N.limit ≤ length places) }
         requires live { (live.session.program ≡ N.program) × (live.session.limit ≡ N.limit) × (live.session.control.breakpoints ≡ N.breakpoints) × (length live.session.control.claims ≡ N.seats) }
+        requires begun { entries live.session ≡ N.begun }
         requires own { all_below N.seats (entries live.session) ≡ true }
         ensures seats { IfOk result (λ r. (vec_len r.1 ≡ N.seats) × HaveNumbers r.1.items) }
         ensures receipts { IfOk result (λ r. receipts_in r.1.items + 1 ≡ length live.session.journal) }

@@ -142,6 +142,8 @@ impl<N: Team> Shared<N> {
         ensures program { MatchResult result (λ c. c.live.session.program ≡ N.program) (λ g. g.closed.live.session.program ≡ N.program) }
         ensures limit { MatchResult result (λ c. c.live.session.limit ≡ N.limit) (λ g. g.closed.live.session.limit ≡ N.limit) }
         ensures breakpoints { MatchResult result (λ c. c.live.session.control.breakpoints ≡ N.breakpoints) (λ g. g.closed.live.session.control.breakpoints ≡ N.breakpoints) }
+        ensures begins { MatchResult result (λ c. take (length N.begun) (entries c.live.session) ≡ N.begun) (λ g. take (length N.begun) (entries g.closed.live.session) ≡ N.begun) }
+        ensures seats { MatchResult result (λ c. length c.live.session.control.claims ≡ N.seats) (λ g. length g.closed.live.session.control.claims ≡ N.seats) }
         ensures released { MatchResult result (λ c. IsUnclaimed N.seats c.live.session) (λ g. IsUnclaimed N.seats g.closed.live.session) }
         ensures count { MatchResult result (λ c. receipts_in seats.items + 1 ≡ length c.live.session.journal) (λ g. receipts_in seats.items + 1 ≡ length g.closed.live.session.journal) }
         ensures receipts { MatchResult result (λ c. IsPermutation (all_receipts seats.items) c.receipts.items) (λ g. IsPermutation (all_receipts seats.items) g.closed.receipts.items) }

@@ -39,6 +39,7 @@ pub struct Desk<N: Team> {
     pub ghost limit: { live.session.limit ≡ N.limit },
     pub ghost breakpoints: { live.session.control.breakpoints ≡ N.breakpoints },
     pub ghost seats: { length live.session.control.claims ≡ N.seats },
+    pub ghost begins: { take (length N.begun) (entries live.session) ≡ N.begun },
     pub ghost none_spare: { (spare.parts ≡ 0) × (spare.amount ≡ 0) },
     pub ghost room_for_all: { (vec_len room ≡ 0) × (length live.session.journal ≤ vec_capacity room) × (N.limit ≤ vec_capacity room) },
     pub ghost counted: { book.total + 1 ≡ length live.session.journal },

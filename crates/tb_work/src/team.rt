@@ -3,10 +3,11 @@
 use std::marker::Brand;
 use std::sync::ledger::Ledger;
 
-/// Names one team: how many seats it has, the cells of its journal's places, and the program, the limit
-/// and the breakpoints of the run that it was handed.
+/// Names one team: how many seats it has, the cells of its journal's places, and the program, the limit,
+/// the breakpoints and the journal of the run that it was handed.
 pub trait Team: Ledger {
     ghost use Rattle.std.specs.Prelude.{ℕ, List};
+    ghost use Rattle.tb_model.specs.declared.entry.Entry.{Entry};
     ghost use Rattle.tb_model.specs.Program.{Program};
     ghost use Rattle.tb_live.specs.Breaks.{Points};
 
@@ -19,6 +20,8 @@ pub trait Team: Ledger {
     ghost limit: { ℕ };
 
     ghost breakpoints: { Points };
+
+    ghost begun: { List Entry };
 }
 
 impl Team for Brand {
@@ -34,4 +37,6 @@ impl Team for Brand {
     ghost limit = { 0 };
 
     ghost breakpoints = { no_points };
+
+    ghost begun = { [] };
 }

@@ -1,4 +1,6 @@
 use Rattle.std.proofs.Common.{rules, ◌≡◌, ◌≤◌, length, arith, ap, sym, ◌∙◌}
+use Rattle.tb_work.specs.Changes.{entries}
+use Rattle.tb_work.proofs.Desks.{all_begun}
 use Rattle.tb_work.proofs.shared.Shared.adopt.Goals as goal
 
 pub invariant_of-new : goal.invariant_of-new
@@ -12,6 +14,7 @@ invariant_of-new g c =
       limit = live.1;
       breakpoints = live.2;
       seats = live.3;
+      begins = all_begun (entries c.args.live.session) g.N.Team.begun c.requires.begun;
       none_spare = search rules;
       room_for_all = (room.none, omega (arith, within, room.room, c.limit.ensures), omega (arith, live.1, room.room, c.limit.ensures));
       counted = told.total;
