@@ -5,7 +5,12 @@ mod asking;
 mod cause_refusal;
 mod cone;
 mod finding;
+mod giving;
+mod items;
+mod keys;
 mod naming;
+mod standing;
+mod taking;
 
 pub use asking::{needed_by, needs};
 pub use cause_refusal::CauseRefusal;

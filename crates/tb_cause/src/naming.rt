@@ -1,65 +1,48 @@
-//! The names of steps that are found one after another. Of a task's steps those that are found
-//! stand in a row, so only the first that is found is counted among the entries.
+//! The names of steps, by their places.
 
-ghost use Rattle.std.specs.Prelude.{◌≡◌, ◌<◌, ◌≤◌, ◌+◌, ℕ, IfOk, Some, length, reverse};
-ghost use Rattle.tb_model.specs.declared.step_id.StepId.{StepId};
-ghost use Rattle.tb_core.specs.Scans.{step_at};
-ghost use Rattle.tb_cause.specs.Chains.{first_number};
-
-use std::alloc::AllocError;
-use tb_core::{Entry, ordinal_of};
+use indexmap::IndexMap;
+use std::alloc::{AllocError, Global};
+use tb_core::{Entry, step_at};
 use tb_model::{StepId, TaskName};
 
-/// The name of the step at this place, which is its task's kth.
-pub fn named(entries: &[Entry], at: usize, k: u32) -> Result<StepId, AllocError>
-    requires within { at < length entries.now }
-    requires number { (id : StepId) → step_at entries.now at ≡ Some id → k ≡ id.k }
-    ensures { IfOk result (λ id. step_at entries.now at ≡ Some id) }
-{
-    let task = entries[at].event.task.clone()?;
-    Ok(StepId { task, k })
-}
-
-/// The number of the step at this place, where the last of its task that was found stands right in
-/// front of it.
-pub fn ordinal_behind(entries: &[Entry], at: usize, found: &[StepId]) -> u32
-    requires within { at < length entries.now }
-    requires bound { length entries.now ≤ 1000000 }
-    requires in_front { (id : StepId) (k : ℕ) → step_at entries.now at ≡ Some id →
-        first_number id.task (reverse found.now) ≡ Some k → id.k ≡ k + 1 }
-    ensures { (id : StepId) → step_at entries.now at ≡ Some id → result ≡ id.k }
-{
-    match last_number(found, &entries[at].event.task) {
-        Some(k) => k + 1,
-        None => ordinal_of(entries, at),
-    }
-}
-
-/// The number of the step at this place, where the last of its task that was found stands right
-/// behind it.
-pub fn ordinal_before(entries: &[Entry], at: usize, found: &[StepId]) -> u32
-    requires within { at < length entries.now }
-    requires bound { length entries.now ≤ 1000000 }
-    requires behind { (id : StepId) (k : ℕ) → step_at entries.now at ≡ Some id →
-        first_number id.task (reverse found.now) ≡ Some k → k ≡ id.k + 1 }
-    ensures { (id : StepId) → step_at entries.now at ≡ Some id → result ≡ id.k }
-{
-    match last_number(found, &entries[at].event.task) {
-        Some(k) => k - 1,
-        None => ordinal_of(entries, at),
-    }
-}
-
-/// The number of the last of these steps that is the task's.
-fn last_number(steps: &[StepId], task: &TaskName) -> Option<u32>
-    ensures { result ≡ first_number task.now (reverse steps.now) }
-{
-    let mut left = steps.len();
-    'back: while 0 < left {
-        left -= 1;
-        if steps[left].task == *task {
-            return Some(steps[left].k);
+/// The names of the steps at these places.
+pub fn names_at(alloc: Global, entries: &[Entry], places: &[u32]) -> Result<Vec<StepId>, AllocError> {
+    if places.len() < 8 {
+        let mut steps = Vec::with_capacity(alloc, places.len())?;
+        for place in places {
+            steps.push_reserved(step_at(entries, *place as usize)?);
         }
+        return Ok(steps);
     }
-    None
+    let numbers = numbers_of(alloc, entries)?;
+    let mut steps = Vec::with_capacity(alloc, places.len())?;
+    for place in places {
+        let at = *place as usize;
+        steps.push_reserved(StepId {
+            task: entries[at].event.task.clone()?,
+            k: numbers[at],
+        });
+    }
+    Ok(steps)
+}
+
+/// The number of each step among the steps of its task, from 1.
+fn numbers_of(alloc: Global, entries: &[Entry]) -> Result<Vec<u32>, AllocError> {
+    let mut counts: IndexMap<TaskName, u32> = IndexMap::new(alloc);
+    let mut numbers = Vec::with_capacity(alloc, entries.len())?;
+    for entry in entries {
+        let k = count(&mut counts, &entry.event.task)?;
+        numbers.push_reserved(k);
+    }
+    Ok(numbers)
+}
+
+/// Counts one more step of the task.
+fn count(counts: &mut IndexMap<TaskName, u32>, task: &TaskName) -> Result<u32, AllocError> {
+    if let Some(count) = counts.get_mut(task) {
+        *count += 1;
+        return Ok(*count);
+    }
+    counts.insert(task.clone()?, 1)?;
+    Ok(1)
 }
