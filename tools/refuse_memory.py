@@ -3,11 +3,10 @@
 
     tools/refuse_memory.py [--program P] [SESSION..]        after `rt ci`, or `rt test` in each crate and `./run` once
 
-Without a session these are the examples and two stored cases, of which one once more with four workers.
+Without a session these are the examples and two stored cases.
 A test has to pass whichever allocation fails: it makes a refused call again, and asks that nothing
 had changed. A session has to give its whole output, or a beginning of it that ends with a whole
-reply, and then `taskback: memory` and status 3. What several workers write is up to their schedule: of
-them whole lines are asked, and at status 0 the last two lines.
+reply, and then `taskback: memory` and status 3.
 """
 import argparse
 import glob
@@ -18,8 +17,6 @@ import sys
 import tempfile
 
 TOP = os.path.join(os.path.dirname(os.path.abspath(__file__)), '..')
-# whoever takes the steps, it ends with one number in its cell
-SUMS = 'sums_that_exclude_each_other'
 
 
 def run(command, library, number, text=b''):
@@ -45,29 +42,18 @@ def refuse_each(name, command, library, is_right, text=b''):
 
 
 def sessions():
-    stored = (SUMS, 'views_of_order_and_exclusion')
+    stored = ('sums_that_exclude_each_other', 'views_of_order_and_exclusion')
     return sorted(glob.glob(os.path.join(TOP, 'examples/*.session'))) + [os.path.join(TOP, 'crates/tb_session_rows/data', name + '.session') for name in stored]
 
 
-def has_workers(text):
-    """Whether some `go` of the session has several workers."""
-    return re.search(rb'^go ([2-9]|[1-9][0-9])\b', text, re.M) is not None
-
-
-def by_four(text):
-    """The session with four workers in place of one."""
-    return text.replace(b'\ngo 1 ', b'\ngo 4 ')
-
-
-def judge(whole, text):
+def judge(whole):
     """What tells whether an answer to the session is right, where with all memory it is `whole`."""
-    workers, lines = has_workers(text), whole.splitlines()
 
     def is_right(status, out, err):
         if status == 0:
-            return err == b'' and (out.splitlines()[-2:] == lines[-2:] if workers else out == whole)
+            return out == whole and err == b''
         ends = out == b'' or out.endswith(b'\n')
-        return status == 3 and err == b'taskback: memory\n' and ends and (workers or whole.startswith(out))
+        return status == 3 and err == b'taskback: memory\n' and ends and whole.startswith(out)
 
     return is_right
 
@@ -87,12 +73,9 @@ def main():
                 wrong += refuse_each(test, [tests, test], library, lambda status, out, err: status == 0)
         for session in given.sessions or sessions():
             with open(session, 'rb') as opened:
-                stored = opened.read()
-            texts = [stored, by_four(stored)] if os.path.basename(session) == SUMS + '.session' else [stored]
-            for text in texts:
-                name = os.path.basename(session) + (' by four' if text != stored else '')
-                whole = subprocess.run([program], input=text, capture_output=True).stdout
-                wrong += refuse_each(name, [program], library, judge(whole, text), text)
+                text = opened.read()
+            whole = subprocess.run([program], input=text, capture_output=True).stdout
+            wrong += refuse_each(os.path.basename(session), [program], library, judge(whole), text)
     sys.exit(1 if wrong else 0)
 
 
