@@ -26,51 +26,6 @@ use Rattle.tb_core.proofs.ScanLemmas.{history_more}
 use Rattle.tb_cause.specs.declared.cone.Cone.{Cone}
 use Rattle.tb_cause.specs.Chains.{AreAllFound, IsCone, events_at, placed_at}
 
--- ---- the tests of the entries at some places
-
-or_false : (b c : Bool) → b ≡ false → (b || c) ≡ c
-or_false b c h = ap (λ x. x || c) h
-
-module _ (entries : List Entry) (places : List ℕ) (i d : ℕ) (e : Entry) (within : i < length places) (inside : get_or places i d < length entries) (here : e ≡ get_or entries (get_or places i d) e) where
-  module _ (q : Event → Bool) where
-    next_event : list_any q (events_at entries (drop i places)) ≡ (q e.event || list_any q (events_at entries (drop (i + 1) places)))
-    next_event =
-        at_drop_more (λ l. list_any q (events_at entries l)) places i d within
-        ∙ ap (λ (o : Option Entry). list_any q (map (λ (x : Entry). x.event) (option_to_list o) ++ events_at entries (drop (i + 1) places))) (slice_get_read entries (length entries) (get_or places i d) e refl inside here)
-
-    abbrev found : Bool
-    found = q (get_or entries (get_or places i d) e).event
-
-    same : q e.event ≡ found
-    same = ap (λ (x : Entry). q x.event) here
-
-    pub event_passes : found ≡ true → list_any q (events_at entries (drop i places)) ≡ true
-    event_passes h = next_event ∙ or_left (q e.event) _ (same ∙ h)
-
-    pub event_passed : found ≡ false → list_any q (events_at entries (drop i places)) ≡ list_any q (events_at entries (drop (i + 1) places))
-    event_passed h = next_event ∙ or_false (q e.event) _ (same ∙ h)
-
-  module _ (u : Event) where
-    abbrev placed : Option Entry → List Placed
-    placed o = map (λ (x : Entry). record { event = x.event; front = history_of (take (get_or places i d) entries) }) (option_to_list o)
-
-    next_placed : some_needs (placed_at entries (drop i places)) u ≡ (needs (history_of (take (get_or places i d) entries)) e.event u || some_needs (placed_at entries (drop (i + 1) places)) u)
-    next_placed =
-        at_drop_more (λ l. some_needs (placed_at entries l) u) places i d within
-        ∙ ap (λ (o : Option Entry). some_needs (placed o ++ placed_at entries (drop (i + 1) places)) u) (slice_get_read entries (length entries) (get_or places i d) e refl inside here)
-
-    abbrev told : Bool
-    told = needs (history_of (take (get_or places i d) entries)) (get_or entries (get_or places i d) e).event u
-
-    alike : needs (history_of (take (get_or places i d) entries)) e.event u ≡ told
-    alike = ap (λ (x : Entry). needs (history_of (take (get_or places i d) entries)) x.event u) here
-
-    pub placed_needs : told ≡ true → some_needs (placed_at entries (drop i places)) u ≡ true
-    placed_needs h = next_placed ∙ or_left (needs (history_of (take (get_or places i d) entries)) e.event u) _ (alike ∙ h)
-
-    pub placed_passed : told ≡ false → some_needs (placed_at entries (drop i places)) u ≡ some_needs (placed_at entries (drop (i + 1) places)) u
-    placed_passed h = next_placed ∙ or_false (needs (history_of (take (get_or places i d) entries)) e.event u) _ (alike ∙ h)
-
 -- ---- what is found so far
 
 -- of the entries in front of later, these are e and all that need it; e is among them
@@ -210,7 +165,7 @@ module _ (e : StepId) (entries : List Entry) (later : ℕ) (places : List ℕ) (
         past = past_on;
       }
 
-somes_same : (xs ys : List StepId) → map (λ (x : StepId). Some x) xs ≡ map (λ (y : StepId). Some y) ys → xs ≡ ys
+pub somes_same : (xs ys : List StepId) → map (λ (x : StepId). Some x) xs ≡ map (λ (y : StepId). Some y) ys → xs ≡ ys
 somes_same [] [] h = refl
 somes_same [] (y ∷ ys) h = absurd (no h)
   where

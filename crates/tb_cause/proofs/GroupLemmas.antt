@@ -108,3 +108,24 @@ module _ (t : Name) (f : Name → Bool) (rest : List Entry) (e : Entry) (some : 
       (ap (λ acts. member_behind closed found acts f) (own_newest t rest e (Spawn u body args items deferred) some here mine is)
       ∙ at_spawn closed found u body args items deferred older f
       ∙ ap (λ b. member_behind closed b older f) (ap (λ b. found || b) within ∙ or_false found))
+
+  -- it generated one, whatever that one is
+  pub behind_spawn : (closed : ℕ) (found : Bool) (u : Name) (body : ℕ) (args : List ℤ) (items : List Item) (deferred : Bool) → e.event.action ≡ Spawn u body args items deferred
+      → member_behind closed (found || f u) older f ≡ member_behind closed found (own t (history_of rest)) f
+  behind_spawn closed found u body args items deferred is =
+      sym
+      (ap (λ acts. member_behind closed found acts f) (own_newest t rest e (Spawn u body args items deferred) some here mine is)
+      ∙ at_spawn closed found u body args items deferred older f)
+
+-- ---- a group that is open
+
+-- whether some group stays open
+abbrev pub stays_open : ℕ → List Action → Bool
+stays_open closed acts = member_behind closed true acts (λ c. true)
+
+pub open_first : (acts : List Action) → groups acts ≢ [] → stays_open 0 acts ≡ true
+open_first acts some = at (groups acts) some
+  where
+    at : (gs : List (List Name)) → gs ≢ [] → member_of_first true gs (λ c. true) ≡ true
+    at [] h = absurd (h refl)
+    at (us ∷ uss) h = refl

@@ -1,9 +1,15 @@
 -- What keys there are once some more are put in.
-use Rattle.std.proofs.Common.{◌≡◌, ℕ, suc, [], ◌∷◌, Bool, true, false, nat_eq, ◌+◌, ◌&&◌, ◌||◌, Option, Some, None, refl, sym, ap, ap₂, ◌∙◌, length}
+use Rattle.std.proofs.Common.{◌≡◌, ℕ, suc, List, [], ◌∷◌, Bool, true, false, nat_eq, ◌+◌, ◌&&◌, ◌||◌, Option, Some, None, refl, sym, ap, ap₂, ◌∙◌, length}
+use Rattle.std.specs.List.{list_any}
+use Rattle.tb_model.specs.declared.action.Action.TheVariants.{Start, Wait}
+use Rattle.tb_model.specs.declared.item.Item.{Item as AnItem}
+use Rattle.tb_model.specs.declared.place.Place.{Place}
 use Rattle.tb_model.specs.declared.place.Place.TheVariants.{Cell, All}
 use Rattle.tb_model.specs.Names.{Name, same_name, is_within, parent}
-use Rattle.tb_cause.specs.Keys.{place_key}
-use Rattle.tb_cause.proofs.KeyLemmas.{same_turned}
+use Rattle.tb_model.proofs.AlikeLemmas.{any_same}
+use Rattle.tb_cause.specs.Asked.{some_above, same_key, group_key, new_items_key}
+use Rattle.tb_cause.specs.Keys.{Key, Task, Ended, Parent, Within, Item, Stored, Touched, Printed, place_key, place_any, kind_any, item_any, items_any, kinds, kind_number, comes_behind}
+use Rattle.tb_cause.proofs.KeyLemmas.{same_turned, any_none, and_none, or_none}
 
 -- ---- a task and those above it
 
@@ -58,3 +64,104 @@ module _ (same : Bool) where
 -- ---- nothing but the last is taken
 pub only_last : (a b c d e r : Bool) → a ≡ false → b ≡ false → c ≡ false → d ≡ false → r ≡ e → r ≡ (a || (b || (c || (d || e))))
 only_last a b c d e r x y z w h = h ∙ sym (ap₂ (λ p q. p || q) x (ap₂ (λ p q. p || q) y (ap₂ (λ p q. p || q) z (ap (λ p. p || e) w))))
+
+-- ---- a task and those above it, tested
+
+abbrev pub passes_above : (Name → Bool) → Option Name → Bool
+passes_above f None = false
+passes_above f (Some w) = some_above f w
+
+pub above_passes : (f : Name → Bool) (w : Name) → f w ≡ true → some_above f w ≡ true
+above_passes f [] h = h
+above_passes f (n ∷ m) h = ap (λ b. b || some_above f m) h
+
+pub above_passed : (f : Name → Bool) (w : Name) → f w ≡ false → passes_above f (parent w) ≡ some_above f w
+above_passed f [] h = sym h
+above_passed f (n ∷ m) h = sym (ap (λ b. b || some_above f m) h)
+
+-- ---- puts one after another
+
+pub put_after : (a b old mid new : Bool) → mid ≡ (b || old) → new ≡ (a || mid) → new ≡ ((a || b) || old)
+put_after true b old mid new h k = k
+put_after false b old mid new h k = k ∙ h
+
+pub one_put : (before this old mid new all : Bool) → mid ≡ (before || old) → new ≡ (this || mid) → all ≡ (before || this) → new ≡ (all || old)
+one_put before this old mid new all h k a = k ∙ ap (λ b. this || b) h ∙ at before this ∙ ap (λ b. b || old) (sym a)
+  where
+    at : (x y : Bool) → (y || (x || old)) ≡ ((x || y) || old)
+    at true true = refl
+    at true false = refl
+    at false true = refl
+    at false false = refl
+
+pub or_turned : (a b : Bool) → (a || b) ≡ (b || a)
+or_turned true true = refl
+or_turned true false = refl
+or_turned false true = refl
+or_turned false false = refl
+
+module _ (a b c d e old one two three four new : Bool) (first : one ≡ (e || old)) (second : two ≡ (d || one)) (third : three ≡ (c || two)) (fourth : four ≡ (b || three)) (fifth : new ≡ (a || four)) where
+  all_five : new ≡ (a || (b || (c || (d || (e || old)))))
+  all_five = fifth ∙ ap (λ x. a || x) (fourth ∙ ap (λ x. b || x) (third ∙ ap (λ x. c || x) (second ∙ ap (λ x. d || x) first)))
+
+  pub five_puts : new ≡ ((a || (b || (c || (d || e)))) || old)
+  five_puts = all_five ∙ at a b c d
+    where
+      at : (a b c d : Bool) → (a || (b || (c || (d || (e || old))))) ≡ ((a || (b || (c || (d || e)))) || old)
+      at true b c d = refl
+      at false true c d = refl
+      at false false true d = refl
+      at false false false true = refl
+      at false false false false = refl
+
+  pub five_kinds : new ≡ ((a || (b || (c || (d || (e || false))))) || old)
+  five_kinds = five_puts ∙ ap (λ x. (a || (b || (c || (d || x)))) || old) (sym (or_none e))
+
+-- ---- what is asked for, key by key
+
+pub group_asks : (us : List Name) (k : Key) → list_any (λ c. same_key (Within c) k) us ≡ group_key us k
+group_asks us (Within q) = refl
+group_asks us (Task t) = any_none us
+group_asks us (Ended t) = any_none us
+group_asks us (Parent t) = any_none us
+group_asks us (Item t n c) = any_none us
+group_asks us (Stored c) = any_none us
+group_asks us (Touched c) = any_none us
+group_asks us Printed = any_none us
+
+module _ (f : Key → Bool) (no_item : (p : Name) (n c : ℕ) → f (Item p n c) ≡ false) where
+  place_off : (p : Name) (q : Place) (m : ℕ) → place_any f p q m ≡ false
+  place_off p (Cell c) m = ap₂ (λ a b. a || b) (no_item p m c) (no_item p (m + 2) 0)
+  place_off p All m = ap₂ (λ a b. a || b) (no_item p (m + 1) 0) (no_item p (m + 2) 0)
+
+  item_off : (p : Name) (s : Bool) (i : AnItem) → item_any f p s i ≡ false
+  item_off p s i = any_same (kind_any f p s i) (λ k. false) (λ k. ap (λ b. comes_behind s i.kind k && b) (place_off p i.place (kind_number k)) ∙ and_none (comes_behind s i.kind k)) kinds
+
+  items_off : (p : Name) (s : Bool) (items : List AnItem) → list_any (item_any f p s) items ≡ false
+  items_off p s items = any_same (item_any f p s) (λ i. false) (item_off p s) items ∙ any_none items
+
+pub items_ask : (p : Name) (s : Bool) (items : List AnItem) (k : Key) → list_any (item_any (λ a. same_key a k) p s) items ≡ new_items_key p s items k
+items_ask p s items (Item t n c) = refl
+items_ask p s items (Task t) = items_off (λ a. same_key a (Task t)) (λ q m d. refl) p s items
+items_ask p s items (Ended t) = items_off (λ a. same_key a (Ended t)) (λ q m d. refl) p s items
+items_ask p s items (Parent t) = items_off (λ a. same_key a (Parent t)) (λ q m d. refl) p s items
+items_ask p s items (Within t) = items_off (λ a. same_key a (Within t)) (λ q m d. refl) p s items
+items_ask p s items (Stored c) = items_off (λ a. same_key a (Stored c)) (λ q m d. refl) p s items
+items_ask p s items (Touched c) = items_off (λ a. same_key a (Touched c)) (λ q m d. refl) p s items
+items_ask p s items Printed = items_off (λ a. same_key a Printed) (λ q m d. refl) p s items
+
+-- by the start of a child of p
+pub start_asks : (f : Key → Bool) (I : Name → List AnItem) (t p : Name) (items : List AnItem) → parent t ≡ Some p → I t ≡ items → items_any f I t Start ≡ list_any (item_any f p true) items
+start_asks f I [] p items h same = absurd (none_no_some p h)
+  where
+    none_no_some : (q : Name) → ◌≡◌ {A = Option Name} None (Some q) → ⊥
+    none_no_some q z = cc
+start_asks f I (n ∷ q) p items h same = ap₂ (λ u js. list_any (item_any f u true) js) (one q p h) same
+  where
+    one : (u v : Name) → ◌≡◌ {A = Option Name} (Some u) (Some v) → u ≡ v
+    one u v z = cc
+
+-- by a `taskwait`
+pub wait_asks : (f : Key → Bool) (I : Name → List AnItem) (t : Name) (items : List AnItem) → items_any f I t (Wait items) ≡ list_any (item_any f t false) items
+wait_asks f I [] items = refl
+wait_asks f I (n ∷ p) items = refl

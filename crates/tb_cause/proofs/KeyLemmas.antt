@@ -135,7 +135,7 @@ module _ (f g : Key → Bool) where
         ap₂ (λ b c. b || c) (wait_more H v.task v.action) (items_more I v.task v.action)
         ∙ two (wait_any f H v.task v.action) (wait_any g H v.task v.action) (items_any f I v.task v.action) (items_any g I v.task v.action)
 
-    takes_more : takes_any both I H v ≡ (takes_any f I H v || takes_any g I H v)
+    pub takes_more : takes_any both I H v ≡ (takes_any f I H v || takes_any g I H v)
     takes_more =
         let fw = wait_any f H v.task v.action || items_any f I v.task v.action in
         let gw = wait_any g H v.task v.action || items_any g I v.task v.action in
@@ -185,7 +185,7 @@ items_none I (n ∷ p) Start = list_none p true (I (n ∷ p))
 items_none I t (Wait items) = list_none t false items
 items_none I t _ = refl
 
-takes_none : (I : Name → List AnItem) (H : History) (v : Event) → takes_any none I H v ≡ false
+pub takes_none : (I : Name → List AnItem) (H : History) (v : Event) → takes_any none I H v ≡ false
 takes_none I H v =
     ap₂ (λ a b. a || b) (held_none (held_by (own v.task H)))
     (ap₂ (λ a b. a || b) (action_none v.action) (ap₂ (λ a b. a || b) (wait_none H v.task v.action) (items_none I v.task v.action)))

@@ -215,7 +215,7 @@ module _ (I : Name → List AnItem) (H : History) (v u : Event) where
 
 -- ---- one event needs some of several
 
-any_same_in : {A : Type 0} (p q : A → Bool) (xs : List A) → AllByRecursion (λ x. p x ≡ q x) xs → list_any p xs ≡ list_any q xs
+pub any_same_in : {A : Type 0} (p q : A → Bool) (xs : List A) → AllByRecursion (λ x. p x ≡ q x) xs → list_any p xs ≡ list_any q xs
 any_same_in p q [] h = refl
 any_same_in p q (x ∷ xs) h = ap₂ (λ a b. a || b) h.0 (any_same_in p q xs h.1)
 

@@ -1,5 +1,5 @@
 -- The pass that finds what needs a step, by keys.
-use Rattle.std.proofs.Common.{◌≡◌, ◌<◌, ℕ, suc, List, [], ◌∷◌, ◌++◌, Bool, true, false, ◌||◌, refl, sym, ap, ◌∙◌, subst, length, take, drop, reverse, get_or, append_assoc}
+use Rattle.std.proofs.Common.{◌≡◌, ◌≢◌, ◌<◌, ◌+◌, ℕ, suc, List, [], ◌∷◌, ◌++◌, Bool, true, false, ◌||◌, refl, sym, ap, ◌∙◌, subst, length, take, drop, reverse, get_or, append_assoc}
 use Rattle.std.specs.List.{list_any, AllByRecursion}
 use Rattle.std.proofs.lemmas.Bool.{and_from, or_left, or_right}
 use Rattle.std.proofs.lemmas.List.Folds.{list_any-append}
@@ -8,8 +8,9 @@ use Rattle.tb_model.specs.declared.event.Event.{Event}
 use Rattle.tb_model.specs.declared.item.Item.{Item}
 use Rattle.tb_model.specs.declared.step_id.StepId.{StepId}
 use Rattle.tb_model.specs.Names.{Name}
-use Rattle.tb_model.specs.Facts.{History, HasEnded, IsSpawned, is_end, is_of, ends, items_of, prepend_if}
-use Rattle.tb_model.specs.Legal.{Legal}
+use Rattle.tb_model.specs.declared.action.Action.TheVariants.{Close}
+use Rattle.tb_model.specs.Facts.{History, HasEnded, IsSpawned, groups, own, is_end, is_of, ends, items_of, prepend_if}
+use Rattle.tb_model.specs.Legal.{Continues, Legal}
 use Rattle.tb_model.specs.Needs.{needs, is_removed, removed}
 use Rattle.tb_model.proofs.NeighboursLemmas.{legal_below}
 use Rattle.tb_model.proofs.SettledLemmas.{items_settled}
@@ -17,7 +18,7 @@ use Rattle.tb_model.proofs.TestLemmas.{same_refl}
 use Rattle.tb_core.specs.declared.entry.Entry.{Entry}
 use Rattle.tb_core.specs.Scans.{AreLegal, history_of}
 use Rattle.tb_core.proofs.NeedsLemmas.{items_named}
-use Rattle.tb_core.proofs.ScanLemmas.{history_cut}
+use Rattle.tb_core.proofs.ScanLemmas.{history_cut, history_more}
 use Rattle.tb_cause.specs.Chains.{AreGivenAt, events_at}
 use Rattle.tb_cause.specs.Indexes.{items_told}
 use Rattle.tb_cause.specs.Keys.{Key, gives, takes_any}
@@ -25,12 +26,12 @@ use Rattle.tb_cause.proofs.ConeLemmas.{Found, events_pushed}
 use Rattle.tb_cause.proofs.ItemLemmas.{by_items}
 use Rattle.tb_cause.proofs.KeyNeedLemmas.{needed_by_keys, needs_of_given}
 
-all_weaker : {A : Type 0} (P Q : A → Type 0) → ((x : A) → P x → Q x) → (xs : List A) → AllByRecursion P xs → AllByRecursion Q xs
+pub all_weaker : {A : Type 0} (P Q : A → Type 0) → ((x : A) → P x → Q x) → (xs : List A) → AllByRecursion P xs → AllByRecursion Q xs
 all_weaker P Q f [] h = tt
 all_weaker P Q f (x ∷ xs) h = (f x h.0, all_weaker P Q f xs h.1)
 
 -- an end that goes is one of the history
-abbrev EndsIn : History → Event → Type 0
+abbrev pub EndsIn : History → Event → Type 0
 EndsIn H u = is_end u.action ≡ true → HasEnded H u.task
 
 ended_in : (e : StepId) (H : History) → AllByRecursion (EndsIn H) (removed e H)
@@ -55,7 +56,7 @@ given_more entries places places' p w within here f f' given changed more k =
     turned false true = refl
     turned false false = refl
 
-module _ (e : StepId) (entries : List Entry) (later : ℕ) (places : List ℕ) (w : Entry) (within : later < length entries) (here : w ≡ get_or entries later w) (so_far : Found e entries later places) (legal : AreLegal entries) where
+module _ (entries : List Entry) (later : ℕ) (w : Entry) (within : later < length entries) (here : w ≡ get_or entries later w) (legal : AreLegal entries) where
   abbrev H : History
   H = history_of (take later entries)
 
@@ -68,7 +69,7 @@ module _ (e : StepId) (entries : List Entry) (later : ℕ) (places : List ℕ) (
   cut : history_of entries ≡ behind ++ w.event ∷ H
   cut = history_cut entries later w within here
 
-  legal_here : Legal legal.cells (w.event ∷ H)
+  pub legal_here : Legal legal.cells (w.event ∷ H)
   legal_here = legal_below legal.cells behind (w.event ∷ H) (subst (Legal legal.cells) cut legal.legal)
 
   whole : history_of entries ≡ (behind ++ w.event ∷ []) ++ H
@@ -79,15 +80,24 @@ module _ (e : StepId) (entries : List Entry) (later : ℕ) (places : List ℕ) (
       sym (items_named entries t legal) ∙ ap (items_of t) whole
       ∙ items_settled legal.cells (behind ++ w.event ∷ []) H t (subst (Legal legal.cells) whole legal.legal) s
 
-  each : AllByRecursion (λ u. needs H w.event u ≡ takes_any (gives I u) I H w.event) (removed e H)
-  each =
-      all_weaker (EndsIn H) (λ u. needs H w.event u ≡ takes_any (gives I u) I H w.event)
-      (λ u ended. needed_by_keys I H w.event u (λ z. by_items legal.cells H legal_here.0 I settled u.task (ended z) w.event.task w.event.action legal_here.1))
-      (removed e H) (ended_in e H)
+  -- what of the history the entry needs is told by keys
+  pub told_by_keys : (u : Event) → EndsIn H u → needs H w.event u ≡ takes_any (gives I u) I H w.event
+  told_by_keys u ended = needed_by_keys I H w.event u (λ z. by_items legal.cells H legal_here.0 I settled u.task (ended z) w.event.task w.event.action legal_here.1)
 
-  among : (p : Event → Bool) → list_any p (events_at entries places) ≡ list_any p (removed e H)
-  among p = ap (list_any p) so_far.their_events ∙ sym (list_any-IsPermutation p (removed e H) (reverse (removed e H)) (IsPermutation-reverse (removed e H)))
+  pub legal_so_far : AreLegal (take (later + 1) entries)
+  legal_so_far = record { cells = legal.cells; legal = subst (Legal legal.cells) (sym (history_more entries later w within here)) legal_here }
 
-  -- the next event needs one of those found where it takes a key that they give
-  pub taken_is_needed : (f : Key → Bool) → AreGivenAt entries places f → (b : Bool) → b ≡ takes_any f I H w.event → list_any (needs H w.event) (events_at entries places) ≡ b
-  taken_is_needed f given b is = among (needs H w.event) ∙ needs_of_given I H w.event (removed e H) f (λ k. given k ∙ among (λ u. gives I u k)) each ∙ sym is
+  -- a group is open where one is closed
+  pub closes_an_open : w.event.action ≡ Close → groups (own w.event.task H) ≢ []
+  closes_an_open is = (subst (λ a. Continues legal.cells w.event.task (own w.event.task H) a) is legal_here.1.own).1
+
+  module _ (e : StepId) (places : List ℕ) (so_far : Found e entries later places) where
+    each : AllByRecursion (λ u. needs H w.event u ≡ takes_any (gives I u) I H w.event) (removed e H)
+    each = all_weaker (EndsIn H) (λ u. needs H w.event u ≡ takes_any (gives I u) I H w.event) told_by_keys (removed e H) (ended_in e H)
+
+    among : (p : Event → Bool) → list_any p (events_at entries places) ≡ list_any p (removed e H)
+    among p = ap (list_any p) so_far.their_events ∙ sym (list_any-IsPermutation p (removed e H) (reverse (removed e H)) (IsPermutation-reverse (removed e H)))
+
+    -- the next event needs one of those found where it takes a key that they give
+    pub taken_is_needed : (f : Key → Bool) → AreGivenAt entries places f → (b : Bool) → b ≡ takes_any f I H w.event → list_any (needs H w.event) (events_at entries places) ≡ b
+    taken_is_needed f given b is = among (needs H w.event) ∙ needs_of_given I H w.event (removed e H) f (λ k. given k ∙ among (λ u. gives I u k)) each ∙ sym is

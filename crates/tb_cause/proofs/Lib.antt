@@ -1,6 +1,5 @@
 pub mod ConeLemmas
 pub mod CauseLemmas
-pub mod NamingLemmas
 pub mod AnswerLemmas
 pub mod SetLemmas
 pub mod KeyLemmas
@@ -9,6 +8,8 @@ pub mod ItemLemmas
 pub mod HasLemmas
 pub mod StandingLemmas
 pub mod KeyedLemmas
+pub mod AskedLemmas
+pub mod AskedNeedLemmas
 pub mod NameLemmas
 pub mod SpawnLemmas
 pub mod GroupLemmas

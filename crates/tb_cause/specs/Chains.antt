@@ -1,11 +1,10 @@
 -- What needs a step and what it needs, directly or through others. Lists come from the newest event.
-use Rattle.std.specs.Prelude.{◌≡◌, ◌<◌, ◌≤◌, length, ℕ, Bool, List, [], ◌∷◌, ◌++◌, map, reverse, Option, Some, None, slice_get, take, if◌then◌else◌}
+use Rattle.std.specs.Prelude.{◌≡◌, ◌<◌, ◌≤◌, length, ℕ, Bool, List, [], ◌∷◌, ◌++◌, map, reverse, Some, slice_get, take, if◌then◌else◌}
 use Rattle.std.specs.Option.{option_to_list}
 use Rattle.std.specs.List.{All, list_any}
 use Rattle.tb_model.specs.declared.step_id.StepId.{StepId}
 use Rattle.tb_model.specs.Facts.{History, prepend_if}
 use Rattle.tb_model.specs.Causes.{Placed, causes}
-use Rattle.tb_model.specs.Names.{Name, same_name}
 use Rattle.tb_model.specs.Needers.{is_needer}
 use Rattle.tb_model.specs.Needs.{is_step, step_of}
 use Rattle.tb_core.specs.declared.entry.Entry.{Entry}
@@ -55,8 +54,3 @@ abbrev pub placed_at : List Entry → List ℕ → List Placed
 placed_at entries [] = []
 placed_at entries (p ∷ places) =
     map (λ (x : Entry). record { event = x.event; front = history_of (take p entries) }) (option_to_list (slice_get entries p)) ++ placed_at entries places
-
--- the number of the first of these steps that is the task's
-abbrev pub first_number : Name → List StepId → Option ℕ
-first_number t [] = None
-first_number t (s ∷ steps) = if same_name s.task t then Some s.k else first_number t steps

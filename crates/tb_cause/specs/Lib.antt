@@ -1,4 +1,5 @@
 pub mod Refusals
 pub mod Chains
 pub mod Keys
+pub mod Asked
 pub mod Indexes

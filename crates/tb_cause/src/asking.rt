@@ -6,7 +6,8 @@ ghost use Rattle.tb_core.specs.Seen.{history};
 ghost use Rattle.tb_cause.specs.Chains.{needers, causes_of};
 
 use crate::cause_refusal::CauseRefusal;
-use crate::finding::{causes_of, cone_of};
+use crate::causes::causes_of;
+use crate::finding::cone_of;
 use std::alloc::Global;
 use tb_core::{Core, place_of};
 use tb_model::StepId;

@@ -1,15 +1,13 @@
-//! What needs a step, by one pass over the entries behind it, and what it needs, by one pass over
-//! those in front of it.
+//! What needs a step, by one pass over the entries behind it.
 
-ghost use Rattle.std.specs.Prelude.{◌≡◌, ◌<◌, ◌≤◌, ◌∷◌, [], ◌++◌, ◌||◌, IfOk, OnOk, Some, false, length, reverse, take, get_or, nat_eq};
+ghost use Rattle.std.specs.Prelude.{◌≡◌, ◌<◌, ◌≤◌, ◌∷◌, [], ◌++◌, ◌||◌, IfOk, OnOk, Some, false, length, take, get_or, nat_eq};
 ghost use Rattle.std.specs.List.{All};
 ghost use Rattle.indexmap.specs.IndexMap.{get};
-ghost use Rattle.tb_model.specs.Causes.{some_needs};
 ghost use Rattle.tb_model.specs.declared.step_id.StepId.{StepId};
 ghost use Rattle.tb_model.specs.Names.{same_name};
 ghost use Rattle.tb_core.specs.declared.entry.Entry.{Entry as AnEntry};
 ghost use Rattle.tb_core.specs.Scans.{AreLegal, history_of, step_at};
-ghost use Rattle.tb_cause.specs.Chains.{AreAllBehind, AreGivenAt, IsCone, causes_of, placed_at};
+ghost use Rattle.tb_cause.specs.Chains.{AreAllBehind, AreGivenAt, IsCone};
 ghost use Rattle.tb_cause.specs.Indexes.{AreHeld, AreSpawns, items_told};
 ghost use Rattle.tb_cause.specs.Keys.{Key, gives, has, takes_any};
 
@@ -17,14 +15,13 @@ use crate::cone::Cone;
 use crate::giving::give;
 use crate::keys::Keys;
 use crate::names::names_at;
-use crate::naming::{named, ordinal_before};
 use crate::spawns::{items_of, spawns_of};
 use crate::standing::held_steps;
 use crate::taking::takes_some;
 use indexmap::IndexMap;
 use std::alloc::{AllocError, Global};
-use tb_core::{Entry, needs};
-use tb_model::{Event, StepId, TaskName};
+use tb_core::Entry;
+use tb_model::{StepId, TaskName};
 
 /// The step at this place with all that need it.
 pub fn cone_of(
@@ -198,43 +195,4 @@ fn enter(
     give(keys, event, items_of(entries, spawns, &event.task))?;
     places.push(at as u32)?;
     Ok(())
-}
-
-/// The steps that the one at this place needs, directly or through others.
-pub fn causes_of(alloc: Global, entries: &[Entry], at: usize) -> Result<Vec<StepId>, AllocError>
-    requires legal { AreLegal entries.now }
-    requires bound { length entries.now ≤ 1000000 }
-    requires within { at < length entries.now }
-    ensures { IfOk result (λ steps. (step : StepId) → step_at entries.now at ≡ Some step →
-        steps.items ≡ reverse (causes_of step (history_of entries.now))) }
-{
-    let mut places = Vec::new(alloc);
-    let mut steps = Vec::new(alloc);
-    places.push(at as u32)?;
-    let mut left = at;
-    'back: while 0 < left {
-        left -= 1;
-        if is_needed(entries, &entries[left].event, &places) {
-            let k = ordinal_before(entries, left, &steps);
-            steps.push(named(entries, left, k)?)?;
-            places.push(left as u32)?;
-        }
-    }
-    steps.reverse();
-    Ok(steps)
-}
-
-/// Whether an entry at one of the places directly needs the event, which stands in front of them.
-fn is_needed(entries: &[Entry], event: &Event, places: &[u32]) -> bool
-    requires legal { AreLegal entries.now }
-    requires places { All (λ p. p < length entries.now) places.now }
-    ensures { some_needs (placed_at entries.now places.now) event.now ≡ result }
-{
-    for place in places {
-        let at = *place as usize;
-        if needs(&entries[..at], &entries[at].event, event) {
-            return true;
-        }
-    }
-    false
 }

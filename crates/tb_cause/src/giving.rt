@@ -1,13 +1,14 @@
 //! The keys that a step gives.
 
-ghost use Rattle.std.specs.Prelude.{◌≡◌, ◌≤◌, ◌&&◌, ◌||◌, ℕ, List, OnOk};
+ghost use Rattle.std.specs.Prelude.{◌≡◌, ◌≤◌, ◌&&◌, ◌||◌, ℕ, List, IfOk, OnOk};
 ghost use Rattle.std.specs.List.{list_any};
 ghost use Rattle.indexmap.specs.IndexSet.{contains};
 ghost use Rattle.tb_model.specs.declared.item.Item.{Item as AnItem};
 ghost use Rattle.tb_model.specs.Names.{Name, same_name, is_within};
+ghost use Rattle.tb_cause.specs.Asked.{action_gives, parent_gives, over_gives, place_gives, item_gives, items_give, gives_any, some_above};
 ghost use Rattle.tb_cause.specs.Keys.{Key, has, gives, own_key, action_key, over_key, items_key, item_key, place_key, kind_number, same_item_key};
 
-use crate::keys::{Keys, put, put_cell, put_item};
+use crate::keys::{Keys, has_item, put, put_cell, put_item};
 use indexmap::IndexSet;
 use std::alloc::AllocError;
 use tb_model::{Action, Event, Item, Kind, Place, TaskName};
@@ -134,5 +135,111 @@ pub(crate) fn number_of(kind: Kind) -> u32
         Kind::Inout => 6,
         Kind::Mutexinoutset => 9,
         Kind::Inoutset => 12,
+    }
+}
+
+/// Whether the event gives one of the keys; its task has these items.
+pub(crate) fn gives_some(keys: &Keys, event: &Event, items: &[Item]) -> Result<bool, AllocError>
+    ensures { IfOk result (λ b. (I : Name → List AnItem) → I event.now.task ≡ items.now →
+        b ≡ gives_any (has keys.now) I event.now) }
+{
+    if keys.tasks.contains(&event.task) || gives_by_action(keys, &event.action) {
+        return Ok(true);
+    }
+    if !event.action.is_end() {
+        return Ok(false);
+    }
+    if gives_by_over(keys, &event.task)? {
+        return Ok(true);
+    }
+    let found = gives_by_items(keys, &event.task, items)?;
+    Ok(found)
+}
+
+fn gives_by_action(keys: &Keys, action: &Action) -> bool
+    ensures { result ≡ action_gives (has keys.now) action.now }
+{
+    match action {
+        Action::Spawn { child, .. } => keys.tasks.contains(child),
+        Action::Load { cell, .. } => keys.touched.contains(cell),
+        Action::Store { cell, .. } => keys.stored.contains(cell) || keys.touched.contains(cell),
+        Action::Print { .. } => keys.printed,
+        _ => false,
+    }
+}
+
+fn gives_by_over(keys: &Keys, task: &TaskName) -> Result<bool, AllocError>
+    ensures { IfOk result (λ b. b ≡ over_gives (has keys.now) task.now) }
+{
+    if keys.ended.contains(task) || gives_by_parent(keys, task)? {
+        return Ok(true);
+    }
+    gives_from_above(&keys.within, task)
+}
+
+fn gives_by_parent(keys: &Keys, task: &TaskName) -> Result<bool, AllocError>
+    ensures { IfOk result (λ b. b ≡ parent_gives (has keys.now) task.now) }
+{
+    match task.parent()? {
+        Some(parent) => Ok(keys.parents.contains(&parent)),
+        None => Ok(false),
+    }
+}
+
+/// Whether the task or one above it is in the set.
+fn gives_from_above(set: &IndexSet<TaskName>, task: &TaskName) -> Result<bool, AllocError>
+    ensures { IfOk result (λ b. b ≡ some_above (contains same_name set.now) task.now) }
+{
+    let mut next = Some(task.clone()?);
+    'up: while let Some(name) = next {
+        if set.contains(&name) {
+            return Ok(true);
+        }
+        next = name.parent()?;
+    }
+    Ok(false)
+}
+
+fn gives_by_items(keys: &Keys, task: &TaskName, items: &[Item]) -> Result<bool, AllocError>
+    ensures { IfOk result (λ b. b ≡ items_give (has keys.now) task.now items.now) }
+{
+    if items.is_empty() {
+        return Ok(false);
+    }
+    match task.parent()? {
+        Some(parent) => gives_some_item(keys, &parent, items),
+        None => Ok(false),
+    }
+}
+
+/// Whether one of these items of a child of the parent gives one of the keys.
+fn gives_some_item(keys: &Keys, parent: &TaskName, items: &[Item]) -> Result<bool, AllocError>
+    ensures { IfOk result (λ b. b ≡ list_any (item_gives (has keys.now) parent.now) items.now) }
+{
+    for item in items {
+        if gives_place(keys, parent, number_of(item.kind), item.place)? {
+            return Ok(true);
+        }
+    }
+    Ok(false)
+}
+
+fn gives_place(
+    keys: &Keys,
+    parent: &TaskName,
+    number: u32,
+    place: Place,
+) -> Result<bool, AllocError>
+    requires { number ≤ 12 }
+    ensures { IfOk result (λ b. b ≡ place_gives (has keys.now) parent.now number place) }
+{
+    match place {
+        Place::Cell(cell) => {
+            if has_item(&keys.items, parent, number, cell)? {
+                return Ok(true);
+            }
+            has_item(&keys.items, parent, number + 1, 0)
+        }
+        Place::All => has_item(&keys.items, parent, number + 2, 0),
     }
 }

@@ -1,4 +1,4 @@
-//! What the steps that are found give, kept as keys.
+//! What the steps that are found have in common with those that are looked for, kept as keys.
 
 ghost use Rattle.std.specs.Prelude.{◌≡◌, ◌&&◌, ◌||◌, ℕ, false, nat_eq, OnOk, IfOk};
 ghost use Rattle.indexmap.specs.IndexSet.{contains};
@@ -10,7 +10,7 @@ use std::alloc::{AllocError, Global};
 use tb_model::TaskName;
 
 /// Keys of steps: a step needs an earlier one where it takes a key that the earlier one gives. These
-/// are the keys that some found step gives.
+/// are the keys that some found step gives, or those that some found step takes.
 #[derive(Drop)]
 pub(crate) struct Keys {
     /// A step of the task, or its spawn.

@@ -3,12 +3,13 @@
 
 mod asking;
 mod cause_refusal;
+mod causes;
 mod cone;
 mod finding;
 mod giving;
 mod keys;
 mod names;
-mod naming;
+mod noting;
 mod spawns;
 mod standing;
 mod taking;

@@ -8,7 +8,6 @@ ghost use Rattle.tb_model.specs.Names.{Name, same_name};
 ghost use Rattle.tb_core.specs.Scans.{step_at};
 ghost use Rattle.tb_cause.specs.Indexes.{AreNumbers, count_in};
 
-use crate::naming::named;
 use indexmap::IndexMap;
 use std::alloc::{AllocError, Global};
 use tb_core::{Entry, step_at};
@@ -59,6 +58,16 @@ fn names_by(
         steps.push(named(entries, *place as usize, numbers[*place as usize])?)?;
     }
     Ok(steps)
+}
+
+/// The name of the step at this place, which is its task's kth.
+fn named(entries: &[Entry], at: usize, k: u32) -> Result<StepId, AllocError>
+    requires within { at < length entries.now }
+    requires number { (id : StepId) → step_at entries.now at ≡ Some id → k ≡ id.k }
+    ensures { IfOk result (λ id. step_at entries.now at ≡ Some id) }
+{
+    let task = entries[at].event.task.clone()?;
+    Ok(StepId { task, k })
 }
 
 /// The number of each step among the steps of its task, from 1.

@@ -194,7 +194,7 @@ fn takes_place(
 
 /// Whether a new item of this kind comes behind an earlier one of that kind; that of a start also
 /// where the two exclude each other.
-fn comes_behind(starts: bool, new: Kind, old: Kind) -> bool
+pub(crate) fn comes_behind(starts: bool, new: Kind, old: Kind) -> bool
     ensures { result ≡ comes_behind starts new old }
 {
     match (new, old) {

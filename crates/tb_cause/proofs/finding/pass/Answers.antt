@@ -14,7 +14,7 @@ loop-later-preserved c =
     let entries = c.args.entries.now in
     let within = c.loop-later-test.true in
     let w = there entries l.later within in
-    let needed = taken_is_needed c.args._step.now entries l.later l.places.items w.0 within w.1 l.invariant.found c.requires.legal (has l.keys) l.invariant.given c.in_ok-goes.field-0 (c.in_ok-goes.ensures w.0 w.1) in
+    let needed = taken_is_needed entries l.later w.0 within w.1 c.requires.legal c.args._step.now l.places.items l.invariant.found (has l.keys) l.invariant.given c.in_ok-goes.field-0 (c.in_ok-goes.ensures w.0 w.1) in
     elim c.if-branch.branch [
       | then-branch+in_ok-enter x ↦
           let places : c.if-branch.places.items ≡ l.places.items ++ l.later ∷ [] = ap (λ v. v.items) x.places-is ∙ x.in_ok-enter.ensures.places in record {

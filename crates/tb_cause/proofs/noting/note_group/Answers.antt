@@ -1,0 +1,35 @@
+use Rattle.std.proofs.Common.{true, sym, ap, ◌∙◌, rules, ◌-◌, length, take}
+use Rattle.indexmap.specs.IndexSet.{contains}
+use Rattle.tb_model.specs.Names.{same_name}
+use Rattle.tb_model.specs.Facts.{own}
+use Rattle.tb_core.specs.Scans.{history_of}
+use Rattle.tb_cause.proofs.GroupLemmas.{behind_open, behind_spawn, member_behind}
+use Rattle.tb_cause.proofs.HasLemmas.{or_turned}
+use Rattle.tb_cause.proofs.noting.note_group.Goals as goal
+
+pub back-preserved-else-closed-eq0 : goal.back-preserved-else-closed-eq0
+back-preserved-else-closed-eq0 c =
+    let l = c.back in
+    let mine = sym c.eq.ensures ∙ c.if-eq.true in
+    record {
+      put = λ q.
+          behind_open c.args.task.now (λ x. same_name x q) l.rest.now c.newest-item.result c.in-len1-up.len_at_least c.newest-item.is mine l.closed (contains same_name l.set q) c.in-Open.is c.if-closed-eq0.false
+          ∙ l.invariant.put q;
+      stays = behind_open c.args.task.now (λ x. true) l.rest.now c.newest-item.result c.in-len1-up.len_at_least c.newest-item.is mine l.closed true c.in-Open.is c.if-closed-eq0.false ∙ l.invariant.stays;
+      fits = search rules;
+    }
+
+pub back-preserved-in_ok-put-in-Spawn : goal.back-preserved-in_ok-put-in-Spawn
+back-preserved-in_ok-put-in-Spawn c =
+    let l = c.back in
+    let s = c.in-Spawn in
+    let mine = sym c.eq.ensures ∙ c.if-eq.true in
+    record {
+      put = λ q.
+          ap (λ b. member_behind l.closed b (own c.args.task.now (history_of (take (length l.rest.now - 1) l.rest.now))) (λ x. same_name x q))
+          (c.in_ok-put-in-Spawn.ensures q ∙ or_turned (same_name s.child q) (contains same_name l.set q))
+          ∙ behind_spawn c.args.task.now (λ x. same_name x q) l.rest.now c.newest-item.result c.in-len1-up.len_at_least c.newest-item.is mine l.closed (contains same_name l.set q) s.child s.body s.args s.items s.deferred s.is
+          ∙ l.invariant.put q;
+      stays = behind_spawn c.args.task.now (λ x. true) l.rest.now c.newest-item.result c.in-len1-up.len_at_least c.newest-item.is mine l.closed true s.child s.body s.args s.items s.deferred s.is ∙ l.invariant.stays;
+      fits = search rules;
+    }

@@ -1,0 +1,250 @@
+//! The keys that a step takes, noted for the look at what stands in front of it.
+
+ghost use Rattle.std.specs.Prelude.{◌≡◌, ◌≢◌, ◌≤◌, ◌&&◌, ◌||◌, ℕ, [], List, OnOk};
+ghost use Rattle.std.specs.List.{list_any};
+ghost use Rattle.std.specs.Option.{option_copied};
+ghost use Rattle.indexmap.specs.IndexSet.{contains};
+ghost use Rattle.tb_model.specs.declared.action.Action.TheVariants.{Close, Start};
+ghost use Rattle.tb_model.specs.declared.item.Item.{Item as AnItem};
+ghost use Rattle.tb_model.specs.Names.{Name, same_name};
+ghost use Rattle.tb_model.specs.Facts.{own, groups, innermost};
+ghost use Rattle.tb_core.specs.Scans.{history_of};
+ghost use Rattle.tb_cause.specs.Asked.{same_key, asks, group_key, new_items_key};
+ghost use Rattle.tb_cause.specs.Keys.{Key, Item as ItemKey, Task, has, held_by, held_any, action_any, wait_any, items_any, item_any, kind_any, place_any, same_item_key};
+
+use crate::giving::number_of;
+use crate::keys::{Keys, put, put_cell, put_item};
+use crate::taking::comes_behind;
+use indexmap::IndexSet;
+use std::alloc::AllocError;
+use tb_core::Entry;
+use tb_model::{Action, Event, Item, Kind, Place, TaskName};
+
+/// Puts the keys that the event takes. It stands behind these entries, and at an undeferred child
+/// if one is named; its task has these items.
+pub(crate) fn note(
+    keys: &mut Keys,
+    front: &[Entry],
+    event: &Event,
+    held: Option<&TaskName>,
+    items: &[Item],
+) -> Result<(), AllocError>
+    requires held { option_copied held ≡ held_by (own event.now.task (history_of front.now)) }
+    requires opened { event.now.action ≡ Close → groups (own event.now.task (history_of front.now)) ≢ [] }
+    ensures { OnOk result ((k : Key) (I : Name → List AnItem) → I event.now.task ≡ items.now →
+        has keys.new k ≡ (asks I (history_of front.now) event.now k || has keys.old k)) }
+{
+    note_by_items(keys, &event.task, &event.action, items)?;
+    note_by_wait(keys, front, &event.task, &event.action)?;
+    note_by_action(keys, &event.action)?;
+    note_held(keys, held)?;
+    note_own(keys, &event.task)?;
+    Ok(())
+}
+
+fn note_own(keys: &mut Keys, task: &TaskName) -> Result<(), AllocError>
+    ensures { OnOk result ((k : Key) → has keys.new k ≡ (same_key (Task task.now) k || has keys.old k)) }
+{
+    put(&mut keys.tasks, task)
+}
+
+fn note_held(keys: &mut Keys, held: Option<&TaskName>) -> Result<(), AllocError>
+    ensures { OnOk result ((k : Key) →
+        has keys.new k ≡ (held_any (λ a. same_key a k) (option_copied held.entry) || has keys.old k)) }
+{
+    match held {
+        Some(child) => put(&mut keys.ended, child),
+        None => Ok(()),
+    }
+}
+
+fn note_by_action(keys: &mut Keys, action: &Action) -> Result<(), AllocError>
+    ensures { OnOk result ((k : Key) →
+        has keys.new k ≡ (action_any (λ a. same_key a k) action.now || has keys.old k)) }
+{
+    match action {
+        Action::Load { cell, .. } => put_cell(&mut keys.stored, *cell),
+        Action::Store { cell, .. } => put_cell(&mut keys.touched, *cell),
+        Action::Print { .. } => {
+            keys.printed = true;
+            Ok(())
+        }
+        _ => Ok(()),
+    }
+}
+
+fn note_by_wait(
+    keys: &mut Keys,
+    front: &[Entry],
+    task: &TaskName,
+    action: &Action,
+) -> Result<(), AllocError>
+    requires opened { action.now ≡ Close → groups (own task.now (history_of front.now)) ≢ [] }
+    ensures { OnOk result ((k : Key) → has keys.new k
+        ≡ (wait_any (λ a. same_key a k) (history_of front.now) task.now action.now || has keys.old k)) }
+{
+    match action {
+        Action::Wait { items } => match items.as_slice() {
+            [] => put(&mut keys.parents, task),
+            _ => Ok(()),
+        },
+        Action::Close => {
+            note_members(keys, front, task)?;
+            Ok(())
+        }
+        _ => Ok(()),
+    }
+}
+
+fn note_members(keys: &mut Keys, front: &[Entry], task: &TaskName) -> Result<(), AllocError>
+    requires opened { groups (own task.now (history_of front.now)) ≢ [] }
+    ensures { OnOk result ((k : Key) → has keys.new k
+        ≡ (group_key (innermost (groups (own task.now (history_of front.now)))) k || has keys.old k)) }
+{
+    note_group(&mut keys.within, front, task)
+}
+
+/// Puts the children of the innermost open group.
+fn note_group(
+    set: &mut IndexSet<TaskName>,
+    front: &[Entry],
+    task: &TaskName,
+) -> Result<(), AllocError>
+    requires opened { groups (own task.now (history_of front.now)) ≢ [] }
+    ensures { OnOk result ((q : Name) → contains same_name set.new q
+        ≡ (list_any (λ c. same_name c q) (innermost (groups (own task.now (history_of front.now)))) || contains same_name set.old q)) }
+{
+    let mut rest = front;
+    let mut closed = 0_usize;
+    'back: while let [older @ .., newest] = rest {
+        if newest.event.task == *task {
+            match &newest.event.action {
+                Action::Open => {
+                    if closed == 0 {
+                        return Ok(());
+                    }
+                    closed -= 1;
+                }
+                Action::Close => closed += 1,
+                Action::Spawn { child, .. } => put(set, child)?,
+                _ => {}
+            }
+        }
+        rest = older;
+    }
+    Ok(())
+}
+
+fn note_by_items(
+    keys: &mut Keys,
+    task: &TaskName,
+    action: &Action,
+    items: &[Item],
+) -> Result<(), AllocError>
+    ensures { OnOk result ((k : Key) (I : Name → List AnItem) → I task.now ≡ items.now →
+        has keys.new k ≡ (items_any (λ a. same_key a k) I task.now action.now || has keys.old k)) }
+{
+    match action {
+        Action::Start => match items {
+            [] => Ok(()),
+            _ => note_start(keys, task, items),
+        },
+        Action::Wait { items } => {
+            note_new(keys, task, false, items.as_slice())?;
+            Ok(())
+        }
+        _ => Ok(()),
+    }
+}
+
+/// Puts what the items of a task take at its start.
+fn note_start(keys: &mut Keys, task: &TaskName, items: &[Item]) -> Result<(), AllocError>
+    ensures { OnOk result ((k : Key) (I : Name → List AnItem) → I task.now ≡ items.now →
+        has keys.new k ≡ (items_any (λ a. same_key a k) I task.now Start || has keys.old k)) }
+{
+    match task.parent()? {
+        Some(parent) => {
+            note_new(keys, &parent, true, items)?;
+            Ok(())
+        }
+        None => Ok(()),
+    }
+}
+
+/// Puts what these items take of those of the children of the parent.
+fn note_new(
+    keys: &mut Keys,
+    parent: &TaskName,
+    starts: bool,
+    items: &[Item],
+) -> Result<(), AllocError>
+    ensures { OnOk result ((k : Key) → has keys.new k ≡ (new_items_key parent.now starts items.now k || has keys.old k)) }
+{
+    note_items(&mut keys.items, parent, starts, items)
+}
+
+/// Puts what these items of a start or of a `taskwait` take.
+fn note_items(
+    set: &mut IndexSet<(TaskName, u32, u32)>,
+    parent: &TaskName,
+    starts: bool,
+    items: &[Item],
+) -> Result<(), AllocError>
+    ensures { OnOk result ((p : Name) (n c : ℕ) → contains same_item_key set.new (p, n, c)
+        ≡ (list_any (item_any (λ a. same_key a (ItemKey p n c)) parent.now starts) items.now || contains same_item_key set.old (p, n, c))) }
+{
+    for item in items {
+        note_item(set, parent, starts, *item)?;
+    }
+    Ok(())
+}
+
+fn note_item(
+    set: &mut IndexSet<(TaskName, u32, u32)>,
+    parent: &TaskName,
+    starts: bool,
+    item: Item,
+) -> Result<(), AllocError>
+    ensures { OnOk result ((p : Name) (n c : ℕ) → contains same_item_key set.new (p, n, c)
+        ≡ (item_any (λ a. same_key a (ItemKey p n c)) parent.now starts item || contains same_item_key set.old (p, n, c))) }
+{
+    note_kind(set, parent, starts, item, Kind::Inoutset)?;
+    note_kind(set, parent, starts, item, Kind::Mutexinoutset)?;
+    note_kind(set, parent, starts, item, Kind::Inout)?;
+    note_kind(set, parent, starts, item, Kind::Out)?;
+    note_kind(set, parent, starts, item, Kind::In)?;
+    Ok(())
+}
+
+fn note_kind(
+    set: &mut IndexSet<(TaskName, u32, u32)>,
+    parent: &TaskName,
+    starts: bool,
+    item: Item,
+    old: Kind,
+) -> Result<(), AllocError>
+    ensures { OnOk result ((p : Name) (n c : ℕ) → contains same_item_key set.new (p, n, c)
+        ≡ (kind_any (λ a. same_key a (ItemKey p n c)) parent.now starts item old || contains same_item_key set.old (p, n, c))) }
+{
+    if comes_behind(starts, item.kind, old) {
+        note_place(set, parent, item.place, number_of(old))?;
+    }
+    Ok(())
+}
+
+fn note_place(
+    set: &mut IndexSet<(TaskName, u32, u32)>,
+    parent: &TaskName,
+    place: Place,
+    number: u32,
+) -> Result<(), AllocError>
+    requires { number ≤ 12 }
+    ensures { OnOk result ((p : Name) (n c : ℕ) → contains same_item_key set.new (p, n, c)
+        ≡ (place_any (λ a. same_key a (ItemKey p n c)) parent.now place number || contains same_item_key set.old (p, n, c))) }
+{
+    put_item(set, parent, number + 2, 0)?;
+    match place {
+        Place::Cell(cell) => put_item(set, parent, number, cell),
+        Place::All => put_item(set, parent, number + 1, 0),
+    }
+}
