@@ -8,7 +8,7 @@ use Rattle.tb_model.specs.declared.event.Event.{Event}
 use Rattle.tb_model.specs.declared.item.Item.{Item}
 use Rattle.tb_model.specs.Names.{Name}
 use Rattle.tb_model.specs.Causes.{Placed, some_needs}
-use Rattle.tb_model.specs.Facts.{History, HasEnded, is_end, is_of, ends}
+use Rattle.tb_model.specs.Facts.{is_end, is_of, ends}
 use Rattle.tb_model.specs.Needs.{needs}
 use Rattle.tb_model.proofs.AlikeLemmas.{any_same}
 use Rattle.tb_model.proofs.TestLemmas.{same_refl}

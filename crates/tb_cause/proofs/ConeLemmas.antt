@@ -1,15 +1,13 @@
 -- The pass that finds what needs a step.
-use Rattle.std.proofs.Common.{◌≡◌, ◌<◌, ◌≤◌, ◌+◌, ℕ, suc, List, [], ◌∷◌, ◌++◌, Bool, true, false, ◌||◌, ⊎_elim, length, map, take, drop, reverse, refl, sym, ap, ap₂, ◌∙◌, subst, arith, Some, Option, get_or, slice_get, append_assoc, ne_eqb}
+use Rattle.std.proofs.Common.{◌≡◌, ◌<◌, ◌≤◌, ◌+◌, ℕ, suc, List, [], ◌∷◌, ◌++◌, Bool, true, false, ◌||◌, ⊎_elim, length, map, take, reverse, refl, sym, ap, ap₂, ◌∙◌, subst, arith, Some, Option, get_or, slice_get, append_assoc, ne_eqb}
 use Rattle.std.specs.List.{list_any, All}
 use Rattle.std.specs.Option.{option_to_list}
-use Rattle.std.proofs.lemmas.Bool.{or_left, and_right}
-use Rattle.std.proofs.lemmas.List.{at_drop_more, length-map, map-append, length-reverse, length-take-le, reverse-append, take_all}
+use Rattle.std.proofs.lemmas.Bool.{and_right}
+use Rattle.std.proofs.lemmas.List.{length-map, map-append, length-reverse, length-take-le, reverse-append, take_all}
 use Rattle.std.proofs.lemmas.List.Elements.{All-push}
 use Rattle.std.proofs.lemmas.List.Sorted.{list_any-IsPermutation, IsPermutation-reverse}
 use Rattle.std.proofs.lemmas.Option.{slice_get_read, slice_get_cases}
-use Rattle.tb_model.specs.declared.event.Event.{Event}
 use Rattle.tb_model.specs.declared.step_id.StepId.{StepId}
-use Rattle.tb_model.specs.Causes.{Placed, some_needs}
 use Rattle.tb_model.specs.Facts.{History, is_of, own, prepend_if}
 use Rattle.tb_model.specs.Lines.{Departure}
 use Rattle.tb_model.specs.Needs.{needs, is_step, step_of, removed, is_removed}
@@ -24,7 +22,7 @@ use Rattle.tb_core.specs.Soundness.{departure}
 use Rattle.tb_core.proofs.FirstLemmas.{step_read}
 use Rattle.tb_core.proofs.ScanLemmas.{history_more}
 use Rattle.tb_cause.specs.declared.cone.Cone.{Cone}
-use Rattle.tb_cause.specs.Chains.{AreAllFound, IsCone, events_at, placed_at}
+use Rattle.tb_cause.specs.Chains.{AreAllFound, IsCone, events_at}
 
 -- ---- what is found so far
 

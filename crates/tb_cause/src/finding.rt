@@ -1,6 +1,6 @@
 //! What needs a step, by one pass over the entries behind it.
 
-ghost use Rattle.std.specs.Prelude.{◌≡◌, ◌<◌, ◌≤◌, ◌∷◌, [], ◌++◌, ◌||◌, IfOk, OnOk, Some, false, length, take, get_or, nat_eq};
+ghost use Rattle.std.specs.Prelude.{◌≡◌, ◌<◌, ◌≤◌, ◌+◌, ◌∷◌, [], ◌++◌, ◌||◌, IfOk, OnOk, Some, false, length, take, get_or, nat_eq};
 ghost use Rattle.std.specs.List.{All};
 ghost use Rattle.indexmap.specs.IndexMap.{get};
 ghost use Rattle.tb_model.specs.declared.step_id.StepId.{StepId};
@@ -55,8 +55,29 @@ fn places_behind(
     requires here { step_at entries.now at ≡ Some step.now }
     ensures { IfOk result (λ places. AreAllBehind step.now entries.now at places.items) }
 {
+    if at + 1 == entries.len() {
+        return place_alone(alloc, entries, at, step);
+    }
     let held = held_steps(alloc, entries)?;
     held_known(alloc, entries, &held, at, step)
+}
+
+/// The same of the newest step: nothing can need it, so nothing is looked up.
+fn place_alone(
+    alloc: Global,
+    entries: &[Entry],
+    at: usize,
+    _step: &StepId,
+) -> Result<Vec<u32>, AllocError>
+    requires bound { length entries.now ≤ 1000000 }
+    requires within { at < length entries.now }
+    requires here { step_at entries.now at ≡ Some _step.now }
+    requires newest { at + 1 ≡ length entries.now }
+    ensures { IfOk result (λ places. AreAllBehind _step.now entries.now at places.items) }
+{
+    let mut places = Vec::new(alloc);
+    places.push(at as u32)?;
+    Ok(places)
 }
 
 fn held_known(

@@ -1,6 +1,6 @@
 //! Which steps come behind the end of an undeferred child of their task.
 
-ghost use Rattle.std.specs.Prelude.{◌≡◌, ◌≤◌, ◌∷◌, [], ℕ, IfOk, OnOk, Some, length, nat_eq, if◌then◌else◌};
+ghost use Rattle.std.specs.Prelude.{◌≡◌, ◌≤◌, ◌∷◌, [], ℕ, IfOk, OnOk, Some, None, length, nat_eq, if◌then◌else◌};
 ghost use Rattle.indexmap.specs.IndexMap.{get};
 ghost use Rattle.tb_model.specs.Names.{Name, same_name};
 ghost use Rattle.tb_cause.specs.Indexes.{AreHeld};
@@ -47,7 +47,7 @@ fn pass(
     ensures standing { OnOk result ((t : Name) → get same_name standing.new t ≡
         (if same_name event.now.task t then held_by (event.now.action ∷ []) else get same_name standing.old t)) }
 {
-    let left = standing.swap_remove(&event.task);
+    let left = leave(standing, &event.task);
     if let Action::Spawn {
         child,
         deferred,
@@ -59,4 +59,16 @@ fn pass(
         }
     }
     Ok(left)
+}
+
+/// The undeferred child at which the task stands, taken out. Mostly none stands at one, and then no
+/// name is looked up.
+fn leave(standing: &mut IndexMap<TaskName, TaskName>, task: &TaskName) -> Option<TaskName>
+    ensures left { result ≡ get same_name standing.old task.now }
+    ensures standing { (t : Name) → get same_name standing.new t ≡ (if same_name task.now t then None else get same_name standing.old t) }
+{
+    if standing.is_empty() {
+        return None;
+    }
+    standing.swap_remove(task)
 }

@@ -1,4 +1,4 @@
-use Rattle.std.proofs.Common.{◌||◌, sym, ap, ◌∙◌}
+use Rattle.std.proofs.Common.{◌||◌, ap, ◌∙◌}
 use Rattle.tb_cause.specs.Asked.{same_key}
 use Rattle.tb_cause.specs.Keys.{has, held_any}
 use Rattle.tb_cause.proofs.HasLemmas.{five_puts}
