@@ -353,23 +353,35 @@ fn spawn_four(rt: &(impl Abort + AllocGlobal), table: &mut Wait, root: &TaskName
     table.ended(&child_of_root(rt, 2));
 }
 
-fn walk(rt: &(impl Abort + AllocGlobal), table: &Wait, root: &TaskName) {
-    let found: [Option<u32>; 5] = [Some(1), Some(3), Some(3), Some(4), None];
-    let mut low = 0u32;
-    for next in &found {
-        assert_eq!(rt; table.next_unended(root, low), *next);
-        low = low.wrapping_add(1);
-    }
-    assert_eq!(rt; table.next_unended(&child_of_root(rt, 2), 0), None);
-    assert_eq!(rt; table.next_unended(&child_of_root(rt, 5), 0), None);
+// The first unended child of the root's child with this number, above no number.
+fn next_of_child(rt: &(impl Abort + AllocGlobal), table: &Wait, number: u32) -> Option<u32> {
+    let child = child_of_root(rt, number);
+    let next = table.next_unended(&child, 0);
+    mem::forget(child);
+    next
 }
+
+// The first unended child of the task above each of the numbers from 0 to 4.
+fn next_above(table: &Wait, task: &TaskName) -> [Option<u32>; 5] {
+    [
+        table.next_unended(task, 0),
+        table.next_unended(task, 1),
+        table.next_unended(task, 2),
+        table.next_unended(task, 3),
+        table.next_unended(task, 4),
+    ]
+}
+
+const ABOVE: [Option<u32>; 5] = [Some(1), Some(3), Some(3), Some(4), None];
 
 #[test]
 fn the_unended_children_are_walked_by_number(rt: HostRuntime) {
     let mut table = Wait::open(rt.alloc()).expect(&rt, "memory is there");
     let root = TaskName::root(rt.alloc());
     spawn_four(&rt, &mut table, &root);
-    walk(&rt, &table, &root);
+    assert!(rt; next_above(&table, &root) == ABOVE);
+    assert_eq!(rt; next_of_child(&rt, &table, 2), None);
+    assert_eq!(rt; next_of_child(&rt, &table, 5), None);
     mem::forget(root);
     mem::forget(table);
 }
