@@ -1,6 +1,7 @@
 //! Whose earliest needer is whose, in a history for each kind of need.
 
 use std::alloc::AllocGlobal;
+use std::mem;
 use std::process::Abort;
 use tb_core::{Entry, first_needer, place_of, step_at};
 use tb_model::{Action, Args, Event, Item, Items, Kind, Place, StepId, TaskName};
@@ -92,23 +93,31 @@ fn entry(rt: &(impl Abort + AllocGlobal), line: &str) -> Entry {
     }
 }
 
-/// The earliest step that needs the one that the text names, or why there is none.
-fn needer(rt: &(impl Abort + AllocGlobal), entries: &[Entry], id: &str) -> String {
+fn place(rt: &(impl Abort + AllocGlobal), entries: &[Entry], id: &str) -> Option<usize> {
     let id = StepId::parse(rt.alloc(), id.as_bytes()).expect(rt, "a step");
+    let found = place_of(entries, &id);
+    mem::forget(id);
+    found
+}
+
+fn printed(rt: &(impl Abort + AllocGlobal), id: StepId) -> String {
     let mut text = String::new(rt.alloc());
-    let Some(at) = place_of(entries, &id) else {
-        text.push_str("absent").expect(rt, "memory is there");
-        return text;
-    };
-    assert!(rt; entries.len() <= 1_000_000);
-    match first_needer(entries, at) {
-        Some(by) => {
-            let by = step_at(entries, by).expect(rt, "memory is there");
-            by.print(&mut text).expect(rt, "memory is there");
-        }
-        None => text.push_str("free").expect(rt, "memory is there"),
-    }
+    id.print(&mut text).expect(rt, "memory is there");
+    mem::forget(id);
     text
+}
+
+/// The earliest step that needs the one at the place is this, or there is none and it is free.
+fn compare_needer(rt: &(impl Abort + AllocGlobal), entries: &[Entry], at: usize, by: &str) {
+    assert!(rt; at < entries.len() && entries.len() <= 1_000_000);
+    match first_needer(entries, at) {
+        Some(found) => {
+            let text = printed(rt, step_at(entries, found).expect(rt, "memory is there"));
+            assert_eq!(rt; text.as_str(), by, "at {at}");
+            mem::forget(text);
+        }
+        None => assert_eq!(rt; "free", by, "at {at}"),
+    }
 }
 
 /// Each step has this earliest needer in the history of these lines.
@@ -118,8 +127,12 @@ fn compare(rt: &(impl Abort + AllocGlobal), lines: &[&str], needers: &[(&str, &s
         entries.push(entry(rt, *line)).expect(rt, "memory is there");
     }
     for (id, by) in needers {
-        assert_eq!(rt; needer(rt, &entries, *id).as_str(), *by, "at {id}");
+        match place(rt, &entries, *id) {
+            Some(at) => compare_needer(rt, &entries, at, *by),
+            None => assert_eq!(rt; "absent", *by, "at {id}"),
+        }
     }
+    mem::forget(entries);
 }
 
 #[test]

@@ -4,6 +4,7 @@ ghost use Rattle.std.specs.Prelude.{IsTrue};
 ghost use Rattle.tb_core.specs.Outcomes.{Fits};
 
 use std::alloc::AllocGlobal;
+use std::mem;
 use std::process::Abort;
 use tb_cause::{needed_by, needs};
 use tb_core::{Core, Removed};
@@ -25,12 +26,19 @@ fn fits(core: &Core, plan: &Plan) -> bool
     !matches!(&plan.action, Action::Close)
 }
 
-fn take_step(rt: &(impl Abort + AllocGlobal), program: &Program, core: &mut Core, name: &str) {
+fn next_plan(rt: &(impl Abort + AllocGlobal), program: &Program, core: &Core, name: &str) -> Plan {
     let task = TaskName::parse(rt.alloc(), name.as_bytes()).expect(rt, name);
     let found = core.config(&task).expect(rt, "memory is there");
+    mem::forget(task);
     let config = found.expect(rt, name);
     let instr = program.instr(config.at).expect(rt, name);
-    let plan = plan(rt.alloc(), instr, &config).expect(rt, "memory is there");
+    let made = plan(rt.alloc(), instr, &config).expect(rt, "memory is there");
+    mem::forget(config);
+    made
+}
+
+fn take_step(rt: &(impl Abort + AllocGlobal), program: &Program, core: &mut Core, name: &str) {
+    let plan = next_plan(rt, program, core, name);
     assert!(rt; fits(core, &plan));
     core.step(plan).expect(rt, name);
 }
@@ -51,6 +59,7 @@ fn taken(rt: &(impl Abort + AllocGlobal), text: &[u8], names: &[&str]) -> Core {
     let program = read(rt.alloc(), text).expect(rt, "an accepted program");
     let mut core = opened(rt, &program);
     take_steps(rt, &program, &mut core, names);
+    mem::forget(program);
     core
 }
 
@@ -100,6 +109,7 @@ fn compare_with(
 ) {
     let other = taken(rt, text, names);
     compare(rt, core, &other, same);
+    mem::forget(other);
 }
 
 fn compare_all(rt: &(impl Abort + AllocGlobal), core: &Core) {
@@ -112,6 +122,7 @@ fn compare_all(rt: &(impl Abort + AllocGlobal), core: &Core) {
 fn runs_of_one_order_of_needs_are_one(rt: HostRuntime) {
     let core = taken(&rt, TWICE, &FIRST_THEN_SECOND);
     compare_all(&rt, &core);
+    mem::forget(core);
 }
 
 /// A load, and a later store to its cell, of two tasks.
@@ -204,4 +215,5 @@ fn ask_and_roll(rt: &(impl Abort + AllocGlobal), core: &mut Core) {
 fn a_step_goes_with_all_that_need_it(rt: HostRuntime) {
     let mut core = taken(&rt, CONFLICT, &STEPS);
     ask_and_roll(&rt, &mut core);
+    mem::forget(core);
 }

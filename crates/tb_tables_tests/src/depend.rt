@@ -1,9 +1,9 @@
 //! The table of dependences by OpenMP 5.2, 15.9.5 depend Clause, and calls with little memory.
 
+use std::alloc::AllocError;
 use std::mem;
 use std::process::Abort;
-use std::test::Fail;
-use tb_depend::{Over, Siblings};
+use tb_depend::{Over, Preds, Siblings};
 use tb_model::{Item, Kind, Place};
 
 fn item(kind: Kind, cell: u32) -> Item {
@@ -20,12 +20,17 @@ fn all(kind: Kind) -> Item {
     }
 }
 
-/// Whether a child with this item of cell 0 depends on those with these numbers.
-fn follows(siblings: &mut Siblings, kind: Kind, numbers: &[usize]) -> bool {
-    match siblings.add([item(kind, 0)].as_slice()) {
-        Ok(preds) => preds.as_slice() == numbers,
+/// Whether these are the numbers of the answer.
+pub(crate) fn lists(answer: Result<Preds, AllocError>, numbers: &[usize]) -> bool {
+    match answer {
+        Ok(found) => found.as_slice() == numbers,
         Err(_) => false,
     }
+}
+
+/// Whether a child with this item of cell 0 depends on those with these numbers.
+fn follows(siblings: &mut Siblings, kind: Kind, numbers: &[usize]) -> bool {
+    lists(siblings.add([item(kind, 0)].as_slice()), numbers)
 }
 
 #[test]
@@ -85,87 +90,123 @@ fn only_those_near_are_asked(rt: HostRuntime) {
 }
 
 #[test]
-fn exclusion_orders_nobody(rt: HostRuntime) -> Result<(), Fail> {
+fn exclusion_orders_nobody(rt: HostRuntime) {
     let mut siblings = Siblings::new(rt.alloc());
     let exclusive = [item(Kind::Mutexinoutset, 0), item(Kind::In, 1)];
-    assert!(rt; siblings.add(exclusive.as_slice())?.as_slice().is_empty());
-    assert!(rt; siblings.add(exclusive.as_slice())?.as_slice().is_empty());
+    assert!(rt; lists(siblings.add(exclusive.as_slice()), &[]));
+    assert!(rt; lists(siblings.add(exclusive.as_slice()), &[]));
     assert!(rt; siblings.is_apart(1, 2) && siblings.is_apart(2, 1));
     assert!(rt; !siblings.is_apart(1, 1) && !siblings.is_before(1, 2));
-    assert_eq!(rt; siblings.apart(1)?.as_slice(), [2].as_slice());
-    assert_eq!(rt; siblings.apart(2)?.as_slice(), [1].as_slice());
+    assert!(rt; lists(siblings.apart(1), [2].as_slice()));
+    assert!(rt; lists(siblings.apart(2), [1].as_slice()));
     assert_eq!(rt; siblings.items(2).len(), 2);
-    Ok(())
+    mem::forget(siblings);
+}
+
+/// Whether a wait with this item covers the children with these numbers.
+fn covers_those(siblings: &Siblings, item: Item, numbers: &[usize]) -> bool {
+    lists(siblings.covered([item].as_slice()), numbers)
 }
 
 #[test]
-fn a_wait_covers_those_it_would_depend_on(rt: HostRuntime) -> Result<(), Fail> {
+fn a_wait_covers_those_it_would_depend_on(rt: HostRuntime) {
     let mut siblings = Siblings::new(rt.alloc());
-    let _first = siblings.add([item(Kind::In, 0)].as_slice())?;
-    let _second = siblings.add([item(Kind::Out, 1)].as_slice())?;
-    let _third = siblings.add([].as_slice())?;
-    assert_eq!(rt;
-        siblings.covered([].as_slice())?.as_slice(),
-        [1, 2, 3].as_slice()
-    );
-    assert!(rt;
-        siblings
-            .covered([item(Kind::In, 0)].as_slice())?
-            .as_slice()
-            .is_empty()
-    );
-    assert_eq!(rt;
-        siblings.covered([item(Kind::In, 1)].as_slice())?.as_slice(),
-        [2].as_slice()
-    );
-    assert_eq!(rt;
-        siblings.covered([all(Kind::Out)].as_slice())?.as_slice(),
-        [1, 2].as_slice()
-    );
+    assert!(rt; follows(&mut siblings, Kind::In, &[]));
+    assert!(rt; lists(siblings.add([item(Kind::Out, 1)].as_slice()), &[]));
+    assert!(rt; lists(siblings.add([].as_slice()), &[]));
+    assert!(rt; lists(siblings.covered([].as_slice()), [1, 2, 3].as_slice()));
+    assert!(rt; covers_those(&siblings, item(Kind::In, 0), &[]));
+    assert!(rt; covers_those(&siblings, item(Kind::In, 1), [2].as_slice()));
+    assert!(rt; covers_those(&siblings, all(Kind::Out), [1, 2].as_slice()));
     assert!(rt;
         siblings.covers([].as_slice(), 3) && !siblings.covers([all(Kind::Out)].as_slice(), 3)
     );
-    Ok(())
+    mem::forget(siblings);
+}
+
+/// Adds a child behind room for it, which is made again where it was refused.
+fn add_reserved(
+    rt: &impl Abort,
+    siblings: &mut Siblings,
+    items: &[Item],
+) -> Result<Preds, AllocError> {
+    let before = siblings.len();
+    if siblings.reserve_add(items).is_err() {
+        assert_eq!(rt; siblings.len(), before);
+        siblings.reserve_add(items)?;
+    }
+    Ok(siblings.add(items).unwrap())
+}
+
+/// Adds a child, and again where memory was refused.
+fn add_twice(
+    rt: &impl Abort,
+    siblings: &mut Siblings,
+    items: &[Item],
+) -> Result<Preds, AllocError> {
+    let before = siblings.len();
+    if let Ok(preds) = siblings.add(items) {
+        return Ok(preds);
+    }
+    assert_eq!(rt; siblings.len(), before);
+    siblings.add(items)
+}
+
+/// How many the new child depends on. They are asked for again, and where memory was refused once
+/// more.
+fn grown(
+    rt: &impl Abort,
+    siblings: &mut Siblings,
+    items: &[Item],
+    reserves: bool,
+) -> Option<usize> {
+    let added = if reserves {
+        add_reserved(rt, siblings, items)
+    } else {
+        add_twice(rt, siblings, items)
+    };
+    match added {
+        Ok(preds) => {
+            let numbers = preds.as_slice();
+            let last = siblings.len();
+            assert!(rt;
+                lists(siblings.preds(last), numbers) || lists(siblings.preds(last), numbers)
+            );
+            Some(numbers.len())
+        }
+        Err(_) => None,
+    }
+}
+
+/// How many a wait without items covers.
+fn covered_count(siblings: &Siblings) -> Option<usize> {
+    match siblings.covered([].as_slice()) {
+        Ok(covered) => Some(covered.as_slice().len()),
+        Err(_) => None,
+    }
+}
+
+/// All children are covered by a wait without items, and none is kept apart from the first. Where
+/// memory was refused they are asked for again.
+fn ask(rt: &impl Abort, siblings: &Siblings) {
+    let covered = match covered_count(siblings) {
+        Some(count) => Some(count),
+        None => covered_count(siblings),
+    };
+    assert_eq!(rt; covered, Some(siblings.len()));
+    assert!(rt; lists(siblings.apart(1), &[]) || lists(siblings.apart(1), &[]));
 }
 
 /// A call that was refused changes nothing, and made again it answers as it would have at first.
 #[test]
-fn a_refused_growth_changes_nothing(rt: HostRuntime) -> Result<(), Fail> {
+fn a_refused_growth_changes_nothing(rt: HostRuntime) {
     let mut siblings = Siblings::new(rt.alloc());
     let items = [all(Kind::Inout), item(Kind::In, 3)];
     for n in 0..24usize {
-        let preds = if n % 3 == 0 {
-            if siblings.reserve_add(items.as_slice()).is_err() {
-                assert_eq!(rt; siblings.len(), n);
-                siblings.reserve_add(items.as_slice())?;
-            }
-            siblings.add(items.as_slice()).unwrap()
-        } else {
-            match siblings.add(items.as_slice()) {
-                Ok(preds) => preds,
-                Err(_) => {
-                    assert_eq!(rt; siblings.len(), n);
-                    siblings.add(items.as_slice())?
-                }
-            }
-        };
-        assert_eq!(rt; preds.as_slice().len(), n);
+        let count = grown(&rt, &mut siblings, items.as_slice(), n % 3 == 0);
+        assert_eq!(rt; count, Some(n));
         assert_eq!(rt; siblings.len(), n.wrapping_add(1));
-        let again = match siblings.preds(siblings.len()) {
-            Ok(preds) => preds,
-            Err(_) => siblings.preds(siblings.len())?,
-        };
-        assert_eq!(rt; again.as_slice(), preds.as_slice());
-        let covered = match siblings.covered([].as_slice()) {
-            Ok(covered) => covered,
-            Err(_) => siblings.covered([].as_slice())?,
-        };
-        assert_eq!(rt; covered.as_slice().len(), siblings.len());
-        let apart = match siblings.apart(1) {
-            Ok(apart) => apart,
-            Err(_) => siblings.apart(1)?,
-        };
-        assert!(rt; apart.as_slice().is_empty());
+        ask(&rt, &siblings);
     }
-    Ok(())
+    mem::forget(siblings);
 }

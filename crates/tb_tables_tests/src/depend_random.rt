@@ -1,6 +1,8 @@
 //! The answers against a plain program over the rows of the table, on lists made by a fixed rule.
 
+use crate::depend::lists;
 use std::alloc::{AllocError, Global};
+use std::mem;
 use std::process::Abort;
 use tb_depend::{Over, Siblings};
 use tb_model::{Item, Kind, Place};
@@ -147,6 +149,20 @@ impl Known {
     }
 }
 
+/// Adds the child of the last row, and tells whether it depends on those of the plain program.
+fn add_child(
+    alloc: Global,
+    siblings: &mut Siblings,
+    rows: &[Vec<Item>],
+) -> Result<bool, AllocError> {
+    let at = rows.len().wrapping_sub(1);
+    let plain = numbers(alloc, rows, at, b'b')?;
+    match rows.get(at) {
+        Some(items) => Ok(lists(siblings.add(items), &plain)),
+        None => Ok(false),
+    }
+}
+
 /// Adds ten children or takes the last one off, and tells whether each `add` answers right.
 fn grow(
     alloc: Global,
@@ -159,11 +175,8 @@ fn grow(
             siblings.drop_last();
             let _last = rows.pop();
         } else {
-            let items = dice.items(alloc)?;
-            let preds = siblings.add(&items)?;
-            rows.push(items)?;
-            let plain = numbers(alloc, rows, rows.len().wrapping_sub(1), b'b')?;
-            if preds.as_slice() != plain.as_slice() {
+            rows.push(dice.items(alloc)?)?;
+            if !add_child(alloc, siblings, rows)? {
                 return Ok(false);
             }
         }
@@ -171,7 +184,8 @@ fn grow(
     Ok(siblings.len() == rows.len())
 }
 
-/// Whether the lists of the child at this index are those of the plain program.
+/// Whether the list of those before the child at this index is that of the plain program, and the
+/// list of those apart from it.
 fn has_lists(
     alloc: Global,
     siblings: &Siblings,
@@ -179,12 +193,10 @@ fn has_lists(
     at: usize,
 ) -> Result<bool, AllocError> {
     let n = at.wrapping_add(1);
-    let before = numbers(alloc, rows, at, b'b')?;
-    let apart = numbers(alloc, rows, at, b'a')?;
-    Ok(
-        siblings.preds(n)?.as_slice() == before.as_slice()
-            && siblings.apart(n)?.as_slice() == apart.as_slice(),
-    )
+    if !lists(siblings.preds(n), &numbers(alloc, rows, at, b'b')?) {
+        return Ok(false);
+    }
+    Ok(lists(siblings.apart(n), &numbers(alloc, rows, at, b'a')?))
 }
 
 /// Lets children be over where all are on which they depend, and tells whether the table knows
@@ -208,25 +220,50 @@ fn knows_over(
     Ok(true)
 }
 
-/// Whether the answers of a table made by the dice are those of the plain program.
-fn agrees(alloc: Global, dice: &mut Dice) -> Result<bool, AllocError> {
-    let mut siblings = Siblings::new(alloc);
-    let mut rows = Vec::new(alloc);
-    let mut right = grow(alloc, dice, &mut siblings, &mut rows)?;
-    for at in 0..rows.len() {
-        right = right && has_lists(alloc, &siblings, &rows, at)?;
-    }
-    right = right && knows_over(alloc, dice, &siblings, &rows)?;
+/// Whether a wait with items of the dice covers those of the plain program.
+fn covers_alike(
+    alloc: Global,
+    dice: &mut Dice,
+    siblings: &Siblings,
+    rows: &[Vec<Item>],
+) -> Result<bool, AllocError> {
     let items = dice.items(alloc)?;
-    let plain = covered(alloc, &rows, &items)?;
-    right = right && siblings.covered(&items)?.as_slice() == plain.as_slice();
-    Ok(right)
+    match covered(alloc, rows, &items) {
+        Ok(plain) => Ok(lists(siblings.covered(&items), &plain)),
+        Err(refused) => Err(refused),
+    }
+}
+
+/// Whether the answers of a table made by the dice are those of the plain program.
+fn agrees(
+    alloc: Global,
+    dice: &mut Dice,
+    siblings: &mut Siblings,
+    rows: &mut Vec<Vec<Item>>,
+) -> Result<bool, AllocError> {
+    if !grow(alloc, dice, siblings, rows)? {
+        return Ok(false);
+    }
+    for at in 0..rows.len() {
+        if !has_lists(alloc, siblings, rows, at)? {
+            return Ok(false);
+        }
+    }
+    if !knows_over(alloc, dice, siblings, rows)? {
+        return Ok(false);
+    }
+    covers_alike(alloc, dice, siblings, rows)
 }
 
 #[test]
 fn agrees_with_the_plain_program(rt: HostRuntime) {
     let mut dice = Dice { state: 1 };
     for _ in 0..200u32 {
-        assert_eq!(rt; agrees(rt.alloc(), &mut dice), Ok(true));
+        let mut siblings = Siblings::new(rt.alloc());
+        let mut rows = Vec::new(rt.alloc());
+        let agree = agrees(rt.alloc(), &mut dice, &mut siblings, &mut rows);
+        assert_eq!(rt; agree, Ok(true));
+        mem::forget(siblings);
+        mem::forget(rows);
     }
 }

@@ -1,7 +1,8 @@
 //! The table beside a plain list of the tasks with what each did.
 
-use std::alloc::AllocError;
-use std::test::Fail;
+use std::alloc::{AllocError, AllocGlobal, Global};
+use std::mem;
+use std::process::Abort;
 use tb_model::TaskName;
 use tb_wait::Wait;
 
@@ -143,43 +144,66 @@ fn change(table: &mut Wait, tasks: &mut Vec<Task>, seed: u64) -> Result<(), Allo
         return Ok(());
     }
     let which = ((seed >> 20) % len) as usize;
+    let name = match tasks.get(which) {
+        Some(task) => task.name.clone()?,
+        None => return Ok(()),
+    };
+    if (seed >> 40) % 4 == 0 {
+        undo(table, tasks, which, &name)
+    } else {
+        take_act(table, tasks, which, &name, (seed >> 50) % 8)
+    }
+}
+
+// The task ends, opens a group, closes one or generates a child, unless it has ended.
+fn take_act(
+    table: &mut Wait,
+    tasks: &mut Vec<Task>,
+    which: usize,
+    name: &TaskName,
+    what: u64,
+) -> Result<(), AllocError> {
     let Some(task) = tasks.get_mut(which) else {
         return Ok(());
     };
-    let name = task.name.clone()?;
-    if (seed >> 40) % 4 == 0 {
-        return undo(table, tasks, which, &name);
-    }
     if is_over(task) {
         return Ok(());
     }
-    match (seed >> 50) % 8 {
+    match what {
         0 => {
-            table.ended(&name);
+            table.ended(name);
             task.acts.push(Act::End)?;
         }
         1 => {
-            table.reserve_opened(&name)?;
-            table.opened(&name)?;
+            table.reserve_opened(name)?;
+            table.opened(name)?;
             task.acts.push(Act::Open)?;
         }
         2 => {
             if acts_inside(task.acts.as_slice()).is_some() {
-                table.closed(&name);
+                table.closed(name);
                 task.acts.push(Act::Close)?;
             }
         }
         _ => {
-            if let Some(child) = spawn(table, &name)? {
-                let n = match child.numbers() {
-                    [n, ..] => *n,
-                    [] => 0,
-                };
-                task.acts.push(Act::Spawn(n))?;
-                let acts = Vec::new(*task.acts.allocator());
-                tasks.push(Task { name: child, acts })?;
+            if let Some(child) = spawn(table, name)? {
+                return enter(tasks, which, child);
             }
         }
+    }
+    Ok(())
+}
+
+// The child stands, and its parent has generated it.
+fn enter(tasks: &mut Vec<Task>, which: usize, child: TaskName) -> Result<(), AllocError> {
+    let n = match child.numbers() {
+        [n, ..] => *n,
+        [] => 0,
+    };
+    if let Some(task) = tasks.get_mut(which) {
+        let acts = Vec::new(*task.acts.allocator());
+        task.acts.push(Act::Spawn(n))?;
+        tasks.push(Task { name: child, acts })?;
     }
     Ok(())
 }
@@ -213,81 +237,151 @@ fn undo(
     Ok(())
 }
 
-#[test]
-fn the_least_unended_child_and_member_are_named(rt: HostRuntime) -> Result<(), Fail> {
-    let alloc = rt.alloc();
-    for round in 0..200u64 {
-        let mut seed = next(round);
-        let mut table = Wait::open(alloc)?;
-        let mut tasks = Vec::new(alloc);
-        let acts = Vec::new(alloc);
-        tasks.push(Task {
-            name: TaskName::root(alloc),
-            acts,
-        })?;
-        for _ in 0..60 {
-            seed = next(seed);
-            change(&mut table, &mut tasks, seed)?;
-            let all = tasks.as_slice();
-            for task in all {
-                let child = plain_child(all, task);
-                assert!(rt; is_name(table.first_child(&task.name), all, child));
-                let member = plain_member(all, task)?;
-                assert!(rt; is_name(table.first_member(&task.name), all, member));
-                assert_eq!(rt; table.is_over(&task.name), Some(is_over(task)));
+// Whether the table tells of the task what the plain list tells.
+fn agrees(table: &Wait, tasks: &[Task], task: &Task) -> Result<bool, AllocError> {
+    let child = plain_child(tasks, task);
+    let member = plain_member(tasks, task)?;
+    Ok(
+        is_name(table.first_child(&task.name), tasks, child)
+            && is_name(table.first_member(&task.name), tasks, member)
+            && table.is_over(&task.name) == Some(is_over(task)),
+    )
+}
+
+// Changes on both: whether they agree on each task behind each.
+fn take_turns(table: &mut Wait, tasks: &mut Vec<Task>, first: u64) -> Result<bool, AllocError> {
+    let mut seed = first;
+    for _ in 0..60 {
+        seed = next(seed);
+        change(table, tasks, seed)?;
+        for task in tasks.as_slice() {
+            if !agrees(table, tasks.as_slice(), task)? {
+                return Ok(false);
             }
         }
     }
-    Ok(())
+    Ok(true)
+}
+
+// The root, which has done nothing.
+fn tasks_at_first(alloc: Global) -> Result<Vec<Task>, AllocError> {
+    let mut tasks = Vec::new(alloc);
+    tasks.push(Task {
+        name: TaskName::root(alloc),
+        acts: Vec::new(alloc),
+    })?;
+    Ok(tasks)
+}
+
+#[test]
+fn the_least_unended_child_and_member_are_named(rt: HostRuntime) {
+    for round in 0..200u64 {
+        let mut table = Wait::open(rt.alloc()).expect(&rt, "memory is there");
+        let mut tasks = tasks_at_first(rt.alloc()).expect(&rt, "memory is there");
+        assert_eq!(rt; take_turns(&mut table, &mut tasks, next(round)), Ok(true));
+        mem::forget(table);
+        mem::forget(tasks);
+    }
+}
+
+// The task generates its next child, and again where memory was refused.
+fn spawn_again(rt: &impl Abort, table: &mut Wait, task: &TaskName, n: u32) {
+    if is_refused(spawn(table, task)) {
+        assert_eq!(rt; table.children(task), Some(n));
+        assert!(rt; has_child(spawn(table, task)));
+    }
+    assert_eq!(rt; table.children(task), Some(n.wrapping_add(1)));
+}
+
+fn is_refused(spawned: Result<Option<TaskName>, AllocError>) -> bool {
+    spawned.is_err()
+}
+
+fn has_child(spawned: Result<Option<TaskName>, AllocError>) -> bool {
+    matches!(&spawned, Ok(Some(_)))
+}
+
+// The task opens a group, and again where memory was refused.
+fn open_again(rt: &impl Abort, table: &mut Wait, task: &TaskName) {
+    let groups = table.groups(task).len();
+    if table.opened(task).is_err() {
+        assert_eq!(rt; table.groups(task).len(), groups);
+        assert!(rt; table.opened(task).is_ok());
+    }
+    assert_eq!(rt; table.groups(task).len(), groups.wrapping_add(1));
+}
+
+// The task generates four children, each in a group of its own, and the first is the least.
+fn grow(rt: &(impl Abort + AllocGlobal), table: &mut Wait, task: &TaskName) {
+    for n in 0..4u32 {
+        spawn_again(rt, table, task, n);
+        open_again(rt, table, task);
+    }
+    let first = task.child(1).expect(rt, "a short name takes no memory");
+    assert!(rt; table.first_child(task) == Some(&first));
 }
 
 /// A call that was refused changes nothing, and made again it answers as it would have at first.
 #[test]
-fn a_refused_growth_changes_nothing(rt: HostRuntime) -> Result<(), Fail> {
-    let alloc = rt.alloc();
-    let mut table = match Wait::open(alloc) {
+fn a_refused_growth_changes_nothing(rt: HostRuntime) {
+    let mut table = match Wait::open(rt.alloc()) {
         Ok(table) => table,
-        Err(_) => Wait::open(alloc)?,
+        Err(_) => Wait::open(rt.alloc()).expect(&rt, "memory is there again"),
     };
-    let mut task = TaskName::root(alloc);
+    let mut task = TaskName::root(rt.alloc());
     for _ in 0..5 {
-        for n in 0..4u32 {
-            if spawn(&mut table, &task).is_err() {
-                assert_eq!(rt; table.children(&task), Some(n));
-                assert!(rt; spawn(&mut table, &task)?.is_some());
-            }
-            assert_eq!(rt; table.children(&task), Some(n.wrapping_add(1)));
-            let groups = table.groups(&task).len();
-            if table.opened(&task).is_err() {
-                assert_eq!(rt; table.groups(&task).len(), groups);
-                table.opened(&task)?;
-            }
-            assert_eq!(rt; table.groups(&task).len(), groups.wrapping_add(1));
-        }
-        let child = task.child(4)?;
-        assert!(rt; table.first_child(&task) == Some(&task.child(1)?));
-        task = child;
+        grow(&rt, &mut table, &task);
+        task = task.child(4).expect(&rt, "a short name takes no memory");
     }
-    Ok(())
+    mem::forget(task);
+    mem::forget(table);
 }
 
-#[test]
-fn the_unended_children_are_walked_by_number(rt: HostRuntime) -> Result<(), Fail> {
-    let alloc = rt.alloc();
-    let mut table = Wait::open(alloc)?;
-    let root = TaskName::root(alloc);
-    assert_eq!(rt; table.next_unended(&root, 0), None);
+// The child of the root with this number.
+fn child_of_root(rt: &(impl Abort + AllocGlobal), number: u32) -> TaskName {
+    TaskName::root(rt.alloc())
+        .child(1.max(number))
+        .expect(rt, "memory is there")
+}
+
+// The root generates four children, of which the second ends.
+fn spawn_four(rt: &(impl Abort + AllocGlobal), table: &mut Wait, root: &TaskName) {
+    assert_eq!(rt; table.next_unended(root, 0), None);
     for _ in 0..4 {
-        assert!(rt; spawn(&mut table, &root)?.is_some());
+        assert!(rt; has_child(spawn(table, root)));
     }
-    table.ended(&root.child(2)?);
-    let found: [Option<u32>; 5] = [Some(1), Some(3), Some(3), Some(4), None];
-    let mut low = 0u32;
-    for next in &found {
-        assert_eq!(rt; table.next_unended(&root, low), *next);
-        low = low.wrapping_add(1);
-    }
-    assert_eq!(rt; table.next_unended(&root.child(2)?, 0), None);
-    assert_eq!(rt; table.next_unended(&root.child(5)?, 0), None);
-    Ok(())
+    table.ended(&child_of_root(rt, 2));
+}
+
+// The first unended child of the root's child with this number, above no number.
+fn next_of_child(rt: &(impl Abort + AllocGlobal), table: &Wait, number: u32) -> Option<u32> {
+    let child = child_of_root(rt, number);
+    let next = table.next_unended(&child, 0);
+    mem::forget(child);
+    next
+}
+
+// The first unended child of the task above each of the numbers from 0 to 4.
+fn next_above(table: &Wait, task: &TaskName) -> [Option<u32>; 5] {
+    [
+        table.next_unended(task, 0),
+        table.next_unended(task, 1),
+        table.next_unended(task, 2),
+        table.next_unended(task, 3),
+        table.next_unended(task, 4),
+    ]
+}
+
+const ABOVE: [Option<u32>; 5] = [Some(1), Some(3), Some(3), Some(4), None];
+
+#[test]
+fn the_unended_children_are_walked_by_number(rt: HostRuntime) {
+    let mut table = Wait::open(rt.alloc()).expect(&rt, "memory is there");
+    let root = TaskName::root(rt.alloc());
+    spawn_four(&rt, &mut table, &root);
+    assert!(rt; next_above(&table, &root) == ABOVE);
+    assert_eq!(rt; next_of_child(&rt, &table, 2), None);
+    assert_eq!(rt; next_of_child(&rt, &table, 5), None);
+    mem::forget(root);
+    mem::forget(table);
 }
