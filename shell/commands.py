@@ -86,7 +86,7 @@ class Shell(Walking, Drawing, cmd.Cmd):
             if told == ["error", "word"] and words_of(command)[0] in ("races", "causes"):
                 self.note("this build has no such view")
             else:
-                self.note(texts.error_words(command, told[-1]))
+                self.note(texts.error_words(command, told[-1], self.session.workers))
         elif told[0] == "refused":
             text = texts.refusal_words(command, reply)
             if told[2] in ("Waiting", "Excluded"):
@@ -215,7 +215,8 @@ class Shell(Walking, Drawing, cmd.Cmd):
     def pass_plain(self, line, words):
         """Passes a line as it is; a long run goes in pieces, with the same lines."""
         count = words[-1] if re.fullmatch(r"[0-9]{1,7}", words[-1]) else ""
-        if (words[:-1] in (["run"], ["go", "1"])) and count and int(count) <= MOST_STEPS:
+        team = len(words) == 3 and words[0] == "go" and re.fullmatch(r"[0-9]{1,7}", words[1])
+        if count and int(count) <= MOST_STEPS and (words[:-1] == ["run"] or team and 1 <= int(words[1]) <= self.session.workers):
             self.walk(" ".join(words[:-1]), int(count))
         else:
             self.show(self.session.do(line))
@@ -268,6 +269,8 @@ class Shell(Walking, Drawing, cmd.Cmd):
         """The words that can follow these."""
         if name == "info":
             return VIEWS
+        if name == "go" and len(words) == 1:
+            return [str(number) for number in range(1, self.session.workers + 1)]
         if name == "break" and len(words) == 1:
             return ("task", "cell", "body", "print", "fault", "line")
         if name == "break" and words[1] == "body":
@@ -376,6 +379,8 @@ class Shell(Walking, Drawing, cmd.Cmd):
             self.say(f"can't write {words[0]}: {fault.strerror}")
             return
         self.say(f"saved {words[0]}, {len(self.session.log)} commands")
+        if not self.plain and any(done.ended for done in self.session.log):
+            self.note("what several workers did is saved as the steps that they took")
 
     def do_restart(self, words):
         """Starts anew."""

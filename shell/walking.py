@@ -77,22 +77,23 @@ class Walking:
             self.walk("run", count)
 
     def do_go(self, words):
-        """Steps up to a breakpoint."""
-        count = count_in(words[1:] if words[:1] == ["1"] and len(words) == 2 else words, 0, ALL)
-        if count is None:
+        """Steps up to a breakpoint, by one worker or by several."""
+        count = count_in(words[-1:], 0, ALL)
+        workers = count_in(words[:-1], 0, 1)
+        if count is None or workers is None or not 1 <= workers <= self.session.workers:
             self.send(" ".join(["go"] + words))
             return
         self.last_step = " ".join(["go"] + words)
         lines = self.session.line_breaks
         if not lines:
-            self.walk("go 1", count)
+            self.walk(f"go {workers}", count)
             return
         def at_line(steps):
             met = [line for line in map(self.line_of, steps) if line in lines]
             if met:
                 self.note(f"the breakpoint at line {met[0]}")
             return bool(met)
-        self.walk("go 1", count, at_line, 1)
+        self.walk(f"go {workers}", count, at_line, 1)
 
     def line_of(self, step):
         """The line at which a step of a reply was taken."""
