@@ -4,20 +4,18 @@ import os
 import re
 import subprocess
 import sys
-import tempfile
 import unittest
 
-from support import LOOP, MAIN, PROGRAM, TOP, Terminal, needs_program, write_file
+from support import LOOP, MAIN, PROGRAM, TOP, Terminal, example, needs_program, write_file
 from test_interrupts import TOLD, Stalling
+from test_tutorial import agrees, blocks, rows
 from shell.page import page_of
 from shell.protocol import Program
 from shell.session import Session
-from shell.source import Source, split_session
+from shell.source import Source
 from shell.story import Story
 
-# Four tasks of which each adds to a cell, one after another in any order.
-ADDS = ("cells 1\nbody main 0\n" + "".join(f"  task add {k} depend mutexinoutset 0\n" for k in (1, 2, 3, 4))
-        + "  taskwait\n  load r0 0\n  print r0\nend\nbody add 1\n  load r1 0\n  let r1 r1 + r0\n  store 0 r1\nend\n")
+ADDS = example("four_workers.task")
 # Four tasks that never end.
 LOOPS = "cells 4\nbody main 0\n" + 4 * "  task loop\n" + "end\nbody loop 0\n  while 0 == 0\n    store 0 1\n  end\nend\n"
 
@@ -29,34 +27,28 @@ def session_of(test, text, **how):
     return session
 
 
-def replies(commands_of, text, options=()):
+def replies(text, *options):
     """What the program replies to a session, and its status."""
-    with tempfile.TemporaryFile("w+") as file:
-        file.write(text + commands_of)
-        file.seek(0)
-        done = subprocess.run([PROGRAM, *options], stdin=file, capture_output=True, text=True, timeout=120, check=False)
+    done = subprocess.run([PROGRAM, *options], input=text, capture_output=True, text=True, timeout=120, check=False)
     return done.stdout.split("\n")[:-1], done.returncode
 
 
 @needs_program
 class DoneAgain(unittest.TestCase):
     def played(self):
-        """A session in which several workers went twice, with a rollback between."""
-        session = session_of(self, ADDS)
+        """A session in which several workers went three times, with a rollback between."""
+        session, self.told = session_of(self, ADDS), []
         for command in ("break print", "go 4 9", "tasks", "go 3 100", "rolltask 0.3", "fly", "go 2 7"):
-            session.do(command)
+            reply = session.do(command)
+            self.told += reply[:-1] if command.startswith("go") else reply
         return session
 
-    def test_what_is_saved_leaves_the_same(self):
+    def test_what_is_saved_gives_the_same_but_for_the_last_lines(self):
         for _ in range(10):
             session = self.played()
-            said, status = replies(session.text() + "hist\n", "")
-            wanted = session.view("hist")
-            self.assertEqual((said[-len(wanted):], status), (wanted, 0))
+            self.assertEqual(replies(session.text() + "hist\n"), (self.told + session.view("hist"), 0))
             self.assertNotIn("\ngo ", session.text())
             self.assertRegex(session.text(), r"\n# go 4 9: ran 9 limit, by these steps\nstep 0\n")
-            self.assertEqual([line for line in said if line.startswith(("break", "tasks", "rolled", "error"))],
-                             ["break 1", "tasks 5", next(line for line in said if line.startswith("rolled")), "error word"])
 
     def test_another_limit_does_the_same_steps(self):
         session = self.played()
@@ -65,7 +57,7 @@ class DoneAgain(unittest.TestCase):
         self.assertEqual(session.view("hist"), wanted)
         self.assertFalse(session.replay(20))
         self.assertEqual(session.view("hist"), wanted)
-        self.assertTrue(replies(session.text() + "hist\n", "")[0][-len(wanted):] == wanted)
+        self.assertEqual(replies(session.text() + "hist\n")[0][-len(wanted):], wanted)
 
     def test_after_a_cut_the_same_stands(self):
         session = self.played()
@@ -131,14 +123,14 @@ class Typed(Stalling):
             shell.send("go \t\t")
             shell.read_until(least)
             shell.send("\x15")
-            self.assertEqual(shell.ask(f"go {least} 1"), ["0#1 start                       2: body main 0", "ran 1 limit"])
+            self.assertEqual(shell.ask(f"go {least} 1"), ["0#1 start                       3: body main 0", "ran 1 limit"])
             self.assertEqual(shell.ask(f"go {int(least) + 1} 1")[0], "error number")
 
     def test_a_breakpoint_at_a_line_stops_all(self):
         shell = self.shell(ADDS)
-        shell.ask("b line 9")
+        shell.ask("b line 10")
         shown = shell.ask("go 4 100")
-        self.assertEqual(shown[-2], "  the breakpoint at line 9")
+        self.assertEqual(shown[-2], "  the breakpoint at line 10")
         self.assertEqual([line.split(" ")[1] for line in shown if "#" in line].count("print"), 1)
         self.assertRegex(shown[-1], "^ran 28 limit$")
 
@@ -155,7 +147,7 @@ class Typed(Stalling):
         path = write_file(self, "", "saved.session")
         self.assertEqual(shell.ask("save " + path), [f"saved {path}, 2 commands", "  what several workers did is saved as the steps that they took"])
         with open(path, encoding="utf-8") as file:
-            said, status = replies(file.read() + "ready\n", "", ["--limit", "1000000"])
+            said, status = replies(file.read() + "ready\n", "--limit", "1000000")
         self.assertEqual((len(said), status), (2 * taken + 1 + len(shell.ask("ready")), 0))
 
     def test_the_second_ctrl_c_keeps_what_was_taken(self):
@@ -181,21 +173,35 @@ class Typed(Stalling):
 
 @needs_program
 class Tutorial(unittest.TestCase):
-    def test_the_section_of_four_workers(self):
+    def setUp(self):
         with open(os.path.join(TOP, "docs", "TUTORIAL.md"), encoding="utf-8") as file:
-            section = file.read().split("\n## 13. ")[1].split("\n## ")[0]
-        text, commands = split_session(re.search(r"```text\n(.*?)```", section, re.S)[1])
-        self.assertEqual(commands, ["break print", "go 4 100", "go 4 100", "rolltask 0.3", "go 4 100", "cells"])
+            self.section = re.split(r"^## ", file.read().split("`four_workers.task`\n", 1)[1], flags=re.M)[0]
+        self.rows = rows([line for block in blocks(self.section) for line in block])
+
+    def replies(self):
+        """What the program replies to each command of the section."""
+        program = Program(PROGRAM, example("four_workers.task"))
+        self.addCleanup(program.close)
+        return [program.ask(typed) for typed, _ in self.rows]
+
+    def test_what_is_no_luck(self):
+        self.assertEqual([typed for typed, _ in self.rows], ["break print", "go 4 100", "go 4 100", "rolltask 0.3", "go 4 100", "cells"])
         for _ in range(20):
-            program = Program(PROGRAM, text)
-            self.addCleanup(program.close)
-            _, first, last, rolled, again, cells = map(program.ask, commands)
+            _, first, last, rolled, again, cells = self.replies()
             self.assertEqual((first[0], first[-2:]), ("0#1 start", ["0#8 print 10", "ran 28 break"]))
             self.assertEqual(last, ["0#9 end", "ran 1 done"])
             # The five steps of 0.3, those of each that added after it, and four of the root.
             self.assertIn(rolled[0], ["rolled 9", "rolled 14", "rolled 19", "rolled 24"])
             self.assertEqual(again[-2:], ["0#8 print 10", f"ran {int(rolled[0][7:]) - 1} break"])
             self.assertEqual(cells, ["cells 1", "0 10"])
+
+    def test_what_is_shown_is_one_of_the_ways(self):
+        self.assertTrue(any(all(agrees(wanted, shown) for (_, wanted), shown in zip(self.rows, self.replies())) for _ in range(200)))
+
+    def test_its_program_is_that_of_the_file(self):
+        program = example("four_workers.task").split("\n")
+        for line in (line for block in blocks(self.section, "task") for line in block):
+            self.assertIn("  " + line, program)
 
 
 if __name__ == "__main__":
