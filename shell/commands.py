@@ -6,7 +6,7 @@ import sys
 
 from shell import texts
 from shell.drawing import Drawing
-from shell.protocol import Cut, Ended, Program, words_of
+from shell.protocol import Cut, Ended, Program, is_digits, words_of
 from shell.session import is_step
 from shell.walking import Walking
 
@@ -317,7 +317,7 @@ class Shell(Walking, Drawing, cmd.Cmd):
         """The source around a task or a line, with marks where tasks stand."""
         source, places = self.session.source, self.session.places_now()
         middle, count = None, len(source.lines)
-        if words and words[0].isdigit() and not (words[0] == "0"):
+        if words and is_digits(words[0]) and not (words[0] == "0"):
             middle = int(words[0])
         elif words:
             middle = places.position.get(words[0])
@@ -339,7 +339,7 @@ class Shell(Walking, Drawing, cmd.Cmd):
 
     def do_break(self, words):
         """A breakpoint of the program, or one at a line."""
-        if len(words) != 2 or words[0] != "line" or not words[1].isdigit():
+        if len(words) != 2 or words[0] != "line" or not is_digits(words[1]):
             self.send(" ".join(["break"] + words))
             return
         number, source = int(words[1]), self.session.source
@@ -354,7 +354,7 @@ class Shell(Walking, Drawing, cmd.Cmd):
 
     def do_clear(self, words):
         """Takes a breakpoint away."""
-        if len(words) == 2 and words[0] == "line" and words[1].isdigit():
+        if len(words) == 2 and words[0] == "line" and is_digits(words[1]):
             known = int(words[1]) in self.session.line_breaks
             self.session.line_breaks.discard(int(words[1]))
             self.say(f"cleared line {words[1]}" if known else f"no breakpoint stands at line {words[1]}")
@@ -389,7 +389,7 @@ class Shell(Walking, Drawing, cmd.Cmd):
 
     def do_limit(self, words):
         """More room in the journal."""
-        if len(words) != 1 or not words[0].isdigit() or not 1 <= int(words[0]) <= 1000000:
+        if len(words) != 1 or not is_digits(words[0]) or not 1 <= int(words[0]) <= 1000000:
             self.say("limit wants a number, 1 to 1000000: limit 200000")
         elif self.session.replay(int(words[0])):
             self.say(f"the journal has room for {int(words[0])} entries; all was done again")

@@ -2,7 +2,7 @@
 
 from typing import NamedTuple
 
-from shell.protocol import Cut, Program, words_of
+from shell.protocol import Cut, Program, is_digits, words_of
 from shell.source import Places
 
 PIECE = 1000
@@ -20,7 +20,7 @@ def is_step(line):
 
 def is_of_several(words):
     """Whether these are the words of a `go` by several workers."""
-    return len(words) == 3 and words[0] == "go" and words[1].isdigit() and int(words[1]) > 1
+    return len(words) == 3 and words[0] == "go" and is_digits(words[1]) and int(words[1]) > 1
 
 
 class Done(NamedTuple):
