@@ -121,8 +121,10 @@ class Typed(Stalling):
         for words, least in ((("--workers", "7"), "7"), (("--workers", "3"), "3")):
             shell = self.shell(ADDS, *words)
             shell.send("go \t\t")
-            shell.read_until(least)
-            shell.send("\x15")
+            self.assertIn(least, shell.read_until("(taskback) go "))
+            shell.send("\x15# Enter alone would step\n")
+            shell.read_until("would step")
+            shell.read_until("(taskback) ")
             self.assertEqual(shell.ask(f"go {least} 1"), ["0#1 start                       3: body main 0", "ran 1 limit"])
             self.assertEqual(shell.ask(f"go {int(least) + 1} 1")[0], "error number")
 
