@@ -6,7 +6,7 @@ import sys
 
 from shell import texts
 from shell.drawing import Drawing
-from shell.protocol import Cut, Ended, Program, words_of
+from shell.protocol import Cut, Ended, Program, is_digits, words_of
 from shell.session import is_step
 from shell.walking import Walking
 
@@ -86,7 +86,7 @@ class Shell(Walking, Drawing, cmd.Cmd):
             if told == ["error", "word"] and words_of(command)[0] in ("races", "causes"):
                 self.note("this build has no such view")
             else:
-                self.note(texts.error_words(command, told[-1]))
+                self.note(texts.error_words(command, told[-1], self.session.workers))
         elif told[0] == "refused":
             text = texts.refusal_words(command, reply)
             if told[2] in ("Waiting", "Excluded"):
@@ -215,7 +215,8 @@ class Shell(Walking, Drawing, cmd.Cmd):
     def pass_plain(self, line, words):
         """Passes a line as it is; a long run goes in pieces, with the same lines."""
         count = words[-1] if re.fullmatch(r"[0-9]{1,7}", words[-1]) else ""
-        if (words[:-1] in (["run"], ["go", "1"])) and count and int(count) <= MOST_STEPS:
+        team = len(words) == 3 and words[0] == "go" and re.fullmatch(r"[0-9]{1,7}", words[1])
+        if count and int(count) <= MOST_STEPS and (words[:-1] == ["run"] or team and 1 <= int(words[1]) <= self.session.workers):
             self.walk(" ".join(words[:-1]), int(count))
         else:
             self.show(self.session.do(line))
@@ -268,6 +269,8 @@ class Shell(Walking, Drawing, cmd.Cmd):
         """The words that can follow these."""
         if name == "info":
             return VIEWS
+        if name == "go" and len(words) == 1:
+            return [str(number) for number in range(1, self.session.workers + 1)]
         if name == "break" and len(words) == 1:
             return ("task", "cell", "body", "print", "fault", "line")
         if name == "break" and words[1] == "body":
@@ -314,7 +317,7 @@ class Shell(Walking, Drawing, cmd.Cmd):
         """The source around a task or a line, with marks where tasks stand."""
         source, places = self.session.source, self.session.places_now()
         middle, count = None, len(source.lines)
-        if words and words[0].isdigit() and not (words[0] == "0"):
+        if words and is_digits(words[0]) and not (words[0] == "0"):
             middle = int(words[0])
         elif words:
             middle = places.position.get(words[0])
@@ -336,7 +339,7 @@ class Shell(Walking, Drawing, cmd.Cmd):
 
     def do_break(self, words):
         """A breakpoint of the program, or one at a line."""
-        if len(words) != 2 or words[0] != "line" or not words[1].isdigit():
+        if len(words) != 2 or words[0] != "line" or not is_digits(words[1]):
             self.send(" ".join(["break"] + words))
             return
         number, source = int(words[1]), self.session.source
@@ -351,7 +354,7 @@ class Shell(Walking, Drawing, cmd.Cmd):
 
     def do_clear(self, words):
         """Takes a breakpoint away."""
-        if len(words) == 2 and words[0] == "line" and words[1].isdigit():
+        if len(words) == 2 and words[0] == "line" and is_digits(words[1]):
             known = int(words[1]) in self.session.line_breaks
             self.session.line_breaks.discard(int(words[1]))
             self.say(f"cleared line {words[1]}" if known else f"no breakpoint stands at line {words[1]}")
@@ -376,6 +379,8 @@ class Shell(Walking, Drawing, cmd.Cmd):
             self.say(f"can't write {words[0]}: {fault.strerror}")
             return
         self.say(f"saved {words[0]}, {len(self.session.log)} commands")
+        if not self.plain and any(done.ended for done in self.session.log):
+            self.note("what several workers did is saved as the steps that they took")
 
     def do_restart(self, words):
         """Starts anew."""
@@ -384,7 +389,7 @@ class Shell(Walking, Drawing, cmd.Cmd):
 
     def do_limit(self, words):
         """More room in the journal."""
-        if len(words) != 1 or not words[0].isdigit() or not 1 <= int(words[0]) <= 1000000:
+        if len(words) != 1 or not is_digits(words[0]) or not 1 <= int(words[0]) <= 1000000:
             self.say("limit wants a number, 1 to 1000000: limit 200000")
         elif self.session.replay(int(words[0])):
             self.say(f"the journal has room for {int(words[0])} entries; all was done again")

@@ -102,7 +102,7 @@ def main(words):
     write_history = set_history() if typed else None
     catch_interrupts(shell)
     if typed and not given.plain:
-        shell.say(f"{session.source.name}: {len(session.source.lines)} lines. `help` lists the commands, `quit` ends.")
+        shell.say(f"{session.source.name}: {len(session.source.lines)} lines, `list` shows them. `help` lists the commands, `quit` ends.")
         if commands:
             shell.note(f"{len(commands)} commands come with it: `source` plays the next, Enter goes on")
     try:

@@ -42,6 +42,11 @@ def words_of(line):
     return words
 
 
+def is_digits(word):
+    """Whether a word is digits alone, and not more than a line has place for."""
+    return word.isascii() and word.isdigit() and len(word) <= LONGEST_LINE
+
+
 def has_reply(line):
     """Whether the program answers this line: an empty one has no reply, too long a one has."""
     return bool(words_of(line)) or len(line.encode("utf-8", "surrogateescape")) > LONGEST_LINE

@@ -2,7 +2,7 @@
 
 import os
 
-from shell.protocol import words_of
+from shell.protocol import is_digits, words_of
 
 
 def split_session(text):
@@ -127,6 +127,6 @@ class Places:
         """The line at which a step was taken; None where that isn't known."""
         task, _, number = step.partition("#")
         taken = self._taken.get(task, [])
-        if number.isdigit() and 0 < int(number) <= len(taken):
+        if is_digits(number) and 0 < int(number) <= len(taken):
             return taken[int(number) - 1]
         return None

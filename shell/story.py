@@ -31,18 +31,19 @@ class Story:
         self.has_computed = False
         try:
             self.note(0)
-            for at, (command, _) in enumerate(session.log, 1):
-                self.play(at, command)
+            for at, done in enumerate(session.log, 1):
+                self.play(at, done)
             self.explain_steps()
         finally:
             self.session.close()
 
-    def play(self, at, command):
+    def play(self, at, done):
         """One command, and what changed by it."""
+        command = done.command
         word = (words_of(command) or [""])[0]
         if word in TAKES_BACK:
             self.explain_steps()
-        reply = self.session.do(command)
+        reply = self.session.repeat(done)
         self.commands.append([command, reply[:SHOWN_LINES] + ([f"... {len(reply) - SHOWN_LINES} more lines"] if len(reply) > SHOWN_LINES else [])])
         if word in ("step", "run", "go"):
             for line in filter(is_step, reply):

@@ -8,7 +8,7 @@ from shell.protocol import words_of
 HELP = {
     "step": ("step [T [N]]", "the next step of task T, or N of them; alone: of the least task that can step", "step 0.1 3"),
     "run": ("run [N]", "up to N steps, each of the least task that can step; Ctrl-C stops it", "run 20"),
-    "go": ("go [N]", "as run, but stops at breakpoints", "go"),
+    "go": ("go [[W] N]", "as run, but stops at breakpoints; W worker threads take the steps, one where W isn't given", "go 4 100"),
     "finish": ("finish [T]", "steps task T until it ends or has to wait", "finish 0.1"),
     "until": ("until T#K", "runs until step T#K is taken", "until 0.2#4"),
     "random": ("random SEED [N]", "up to N steps, each of any task that can step; a seed gives the same steps again", "random 7 20"),
@@ -39,7 +39,7 @@ HELP = {
     "lanes": ("lanes [T#K] [FILE]", "the history, a lane a task; what roll T#K would take is shaded; to FILE as SVG", "lanes 0.1#4"),
     "page": ("page FILE", "all that was done, as one page for a browser: program, history, tasks, races", "page race.html"),
     "info": ("info VIEW", "a view by any beginning of its name, as `i ta` for `tasks`", "i tasks"),
-    "save": ("save FILE", "writes the session so far, which gives the same replies", "save race.session"),
+    "save": ("save FILE", "writes the session so far, which gives the same replies; what several workers did as the steps they took", "save race.session"),
     "source": ("source [FILE]", "plays the commands of FILE; alone: the next command of the session file that was opened", "source more.session"),
     "restart": ("restart", "starts anew; breakpoints stay", "restart"),
     "limit": ("limit N", "gives the journal room for N entries: starts anew and does the same again", "limit 200000"),
@@ -96,10 +96,12 @@ def help_of(name):
     return lines + ([f"  short: {', '.join(short)}"] if short else [])
 
 
-def error_words(command, kind):
-    """What an error says, and where the words are wrong how the command is written."""
+def error_words(command, kind, workers):
+    """What an error says, and where the words are wrong how the command is written; a `go` has so many workers at most."""
     name = (words_of(command) or [""])[0]
     text = ERRORS.get(kind, kind)
+    if name == "go" and kind == "number":
+        return f"{text}: here W is 1 to {workers}, which `--workers` sets for the whole session, and N is 0 to 1000000"
     if kind != "count" or name not in HELP:
         return text
     usage, _, example = HELP[name]

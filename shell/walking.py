@@ -3,7 +3,7 @@
 import random
 
 from shell import texts
-from shell.protocol import words_of
+from shell.protocol import is_digits, words_of
 from shell.session import is_step
 from shell.source import split_session
 
@@ -14,7 +14,7 @@ def count_in(words, place, usual):
     """The number at this place, `usual` where it lacks, None where it is none."""
     if len(words) <= place:
         return usual
-    if len(words) == place + 1 and words[place].isdigit() and int(words[place]) <= ALL:
+    if len(words) == place + 1 and is_digits(words[place]) and int(words[place]) <= ALL:
         return int(words[place])
     return None
 
@@ -77,22 +77,23 @@ class Walking:
             self.walk("run", count)
 
     def do_go(self, words):
-        """Steps up to a breakpoint."""
-        count = count_in(words[1:] if words[:1] == ["1"] and len(words) == 2 else words, 0, ALL)
-        if count is None:
+        """Steps up to a breakpoint, by one worker or by several."""
+        count = count_in(words[-1:], 0, ALL)
+        workers = count_in(words[:-1], 0, 1)
+        if count is None or workers is None or not 1 <= workers <= self.session.workers:
             self.send(" ".join(["go"] + words))
             return
         self.last_step = " ".join(["go"] + words)
         lines = self.session.line_breaks
         if not lines:
-            self.walk("go 1", count)
+            self.walk(f"go {workers}", count)
             return
         def at_line(steps):
             met = [line for line in map(self.line_of, steps) if line in lines]
             if met:
                 self.note(f"the breakpoint at line {met[0]}")
             return bool(met)
-        self.walk("go 1", count, at_line, 1)
+        self.walk(f"go {workers}", count, at_line, 1)
 
     def line_of(self, step):
         """The line at which a step of a reply was taken."""
@@ -111,7 +112,7 @@ class Walking:
     def do_until(self, words):
         """Runs until a step is taken."""
         task, _, number = words[0].partition("#") if len(words) == 1 else ("", "", "")
-        if not number.isdigit() or number.startswith("0"):
+        if not is_digits(number) or number.startswith("0"):
             self.wrong("until")
             return
         stand = self.session.view(f"task {task}")
@@ -125,7 +126,7 @@ class Walking:
     def do_random(self, words):
         """Steps of any task, chosen by a seed."""
         count = count_in(words, 1, ALL)
-        if not words or not words[0].isdigit() or count is None:
+        if not words or not is_digits(words[0]) or count is None:
             self.wrong("random")
             return
         choice = random.Random(int(words[0]))

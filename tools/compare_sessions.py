@@ -232,8 +232,11 @@ def judged(command, text, limit, workers, mine):
         for name, content in zip(names, (text, mine[0], mine[1])):
             with open(name, 'wb') as file:
                 file.write(content)
-        done = subprocess.run([*command, names[0], names[1], '--err', names[2], '--status', str(mine[2]),
-                               '--workers', str(workers), '--limit', str(limit)], capture_output=True, timeout=300)
+        try:
+            done = subprocess.run([*command, names[0], names[1], '--err', names[2], '--status', str(mine[2]),
+                                   '--workers', str(workers), '--limit', str(limit)], capture_output=True, timeout=300)
+        except subprocess.TimeoutExpired:
+            return b'the judge took more than 300 s'
         return done.stdout + done.stderr if done.returncode else b''
 
 

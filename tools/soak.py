@@ -52,7 +52,7 @@ class Soak:
     def check(self, seed):
         """What was wrong with a session, or nothing, and what was found."""
         try:
-            text, limit = pick_session(seed, self.program)
+            text, limit = pick_session(seed, self.program, 1)
             mine, theirs = answer(self.program, text, limit), answer(self.other, text, limit)
             kind, stopped = self.check_memory(seed, text, limit, mine)
         except subprocess.TimeoutExpired as slow:

@@ -28,8 +28,9 @@ sys.exit(program.wait())
 """
 
 
-@needs_program
-class InterruptTest(unittest.TestCase):
+class Stalling(unittest.TestCase):
+    """Tests on a program that stalls once."""
+
     def stalling(self, command, count=1):
         """The path of a program that stalls once, and of the file by which it says so."""
         path = write_file(self, "", "stalling")
@@ -66,6 +67,9 @@ class InterruptTest(unittest.TestCase):
         shell.read_until("as Ctrl-D does")
         shell.read_until("(taskback) ")
 
+
+@needs_program
+class InterruptTest(Stalling):
     def test_a_single_reply_is_cut(self):
         # `finish` asks for more than one, so it is cut by the second alone.
         for command in ("races", "why 0#3", "roll 0#2", "hist", "finish 0.1"):

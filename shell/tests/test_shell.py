@@ -23,6 +23,15 @@ class PlainTest(unittest.TestCase):
                                   capture_output=True, text=True, timeout=60)
             self.assertEqual((done.stdout, done.stderr, done.returncode), (example(name[:-7] + "out"), "", 0), path)
 
+    def test_what_only_looks_like_a_number(self):
+        commands = "".join(f"{line}\n" for word in ("\u00b2", "1" * 5000) for line in (
+            f"run {word}", f"step 0 {word}", f"go {word} 3", f"go 2 {word}", f"list {word}", f"until 0#{word}", f"random {word}",
+            f"limit {word}", f"break line {word}", f"clear line {word}", f"last {word}", f"back {word}", f"lanes 0#{word}", f"roll 0#{word}"))
+        done = subprocess.run([sys.executable, MAIN, "--program", PROGRAM, RACE], input=commands + "run 1\n",
+                              capture_output=True, text=True, encoding="utf-8", timeout=60, check=False)
+        self.assertEqual((done.stdout.split("\n")[-3:], done.stderr, done.returncode),
+                         (["0#1 start                       3: body main 0", "ran 1 limit", ""], "", 0))
+
 
 @needs_program
 class TerminalTest(unittest.TestCase):

@@ -4,6 +4,7 @@ use std::alloc::AllocError;
 use std::io::{Eprint, ErrorKind, Input, Print};
 use std::rt::Env;
 use std::sync::Wait;
+use std::thread::Threads;
 use std::{env, io};
 use tb_options::{Settings, is_memory, settings};
 use tb_session::{CountedReader, CountedWriter, Halt, run};
@@ -12,7 +13,7 @@ use tb_session::{CountedReader, CountedWriter, Halt, run};
 const USAGE: u8 = 2;
 
 /// Runs the session of the standard streams, and gives the exit status.
-pub fn start<R: Env + Input + Print + Eprint + AllocGlobal + Wait>(rt: &R) -> u8 {
+pub fn start<R: Env + Input + Print + Eprint + AllocGlobal + Threads + Wait + Sync>(rt: &R) -> u8 {
     match read_options(rt) {
         Ok(settings) => serve_standard_streams(rt, settings),
         Err(status) => status,
@@ -56,7 +57,7 @@ fn no_text<R: Eprint>(rt: &R) -> u8 {
     USAGE
 }
 
-fn serve_standard_streams<R: Input + Print + Eprint + AllocGlobal + Wait>(
+fn serve_standard_streams<R: Input + Print + Eprint + AllocGlobal + Threads + Wait + Sync>(
     rt: &R,
     settings: Settings,
 ) -> u8 {

@@ -33,8 +33,9 @@ A session, and its replies:
   cells                                     cells 1 / 0 7
 
 Commands:
-  step T, run N, go 1 N                     take steps: of task T, of the least
-                                            that can, and so up to a breakpoint
+  step T, run N, go W N                     take steps: of task T, of the least
+                                            that can, and by W workers, up to a
+                                            breakpoint
   undo ID                                   take a step back that nothing needs
   roll ID, rolltask T, rollcell C, rollprint
                                             take a step back with all that need it

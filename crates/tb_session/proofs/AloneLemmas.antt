@@ -31,12 +31,14 @@ use Rattle.tb_live.specs.Moves.{coming, least_task, refusal_for}
 use Rattle.tb_live.proofs.ControlLemmas.{left, given_at}
 use Rattle.tb_live.proofs.ReadyLemmas.{can_spawned}
 use Rattle.tb_live.proofs.RunLemmas.{shorter}
-use Rattle.tb_session.specs.declared.stop.Stop.{Stop}
+use Rattle.tb_team.specs.declared.stop.Stop.{Stop}
 use Rattle.tb_session.specs.Alone.{IsAlone, IsUnderWay, IsInHand, IsCommitted, TakesTurn, Stops, IsWhole}
 use Rattle.tb_session.specs.Course.{Course, stopped, behind}
 use Rattle.tb_session.specs.Laws.{met_by}
-use Rattle.tb_session.specs.Texts.{told_step, stepped_by, newest_line}
-use Rattle.tb_session.specs.Turns.{HasSeats, IsTurn, Goes, why_paused, why_idle, stop_of, turned, started, settled}
+use Rattle.tb_session.specs.Texts.{told_step, newest_line}
+use Rattle.tb_session.specs.Turns.{Goes}
+use Rattle.tb_team.specs.Gone.{HasSeats}
+use Rattle.tb_team.specs.Turns.{IsTurn, stepped_by, why_paused, why_idle, stop_of, turned, started, settled}
 use Rattle.tb_session.specs.declared.running.Taken.{Taken}
 use Rattle.tb_session.proofs.CourseLemmas.{behind_both, behind_stopped}
 

@@ -5,7 +5,7 @@ use Rattle.tb_model.specs.Names.{Name}
 use Rattle.tb_live.specs.Runs.{resumed}
 use Rattle.tb_live.specs.Session.{Session}
 use Rattle.tb_live.specs.Moves.{StepsFor, LeastStepsFor, least_task}
-use Rattle.tb_session.specs.declared.stop.Stop.{Stop}
+use Rattle.tb_team.specs.declared.stop.Stop.{Stop}
 use Rattle.tb_session.specs.Texts.{newest_line, told_step}
 use Rattle.tb_session.specs.Course.{Course, stopped, behind, course}
 

@@ -42,29 +42,29 @@ refuses_left (Some x) fault r = r
 
 -- ---- a session that ends before its first command
 
-pub ran_no_command : (limit : ℕ) (left rest before : Option (List ℕ)) (held : List ℕ) → Ends (prepend_known [] left) (prepend_known held rest) → Ran limit left rest before before (Ok tt)
-ran_no_command limit left rest before held e =
+pub ran_no_command : (workers limit : ℕ) (left rest before : Option (List ℕ)) (held : List ℕ) → Ends (prepend_known [] left) (prepend_known held rest) → Ran workers limit left rest before before (Ok tt)
+ran_no_command workers limit left rest before held e =
     let w = e.whole in
     let read = from_unread_end left rest held w.all w.bytes w.end in
     let P : List ℕ → Type 0 = λ l. IsProgram l e.program in
-    let R : List (List ℕ) → Type 0 = λ ls. Replies (opened e.program limit 65) ls [] in
+    let R : List (List ℕ) → Type 0 = λ ls. Replies workers (opened e.program limit 65) ls [] in
     (w.all, [], read.0, read.1, (e.program, subst P w.is_text e.says, subst R (sym w.no_commands) (opened e.program limit 65, (refl, refl))), appends_nil before)
 
-not_begun : (limit : ℕ) (left rest before : Option (List ℕ)) (held : List ℕ) (halt : Halt) → Begun limit (prepend_known [] left) (prepend_known held rest) (Err halt) → (halt ≡ Read → held ≡ []) → Ran limit left rest before before (Err halt)
-not_begun limit left rest before held (Refused fault) b emptied = (refuses_left left fault b, appends_nil before)
-not_begun limit left rest before held Read b emptied =
+not_begun : (workers limit : ℕ) (left rest before : Option (List ℕ)) (held : List ℕ) (halt : Halt) → Begun limit (prepend_known [] left) (prepend_known held rest) (Err halt) → (halt ≡ Read → held ≡ []) → Ran workers limit left rest before before (Err halt)
+not_begun workers limit left rest before held (Refused fault) b emptied = (refuses_left left fault b, appends_nil before)
+not_begun workers limit left rest before held Read b emptied =
     (b.0, b.1, [], from_unread_all left rest held _ b.2 (emptied refl), b.3, b.4, inl (b.5, refl), appends_nil before)
-not_begun limit left rest before held Write b emptied = absurd b
-not_begun limit left rest before held Journal b emptied = absurd b
-not_begun limit left rest before held Memory b emptied =
+not_begun workers limit left rest before held Write b emptied = absurd b
+not_begun workers limit left rest before held Journal b emptied = absurd b
+not_begun workers limit left rest before held Memory b emptied =
     let P : List ℕ → Type 0 = λ l. Consumes left rest l in
     (b.0, b.1 ++ held, [], subst P (append_assoc (spelled b.0) b.1 held) (from_unread left rest held _ b.2), b.3, inl (b.4, refl), appends_nil before)
 
 -- the reader holds nothing at first
-pub ran_not_begun : (limit : ℕ) (left rest before : Option (List ℕ)) (first held : List ℕ) (halt : Halt) → first ≡ [] → Begun limit (prepend_known first left) (prepend_known held rest) (Err halt) → (halt ≡ Read → held ≡ []) → Ran limit left rest before before (Err halt)
-ran_not_begun limit left rest before first held halt none b emptied =
+pub ran_not_begun : (workers limit : ℕ) (left rest before : Option (List ℕ)) (first held : List ℕ) (halt : Halt) → first ≡ [] → Begun limit (prepend_known first left) (prepend_known held rest) (Err halt) → (halt ≡ Read → held ≡ []) → Ran workers limit left rest before before (Err halt)
+ran_not_begun workers limit left rest before first held halt none b emptied =
     let P : List ℕ → Type 0 = λ l. Begun limit (prepend_known l left) (prepend_known held rest) (Err halt) in
-    not_begun limit left rest before held halt (subst P none b) emptied
+    not_begun workers limit left rest before held halt (subst P none b) emptied
 
 -- ---- a session with commands
 
@@ -72,7 +72,7 @@ unbroken_append : (xs ys : List (List ℕ)) → AreUnbroken xs → AreUnbroken y
 unbroken_append [] ys h k = k
 unbroken_append (x ∷ xs) ys h k = (h.0, unbroken_append xs ys h.1 k)
 
-module _ (limit : ℕ) (left mid : Option (List ℕ)) (s : Session) (d : Divides limit (prepend_known [] left) mid s) where
+module _ (workers limit : ℕ) (left mid : Option (List ℕ)) (s : Session) (d : Divides limit (prepend_known [] left) mid s) where
   -- all lines in front of the commands
   head : List (List ℕ)
   head = d.divided.program ++ d.divided.divider ∷ []
@@ -83,15 +83,15 @@ module _ (limit : ℕ) (left mid : Option (List ℕ)) (s : Session) (d : Divides
   joined lines = append_assoc d.divided.program (d.divided.divider ∷ []) lines
 
   -- replies to the commands are an answer to all
-  answers : (lines : List (List ℕ)) (out : List ℕ) → Replies s lines out → AnswerTo limit (head ++ lines) out
+  answers : (lines : List (List ℕ)) (out : List ℕ) → Replies workers s lines out → AnswerTo workers limit (head ++ lines) out
   answers lines out r =
       let program : program_text (head ++ lines) ≡ d.text =
       ap program_text (joined lines) ∙ (ap spelled (program_of_divided d.divided.program d.divided.divider lines d.divided.undivided d.divided.divides) ∙ sym d.divided.is_text) in
       let commands : command_lines (head ++ lines) ≡ lines =
       ap command_lines (joined lines) ∙ commands_of_divided d.divided.program d.divided.divider lines d.divided.undivided d.divided.divides in
       let P : List ℕ → Type 0 = λ l. IsProgram l d.program in
-      let R : List (List ℕ) → Type 0 = λ ls. Replies (opened d.program limit 65) ls out in
-      let S : Session → Type 0 = λ t. Replies t lines out in
+      let R : List (List ℕ) → Type 0 = λ ls. Replies workers (opened d.program limit 65) ls out in
+      let S : Session → Type 0 = λ t. Replies workers t lines out in
       (d.program, subst P (sym program) d.says, subst R (sym commands) (subst S d.opens r))
 
   taken : (new : Option (List ℕ)) (bytes : List ℕ) → Consumes mid new bytes → Consumes (prepend_known [] left) new (spelled head ++ bytes)
@@ -111,15 +111,28 @@ module _ (limit : ℕ) (left mid : Option (List ℕ)) (s : Session) (d : Divides
   unfolding head
   lines_all bytes = lines_of_spelled (d.divided.program ++ d.divided.divider ∷ []) bytes d.divided.unbroken
 
-  answers_all : (bytes out : List ℕ) → Replies s (lines_of bytes) out → AnswerTo limit (lines_of (spelled head ++ bytes)) out
-  answers_all bytes out r = let P : List (List ℕ) → Type 0 = λ ls. AnswerTo limit ls out in subst P (sym (lines_all bytes)) (answers (lines_of bytes) out r)
+  answers_all : (bytes out : List ℕ) → Replies workers s (lines_of bytes) out → AnswerTo workers limit (lines_of (spelled head ++ bytes)) out
+  answers_all bytes out r = let P : List (List ℕ) → Type 0 = λ ls. AnswerTo workers limit ls out in subst P (sym (lines_all bytes)) (answers (lines_of bytes) out r)
 
-  pub ran_commands : (rest before after : Option (List ℕ)) (held : List ℕ) (result : Result (Unit {0}) Halt) → Served s mid (prepend_known held rest) before after result → (IsErrOf result Read → held ≡ []) → Ran limit left rest before after result
+  pub ran_commands : (rest before after : Option (List ℕ)) (held : List ℕ) (result : Result (Unit {0}) Halt) → Served workers s mid (prepend_known held rest) before after result → (IsErrOf result Read → held ≡ []) → Ran workers limit left rest before after result
   ran_commands rest before after held (Ok u) r emptied =
       let read = from_unread_end left rest held _ (taken (prepend_known held rest) r.0 r.2) r.3 in
       (spelled head ++ r.0, r.1, read.0, read.1, answers_all r.0 r.1 r.4, r.5)
   ran_commands rest before after held (Err (Refused fault)) r emptied = absurd r
-  ran_commands rest before after held (Err Journal) r emptied = absurd r
+  ran_commands rest before after held (Err Journal) r emptied =
+      let P : List ℕ → Type 0 = λ l. Consumes left rest l in
+      let taken' = from_unread left rest held _ (taken_lines (prepend_known held rest) r.0 (r.1 ++ r.2) r.4) in (
+        head ++ r.0,
+        r.1,
+        r.2 ++ held,
+        r.3,
+        subst P (append_assoc (spelled (head ++ r.0)) (r.1 ++ r.2) held ∙ ap (λ l. spelled (head ++ r.0) ++ l) (append_assoc r.1 r.2 held)) taken',
+        unbroken r.0 r.5,
+        r.6,
+        r.7,
+        inr (answers r.0 r.3 r.8),
+        r.9,
+      )
   ran_commands rest before after held (Err Read) r emptied =
       (head ++ r.0, r.1, r.2, from_unread_all left rest held _ (taken_lines (prepend_known held rest) r.0 r.1 r.3) (emptied refl), unbroken r.0 r.4, r.5, inr (answers r.0 r.2 r.6), r.7)
   ran_commands rest before after held (Err Write) r emptied =

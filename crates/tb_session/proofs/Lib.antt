@@ -16,3 +16,5 @@ pub mod SeatLemmas
 pub mod RolledLemmas
 pub mod CommandLemmas
 pub mod BodyLemmas
+pub mod WorkersLemmas
+pub mod TeamLemmas

@@ -19,12 +19,14 @@ use Rattle.tb_session.specs.Bodies.{body_line}
 use Rattle.tb_session.specs.Rolled.{step_named}
 use Rattle.tb_session.specs.Course.{Course, stopped, behind, next_step, course}
 use Rattle.tb_session.specs.Replies.{Answers, ReplyTo, Reply, StepReply, UndoReply, RollReply, RolledReply, BreakReply, BodyReply, ClearReply}
-use Rattle.tb_session.specs.Turns.{HasSeats, Goes, IsGo, turned, started}
+use Rattle.tb_session.specs.Turns.{Goes, IsGo}
+use Rattle.tb_team.specs.Gone.{HasSeats}
+use Rattle.tb_team.specs.Turns.{turned, started}
 use Rattle.tb_session.specs.declared.command.Command.{Command}
-use Rattle.tb_session.specs.declared.command.Command.TheVariants.{Step, Undo, Roll, Run, Go, Break as AddBreak, BreakBody, Clear, Show}
-use Rattle.tb_session.specs.declared.stop.Stop.TheVariants.{Full}
+use Rattle.tb_session.specs.declared.command.Command.TheVariants.{Step, Undo, Roll, Run, Break as AddBreak, BreakBody, Clear, Show}
+use Rattle.tb_team.specs.declared.stop.Stop.TheVariants.{Full}
 use Rattle.tb_session.specs.declared.asked.Asked.{Asked}
-use Rattle.tb_session.specs.declared.asked.Asked.TheVariants.{Nothing, Command as Asks, Fault}
+use Rattle.tb_session.specs.declared.asked.Asked.TheVariants.{Nothing, Command as Asks, Go, Fault}
 use Rattle.tb_session.proofs.AloneLemmas.{unclaimed_seats, turned_seats}
 
 abbrev seats : Session → ℕ
@@ -93,7 +95,6 @@ reply_seats s new (Step t) out h = step_seats (resumed s) new t out (step_refusa
 reply_seats s new (Undo id) out h = undo_seats s new id out (undo_refusal s id) h
 reply_seats s new (Roll target) out h = roll_seats s new (step_named (history s) target) out h
 reply_seats s new (Run most) out h = ap seats h.1 ∙ course_seats most (resumed s)
-reply_seats s new (Go most) out h = ap seats h.2.1 ∙ go_seats 1 most s h.0 h.1
 reply_seats s new (AddBreak at) out h = break_seats s new at out (break_refusal s at) h
 reply_seats s new (BreakBody name) out h = body_seats s new (body_line name s.program) out h
 reply_seats s new (Clear number) out h = clear_seats s new number out (clear_refusal s number) h
@@ -102,15 +103,16 @@ reply_seats s new (Show view) out h = kept s new h.1
 reply_to_seats : (s new : Session) (asks : Asked) (out : List ℕ) → ReplyTo s asks out new → seats new ≡ seats s
 reply_to_seats s new Nothing out h = kept s new h.1
 reply_to_seats s new (Asks command) out h = reply_seats s new command out h
+reply_to_seats s new (Go workers most) out h = ap seats h.2.1 ∙ go_seats workers most s h.0 h.1
 reply_to_seats s new (Fault fault) out h = kept s new h.1
 
-pub answer_seats : (s new : Session) (bytes out : List ℕ) → HasSeats s → Answers s bytes out new → HasSeats new
-answer_seats s new bytes out has h = subst (λ n. 64 < n) (sym (reply_to_seats s new (asked bytes) out h)) has
+pub answer_seats : (limit : ℕ) (s new : Session) (bytes out : List ℕ) → HasSeats s → Answers limit s bytes out new → HasSeats new
+answer_seats limit s new bytes out has h = subst (λ n. 64 < n) (sym (reply_to_seats s new (asked limit bytes) out h)) has
 
 -- a session begins with a seat for itself and one for each worker
 pub opened_seats : (s : Session) (P : Program) (limit : ℕ) → s ≡ opened P limit 65 → HasSeats s
 opened_seats s P limit e = subst HasSeats (sym e) (lit< tt)
 
 -- after the line that was seen
-pub line_seats : (mid new : Session) (line seen reply : List ℕ) → HasSeats mid → seen ≡ line → Answers mid seen reply new → HasSeats new
-line_seats mid new line seen reply has same h = answer_seats mid new seen reply has h
+pub line_seats : (limit : ℕ) (mid new : Session) (line seen reply : List ℕ) → HasSeats mid → seen ≡ line → Answers limit mid seen reply new → HasSeats new
+line_seats limit mid new line seen reply has same h = answer_seats limit mid new seen reply has h

@@ -4,7 +4,8 @@ use Rattle.std.proofs.Math.Seq.{take-append-add}
 use Rattle.std.specs.Io.KnownBytes.{Consumes, Appends}
 use Rattle.tb_read.specs.Text.{lines_of}
 use Rattle.tb_session.specs.Lines.{IsUnbroken, AreUnbroken, spelled, GaveLine}
-use Rattle.tb_live.specs.Session.{Session}
+use Rattle.tb_live.specs.Session.{Session, Held}
+use Rattle.tb_session.specs.Commands.{AsksSeveral}
 use Rattle.tb_session.specs.Replies.{Answers}
 use Rattle.tb_session.specs.Answer.{RunOf}
 use Rattle.tb_session.specs.Stages.{Answered, Served, line_at}
@@ -17,97 +18,122 @@ use Rattle.tb_session.proofs.KnownLemmas.{consumes_nil, consumes_trans, appends_
 use Rattle.tb_session.proofs.LineLemmas.{lines_of_spelled, lines_of_whole, lines_of_last, spelled_append, all_more}
 use Rattle.tb_session.proofs.RunLemmas.{run_append, run_one}
 
--- whole lines were taken and answered
-pub record Serving (s : Session) (start now before after : Option (List ℕ)) (new : Session) : Type 0 where
-  pub lines : List (List ℕ)
-  pub out : List ℕ
-  pub bytes : Consumes start now (spelled lines)
-  pub unbroken : AreUnbroken lines
-  pub ran : RunOf Answers s lines out new
-  pub wrote : Appends before after out
+module _ (workers : ℕ) where
+  -- whole lines were taken and answered
+  pub record Serving (s : Session) (start now before after : Option (List ℕ)) (new : Session) : Type 0 where
+    pub lines : List (List ℕ)
+    pub out : List ℕ
+    pub bytes : Consumes start now (spelled lines)
+    pub unbroken : AreUnbroken lines
+    pub ran : RunOf (Answers workers) s lines out new
+    pub wrote : Appends before after out
 
-pub serve_starts : (s : Session) (start before : Option (List ℕ)) → Serving s start start before before s
-serve_starts s start before = record { lines = []; out = []; bytes = consumes_nil start; unbroken = tt; ran = (refl, refl); wrote = appends_nil before }
+  pub serve_starts : (s : Session) (start before : Option (List ℕ)) → Serving s start start before before s
+  serve_starts s start before = record { lines = []; out = []; bytes = consumes_nil start; unbroken = tt; ran = (refl, refl); wrote = appends_nil before }
 
-pub serve_read : (s new : Session) (start now next before after : Option (List ℕ)) (line : List ℕ) (fault : LineFault) → Serving s start now before after new → GaveLine now next line (Err fault) → Served s start next before after (Err Read)
-serve_read s new start now next before after line fault g t =
-    (g.lines, line, g.out, consumes_trans start now next _ line g.bytes t.0, g.unbroken, t.1, (new, g.ran), g.wrote)
+  pub serve_read : (s new : Session) (start now next before after : Option (List ℕ)) (line : List ℕ) (fault : LineFault) → Serving s start now before after new → GaveLine now next line (Err fault) → Served workers s start next before after (Err Read)
+  serve_read s new start now next before after line fault g t =
+      (g.lines, line, g.out, consumes_trans start now next _ line g.bytes t.0, g.unbroken, t.1, (new, g.ran), g.wrote)
 
-pub serve_memory : (s new : Session) (start now next before after : Option (List ℕ)) (line : List ℕ) (fault : LineFault) → Serving s start now before after new → GaveLine now next line (Err fault) → Served s start next before after (Err Memory)
-serve_memory s new start now next before after line fault g t =
-    (g.lines, line, g.out, consumes_trans start now next _ line g.bytes t.0, g.unbroken, (new, g.ran), g.wrote)
+  pub serve_memory : (s new : Session) (start now next before after : Option (List ℕ)) (line : List ℕ) (fault : LineFault) → Serving s start now before after new → GaveLine now next line (Err fault) → Served workers s start next before after (Err Memory)
+  serve_memory s new start now next before after line fault g t =
+      (g.lines, line, g.out, consumes_trans start now next _ line g.bytes t.0, g.unbroken, (new, g.ran), g.wrote)
 
--- the bytes of a line, with its line feed where it has one
-bytes_at : LineEnd → List ℕ → List ℕ
-bytes_at Feed line = line ++ 10 ∷ []
-bytes_at Input line = line
+  -- the bytes of a line, with its line feed where it has one
+  bytes_at : LineEnd → List ℕ → List ℕ
+  bytes_at Feed line = line ++ 10 ∷ []
+  bytes_at Input line = line
 
-taken_at : (now next : Option (List ℕ)) (line : List ℕ) (end : LineEnd) → GaveLine now next line (Ok end) → Consumes now next (bytes_at end line)
-unfolding bytes_at
-taken_at now next line Feed t = t.0
-taken_at now next line Input t = t.0
+  taken_at : (now next : Option (List ℕ)) (line : List ℕ) (end : LineEnd) → GaveLine now next line (Ok end) → Consumes now next (bytes_at end line)
+  unfolding bytes_at
+  taken_at now next line Feed t = t.0
+  taken_at now next line Input t = t.0
 
-lines_at : (now next : Option (List ℕ)) (lines : List (List ℕ)) (line : List ℕ) (end : LineEnd) → AreUnbroken lines → GaveLine now next line (Ok end) → lines_of (spelled lines ++ bytes_at end line) ≡ lines ++ line_at end line
-unfolding bytes_at
-lines_at now next lines line Feed u t =
-    ap lines_of (sym (spelled_append lines (line ∷ []))) ∙ lines_of_whole (lines ++ line ∷ []) (all_more IsUnbroken lines line u t.1)
-lines_at now next lines line Input u t = lines_of_spelled lines line u ∙ ap (λ l. lines ++ l) (lines_of_last line t.1)
+  -- the line, and what stood behind it
+  split_at : (now next : Option (List ℕ)) (line : List ℕ) (end : LineEnd) → GaveLine now next line (Ok end) → (more : List ℕ) × (bytes_at end line ≡ line ++ more)
+  unfolding bytes_at
+  split_at now next line Feed t = (10 ∷ [], refl)
+  split_at now next line Input t = ([], sym (append-nil line))
 
--- an empty last piece asks for nothing
-run_at : (s new : Session) (line reply : List ℕ) (end : LineEnd) → Answers s line reply new → RunOf Answers s (line_at end line) reply new
-run_at s new line reply Feed a = run_one Answers s new line reply a
-run_at s new [] reply Input a = a
-run_at s new (b ∷ line) reply Input a = run_one Answers s new (b ∷ line) reply a
+  unbroken_at : (now next : Option (List ℕ)) (line : List ℕ) (end : LineEnd) → GaveLine now next line (Ok end) → IsUnbroken line
+  unbroken_at now next line Feed t = t.1
+  unbroken_at now next line Input t = t.1
 
--- the run with the line
-run_with : (s mid new : Session) (start now before after next : Option (List ℕ)) (line reply : List ℕ) (end : LineEnd) (g : Serving s start now before after mid) → GaveLine now next line (Ok end) → Answers mid line reply new
-    → RunOf Answers s (lines_of (spelled g.lines ++ bytes_at end line)) (g.out ++ reply) new
-run_with s mid new start now before after next line reply end g t a =
-    let R : List (List ℕ) → Type 0 = λ ls. RunOf Answers s ls (g.out ++ reply) new in
-    subst R (sym (lines_at now next g.lines line end g.unbroken t)) (run_append Answers s mid new g.lines (line_at end line) g.out reply g.ran (run_at mid new line reply end a))
+  lines_at : (now next : Option (List ℕ)) (lines : List (List ℕ)) (line : List ℕ) (end : LineEnd) → AreUnbroken lines → GaveLine now next line (Ok end) → lines_of (spelled lines ++ bytes_at end line) ≡ lines ++ line_at end line
+  unfolding bytes_at
+  lines_at now next lines line Feed u t =
+      ap lines_of (sym (spelled_append lines (line ∷ []))) ∙ lines_of_whole (lines ++ line ∷ []) (all_more IsUnbroken lines line u t.1)
+  lines_at now next lines line Input u t = lines_of_spelled lines line u ∙ ap (λ l. lines ++ l) (lines_of_last line t.1)
 
-pub serve_halts : (s mid new : Session) (start now next before after last : Option (List ℕ)) (line seen : List ℕ) (end : LineEnd) (halt : Halt) → Serving s start now before after mid → GaveLine now next line (Ok end) → seen ≡ line
-    → Answered mid seen new after last (Err halt) → Served s start next before last (Err halt)
-serve_halts s mid new start now next before after last line seen end (Refused fault) g t same a = absurd a
-serve_halts s mid new start now next before after last line seen end Read g t same a = absurd a
-serve_halts s mid new start now next before after last line seen end Journal g t same a = absurd a
-serve_halts s mid new start now next before after last line seen end Memory g t same a =
-    let W : List ℕ → Type 0 = λ l. Appends before last l in
-    (g.lines, bytes_at end line, g.out, consumes_trans start now next _ _ g.bytes (taken_at now next line end t), g.unbroken, (mid, g.ran), subst W (append-nil g.out) (appends_trans before after last g.out [] g.wrote a))
-serve_halts s mid new start now next before after last line seen end Write g t same a =
-    let A : List ℕ → Type 0 = λ l. Answers mid l a.0 new in
-    let W : List ℕ → Type 0 = λ l. Appends before last l in (
-      spelled g.lines ++ bytes_at end line,
-      g.out ++ a.0,
-      length g.out + a.1,
-      consumes_trans start now next _ _ g.bytes (taken_at now next line end t),
-      (new, run_with s mid new start now before after next line a.0 end g t (subst A same a.2)),
-      subst W (sym (take-append-add g.out a.0 a.1)) (appends_trans before after last g.out (take a.1 a.0) g.wrote a.3),
-    )
+  -- an empty last piece asks for nothing
+  run_at : (s new : Session) (line reply : List ℕ) (end : LineEnd) → Answers workers s line reply new → RunOf (Answers workers) s (line_at end line) reply new
+  run_at s new line reply Feed a = run_one (Answers workers) s new line reply a
+  run_at s new [] reply Input a = a
+  run_at s new (b ∷ line) reply Input a = run_one (Answers workers) s new (b ∷ line) reply a
 
-pub serve_ends : (s mid new : Session) (start now next before after last : Option (List ℕ)) (line seen : List ℕ) (end : LineEnd) → Serving s start now before after mid → GaveLine now next line (Ok end) → seen ≡ line
-    → Answered mid seen new after last (Ok tt) → end ≡ Input → Served s start next before last (Ok tt)
-serve_ends s mid new start now next before after last line seen Feed g t same a e = cc
-serve_ends s mid new start now next before after last line seen Input g t same a e =
-    let A : List ℕ → Type 0 = λ l. Answers mid l a.0 new in (
-      spelled g.lines ++ bytes_at Input line,
-      g.out ++ a.0,
-      consumes_trans start now next _ _ g.bytes (taken_at now next line Input t),
-      t.2,
-      (new, run_with s mid new start now before after next line a.0 Input g t (subst A same a.1)),
-      appends_trans before after last g.out a.0 g.wrote a.2,
-    )
+  -- the run with the line
+  run_with : (s mid new : Session) (start now before after next : Option (List ℕ)) (line reply : List ℕ) (end : LineEnd) (g : Serving s start now before after mid) → GaveLine now next line (Ok end) → Answers workers mid line reply new
+      → RunOf (Answers workers) s (lines_of (spelled g.lines ++ bytes_at end line)) (g.out ++ reply) new
+  run_with s mid new start now before after next line reply end g t a =
+      let R : List (List ℕ) → Type 0 = λ ls. RunOf (Answers workers) s ls (g.out ++ reply) new in
+      subst R (sym (lines_at now next g.lines line end g.unbroken t)) (run_append (Answers workers) s mid new g.lines (line_at end line) g.out reply g.ran (run_at mid new line reply end a))
 
-pub serve_more : (s mid new : Session) (start now next before after last : Option (List ℕ)) (line seen : List ℕ) (end : LineEnd) → Serving s start now before after mid → GaveLine now next line (Ok end) → seen ≡ line
-    → Answered mid seen new after last (Ok tt) → end ≡ Feed → Serving s start next before last new
-serve_more s mid new start now next before after last line seen Input g t same a e = cc
-serve_more s mid new start now next before after last line seen Feed g t same a e =
-    let A : List ℕ → Type 0 = λ l. Answers mid l a.0 new in
-    let B : List ℕ → Type 0 = λ l. Consumes start next l in record {
-      lines = g.lines ++ line ∷ [];
-      out = g.out ++ a.0;
-      bytes = subst B (sym (spelled_append g.lines (line ∷ []))) (consumes_trans start now next _ _ g.bytes t.0);
-      unbroken = all_more IsUnbroken g.lines line g.unbroken t.1;
-      ran = run_append Answers s mid new g.lines (line ∷ []) g.out a.0 g.ran (run_one Answers mid new line a.0 (subst A same a.1));
-      wrote = appends_trans before after last g.out a.0 g.wrote a.2;
-    }
+  pub serve_halts : (s mid : Session) (start now next before after last : Option (List ℕ)) (line seen : List ℕ) (end : LineEnd) (halt : Halt) → Serving s start now before after mid → GaveLine now next line (Ok end) → seen ≡ line
+      → Answered workers mid seen after last (Err halt) → Served workers s start next before last (Err halt)
+  serve_halts s mid start now next before after last line seen end (Refused fault) g t same a = absurd a
+  serve_halts s mid start now next before after last line seen end Read g t same a = absurd a
+  serve_halts s mid start now next before after last line seen end Journal g t same a =
+      let W : List ℕ → Type 0 = λ l. Appends before last l in
+      let B : List ℕ → Type 0 = λ l. Consumes start next (spelled g.lines ++ l) in
+      let split = split_at now next line end t in (
+        g.lines,
+        line,
+        split.0,
+        g.out,
+        subst B split.1 (consumes_trans start now next _ _ g.bytes (taken_at now next line end t)),
+        g.unbroken,
+        unbroken_at now next line end t,
+        subst (AsksSeveral workers) same a.0,
+        (mid, g.ran),
+        subst W (append-nil g.out) (appends_trans before after last g.out [] g.wrote a.1),
+      )
+  serve_halts s mid start now next before after last line seen end Memory g t same a =
+      let W : List ℕ → Type 0 = λ l. Appends before last l in
+      (g.lines, bytes_at end line, g.out, consumes_trans start now next _ _ g.bytes (taken_at now next line end t), g.unbroken, (mid, g.ran), subst W (append-nil g.out) (appends_trans before after last g.out [] g.wrote a))
+  serve_halts s mid start now next before after last line seen end Write g t same a =
+      let A : List ℕ → Type 0 = λ l. Answers workers mid l a.0 a.1 in
+      let W : List ℕ → Type 0 = λ l. Appends before last l in (
+        spelled g.lines ++ bytes_at end line,
+        g.out ++ a.0,
+        length g.out + a.2,
+        consumes_trans start now next _ _ g.bytes (taken_at now next line end t),
+        (a.1, run_with s mid a.1 start now before after next line a.0 end g t (subst A same a.3)),
+        subst W (sym (take-append-add g.out a.0 a.2)) (appends_trans before after last g.out (take a.2 a.0) g.wrote a.4),
+      )
+
+  pub serve_ends : (s mid : Session) (new : Held) (start now next before after last : Option (List ℕ)) (line seen : List ℕ) (end : LineEnd) → Serving s start now before after mid → GaveLine now next line (Ok end) → seen ≡ line
+      → Answered workers mid seen after last (Ok new) → end ≡ Input → Served workers s start next before last (Ok tt)
+  serve_ends s mid new start now next before after last line seen Feed g t same a e = cc
+  serve_ends s mid new start now next before after last line seen Input g t same a e =
+      let A : List ℕ → Type 0 = λ l. Answers workers mid l a.0 new.session in (
+        spelled g.lines ++ bytes_at Input line,
+        g.out ++ a.0,
+        consumes_trans start now next _ _ g.bytes (taken_at now next line Input t),
+        t.2,
+        (new.session, run_with s mid new.session start now before after next line a.0 Input g t (subst A same a.1)),
+        appends_trans before after last g.out a.0 g.wrote a.2,
+      )
+
+  pub serve_more : (s mid : Session) (new : Held) (start now next before after last : Option (List ℕ)) (line seen : List ℕ) (end : LineEnd) → Serving s start now before after mid → GaveLine now next line (Ok end) → seen ≡ line
+      → Answered workers mid seen after last (Ok new) → end ≡ Feed → Serving s start next before last new.session
+  serve_more s mid new start now next before after last line seen Input g t same a e = cc
+  serve_more s mid new start now next before after last line seen Feed g t same a e =
+      let A : List ℕ → Type 0 = λ l. Answers workers mid l a.0 new.session in
+      let B : List ℕ → Type 0 = λ l. Consumes start next l in record {
+        lines = g.lines ++ line ∷ [];
+        out = g.out ++ a.0;
+        bytes = subst B (sym (spelled_append g.lines (line ∷ []))) (consumes_trans start now next _ _ g.bytes t.0);
+        unbroken = all_more IsUnbroken g.lines line g.unbroken t.1;
+        ran = run_append (Answers workers) s mid new.session g.lines (line ∷ []) g.out a.0 g.ran (run_one (Answers workers) mid new.session line a.0 (subst A same a.1));
+        wrote = appends_trans before after last g.out a.0 g.wrote a.2;
+      }

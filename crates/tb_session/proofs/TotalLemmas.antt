@@ -1,5 +1,5 @@
 -- Each line has one reply, and leaves a sound journal sound.
-use Rattle.std.proofs.Common.{◌≡◌, ℕ, zero, suc, List, [], refl, sym, ap, ◌∙◌, subst, Option, Some, None, Bool, true, false, not, cond, IsTrue}
+use Rattle.std.proofs.Common.{◌≡◌, ◌<◌, ◌≤◌, arith, ℕ, zero, suc, List, [], refl, sym, ap, ◌∙◌, subst, Option, Some, None, Bool, true, false, not, cond, IsTrue}
 use Rattle.std.specs.Prelude.{option_map}
 use Rattle.std.specs.Option.{option_or}
 use Rattle.tb_model.specs.declared.step_id.StepId.{StepId}
@@ -19,10 +19,12 @@ use Rattle.tb_live.specs.Pauses.{with_points}
 use Rattle.tb_live.specs.Runs.{resumed}
 use Rattle.tb_live.specs.Session.{Session, opened, history, is_full, with_entry}
 use Rattle.tb_live.specs.Moves.{refusal_for, least_task, coming}
-use Rattle.tb_session.specs.Commands.{asked}
-use Rattle.tb_session.specs.Texts.{told_step, stepped, stepped_by}
+use Rattle.tb_session.specs.Commands.{asked, AsksSeveral}
+use Rattle.tb_session.proofs.WorkersLemmas.{HasWorkers, asked_has_workers}
+use Rattle.tb_session.specs.Texts.{told_step, stepped}
+use Rattle.tb_team.specs.Turns.{stepped_by}
 use Rattle.tb_session.specs.Turns.{IsGo}
-use Rattle.tb_session.proofs.TurnLemmas.{go_sound, some_go, one_go}
+use Rattle.tb_session.proofs.TurnLemmas.{go_sound, some_go_of, one_go_of}
 use Rattle.tb_session.specs.Refusals.{refusal_line, step_refusal, undo_refusal, roll_refusal, break_refusal, clear_refusal}
 use Rattle.tb_session.specs.Bodies.{body_line}
 use Rattle.tb_session.specs.Rolled.{step_named, rolled_text}
@@ -31,10 +33,10 @@ use Rattle.tb_session.specs.Replies.{Answers, ReplyTo, Reply, StepReply, UndoRep
 use Rattle.tb_session.specs.Reading.{IsProgram}
 use Rattle.tb_session.specs.Laws.{IsSound}
 use Rattle.tb_session.specs.declared.command.Command.{Command}
-use Rattle.tb_session.specs.declared.command.Command.TheVariants.{Step, Undo, Roll, Run, Go, Break as AddBreak, BreakBody, Clear, Show}
-use Rattle.tb_session.specs.declared.stop.Stop.TheVariants.{Full}
+use Rattle.tb_session.specs.declared.command.Command.TheVariants.{Step, Undo, Roll, Run, Break as AddBreak, BreakBody, Clear, Show}
+use Rattle.tb_team.specs.declared.stop.Stop.TheVariants.{Full}
 use Rattle.tb_session.specs.declared.asked.Asked.{Asked}
-use Rattle.tb_session.specs.declared.asked.Asked.TheVariants.{Nothing, Command as Asks, Fault}
+use Rattle.tb_session.specs.declared.asked.Asked.TheVariants.{Nothing, Command as Asks, Go, Fault}
 
 -- ---- each reply leaves a sound journal
 
@@ -111,7 +113,6 @@ reply_sound s new (Step t) out h reply = step_sound (resumed s) new t out (step_
 reply_sound s new (Undo id) out h reply = undo_sound s new id out (undo_refusal s id) refl h reply
 reply_sound s new (Roll target) out h reply = roll_sound s new (step_named (history s) target) out h reply
 reply_sound s new (Run most) out h reply = subst IsSound (sym reply.1) (course_sound most (resumed s) (resumed_sound s h))
-reply_sound s new (Go most) out h reply = subst IsSound (sym reply.2.1) (go_sound 1 most s reply.0 h reply.1)
 reply_sound s new (AddBreak at) out h reply = break_sound s new at out (break_refusal s at) h reply
 reply_sound s new (BreakBody name) out h reply = body_sound s new (body_line name s.program) out h reply
 reply_sound s new (Clear number) out h reply = clear_sound s new number out (clear_refusal s number) h reply
@@ -120,10 +121,11 @@ reply_sound s new (Show view) out h reply = subst IsSound (sym reply.1) h
 reply_to_sound : (s new : Session) (asks : Asked) (out : List ℕ) → IsSound s → ReplyTo s asks out new → IsSound new
 reply_to_sound s new Nothing out h reply = subst IsSound (sym reply.1) h
 reply_to_sound s new (Asks command) out h reply = reply_sound s new command out h reply
+reply_to_sound s new (Go workers most) out h reply = subst IsSound (sym reply.2.1) (go_sound workers most s reply.0 h reply.1)
 reply_to_sound s new (Fault fault) out h reply = subst IsSound (sym reply.1) h
 
-pub answer_sound : (s new : Session) (bytes out : List ℕ) → IsSound s → Answers s bytes out new → IsSound new
-answer_sound s new bytes out h reply = reply_to_sound s new (asked bytes) out h reply
+pub answer_sound : (limit : ℕ) (s new : Session) (bytes out : List ℕ) → IsSound s → Answers limit s bytes out new → IsSound new
+answer_sound limit s new bytes out h reply = reply_to_sound s new (asked limit bytes) out h reply
 
 -- ---- each line has a reply
 
@@ -155,27 +157,27 @@ some_clear : (s : Session) (number : ℕ) (refusal : Option (List ℕ)) → (out
 some_clear s number (Some r) = (r, s, (refl, refl))
 some_clear s number None = (_, with_points s (without_break number s.control.breakpoints), (refl, refl))
 
-some_gone : (s : Session) (most : ℕ) → (c : Course) × IsGo 1 most s c → (out : List ℕ) × (new : Session) × GoReply 1 most s out new
-some_gone s most g = (course_text g.0, g.0.session, (g.0, g.1, (refl, refl)))
+some_gone : (s : Session) (workers most : ℕ) → (c : Course) × IsGo workers most s c → (out : List ℕ) × (new : Session) × GoReply workers most s out new
+some_gone s workers most g = (course_text g.0, g.0.session, (g.0, g.1, (refl, refl)))
 
 some_reply : (s : Session) (command : Command) → (out : List ℕ) × (new : Session) × Reply s command out new
 some_reply s (Step t) = some_step (resumed s) t (step_refusal (resumed s) t)
 some_reply s (Undo id) = some_undo s id (undo_refusal s id)
 some_reply s (Roll target) = some_roll s (step_named (history s) target)
 some_reply s (Run most) = (_, (course most (resumed s)).session, (refl, refl))
-some_reply s (Go most) = some_gone s most (some_go most s)
 some_reply s (AddBreak at) = some_break s at (break_refusal s at)
 some_reply s (BreakBody name) = some_body s (body_line name s.program)
 some_reply s (Clear number) = some_clear s number (clear_refusal s number)
 some_reply s (Show view) = (_, s, (refl, refl))
 
-some_reply_to : (s : Session) (asks : Asked) → (out : List ℕ) × (new : Session) × ReplyTo s asks out new
-some_reply_to s Nothing = ([], s, (refl, refl))
-some_reply_to s (Asks command) = some_reply s command
-some_reply_to s (Fault fault) = (_, s, (refl, refl))
+some_reply_to : (s : Session) (asks : Asked) → HasWorkers asks → (out : List ℕ) × (new : Session) × ReplyTo s asks out new
+some_reply_to s Nothing h = ([], s, (refl, refl))
+some_reply_to s (Asks command) h = some_reply s command
+some_reply_to s (Go workers most) h = some_gone s workers most (some_go_of workers most s h)
+some_reply_to s (Fault fault) h = (_, s, (refl, refl))
 
-pub some_answer : (s : Session) (bytes : List ℕ) → (out : List ℕ) × (new : Session) × Answers s bytes out new
-some_answer s bytes = some_reply_to s (asked bytes)
+pub some_answer : (limit : ℕ) (s : Session) (bytes : List ℕ) → (out : List ℕ) × (new : Session) × Answers limit s bytes out new
+some_answer limit s bytes = some_reply_to s (asked limit bytes) (asked_has_workers limit bytes)
 
 -- ---- and one alone
 
@@ -212,18 +214,29 @@ one_reply s new other (Step t) out more a b = one_step (resumed s) new other t o
 one_reply s new other (Undo id) out more a b = one_undo s new other id out more (undo_refusal s id) a b
 one_reply s new other (Roll target) out more a b = one_roll s new other (step_named (history s) target) out more a b
 one_reply s new other (Run most) out more a b = (a.0 ∙ sym b.0, a.1 ∙ sym b.1)
-one_reply s new other (Go most) out more a b =
-    let same : a.0 ≡ b.0 = one_go most s a.0 b.0 a.1 b.1 in
-    (a.2.0 ∙ (ap course_text same ∙ sym b.2.0), a.2.1 ∙ (ap (λ (c : Course). c.session) same ∙ sym b.2.1))
 one_reply s new other (AddBreak at) out more a b = one_break s new other at out more (break_refusal s at) a b
 one_reply s new other (BreakBody name) out more a b = one_body s new other (body_line name s.program) out more a b
 one_reply s new other (Clear number) out more a b = one_clear s new other number out more (clear_refusal s number) a b
 one_reply s new other (Show view) out more a b = (a.0 ∙ sym b.0, a.1 ∙ sym b.1)
 
-one_reply_to : (s new other : Session) (asks : Asked) (out more : List ℕ) → ReplyTo s asks out new → ReplyTo s asks more other → (out ≡ more) × (new ≡ other)
-one_reply_to s new other Nothing out more a b = (a.0 ∙ sym b.0, a.1 ∙ sym b.1)
-one_reply_to s new other (Asks command) out more a b = one_reply s new other command out more a b
-one_reply_to s new other (Fault fault) out more a b = (a.0 ∙ sym b.0, a.1 ∙ sym b.1)
+one_reply_to : (s new other : Session) (asks : Asked) (out more : List ℕ) → HasWorkers asks → ((workers most : ℕ) → asks ≡ Go workers most → 1 < workers → ⊥)
+    → ReplyTo s asks out new → ReplyTo s asks more other → (out ≡ more) × (new ≡ other)
+one_reply_to s new other Nothing out more some few a b = (a.0 ∙ sym b.0, a.1 ∙ sym b.1)
+one_reply_to s new other (Asks command) out more some few a b = one_reply s new other command out more a b
+one_reply_to s new other (Go workers most) out more some few a b =
+    let alone : workers ≡ 1 = le_antisymm (at_most_one workers (few workers most refl)) some in
+    let same : a.0 ≡ b.0 = one_go_of workers most s a.0 b.0 alone a.1 b.1 in
+    (a.2.0 ∙ (ap course_text same ∙ sym b.2.0), a.2.1 ∙ (ap (λ (c : Course). c.session) same ∙ sym b.2.1))
+  where
+    at_most_one : (n : ℕ) → (1 < n → ⊥) → n ≤ 1
+    at_most_one zero h = omega arith
+    at_most_one (suc zero) h = omega arith
+    at_most_one (suc (suc n)) h = absurd (h (omega arith))
+    le_antisymm : {n : ℕ} → n ≤ 1 → 1 ≤ n → n ≡ 1
+    le_antisymm a b = omega (arith, a, b)
+one_reply_to s new other (Fault fault) out more some few a b = (a.0 ∙ sym b.0, a.1 ∙ sym b.1)
 
-pub one_answer : (s new other : Session) (bytes out more : List ℕ) → Answers s bytes out new → Answers s bytes more other → (out ≡ more) × (new ≡ other)
-one_answer s new other bytes out more a b = one_reply_to s new other (asked bytes) out more a b
+-- but for a go of several workers
+pub one_answer : (limit : ℕ) (s new other : Session) (bytes out more : List ℕ) → (AsksSeveral limit bytes → ⊥) → Answers limit s bytes out new → Answers limit s bytes more other → (out ≡ more) × (new ≡ other)
+one_answer limit s new other bytes out more few a b =
+    one_reply_to s new other (asked limit bytes) out more (asked_has_workers limit bytes) (λ workers most e several. few (workers, most, e, several)) a b

@@ -15,12 +15,13 @@ use Rattle.tb_live.specs.Modes as modes
 use Rattle.tb_live.specs.Session.{Session, history, is_full}
 use Rattle.tb_live.specs.Moves.{coming, least_task, refusal_for}
 use Rattle.tb_live.proofs.ReadyLemmas.{can_spawned}
-use Rattle.tb_session.specs.declared.stop.Stop.{Stop}
-use Rattle.tb_session.specs.declared.stop.Stop.TheVariants.{Break, Limit}
+use Rattle.tb_team.specs.declared.stop.Stop.{Stop}
+use Rattle.tb_team.specs.declared.stop.Stop.TheVariants.{Break, Limit}
 use Rattle.tb_session.specs.Course.{Course, stopped, behind}
 use Rattle.tb_session.specs.Laws.{IsSound, is_break, met_by}
 use Rattle.tb_session.specs.Texts.{told_step}
-use Rattle.tb_session.specs.Turns.{IsTurn, Goes, IsGo, why_paused, why_idle, stop_of, turned, started, settled}
+use Rattle.tb_session.specs.Turns.{Goes, IsGo}
+use Rattle.tb_team.specs.Turns.{IsTurn, AreTurns, why_paused, why_idle, stop_of, turned, started, settled}
 use Rattle.tb_session.proofs.AloneLemmas.{MayFollow, counting_follows, one_fewer}
 
 -- ---- what a turn leaves
@@ -166,3 +167,29 @@ one_goes (turn ∷ turns) (other ∷ others) s c d g h =
 
 pub one_go : (most : ℕ) (s : Session) (c d : Course) → IsGo 1 most s c → IsGo 1 most s d → c ≡ d
 one_go most s c d g h = one_goes g.0 h.0 (started most s) c d g.1 h.1
+
+-- ---- and so have more
+
+-- what a worker alone does, several may do
+beside : (workers : ℕ) (s : Session) (seat : ℕ) (t : Name) → 1 ≤ workers → IsTurn 1 s seat t → IsTurn workers s seat t
+beside workers s seat t some turn = record {
+  first = turn.first;
+  last = (let h = turn.last in omega (arith, h, some));
+  going = turn.going;
+  may = turn.may;
+  alone = λ one. turn.alone refl;
+}
+
+goes_beside : (workers : ℕ) (turns : List (ℕ × Name)) (s : Session) (c : Course) → 1 ≤ workers → Goes 1 turns s c → Goes workers turns s c
+goes_beside workers [] s c some g = g
+goes_beside workers (turn ∷ turns) s c some g =
+    (g.0, beside workers s turn.0 turn.1 some g.1, (g.2.0, goes_beside workers turns (turned turn.0 s turn.1) g.2.0 some g.2.1, g.2.2))
+
+pub some_go_of : (workers most : ℕ) (s : Session) → 1 ≤ workers → (c : Course) × IsGo workers most s c
+some_go_of workers most s some =
+    let g = some_go most s in
+    (g.0, (g.1.0, goes_beside workers g.1.0 (started most s) g.0 some g.1.1))
+
+pub one_go_of : (workers most : ℕ) (s : Session) (c d : Course) → workers ≡ 1 → IsGo workers most s c → IsGo workers most s d → c ≡ d
+one_go_of workers most s c d alone g h =
+    one_go most s c d (subst (λ n. IsGo n most s c) alone g) (subst (λ n. IsGo n most s d) alone h)

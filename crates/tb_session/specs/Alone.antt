@@ -10,10 +10,11 @@ use Rattle.tb_live.specs.Modes.{is_paused}
 use Rattle.tb_live.specs.Moves.{MayStep, coming, least_task}
 use Rattle.tb_live.specs.Session.{Session, history, is_full, with_seat}
 use Rattle.tb_live.specs.Working.{IsWork}
-use Rattle.tb_session.specs.Texts.{told_step, stepped_by}
-use Rattle.tb_session.specs.Turns.{IsGo, IsTurn, settled, stop_of, turned, why_idle, why_paused}
+use Rattle.tb_session.specs.Texts.{told_step}
+use Rattle.tb_session.specs.Turns.{IsGo}
+use Rattle.tb_team.specs.Turns.{IsTurn, settled, stepped_by, stop_of, turned, why_idle, why_paused}
 use Rattle.tb_session.specs.declared.running.Taken.{Taken}
-use Rattle.tb_session.specs.declared.stop.Stop.{Stop}
+use Rattle.tb_team.specs.declared.stop.Stop.{Stop}
 
 -- no other seat claims a task
 abbrev pub IsAlone : Session → Type 0

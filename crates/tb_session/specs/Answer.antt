@@ -8,6 +8,7 @@ use Rattle.tb_read.specs.Text.{lines_of}
 use Rattle.tb_session.specs.Lines.{spelled, AreUnbroken, IsUnbroken, is_divider}
 use Rattle.tb_session.specs.Reading.{IsProgram, IsRefused}
 use Rattle.tb_live.specs.Session.{Session, opened}
+use Rattle.tb_session.specs.Commands.{AsksSeveral}
 use Rattle.tb_session.specs.Replies.{Answers}
 use Rattle.tb_session.specs.declared.halt.Halt.{Halt}
 use Rattle.tb_session.specs.declared.halt.Halt.TheVariants.{Refused, Read, Write, Memory, Journal}
@@ -17,9 +18,9 @@ abbrev pub RunOf : {S : Type 0} → (S → List ℕ → List ℕ → S → Type 
 RunOf {S} step old [] out new = (out ≡ []) × (new ≡ old)
 RunOf {S} step old (line ∷ lines) out new = (reply : List ℕ) × (mid : S) × (more : List ℕ) × step old line reply mid × RunOf step mid lines more new × (out ≡ reply ++ more)
 
--- these may be the replies to these lines, one after another
-abbrev pub Replies : Session → List (List ℕ) → List ℕ → Type 0
-Replies s lines out = (new : Session) × RunOf Answers s lines out new
+-- these may be the replies to these lines, one after another, where `go` may name so many workers
+abbrev pub Replies : ℕ → Session → List (List ℕ) → List ℕ → Type 0
+Replies workers s lines out = (new : Session) × RunOf (Answers workers) s lines out new
 
 -- ---- the first line whose only word is `---`
 
@@ -41,15 +42,15 @@ program_text lines = spelled (program_lines lines)
 -- ---- answers
 
 -- the program is accepted, and these may be the replies to the commands behind it
-abbrev pub AnswerTo : ℕ → List (List ℕ) → List ℕ → Type 0
-AnswerTo limit lines out = (P : Program) × IsProgram (program_text lines) P × Replies (opened P limit 65) (command_lines lines) out
+abbrev pub AnswerTo : (workers limit : ℕ) → List (List ℕ) → List ℕ → Type 0
+AnswerTo workers limit lines out = (P : Program) × IsProgram (program_text lines) P × Replies workers (opened P limit 65) (command_lines lines) out
 
-abbrev pub IsAnswer : ℕ → List ℕ → List ℕ → Type 0
-IsAnswer limit bytes out = AnswerTo limit (lines_of bytes) out
+abbrev pub IsAnswer : (workers limit : ℕ) → List ℕ → List ℕ → Type 0
+IsAnswer workers limit bytes out = AnswerTo workers limit (lines_of bytes) out
 
 -- what is written once whole lines were worked on: nothing while they are all of the program
-abbrev pub Replied : ℕ → List (List ℕ) → List ℕ → Type 0
-Replied limit lines out = (AreUndivided lines × (out ≡ [])) ⊎ AnswerTo limit lines out
+abbrev pub Replied : (workers limit : ℕ) → List (List ℕ) → List ℕ → Type 0
+Replied workers limit lines out = (AreUndivided lines × (out ≡ [])) ⊎ AnswerTo workers limit lines out
 
 -- the program of all that was to come is refused, where that is known
 abbrev pub Refuses : ReadFault → Option (List ℕ) → Type 0
@@ -57,22 +58,24 @@ Refuses fault None = ⊤
 Refuses fault (Some bytes) = IsRefused (program_text (lines_of bytes)) fault
 
 -- what a session read and wrote, by how it ended
-abbrev pub Ran : ℕ → Option (List ℕ) → Option (List ℕ) → Option (List ℕ) → Option (List ℕ) → Result (Unit {0}) Halt → Type 0
+abbrev pub Ran : (workers limit : ℕ) → Option (List ℕ) → Option (List ℕ) → Option (List ℕ) → Option (List ℕ) → Result (Unit {0}) Halt → Type 0
 -- the answer to what was read, and nothing else
-Ran limit left rest before after (Ok u) = (bytes : List ℕ) × (out : List ℕ) × Consumes left rest bytes × IsAtEnd rest × IsAnswer limit bytes out × Appends before after out
+Ran workers limit left rest before after (Ok u) = (bytes : List ℕ) × (out : List ℕ) × Consumes left rest bytes × IsAtEnd rest × IsAnswer workers limit bytes out × Appends before after out
 -- nothing, since the program of all that was to come is refused
-Ran limit left rest before after (Err (Refused fault)) = Refuses fault left × Appends before after []
+Ran workers limit left rest before after (Err (Refused fault)) = Refuses fault left × Appends before after []
 -- the replies to the whole lines; what else was read is a part of one line
-Ran limit left rest before after (Err Read) =
+Ran workers limit left rest before after (Err Read) =
     (lines : List (List ℕ)) × (part : List ℕ) × (out : List ℕ) × Consumes left rest (spelled lines ++ part)
-    × AreUnbroken lines × IsUnbroken part × Replied limit lines out × Appends before after out
+    × AreUnbroken lines × IsUnbroken part × Replied workers limit lines out × Appends before after out
 -- a beginning of the answer to a front of what was read
-Ran limit left rest before after (Err Write) =
+Ran workers limit left rest before after (Err Write) =
     (bytes : List ℕ) × (more : List ℕ) × (out : List ℕ) × (n : ℕ) × Consumes left rest (bytes ++ more)
-    × IsAnswer limit bytes out × Appends before after (take n out)
+    × IsAnswer workers limit bytes out × Appends before after (take n out)
 -- the replies to the whole lines that were worked on
-Ran limit left rest before after (Err Memory) =
+Ran workers limit left rest before after (Err Memory) =
     (lines : List (List ℕ)) × (more : List ℕ) × (out : List ℕ) × Consumes left rest (spelled lines ++ more)
-    × AreUnbroken lines × Replied limit lines out × Appends before after out
--- never: one seat alone writes the journal
-Ran limit left rest before after (Err Journal) = ⊥
+    × AreUnbroken lines × Replied workers limit lines out × Appends before after out
+-- the same in front of a line that asks for a go of two or more workers
+Ran workers limit left rest before after (Err Journal) =
+    (lines : List (List ℕ)) × (line : List ℕ) × (more : List ℕ) × (out : List ℕ) × Consumes left rest (spelled lines ++ (line ++ more))
+    × AreUnbroken lines × IsUnbroken line × AsksSeveral workers line × Replied workers limit lines out × Appends before after out

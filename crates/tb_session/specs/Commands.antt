@@ -1,5 +1,5 @@
 -- The commands, and what a line asks for.
-use Rattle.std.specs.Prelude.{ℕ, Bool, false, List, [], ◌∷◌, ◌||◌, ◌&&◌, not, nat_le, nat_lt, length, codes, if◌then◌else◌, Option, Some, None}
+use Rattle.std.specs.Prelude.{◌≡◌, ◌<◌, ℕ, Bool, List, [], ◌∷◌, ◌||◌, ◌&&◌, not, nat_le, nat_lt, length, codes, if◌then◌else◌, Option, Some, None}
 use Rattle.std.specs.List.{list_all}
 use Rattle.std.specs.Char.{is_ascii_digit}
 use Rattle.std.specs.Str.Parse.{digits_value}
@@ -11,13 +11,13 @@ use Rattle.tb_read.specs.Word.{same_word}
 use Rattle.tb_session.specs.declared.command.Verb.{Verb}
 use Rattle.tb_session.specs.declared.command.Verb.TheVariants.{Step as ToStep, Undo as ToUndo, Roll as ToRoll, RollTask as ToRollTask, RollCell as ToRollCell, RollPrint as ToRollPrint, Run as ToRun, Clear as ToClear, Tasks as ToTasks, Task as ToTask, Cells as ToCells, Out as ToOut, Ready as ToReady, Waits as ToWaits, Deps as ToDeps, Hist as ToHist, Why as ToWhy, Causes as ToCauses, Who as ToWho, Races as ToRaces, Breaks as ToBreaks}
 use Rattle.tb_session.specs.declared.command.Command.{Command}
-use Rattle.tb_session.specs.declared.command.Command.TheVariants.{Step, Undo, Roll, Run, Go, Break, BreakBody, Clear, Show}
+use Rattle.tb_session.specs.declared.command.Command.TheVariants.{Step, Undo, Roll, Run, Break, BreakBody, Clear, Show}
 use Rattle.tb_live.specs.declared.breaks.Break.TheVariants.{Task as OfTask, Cell as OfCell, Print as AnyPrint, Fault as AnyFault}
 use Rattle.tb_view.specs.declared.view.View.TheVariants.{Tasks, Task, Cells, Out, Ready, Waits, Deps, Hist, Why, Causes, Who, Races, Breaks}
 use Rattle.tb_session.specs.declared.target.Target.TheVariants.{Step as TheStep, LastStore, LastPrint}
 use Rattle.tb_session.specs.declared.asked.CommandFault.TheVariants.{Line, Word, Count, Name as BadName, Number as BadNumber}
 use Rattle.tb_session.specs.declared.asked.Asked.{Asked}
-use Rattle.tb_session.specs.declared.asked.Asked.TheVariants.{Nothing, Command as Asks, Fault}
+use Rattle.tb_session.specs.declared.asked.Asked.TheVariants.{Nothing, Command as Asks, Go, Fault}
 
 abbrev pub Words : Type 0
 Words = List (List ℕ)
@@ -75,14 +75,19 @@ break_of (kind ∷ words) =
     else (if same_word kind (codes "fault") then with_none words (Break AnyFault)
     else Fault Word))))
 
-abbrev pub is_positive : Option ℕ → Bool
-is_positive (Some n) = nat_lt 0 n
-is_positive None = false
+-- a number, unless it is 0
+abbrev pub positive : Option ℕ → Option ℕ
+positive (Some n) = if nat_lt 0 n then Some n else None
+positive None = None
 
--- a number of workers, of which there is one so far, and the most steps
-abbrev pub go_of : Words → Asked
-go_of (workers ∷ most ∷ []) = if is_positive (number_within 1 workers) then numbered (number_within 1000000 most) Go else Fault BadNumber
-go_of _ = Fault Count
+abbrev pub go_with : Option ℕ → Option ℕ → Asked
+go_with (Some workers) (Some most) = Go workers most
+go_with _ _ = Fault BadNumber
+
+-- a number of workers up to the limit, and the most steps
+abbrev pub go_of : ℕ → Words → Asked
+go_of limit (workers ∷ most ∷ []) = go_with (positive (number_within limit workers)) (number_within 1000000 most)
+go_of limit _ = Fault Count
 
 -- ---- the table of the other commands: a row a command
 
@@ -144,10 +149,10 @@ abbrev pub asked_by : Option Verb → Words → Asked
 asked_by (Some verb) words = asked_of verb words
 asked_by None words = Fault Word
 
-abbrev pub asked_words : List ℕ → Words → Asked
-asked_words word words =
+abbrev pub asked_words : ℕ → List ℕ → Words → Asked
+asked_words limit word words =
     if same_word word (codes "break") then break_of words
-    else (if same_word word (codes "go") then go_of words
+    else (if same_word word (codes "go") then go_of limit words
     else asked_by (verb_of word) words)
 
 -- too long, or with a byte before its comment that is no text
@@ -155,9 +160,14 @@ abbrev pub is_bad_line : List ℕ → Bool
 is_bad_line line = nat_lt 1024 (length line) || not (is_text (before_comment line))
 
 -- a line without words asks for nothing, whatever else is wrong with it
-abbrev pub asked_with : List ℕ → Words → Asked
-asked_with line [] = Nothing
-asked_with line (word ∷ words) = if is_bad_line line then Fault Line else asked_words word words
+abbrev pub asked_with : ℕ → List ℕ → Words → Asked
+asked_with limit line [] = Nothing
+asked_with limit line (word ∷ words) = if is_bad_line line then Fault Line else asked_words limit word words
 
-abbrev pub asked : List ℕ → Asked
-asked line = asked_with line (line_words line)
+-- `go` may name so many workers
+abbrev pub asked : ℕ → List ℕ → Asked
+asked limit line = asked_with limit line (line_words line)
+
+-- the line asks for a go of two or more workers
+abbrev pub AsksSeveral : ℕ → List ℕ → Type 0
+AsksSeveral limit line = (workers : ℕ) × (most : ℕ) × (asked limit line ≡ Go workers most) × (1 < workers)

@@ -8,8 +8,9 @@ use Rattle.tb_live.specs.Moves.{least_task}
 use Rattle.tb_view.specs.Lines.{line}
 use Rattle.tb_session.specs.Texts.{told_step, stepped}
 use Rattle.tb_session.specs.declared.running.Taken.{Taken}
-use Rattle.tb_session.specs.declared.stop.Stop.{Stop}
-use Rattle.tb_session.specs.declared.stop.Stop.TheVariants.{Break, Limit, Done, Full}
+use Rattle.tb_team.specs.declared.stop.Stop.{Stop}
+use Rattle.tb_team.specs.declared.stop.Stop.TheVariants.{Limit, Done, Full}
+use Rattle.tb_team.specs.Stops.{stop_word}
 
 -- the steps' lines, how many they are, why no more are taken, and what they leave
 pub record Course : Type 0 where
@@ -25,12 +26,6 @@ stopped why s = record { lines = []; count = 0; stop = why; session = s }
 -- a course after so many steps with these lines
 abbrev pub behind : List ℕ → ℕ → Course → Course
 behind lines count c = record { lines = lines ++ c.lines; count = count + c.count; stop = c.stop; session = c.session }
-
-abbrev pub stop_word : Stop → List ℕ
-stop_word Break = codes "break"
-stop_word Limit = codes "limit"
-stop_word Done = codes "done"
-stop_word Full = codes "full"
 
 -- the lines, and last how many they are and why they stop
 abbrev pub course_text : Course → List ℕ

@@ -24,9 +24,9 @@ use Rattle.tb_session.specs.Course.{Course, course, course_text}
 use Rattle.tb_session.specs.Turns.{IsGo}
 use Rattle.tb_live.specs.declared.break_refusal.BreakRefusal.TheVariants.{NoSuchBody}
 use Rattle.tb_session.specs.declared.command.Command.{Command}
-use Rattle.tb_session.specs.declared.command.Command.TheVariants.{Step, Undo, Roll, Run, Go, Break as AddBreak, BreakBody, Clear, Show}
+use Rattle.tb_session.specs.declared.command.Command.TheVariants.{Step, Undo, Roll, Run, Break as AddBreak, BreakBody, Clear, Show}
 use Rattle.tb_session.specs.declared.asked.Asked.{Asked}
-use Rattle.tb_session.specs.declared.asked.Asked.TheVariants.{Nothing, Command as Asks, Fault}
+use Rattle.tb_session.specs.declared.asked.Asked.TheVariants.{Nothing, Command as Asks, Go, Fault}
 
 -- a refusal changes nothing; else the task's next step is taken, and told
 abbrev pub StepReply : Option (List ℕ) → Session → Name → List ℕ → Session → Type 0
@@ -80,13 +80,11 @@ abbrev pub shown : Session → View → List ℕ
 shown s view = shown_or (view_refusal s view) (view_text s view)
 
 abbrev pub Reply : Session → Command → List ℕ → Session → Type 0
--- `step`, `run` and `go` let the run go on first
+-- `step` and `run` let the run go on first
 Reply s (Step t) out new = StepReply (step_refusal (resumed s) t) (resumed s) t out new
 Reply s (Undo id) out new = UndoReply (undo_refusal s id) s id out new
 Reply s (Roll target) out new = RollReply s (step_named (history s) target) out new
 Reply s (Run most) out new = RunReply (course most (resumed s)) out new
--- by one worker
-Reply s (Go most) out new = GoReply 1 most s out new
 Reply s (AddBreak at) out new = BreakReply (break_refusal s at) s at out new
 Reply s (BreakBody name) out new = BodyReply (body_line name s.program) s out new
 Reply s (Clear number) out new = ClearReply (clear_refusal s number) s number out new
@@ -97,7 +95,9 @@ Reply s (Show view) out new = (out ≡ shown s view) × (new ≡ s)
 abbrev pub ReplyTo : Session → Asked → List ℕ → Session → Type 0
 ReplyTo s Nothing out new = (out ≡ []) × (new ≡ s)
 ReplyTo s (Asks command) out new = Reply s command out new
+ReplyTo s (Go workers most) out new = GoReply workers most s out new
 ReplyTo s (Fault fault) out new = (out ≡ line (codes "error " ++ fault_word fault)) × (new ≡ s)
 
-abbrev pub Answers : Session → List ℕ → List ℕ → Session → Type 0
-Answers s bytes out new = ReplyTo s (asked bytes) out new
+-- `go` may name so many workers
+abbrev pub Answers : ℕ → Session → List ℕ → List ℕ → Session → Type 0
+Answers workers s bytes out new = ReplyTo s (asked workers bytes) out new

@@ -6,10 +6,11 @@ use Rattle.tb_read.specs.Text.{lines_of}
 use Rattle.tb_session.specs.Lines.{last_line, spelled, AreUnbroken, IsUnbroken, is_divider}
 use Rattle.tb_session.specs.Reading.{IsProgram, IsRefused}
 use Rattle.tb_live.specs.Session.{Session, Held, opened}
+use Rattle.tb_session.specs.Commands.{AsksSeveral}
 use Rattle.tb_session.specs.Replies.{Answers}
 use Rattle.tb_session.specs.Answer.{Replies, AreUndivided, program_text, command_lines, Refuses}
 use Rattle.tb_session.specs.declared.halt.Halt.{Halt}
-use Rattle.tb_session.specs.declared.halt.Halt.TheVariants.{Refused, Read, Write, Memory}
+use Rattle.tb_session.specs.declared.halt.Halt.TheVariants.{Refused, Read, Write, Memory, Journal}
 use Rattle.tb_session.specs.declared.line_reader.LineEnd.{LineEnd}
 use Rattle.tb_session.specs.declared.line_reader.LineEnd.TheVariants.{Feed, Input}
 use Rattle.tb_session.specs.declared.line_reader.LineFault.{LineFault}
@@ -49,23 +50,28 @@ Gathered old new text (Err NotRead) = Cut old new
 Gathered old new text (Err NoMemory) = Halted old new
 
 -- commands were taken, and their replies written
-abbrev pub Served : Session → Option (List ℕ) → Option (List ℕ) → Option (List ℕ) → Option (List ℕ) → Result (Unit {0}) Halt → Type 0
-Served s old new before after (Ok u) = (bytes : List ℕ) × (out : List ℕ) × Consumes old new bytes × IsAtEnd new × Replies s (lines_of bytes) out × Appends before after out
-Served s old new before after (Err Read) =
+abbrev pub Served : ℕ → Session → Option (List ℕ) → Option (List ℕ) → Option (List ℕ) → Option (List ℕ) → Result (Unit {0}) Halt → Type 0
+Served workers s old new before after (Ok u) = (bytes : List ℕ) × (out : List ℕ) × Consumes old new bytes × IsAtEnd new × Replies workers s (lines_of bytes) out × Appends before after out
+Served workers s old new before after (Err Read) =
     (lines : List (List ℕ)) × (part : List ℕ) × (out : List ℕ) × Consumes old new (spelled lines ++ part)
-    × AreUnbroken lines × IsUnbroken part × Replies s lines out × Appends before after out
-Served s old new before after (Err Write) = (bytes : List ℕ) × (out : List ℕ) × (n : ℕ) × Consumes old new bytes × Replies s (lines_of bytes) out × Appends before after (take n out)
-Served s old new before after (Err Memory) =
+    × AreUnbroken lines × IsUnbroken part × Replies workers s lines out × Appends before after out
+Served workers s old new before after (Err Write) = (bytes : List ℕ) × (out : List ℕ) × (n : ℕ) × Consumes old new bytes × Replies workers s (lines_of bytes) out × Appends before after (take n out)
+Served workers s old new before after (Err Memory) =
     (lines : List (List ℕ)) × (more : List ℕ) × (out : List ℕ) × Consumes old new (spelled lines ++ more)
-    × AreUnbroken lines × Replies s lines out × Appends before after out
-Served s old new before after (Err _) = ⊥
+    × AreUnbroken lines × Replies workers s lines out × Appends before after out
+Served workers s old new before after (Err Journal) =
+    (lines : List (List ℕ)) × (line : List ℕ) × (more : List ℕ) × (out : List ℕ) × Consumes old new (spelled lines ++ (line ++ more))
+    × AreUnbroken lines × IsUnbroken line × AsksSeveral workers line × Replies workers s lines out × Appends before after out
+Served workers s old new before after (Err _) = ⊥
 
 -- one line was answered, or a part of its reply was written
-abbrev pub Answered : Session → List ℕ → Session → Option (List ℕ) → Option (List ℕ) → Result (Unit {0}) Halt → Type 0
-Answered old line new before after (Ok u) = (reply : List ℕ) × Answers old line reply new × Appends before after reply
-Answered old line new before after (Err Write) = (reply : List ℕ) × (n : ℕ) × Answers old line reply new × Appends before after (take n reply)
-Answered old line new before after (Err Memory) = Appends before after []
-Answered old line new before after (Err _) = ⊥
+abbrev pub Answered : ℕ → Session → List ℕ → Option (List ℕ) → Option (List ℕ) → Result Held Halt → Type 0
+Answered workers old line before after (Ok new) = (reply : List ℕ) × Answers workers old line reply new.session × Appends before after reply
+Answered workers old line before after (Err Write) = (reply : List ℕ) × (new : Session) × (n : ℕ) × Answers workers old line reply new × Appends before after (take n reply)
+Answered workers old line before after (Err Memory) = Appends before after []
+-- only where the line asks for a go of two or more workers
+Answered workers old line before after (Err Journal) = AsksSeveral workers line × Appends before after []
+Answered workers old line before after (Err _) = ⊥
 
 -- a session of the text's program, in front of its first command
 abbrev pub Opens : ℕ → List ℕ → Result Held Halt → Type 0

@@ -1,13 +1,13 @@
 -- The texts that replies are made of.
 use Rattle.std.specs.Prelude.{ℕ, List, ◌++◌, codes, slice_get}
 use Rattle.std.specs.Fmt.{decimal}
-use Rattle.tb_model.specs.declared.entry.Entry.TheVariants.{Stepped}
 use Rattle.tb_model.specs.declared.step_id.StepId.{StepId}
 use Rattle.tb_model.specs.Names.{Name}
 use Rattle.tb_model.specs.Spelling.{name_text, step_id_text}
 use Rattle.tb_view.specs.Lines.{line, line_if_any, step_line}
-use Rattle.tb_live.specs.Session.{Session, history, with_entry}
+use Rattle.tb_live.specs.Session.{Session, history}
 use Rattle.tb_live.specs.Moves.{coming}
+use Rattle.tb_team.specs.Turns.{stepped_by}
 use Rattle.tb_session.specs.declared.asked.CommandFault.{CommandFault}
 use Rattle.tb_session.specs.declared.asked.CommandFault.TheVariants.{Line, Word, Count, Name as BadName, Number as BadNumber}
 
@@ -41,10 +41,6 @@ newest_line s i = line_if_any s.program i (slice_get (history s) 0)
 abbrev pub told_step : Session → Name → List ℕ
 told_step s t = step_line s.program (history s) (coming s t)
 
--- behind the task's next step, by a seat
-abbrev pub stepped_by : ℕ → Session → Name → Session
-stepped_by seat s t = with_entry s (Stepped seat (coming s t))
-
--- the same, by the session itself
+-- behind the task's next step, by the session itself
 abbrev pub stepped : Session → Name → Session
 stepped = stepped_by 0

@@ -1,6 +1,7 @@
 //! What a line of a session asks for.
 
 use crate::command::Command;
+use crate::workers::Workers;
 
 /// Why a line is no command.
 #[derive(Clone, Copy, Debug, PartialEq, Eq)]
@@ -23,5 +24,7 @@ pub enum Asked {
     /// The line has no words.
     Nothing,
     Command(Command),
+    /// Steps by so many workers, no more than so many, up to a breakpoint.
+    Go { workers: Workers, most: u32 },
     Fault(CommandFault),
 }

@@ -14,6 +14,7 @@ use crate::spelling::{read_name, read_step_id};
 use crate::stopping::{LAST_CELL, MOST_STEPS, asked_break, asked_go};
 use crate::target::Target;
 use crate::verbs::verb_of;
+use crate::workers::Workers;
 use std::alloc::{AllocError, Global};
 use tb_model::StepId;
 use tb_read::{before_comment, is_text, line_words, same_word};
@@ -203,14 +204,19 @@ fn asked_of(alloc: Global, verb: Verb, words: &[&[u8]]) -> Result<Asked, AllocEr
 }
 
 /// What a line of this word and others behind it asks for.
-fn asked_words(alloc: Global, word: &[u8], words: &[&[u8]]) -> Result<Asked, AllocError>
-    ensures { IfOk result (λ a. a ≡ asked_words word.now (map (λ word. word.now) words.now)) }
+fn asked_words(
+    alloc: Global,
+    limit: Workers,
+    word: &[u8],
+    words: &[&[u8]],
+) -> Result<Asked, AllocError>
+    ensures { IfOk result (λ a. a ≡ asked_words limit word.now (map (λ word. word.now) words.now)) }
 {
     if same_word(word, b"break") {
         return asked_break(alloc, words);
     }
     if same_word(word, b"go") {
-        return Ok(asked_go(words));
+        return Ok(asked_go(limit, words));
     }
     match verb_of(word) {
         Some(verb) => asked_of(alloc, verb, words),
@@ -224,14 +230,14 @@ fn is_bad_line(line: &[u8]) -> bool
     LINE_LIMIT < line.len() || !is_text(before_comment(line))
 }
 
-/// What a line asks for.
-pub fn read_line(alloc: Global, line: &[u8]) -> Result<Asked, AllocError>
-    ensures { IfOk result (λ a. a ≡ asked line.now) }
+/// What a line asks for, where `go` may name so many workers.
+pub fn read_line(alloc: Global, limit: Workers, line: &[u8]) -> Result<Asked, AllocError>
+    ensures { IfOk result (λ a. a ≡ asked limit line.now) }
 {
     let words = line_words(alloc, line)?;
     match words.as_slice() {
         [] => Ok(Asked::Nothing),
         [_, ..] if is_bad_line(line) => Ok(Asked::Fault(CommandFault::Line)),
-        [word, rest @ ..] => asked_words(alloc, word, rest),
+        [word, rest @ ..] => asked_words(alloc, limit, word, rest),
     }
 }

@@ -32,7 +32,7 @@ pub enum Verb {
     Breaks,
 }
 
-/// A command, with what its words name.
+/// A command, with what its words name. `go` isn't among them: its workers take the run over.
 #[derive(Debug, Drop)]
 pub enum Command {
     /// One step of a task.
@@ -43,8 +43,6 @@ pub enum Command {
     Roll { target: Target },
     /// Steps, each of the least task that can step, and no more than so many.
     Run { most: u32 },
-    /// The same by a worker, which stops at a breakpoint.
-    Go { most: u32 },
     /// Makes a breakpoint.
     Break { at: Break },
     /// Makes a breakpoint at the starts of tasks of the body with this name.

@@ -3,15 +3,16 @@
 ghost use Rattle.std.specs.Prelude.{◌≡◌, ◌≢◌, IfOk, None, Some, [], string_bytes};
 ghost use Rattle.tb_session.specs.Alone.{IsAlone, IsCommitted, IsIdle, IsIdleStop, IsInHand, IsUnderWay, IsWhole, Stops, TakesTurn};
 ghost use Rattle.tb_session.specs.Replies.{GoReply};
-ghost use Rattle.tb_session.specs.Turns.{HasSeats, stop_of};
+ghost use Rattle.tb_team.specs.Turns.{stop_of};
+ghost use Rattle.tb_team.specs.Gone.{HasSeats};
 
 use crate::newest::append_newest;
 use crate::running::{Taken, append_end};
-use crate::stop::Stop;
 use std::alloc::{AllocError, Global};
 use tb_live::{Claim, CommitRefusal, Live, Mode, PausedBy, StepRefusal, Work};
 use tb_model::StepId;
 use tb_read::plan;
+use tb_team::Stop;
 
 /// Evaluates the statement of the worker's task, and commits the step.
 fn commit_work(alloc: Global, live: &mut Live, work: Work) -> Result<StepId, AllocError>

@@ -9,17 +9,20 @@ ghost use Rattle.tb_live.specs.Moves.{coming};
 ghost use Rattle.tb_live.specs.Session.{Session, opened};
 ghost use Rattle.tb_session.specs.Reading.{IsProgram};
 ghost use Rattle.tb_session.specs.Replies.{Answers};
-ghost use Rattle.tb_session.specs.Turns.{stop_of, turned};
+ghost use Rattle.tb_session.specs.Commands.{AsksSeveral};
+ghost use Rattle.tb_team.specs.Turns.{stop_of, turned};
 ghost use Rattle.tb_session.specs.Laws.{IsSound, is_break, met_by};
-ghost use Rattle.tb_session.specs.declared.stop.Stop.TheVariants.{Break, Limit};
+ghost use Rattle.tb_team.specs.declared.stop.Stop.TheVariants.{Break, Limit};
 
-/// In every session each line has a reply, and one alone: it is a function of the session.
+/// In every session each line has a reply. It is the only one, a function of the session, unless the line
+/// asks for a go of several workers.
 #[tactic(auto, using(crate::proofs::TotalLemmas::some_answer, crate::proofs::TotalLemmas::one_answer))]
 pub fn one_reply()
-    ensures some { (s : Session) (line : List ℕ) →
-        (out : List ℕ) × (new : Session) × Answers s line out new }
-    ensures one { (s new other : Session) (line out more : List ℕ) →
-        Answers s line out new → Answers s line more other → (out ≡ more) × (new ≡ other) }
+    ensures some { (workers : ℕ) (s : Session) (line : List ℕ) →
+        (out : List ℕ) × (new : Session) × Answers workers s line out new }
+    ensures one { (workers : ℕ) (s new other : Session) (line out more : List ℕ) →
+        (AsksSeveral workers line → ⊥) → Answers workers s line out new
+        → Answers workers s line more other → (out ≡ more) × (new ≡ other) }
 {}
 
 /// A session begins with a sound journal, and no reply leaves another: each step that it tells is
@@ -28,8 +31,8 @@ pub fn one_reply()
 pub fn sound_journals()
     ensures opened { (text : List ℕ) (P : Program) (limit : ℕ) → IsProgram text P →
         IsSound (opened P limit 65) }
-    ensures kept { (s new : Session) (line out : List ℕ) →
-        IsSound s → Answers s line out new → IsSound new }
+    ensures kept { (workers : ℕ) (s new : Session) (line out : List ℕ) →
+        IsSound s → Answers workers s line out new → IsSound new }
 {}
 
 /// A step that is taken in a run that goes on pauses it for a breakpoint exactly where it meets one

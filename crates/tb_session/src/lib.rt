@@ -23,11 +23,12 @@ mod serving;
 mod session;
 mod showing;
 mod spelling;
-mod stop;
 mod stopping;
 mod target;
+mod teaming;
 mod verbs;
 mod word;
+mod workers;
 mod writing;
 
 pub use counting::{CountedReader, CountedWriter};

@@ -1,11 +1,12 @@
 //! The reply to a line of a session.
 
-ghost use Rattle.std.specs.Prelude.{◌≡◌, ◌++◌, IfOk, codes, string_bytes};
+ghost use Rattle.std.specs.Prelude.{◌≡◌, ◌<◌, ◌++◌, IfOk, IsErrOf, codes, string_bytes};
 ghost use Rattle.tb_view.specs.Lines.{line};
 ghost use Rattle.tb_session.specs.Texts.{fault_word, newest_line};
 ghost use Rattle.tb_session.specs.Refusals.{step_refusal, undo_refusal};
-ghost use Rattle.tb_session.specs.Replies.{Answers, Reply, StepReply, UndoReply};
-ghost use Rattle.tb_session.specs.Turns.{HasSeats};
+ghost use Rattle.tb_session.specs.Replies.{Answers, GoReply, Reply, StepReply, UndoReply};
+ghost use Rattle.tb_session.specs.Commands.{AsksSeveral};
+ghost use Rattle.tb_team.specs.Gone.{HasSeats};
 ghost use Rattle.tb_live.specs.Runs.{resumed};
 ghost use Rattle.tb_model.specs.Spelling.{step_id_text};
 
@@ -19,9 +20,14 @@ use crate::refusing::{refused, refused_for, refused_with};
 use crate::rolling::roll_reply;
 use crate::running::run_reply;
 use crate::showing::view_reply;
+use crate::teaming::team_reply;
+use crate::workers::Workers;
 use std::alloc::{AllocError, Global};
+use std::sync::Wait;
+use std::thread::Threads;
 use tb_live::{Live, StepRefusal, UndoRefusal};
 use tb_model::{StepId, TaskName};
+use tb_team::Lost;
 
 fn fault_word(fault: CommandFault) -> &'static str
     ensures { result.now ≡ fault_word fault }
@@ -104,7 +110,6 @@ fn reply(alloc: Global, live: &mut Live, command: Command) -> Result<Vec<u8>, Al
         Command::Undo { id } => Ok(undo_reply(alloc, live, &id)?.into_bytes()),
         Command::Roll { target } => Ok(roll_reply(alloc, live, &target)?.into_bytes()),
         Command::Run { most } => Ok(run_reply(alloc, live, most)?.into_bytes()),
-        Command::Go { most } => Ok(go_reply(alloc, live, most)?.into_bytes()),
         Command::Break { at } => Ok(break_reply(alloc, live, at)?.into_bytes()),
         Command::BreakBody { name } => Ok(body_reply(alloc, live, name.as_slice())?.into_bytes()),
         Command::Clear { number } => Ok(clear_reply(alloc, live, number)?.into_bytes()),
@@ -112,14 +117,49 @@ fn reply(alloc: Global, live: &mut Live, command: Command) -> Result<Vec<u8>, Al
     }
 }
 
-/// Does what a line asks for, and tells it. An `Err` may come when it is done and can't be told.
-pub fn answer(alloc: Global, live: &mut Live, line: &[u8]) -> Result<Vec<u8>, AllocError>
-    requires { HasSeats live.old.session }
-    ensures { IfOk result (λ text. Answers live.old.session line.now text.items live.new.session) }
+/// Lets workers go on for up to so many steps, and tells them.
+fn go_told<R: Threads + Wait + Sync>(
+    rt: &R,
+    alloc: Global,
+    mut live: Live,
+    workers: Workers,
+    most: u32,
+) -> Result<(Live, Vec<u8>), Lost>
+    requires { HasSeats live.session }
+    ensures told { IfOk result (λ r. GoReply workers most live.session r.1.items r.0.session) }
+    ensures several { IsErrOf result Lost.Journal → 1 < workers }
 {
-    match read_line(alloc, line)? {
-        Asked::Nothing => Ok(Vec::new(alloc)),
-        Asked::Command(command) => reply(alloc, live, command),
-        Asked::Fault(fault) => Ok(fault_reply(alloc, fault)?.into_bytes()),
+    if workers.count() == 1 {
+        let text = go_reply(alloc, &mut live, most)?;
+        return Ok((live, text.into_bytes()));
+    }
+    let (live, text) = team_reply(rt, alloc, live, workers.count(), most)?;
+    Ok((live, text.into_bytes()))
+}
+
+/// Does what a line asks for, and tells it, where `go` may name so many workers. An `Err` may come when
+/// it is done and can't be told.
+pub fn answer<R: Threads + Wait + Sync>(
+    rt: &R,
+    alloc: Global,
+    limit: Workers,
+    mut live: Live,
+    line: &[u8],
+) -> Result<(Live, Vec<u8>), Lost>
+    requires { HasSeats live.session }
+    ensures told { IfOk result (λ r. Answers limit live.session line.now r.1.items r.0.session) }
+    ensures several { IsErrOf result Lost.Journal → AsksSeveral limit line.now }
+{
+    match read_line(alloc, limit, line)? {
+        Asked::Nothing => Ok((live, Vec::new(alloc))),
+        Asked::Command(command) => {
+            let text = reply(alloc, &mut live, command)?;
+            Ok((live, text))
+        }
+        Asked::Go { workers, most } => go_told(rt, alloc, live, workers, most),
+        Asked::Fault(fault) => {
+            let text = fault_reply(alloc, fault)?;
+            Ok((live, text.into_bytes()))
+        }
     }
 }

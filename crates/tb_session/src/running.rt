@@ -2,14 +2,15 @@
 
 ghost use Rattle.std.specs.Prelude.{◌≡◌, ◌++◌, IfOk, OnOk, codes, decimal, string_bytes};
 ghost use Rattle.tb_view.specs.Lines.{line};
-ghost use Rattle.tb_session.specs.Course.{course, stop_word, IsCourse};
+ghost use Rattle.tb_session.specs.Course.{course, IsCourse};
+ghost use Rattle.tb_team.specs.Stops.{stop_word};
 ghost use Rattle.tb_session.specs.Replies.{RunReply};
 ghost use Rattle.tb_live.specs.Runs.{resumed};
 
 use crate::newest::append_newest;
-use crate::stop::Stop;
 use std::alloc::{AllocError, Global};
 use tb_live::{Live, StepRefusal};
+use tb_team::Stop;
 
 /// How many steps were taken, and why no more.
 #[derive(Clone, Copy, Debug, PartialEq, Eq)]

@@ -10,8 +10,10 @@ use crate::line_reader::{LineEnd, LineFault, LineReader};
 use crate::opening::{gather, open};
 use crate::ports::{Sink, Source};
 use crate::serving::serve;
+use crate::workers::Workers;
 use std::alloc::Global;
 use std::sync::Wait;
+use std::thread::Threads;
 use tb_live::Live;
 use tb_options::Settings;
 
@@ -45,7 +47,7 @@ fn begin<R: Wait, S: Source>(
 }
 
 /// Reads a program and its commands, and writes the reply to each before the next is read.
-pub fn run<R: Wait, S: Source, K: Sink>(
+pub fn run<R: Threads + Wait + Sync, S: Source, K: Sink>(
     rt: &R,
     alloc: Global,
     source: &mut S,
@@ -54,18 +56,21 @@ pub fn run<R: Wait, S: Source, K: Sink>(
 ) -> Result<(), Halt>
     requires source { S.failures source.old < 2 ^ 64 - 1 }
     requires sink { K.failures sink.old < 2 ^ 64 - 1 }
-    ensures ran { Ran settings.limit (S.left source.old) (S.left source.new)
+    ensures ran { Ran settings.workers settings.limit (S.left source.old) (S.left source.new)
         (K.taken sink.old) (K.taken sink.new) result }
     ensures read { IsErrOf result Halt.Read ↔ (S.failures source.old < S.failures source.new) }
     ensures write { IsErrOf result Halt.Write ↔ (K.failures sink.old < K.failures sink.new) }
 {
     let mut reader = LineReader::new();
-    let (mut live, end) = match begin(rt, alloc, &mut reader, source, settings.limit) {
+    let (live, end) = match begin(rt, alloc, &mut reader, source, settings.limit) {
         Ok(begun) => begun,
         Err(halt) => return Err(halt),
     };
     match end {
-        LineEnd::Feed => serve(rt, alloc, &mut live, &mut reader, source, sink),
+        LineEnd::Feed => {
+            let workers = Workers::new(settings.workers);
+            serve(rt, alloc, workers, live, &mut reader, source, sink)
+        }
         LineEnd::Input => Ok(()),
     }
 }

@@ -1,7 +1,7 @@
 //! Reads what `break` and `go` ask for.
 
 ghost use Rattle.std.specs.Prelude.{◌≡◌, ◌∷◌, IfOk, map};
-ghost use Rattle.tb_session.specs.Commands.{break_of, go_of, is_positive, named, numbered, number_within, task_of, with_none, with_one};
+ghost use Rattle.tb_session.specs.Commands.{break_of, go_of, named, numbered, number_within, positive, task_of, with_none, with_one};
 ghost use Rattle.tb_session.specs.declared.command.Command.TheVariants as command;
 ghost use Rattle.tb_session.specs.declared.asked.Asked.TheVariants as answer;
 ghost use Rattle.tb_live.specs.declared.breaks.Break.TheVariants as point;
@@ -11,15 +11,13 @@ use crate::command::Command;
 use crate::number::read_number;
 use crate::spelling::read_name;
 use crate::word::Word;
+use crate::workers::Workers;
 use std::alloc::{AllocError, Global};
 use tb_live::Break;
 use tb_read::same_word;
 
 /// The most steps that one `run` or `go` may ask for.
 pub const MOST_STEPS: u32 = 1_000_000;
-
-/// The most workers of one `go`.
-const MOST_WORKERS: u32 = 1;
 
 /// The greatest number of a cell.
 pub const LAST_CELL: u32 = 65_535;
@@ -105,27 +103,29 @@ pub fn asked_break(alloc: Global, words: &[&[u8]]) -> Result<Asked, AllocError>
     }
 }
 
-fn are_workers(word: &[u8]) -> bool
-    ensures { result ≡ is_positive (number_within 1 word.now) }
+/// How many workers the word spells, of at most so many.
+fn read_workers(limit: Workers, word: &[u8]) -> Option<Workers>
+    ensures { result ≡ positive (number_within limit word.now) }
 {
-    match read_number(word, MOST_WORKERS) {
-        Some(workers) => 0 < workers,
-        None => false,
+    match read_number(word, limit.count()) {
+        Some(0) => None,
+        Some(count) => Some(Workers::new(count)),
+        None => None,
     }
 }
 
-/// What `go` with these words behind it asks for.
-pub fn asked_go(words: &[&[u8]]) -> Asked
-    ensures { result ≡ go_of (map (λ word. word.now) words.now) }
+/// What `go` with these words behind it asks for, where it may name so many workers.
+pub fn asked_go(limit: Workers, words: &[&[u8]]) -> Asked
+    ensures { result ≡ go_of limit (map (λ word. word.now) words.now) }
 {
     let [workers, most] = words else {
         return Asked::Fault(CommandFault::Count);
     };
-    if !are_workers(workers) {
+    let Some(workers) = read_workers(limit, workers) else {
         return Asked::Fault(CommandFault::Number);
-    }
+    };
     match read_number(most, MOST_STEPS) {
-        Some(most) => Asked::Command(Command::Go { most }),
+        Some(most) => Asked::Go { workers, most },
         None => Asked::Fault(CommandFault::Number),
     }
 }

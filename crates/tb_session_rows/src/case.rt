@@ -4,6 +4,7 @@ use crate::outcome::outcome;
 use std::alloc::{AllocError, Global};
 use std::rt::Files;
 use std::sync::Wait;
+use std::thread::Threads;
 use std::{fs, io};
 use tb_session::Settings;
 
@@ -13,7 +14,7 @@ const ENTRIES: u32 = 100_000;
 fn settings(limit: &str) -> Settings {
     let limit: u32 = limit.parse().unwrap_or(ENTRIES);
     Settings {
-        workers: 1,
+        workers: 4,
         limit: limit.clamp(1, 1_000_000),
     }
 }
@@ -33,7 +34,11 @@ fn compared(alloc: Global, got: &[u8], want: &[u8]) -> Result<String, AllocError
 }
 
 /// Runs the case, and tells whether it writes what it is to write.
-pub fn tell<R: Files + AllocGlobal + Wait>(rt: &R, name: &str, limit: &str) -> io::Result<String> {
+pub fn tell<R: Files + AllocGlobal + Threads + Wait + Sync>(
+    rt: &R,
+    name: &str,
+    limit: &str,
+) -> io::Result<String> {
     let alloc = rt.alloc();
     let session = fs::read(rt, format!(in alloc; "{name}.session")?)?;
     let want = fs::read(rt, format!(in alloc; "{name}.out")?)?;

@@ -2,10 +2,11 @@
 
 use std::alloc::AllocError;
 use std::sync::Wait;
+use std::thread::Threads;
 use tb_session::{CountedReader, CountedWriter, Settings, run};
 
 /// What the session wrote, and last why it ended before its input, where it did.
-pub fn outcome<R: AllocGlobal + Wait>(
+pub fn outcome<R: AllocGlobal + Threads + Wait + Sync>(
     rt: &R,
     session: &[u8],
     settings: Settings,

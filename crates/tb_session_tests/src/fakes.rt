@@ -4,6 +4,7 @@ ghost use Rattle.std.specs.Prelude.{◌≡◌, ◌≤◌, ◌<◌, ◌-◌, ◌^
 
 use std::alloc::Global;
 use std::sync::Wait;
+use std::thread::Threads;
 use std::test::Fail;
 use tb_session::{Failed, Halt, Settings, Sink, Source, run};
 
@@ -85,7 +86,7 @@ pub fn whole(bytes: &[u8]) -> FailsAt<'_>
 }
 
 /// Whether a session of this source, over a sink with this room, writes this and ends so.
-pub fn is_session<R: Wait>(
+pub fn is_session<R: Threads + Wait + Sync>(
     rt: &R,
     alloc: Global,
     mut source: FailsAt<'_>,
@@ -117,4 +118,21 @@ pub fn with_commands(alloc: Global, commands: &str) -> Result<Vec<u8>, Fail> {
     text.extend_from_slice(b"---\n")?;
     text.extend_from_slice(commands.as_bytes())?;
     Ok(text)
+}
+
+/// Whether a session of this text, whose `go` may have four workers, ends so.
+pub fn ends_with<R: Threads + Wait + Sync>(rt: &R, alloc: Global, text: &[u8], want: &str) -> bool {
+    let mut source = whole(text);
+    let mut sink = Taken {
+        bytes: Vec::new(alloc),
+        room: 100_000,
+        calls: 0,
+        failed: 0,
+    };
+    let settings = Settings {
+        workers: 4,
+        limit: 1000,
+    };
+    let got = run(rt, alloc, &mut source, &mut sink, settings);
+    got.is_ok() && sink.bytes.as_slice().ends_with(want.as_bytes())
 }

@@ -1,4 +1,5 @@
-//! Tests of a session over readers and writers that fail, by the calls of `tb_session`.
+//! Tests of a session over readers and writers that fail, and of several workers, by the calls of
+//! `tb_session`.
 //! They stand apart from it, so that its proofs are not checked once more with them.
 #![tactic(auto)]
 
@@ -6,3 +7,5 @@
 mod endings;
 #[cfg(test)]
 mod fakes;
+#[cfg(test)]
+mod workers;

@@ -1,7 +1,8 @@
 -- Steps told one after another, along the entries.
-use Rattle.std.proofs.Common.{◌≡◌, ◌<◌, ◌≤◌, ◌+◌, ◌⊎◌, inl, inr, ℕ, suc, List, [], ◌∷◌, ◌++◌, Bool, true, false, ◌&&◌, ◌||◌, ◌==◌, cond, length, take, drop, reverse, refl, sym, ap, ap₂, ◌∙◌, subst, arith, get_or, append_assoc, append-nil, ne_eqb, eq-eqb}
+use Rattle.std.proofs.Common.{◌≡◌, ◌<◌, ◌≤◌, ◌+◌, ◌⊎◌, inl, inr, ℕ, suc, List, [], ◌∷◌, ◌++◌, Bool, true, false, ◌&&◌, ◌||◌, ◌==◌, cond, nat_le, length, take, drop, reverse, refl, sym, ap, ap₂, ◌∙◌, subst, arith, get_or, append_assoc, append-nil, ne_eqb, eq-eqb}
 use Rattle.std.proofs.lemmas.Bool.{or_parts, and_from}
-use Rattle.std.proofs.lemmas.List.{reverse-append, reverse-reverse, drop-drop, drop_all, drop_more}
+use Rattle.std.proofs.lemmas.Bool.Decides.{nat_tests}
+use Rattle.std.proofs.lemmas.List.{reverse-append, reverse-reverse, take_all, drop-drop, drop_all, drop_more}
 use Rattle.tb_model.specs.declared.event.Event.{Event}
 use Rattle.tb_model.specs.declared.step_id.StepId.{StepId}
 use Rattle.tb_model.specs.Facts.{History, own}
@@ -15,7 +16,7 @@ use Rattle.tb_core.specs.declared.entry.Entry.{Entry}
 use Rattle.tb_core.specs.Scans.{history_of}
 use Rattle.tb_core.proofs.ScanLemmas.{history_more, history_of-append}
 use Rattle.tb_view.specs.Lines.{event_line, step_line}
-use Rattle.tb_view.specs.Steps.{history_lines, same_step, is_among, is_first, chosen_lines, AreStepsOf, Counts, count_of, AreCounts}
+use Rattle.tb_view.specs.Steps.{history_lines, newest_lines, same_step, is_among, is_first, chosen_lines, AreStepsOf, Counts, count_of, AreCounts}
 
 -- ---- all steps
 
@@ -34,6 +35,32 @@ told_more P entries i e counts head text text' within here are so_far grows =
     let F = history_of (take i entries) in
     grows ∙ ap₂ (λ x (n : StepId). x ++ event_line P n e.event) so_far (is_its F e counts are) ∙ append_assoc head (history_lines P F) (step_line P F e.event)
     ∙ ap (λ H. head ++ history_lines P H) (sym (history_more entries i e within here))
+
+-- the text with one line more, where the entry is one of the newest
+pub newest_more : (P : Program) (entries : List Entry) (i place first : ℕ) (e : Entry) (counts : Counts) (head text text' : List ℕ) → i < length entries → e ≡ get_or entries i e → place ≡ i
+    → AreCounts (history_of (take i entries)) counts → text ≡ head ++ newest_lines P (i - first) (history_of (take i entries))
+    → text' ≡ text ++ cond (nat_le first place) (event_line P (counted_step counts e) e.event) []
+    → text' ≡ head ++ newest_lines P (i + 1 - first) (history_of (take (i + 1) entries))
+newest_more P entries i place first e counts head text text' within here at are so_far grows = by_place (nat_le first place) refl grows
+  where
+    by_place : (b : Bool) → nat_le first place ≡ b → text' ≡ text ++ cond b (event_line P (counted_step counts e) e.event) [] → text' ≡ head ++ newest_lines P (i + 1 - first) (history_of (take (i + 1) entries))
+    by_place true is grows =
+        let F = history_of (take i entries) in
+        let behind : first ≤ place = grind (arith, nat_tests) in
+        let n : i + 1 - first ≡ suc (i - first) = omega (arith, at, behind) in
+        grows ∙ ap₂ (λ x (n : StepId). x ++ event_line P n e.event) so_far (is_its F e counts are) ∙ append_assoc head (newest_lines P (i - first) F) (step_line P F e.event)
+        ∙ ap₂ (λ k H. head ++ newest_lines P k H) (sym n) (sym (history_more entries i e within here))
+    by_place false is grows =
+        let front : place < first = grind (arith, nat_tests) in
+        let n : i - first ≡ 0 = omega (arith, at, front) in
+        let m : i + 1 - first ≡ 0 = omega (arith, at, front) in
+        grows ∙ append-nil text ∙ so_far ∙ ap (λ k. head ++ newest_lines P k (history_of (take i entries))) n ∙ ap (λ k. head ++ newest_lines P k (history_of (take (i + 1) entries))) (sym m)
+
+pub newest_all : (P : Program) (entries : List Entry) (i count : ℕ) (head text : List ℕ) → length entries ≤ i → i ≤ length entries → count ≤ length entries
+    → text ≡ head ++ newest_lines P (i - (length entries - count)) (history_of (take i entries)) → text ≡ head ++ newest_lines P count (history_of entries)
+newest_all P entries i count head text over within few is =
+    let n : i - (length entries - count) ≡ count = omega (arith, over, within, few) in
+    is ∙ ap₂ (λ k (es : List Entry). head ++ newest_lines P k (history_of es)) n (take_all i entries over)
 
 -- ---- some of them
 

@@ -1,5 +1,5 @@
 -- Steps of a history, as text. The steps come in the order of the history, which is listed from its newest event.
-use Rattle.std.specs.Prelude.{◌≡◌, ◌⊎◌, ℕ, suc, unwrap_or, List, [], ◌∷◌, ◌++◌, Bool, false, ◌&&◌, ◌==◌, length, codes, if◌then◌else◌}
+use Rattle.std.specs.Prelude.{◌≡◌, ◌⊎◌, ℕ, zero, suc, unwrap_or, List, [], ◌∷◌, ◌++◌, Bool, false, ◌&&◌, ◌==◌, length, codes, if◌then◌else◌}
 use Rattle.std.specs.List.{list_any}
 use Rattle.std.specs.Fmt.{decimal}
 use Rattle.std.specs.Map.{lookup}
@@ -15,6 +15,12 @@ use Rattle.tb_view.specs.Lines.{line, step_line}
 abbrev pub history_lines : Program → History → List ℕ
 history_lines P [] = []
 history_lines P (v ∷ H) = history_lines P H ++ step_line P H v
+
+-- the lines of so many of the newest
+abbrev pub newest_lines : Program → ℕ → History → List ℕ
+newest_lines P zero H = []
+newest_lines P (suc count) [] = []
+newest_lines P (suc count) (v ∷ H) = newest_lines P count H ++ step_line P H v
 
 -- how many steps there are, and the line of each
 abbrev pub history_text : Program → History → List ℕ

@@ -23,5 +23,6 @@ mod waits;
 pub use showing::{line, text};
 pub use step_line::append_line;
 pub use step_text::write_step;
+pub use steps::append_newest;
 pub use view::View;
 pub use view_refusal::ViewRefusal;

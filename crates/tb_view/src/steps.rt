@@ -3,7 +3,7 @@
 ghost use Rattle.std.specs.Prelude.{◌≡◌, ◌<◌, ◌≤◌, ◌+◌, ◌++◌, [], IfOk, OnOk, length, reverse, string_bytes, suc, drop, if◌then◌else◌};
 ghost use Rattle.tb_core.specs.Scans.{history_of};
 ghost use Rattle.tb_view.specs.Lines.{event_line};
-ghost use Rattle.tb_view.specs.Steps.{history_text, chosen_text, AreStepsOf, count_of, IsCounted, is_first};
+ghost use Rattle.tb_view.specs.Steps.{history_text, newest_lines, chosen_text, AreStepsOf, count_of, IsCounted, is_first};
 
 use crate::counting::count_step;
 use crate::step_line::append_line;
@@ -49,6 +49,54 @@ pub(crate) fn history_text(
         append_next(&mut text, program, &mut counts, &entry.event)?;
     }
     Ok(text)
+}
+
+/// Counts the next step of its task, and appends its line where it is told.
+fn append_if(
+    text: &mut String,
+    program: &Program,
+    counts: &mut IndexMap<TaskName, u32>,
+    event: &Event,
+    is_told: bool,
+) -> Result<(), AllocError>
+    requires { count_of counts.old.entries event.now.task < 4294967295 }
+    ensures text { OnOk result (string_bytes text.new ≡ string_bytes text.old
+        ++ (if is_told then event_line program.now
+        (record { task = event.now.task; k = suc (count_of counts.old.entries event.now.task) })
+        event.now
+        else [])) }
+    ensures counts { OnOk result
+        (IsCounted counts.old.entries event.now.task counts.new.entries) }
+{
+    if is_told {
+        append_next(text, program, counts, event)
+    } else {
+        count_step(counts, &event.task)?;
+        Ok(())
+    }
+}
+
+/// Appends the lines of so many of the newest steps, in the order of the history.
+pub fn append_newest(
+    alloc: Global,
+    text: &mut String,
+    program: &Program,
+    entries: &[Entry],
+    count: usize,
+) -> Result<(), AllocError>
+    requires bound { length entries.now ≤ 1000000 }
+    requires few { count ≤ length entries.now }
+    ensures { OnOk result (string_bytes text.new
+        ≡ string_bytes text.old ++ newest_lines program.now count (history_of entries.now)) }
+{
+    let first = entries.len() - count;
+    let mut counts = IndexMap::new(alloc);
+    let mut place = 0;
+    'steps: for entry in entries {
+        append_if(text, program, &mut counts, &entry.event, first <= place)?;
+        place += 1;
+    }
+    Ok(())
 }
 
 /// Whether the kth step of the task is the next of these.

@@ -1,7 +1,7 @@
 //! Why a run of steps stops.
 
 ghost use Rattle.std.specs.Prelude.{◌≡◌};
-ghost use Rattle.tb_session.specs.Course.{stop_word};
+ghost use Rattle.tb_team.specs.Stops.{stop_word};
 
 /// Why a run takes no more steps: the first that holds, in this order.
 #[derive(Clone, Copy, Debug, PartialEq, Eq)]

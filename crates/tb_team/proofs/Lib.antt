@@ -1,0 +1,5 @@
+pub mod Counting
+pub mod Records
+pub mod Returned
+pub mod Reached
+pub mod Courses

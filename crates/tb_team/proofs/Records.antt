@@ -1,0 +1,120 @@
+-- What the records of steps say of breakpoints.
+use Rattle.std.proofs.Common.{◌≡◌, ◌<◌, ◌≤◌, ◌+◌, ◌-◌, ℕ, suc, List, [], ◌∷◌, ◌++◌, Bool, true, false, ◌&&◌, not, cond, length, map, take, drop, reverse, refl, sym, ap, ap₂, ◌∙◌, subst, arith, length-append, length-drop, append_assoc, get_or}
+use Rattle.std.specs.Prelude.{is_some}
+use Rattle.std.specs.List.{list_all}
+use Rattle.std.proofs.lemmas.List.{reverse-append, length-reverse, length-take-le, take-append-drop, drop-drop, drop_all}
+use Rattle.std.proofs.Math.Seq.{drop-cons}
+use Rattle.std.proofs.lemmas.List.Folds.{list_all-append}
+use Rattle.tb_model.specs.Facts.{History}
+use Rattle.tb_model.specs.Lines.{Departure, LinesFit, events_of}
+use Rattle.tb_model.specs.Program.{Program, LegalFor, situation}
+use Rattle.tb_model.proofs.LinesLemmas.{line_kept}
+use Rattle.tb_model.specs.Legal.{Cells}
+use Rattle.tb_core.specs.declared.entry.Entry.{Entry as Step}
+use Rattle.tb_core.specs.Seen.{Seen}
+use Rattle.tb_live.specs.Soundness.{Fits}
+use Rattle.tb_core.specs.Soundness.{AreRecords, departure}
+use Rattle.tb_live.specs.declared.breakpoint.Breakpoint.{Breakpoint}
+use Rattle.tb_live.specs.Breaks.{met}
+use Rattle.tb_team.proofs.Counting.{taken_long, taken_count, last_one, last_within, all_dropped}
+use Rattle.tb_team.specs.Looking.{is_met, meets_newest, none_met}
+
+abbrev pub history_of : List Step → History
+history_of steps = events_of (map departure steps)
+
+-- the steps, the newest first, are a run of the program, and each has its record
+pub record AreRun (P : Program) (steps : List Step) : Type 0 where
+  pub records : AreRecords P.cells P.root_line steps
+  pub lines : LinesFit P (map departure steps)
+  pub legal : LegalFor P (history_of steps)
+
+pub shorter_run : (P : Program) (c : Step) (steps : List Step) → AreRun P (c ∷ steps) → AreRun P steps
+shorter_run P c steps are = record { records = are.records.0; lines = are.lines.0; legal = (are.legal.0.0, are.legal.1.0) }
+
+-- the record's line is the one at which the task stood
+pub met_by_record : (P : Program) (points : List Breakpoint) (c : Step) (steps : List Step) → AreRun P (c ∷ steps) → is_met points c ≡ meets_newest P points (history_of (c ∷ steps))
+met_by_record P points c steps are =
+    let shorter = shorter_run P c steps are in
+    let kept = line_kept P (map departure steps) c.event.task shorter.lines shorter.legal in
+    ap (λ at. is_some (met at c.event points)) (ap (λ r. r.at) are.records.1 ∙ kept)
+
+pub none_by_records : (P : Program) (points : List Breakpoint) (cs steps : List Step) → AreRun P (cs ++ steps) → list_all (λ c. not (is_met points c)) cs ≡ none_met P points (length cs) (history_of (cs ++ steps))
+none_by_records P points [] steps are = refl
+none_by_records P points (c ∷ cs) steps are =
+    ap₂ (λ a b. not a && b) (met_by_record P points c (cs ++ steps) are) (none_by_records P points cs steps (shorter_run P c (cs ++ steps) are))
+
+-- a test of all doesn't depend on the order
+pub all_reversed : {X : Type 0} (p : X → Bool) (xs : List X) → list_all p xs ≡ true → list_all p (reverse xs) ≡ true
+all_reversed p [] h = refl
+all_reversed p (x ∷ xs) h =
+    let parts = both (p x) (list_all p xs) h in
+    ap (list_all p) (reverse-append (x ∷ []) xs) ∙ list_all-append p (reverse xs) (x ∷ []) ∙ together _ _ (all_reversed p xs parts.1) (together _ _ parts.0 refl)
+  where
+    both : (a b : Bool) → (a && b) ≡ true → (a ≡ true) × (b ≡ true)
+    both true b e = (refl, e)
+    both false b e = cc
+    together : (a b : Bool) → a ≡ true → b ≡ true → (a && b) ≡ true
+    together true b e f = f
+    together false b e f = cc
+
+-- the steps from the oldest on: so many of the newest, but for the newest, and what is left of the history
+module _ (P : Program) (points : List Breakpoint) (steps : List Step) (count : ℕ) where
+  pub none_before : 1 < count → count ≤ length steps → AreRun P (reverse steps)
+      → list_all (λ c. not (is_met points c)) (take (length steps - 1 - (length steps - count)) (drop (length steps - count) steps)) ≡ true
+      → none_met P points (count - 1) (drop 1 (history_of (reverse steps))) ≡ true
+  none_before some enough are none =
+      let first = length steps - count in
+      let mid = take (length steps - 1 - first) (drop first steps) in
+      let last = drop (length steps - 1 - first) (drop first steps) in
+      let old = take first steps in
+      let long : length mid ≡ count - 1 = length-take-le (length steps - 1 - first) (drop first steps) (subst (λ k. length steps - 1 - first ≤ k) (sym (length-drop first steps)) (taken_long (length steps) count some enough)) ∙ taken_count (length steps) count some enough in
+      let whole : steps ≡ old ++ (mid ++ last) = sym (take-append-drop first steps) ∙ ap (λ l. old ++ l) (sym (take-append-drop (length steps - 1 - first) (drop first steps))) in
+      let one : length last ≡ 1 = length-drop (length steps - 1 - first) (drop first steps) ∙ (ap (λ k. k - (length steps - 1 - first)) (length-drop first steps) ∙ last_one (length steps) count some enough) in
+      at last one (turned old mid last whole) long
+    where
+      two_or_more : (n : ℕ) → suc (suc n) ≡ 1 → ⊥
+      two_or_more n e = omega (arith, e)
+      turned : (old mid last : List Step) → steps ≡ old ++ (mid ++ last) → reverse steps ≡ reverse last ++ (reverse mid ++ reverse old)
+      turned old mid last whole =
+          ap reverse whole ∙ reverse-append old (mid ++ last) ∙ ap (λ l. l ++ reverse old) (reverse-append mid last) ∙ append_assoc (reverse last) (reverse mid) (reverse old)
+      at : (last : List Step) → length last ≡ 1 → reverse steps ≡ reverse last ++ (reverse (take (length steps - 1 - (length steps - count)) (drop (length steps - count) steps)) ++ reverse (take (length steps - count) steps))
+          → length (take (length steps - 1 - (length steps - count)) (drop (length steps - count) steps)) ≡ count - 1 → none_met P points (count - 1) (drop 1 (history_of (reverse steps))) ≡ true
+      at [] one whole long = cc
+      at (c ∷ d ∷ last) one whole long = absurd (two_or_more (length last) one)
+      at (c ∷ []) one whole long =
+          let mid = take (length steps - 1 - (length steps - count)) (drop (length steps - count) steps) in
+          let old = take (length steps - count) steps in
+          let rest = reverse mid ++ reverse old in
+          let run = subst (AreRun P) whole are in
+          let all = all_reversed (λ (s : Step). not (is_met points s)) mid none in
+          let n : length (reverse mid) ≡ count - 1 = length-reverse mid ∙ long in
+          let done = sym (none_by_records P points (reverse mid) (reverse old) (shorter_run P c rest run)) ∙ all in
+          subst (λ k. none_met P points k (drop 1 (history_of (reverse steps))) ≡ true) n
+          (subst (λ (l : List Step). none_met P points (length (reverse mid)) (drop 1 (history_of l)) ≡ true) (sym whole) done)
+
+-- the newest step, the last of those from the oldest on
+pub newest_by_record : (P : Program) (points : List Breakpoint) (front : List Step) (c : Step) → AreRun P (reverse (front ++ c ∷ [])) → is_met points c ≡ meets_newest P points (history_of (reverse (front ++ c ∷ [])))
+newest_by_record P points front c are =
+    let e = reverse-append front (c ∷ []) in
+    met_by_record P points c (reverse front) (subst (AreRun P) e are) ∙ ap (λ (l : List Step). meets_newest P points (history_of l)) (sym e)
+
+-- ---- the entries of a core
+
+pub run_of : (P : Program) (run : Seen) (steps : List Step) → Fits P run → map departure steps ≡ run.steps → AreRecords run.cells run.root_line steps → AreRun P steps
+run_of P run steps fits same records = record {
+  records = subst (λ n. AreRecords P.cells n steps) fits.root_line (subst (λ (cells : Cells). AreRecords cells run.root_line steps) fits.cells records);
+  lines = subst (λ D. LinesFit P D) (sym same) fits.lines;
+  legal = subst (λ D. LegalFor P (events_of D)) (sym same) fits.legal;
+}
+
+-- the last of the entries is the newest step
+pub newest_at : (P : Program) (points : List Breakpoint) (steps : List Step) (c : Step) (H : History) → 1 ≤ length steps → c ≡ get_or steps (length steps - 1) c → AreRun P (reverse steps) → history_of (reverse steps) ≡ H
+    → is_met points c ≡ meets_newest P points H
+newest_at P points steps c H some here are same =
+    let front = take (length steps - 1) steps in
+    let within : length steps - 1 < length steps = last_within (length steps) some in
+    let last : drop (length steps - 1) steps ≡ c ∷ [] =
+    drop-cons steps (length steps - 1) c within ∙ ap₂ ◌∷◌ (sym here) (drop_all (suc (length steps - 1)) steps (all_dropped (length steps) some)) in
+    let whole : steps ≡ front ++ c ∷ [] = sym (take-append-drop (length steps - 1) steps) ∙ ap (λ l. front ++ l) last in
+    newest_by_record P points front c (subst (λ l. AreRun P (reverse l)) whole are)
+    ∙ (ap (λ (l : List Step). meets_newest P points (history_of (reverse l))) (sym whole) ∙ ap (meets_newest P points) same)

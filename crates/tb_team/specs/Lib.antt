@@ -1,0 +1,5 @@
+pub mod Stops
+pub mod Turns
+pub mod Gone
+pub mod Lending
+pub mod Looking

@@ -1,0 +1,92 @@
+//! A run is lent to workers, and comes back.
+
+ghost use Rattle.std.specs.Prelude.{◌≡◌, ◌<◌, ◌≤◌, true, IfOk, OnOk, length, vec_len};
+ghost use Rattle.tb_work.specs.Changes.{entries};
+ghost use Rattle.tb_work.specs.Receipts.{all_below};
+ghost use Rattle.tb_team.specs.Gone.{HasSeats};
+ghost use Rattle.tb_team.specs.Lending.{IsBack};
+
+use crate::lost::Lost;
+use crate::open_gate::OpenGate;
+use std::alloc::Global;
+use std::marker::Brand;
+use std::sync::Wait;
+use std::sync::ledger::Blank;
+use std::thread::Threads;
+use tb_live::Live;
+use tb_work::{AdoptRefusal, GoRefusal, Places, Seat, Shared, Team, is_seated};
+
+/// Lets the workers of the seats from 1 on take up to so many steps.
+fn work<N: Team + Send + Sync, R: Threads + Wait + Sync>(
+    rt: &R,
+    shared: &Shared<N>,
+    seats: &mut Vec<Seat<N>>,
+    workers: u32,
+    most: u32,
+) -> Result<(), Lost>
+    requires some { 1 ≤ workers }
+    requires few { workers ≤ 64 }
+    requires seats { workers < vec_len seats.old }
+    ensures { vec_len seats.new ≡ vec_len seats.old }
+{
+    let team = &mut seats.as_mut_slice()[1..workers as usize + 1];
+    match shared.go(rt, team, most, &OpenGate) {
+        Ok(_) => Ok(()),
+        Err(GoRefusal::Memory) => Err(Lost::Memory),
+        Err(GoRefusal::CellTaken) => Err(Lost::Journal),
+    }
+}
+
+/// The same under the team's name.
+fn lend_as<N: Team + Send + Sync, R: Threads + Wait + Sync>(
+    rt: &R,
+    alloc: Global,
+    live: Live,
+    places: Places,
+    blank: Blank,
+    workers: u32,
+    most: u32,
+) -> Result<Live, Lost>
+    requires name { (blank.name ≡ N.name) × (blank.parts ≡ N.parts) }
+    requires one_each { blank.parts ≡ N.seats }
+    requires places { (places ≡ N.cells) × (N.limit ≤ length places) }
+    requires live { (live.session.program ≡ N.program) × (live.session.limit ≡ N.limit) × (live.session.control.breakpoints ≡ N.breakpoints) × (length live.session.control.claims ≡ N.seats) }
+    requires begun { entries live.session ≡ N.begun }
+    requires own { all_below N.seats (entries live.session) ≡ true }
+    requires some { 1 ≤ workers }
+    requires few { workers ≤ 64 }
+    requires seats { HasSeats live.session }
+    ensures { IfOk result (λ back. IsBack live.session back.session) }
+{
+    let (shared, mut seats) = match Shared::<N>::adopt(alloc, live, places, blank) {
+        Ok(adopted) => adopted,
+        Err((_, AdoptRefusal::Memory)) => return Err(Lost::Memory),
+        Err((_, AdoptRefusal::CellTaken)) => return Err(Lost::Journal),
+    };
+    work(rt, &shared, &mut seats, workers, most)?;
+    match shared.close(seats) {
+        Ok(closed) => Ok(closed.live),
+        Err(_) => Err(Lost::Journal),
+    }
+}
+
+/// Lends the run to so many workers for up to so many steps.
+pub fn lend<R: Threads + Wait + Sync>(
+    rt: &R,
+    alloc: Global,
+    live: Live,
+    workers: u32,
+    most: u32,
+) -> Result<Live, Lost>
+    requires some { 1 ≤ workers }
+    requires few { workers ≤ 64 }
+    requires seats { HasSeats live.session }
+    ensures { IfOk result (λ back. IsBack live.session back.session) }
+{
+    if !is_seated(&live) {
+        return Err(Lost::Journal);
+    }
+    let places = Places::new(alloc, live.limit())?;
+    let blank = Blank::new(u64::from(live.seats()));
+    lend_as::<Brand, R>(rt, alloc, live, places, blank, workers, most)
+}

@@ -1,0 +1,58 @@
+//! Workers take steps of a run.
+
+ghost use Rattle.std.specs.Prelude.{◌≡◌, ◌<◌, ◌≤◌, IfOk, length};
+ghost use Rattle.tb_team.specs.Gone.{HasSeats, IsGone};
+ghost use Rattle.tb_team.specs.Looking.{IsLooked};
+
+use crate::gone::Gone;
+use crate::lending::lend;
+use crate::looking::is_course;
+use crate::lost::Lost;
+use crate::stopping::stop_after;
+use std::alloc::Global;
+use std::sync::Wait;
+use std::thread::Threads;
+use tb_live::Live;
+
+/// What workers did that had a journal of so many entries, where it is a course of turns.
+fn look(live: Live, workers: u32, most: u32, from: usize) -> Result<Gone, Lost>
+    requires seats { HasSeats live.session }
+    requires from { from ≤ length live.session.journal }
+    ensures { IfOk result (IsLooked workers most from live.session) }
+{
+    let mut live = live;
+    live.journal_is_sound();
+    let _core = live.core();
+    if !is_course(&live, workers, from) {
+        return Err(Lost::Journal);
+    }
+    let count = (live.journal().len() - from) as u32;
+    if most < count {
+        return Err(Lost::Journal);
+    }
+    live.resume();
+    let stop = stop_after(&mut live, count, most)?;
+    live.withdraw_all();
+    Ok(Gone { live, count, stop })
+}
+
+/// Lets so many workers take up to so many steps in all. They stop at a breakpoint.
+pub fn go_several<R: Threads + Wait + Sync>(
+    rt: &R,
+    alloc: Global,
+    live: Live,
+    workers: u32,
+    most: u32,
+) -> Result<Gone, Lost>
+    requires seats { HasSeats live.session }
+    requires several { 1 < workers }
+    requires few { workers ≤ 64 }
+    ensures { IfOk result (IsGone workers most live.session) }
+{
+    let mut live = live;
+    let from = live.journal().len();
+    // a claim that was left would keep its task from all workers
+    live.withdraw_all();
+    let live = lend(rt, alloc, live, workers, most)?;
+    look(live, workers, most, from)
+}
