@@ -1,5 +1,5 @@
 -- What several workers did is a course of their turns, told by the newest steps.
-use Rattle.std.proofs.Common.{◌≡◌, ◌≤◌, ◌+◌, ℕ, zero, suc, List, [], ◌∷◌, ◌++◌, length, map, reverse, Some, refl, sym, ap, ap₂, ◌∙◌, subst, arith, append_assoc, append-nil}
+use Rattle.std.proofs.Common.{◌≡◌, ◌≤◌, ◌+◌, ℕ, suc, List, [], ◌∷◌, ◌++◌, length, map, reverse, Some, refl, sym, ap, ap₂, ◌∙◌, arith, append_assoc, append-nil}
 use Rattle.std.proofs.lemmas.List.{length-map, length-reverse}
 use Rattle.tb_model.specs.Names.{Name}
 use Rattle.tb_model.specs.Lines.{events_of}
@@ -8,14 +8,13 @@ use Rattle.tb_core.specs.Seen.{Seen}
 use Rattle.tb_core.specs.Seen as core
 use Rattle.tb_core.specs.Soundness.{departure}
 use Rattle.tb_core.specs.Scans.{history_of}
-use Rattle.tb_live.specs.Moves.{coming}
 use Rattle.tb_live.specs.Session.{Session, history}
 use Rattle.tb_view.specs.Steps.{newest_lines}
 use Rattle.tb_team.specs.declared.gone.Gone.{Gone}
 use Rattle.tb_team.specs.declared.stop.Stop.{Stop}
 use Rattle.tb_team.specs.Gone.{IsGone}
 use Rattle.tb_team.specs.Turns.{AreTurns, started, settled, stop_of, turned}
-use Rattle.tb_session.specs.Course.{Course, stopped, behind, course_text}
+use Rattle.tb_session.specs.Course.{Course, stopped, course_text}
 use Rattle.tb_session.specs.Replies.{GoReply}
 use Rattle.tb_session.specs.Texts.{told_step}
 use Rattle.tb_session.specs.Turns.{Goes}
@@ -39,7 +38,7 @@ goes workers (turn ∷ turns) s at why are stops =
 told_newest : (workers : ℕ) (turns : List (ℕ × Name)) (s at : Session) (j : ℕ) → AreTurns workers turns s at
     → newest_lines s.program (length turns + j) (history at) ≡ newest_lines s.program j (history s) ++ told turns s
 told_newest workers [] s at j are =
-    ap₂ (λ n (z : Session). newest_lines s.program n (history z)) (let e : length ([] {A = ℕ × Name}) + j ≡ j = omega arith in e) are ∙ sym (append-nil (newest_lines s.program j (history s)))
+    ap₂ (λ n (z : Session). newest_lines s.program n (history z)) (let e : 0 + j ≡ j = omega arith in e) are ∙ sym (append-nil (newest_lines s.program j (history s)))
 told_newest workers (turn ∷ turns) s at j are =
     let next = turned turn.0 s turn.1 in
     let n : length (turn ∷ turns) + j ≡ length turns + suc j = omega arith in
@@ -55,6 +54,7 @@ longer workers turns s at are = more turns s are
         let rest = counted turns (turned turn.0 s turn.1) are.2 in
         let one : length (history (turned turn.0 s turn.1)) ≡ suc (length (history s)) = refl in
         omega (arith, rest, one)
+
     more : (turns : List (ℕ × Name)) (s : Session) → AreTurns workers turns s at → length turns ≤ length (history at)
     more turns s are = omega (arith, counted turns s are)
 

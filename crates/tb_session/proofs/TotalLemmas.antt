@@ -232,6 +232,7 @@ one_reply_to s new other (Go workers most) out more some few a b =
     at_most_one zero h = omega arith
     at_most_one (suc zero) h = omega arith
     at_most_one (suc (suc n)) h = absurd (h (omega arith))
+
     le_antisymm : {n : ℕ} → n ≤ 1 → 1 ≤ n → n ≡ 1
     le_antisymm a b = omega (arith, a, b)
 one_reply_to s new other (Fault fault) out more some few a b = (a.0 ∙ sym b.0, a.1 ∙ sym b.1)

@@ -1,5 +1,5 @@
 -- Turns of workers: what each leaves, that a worker alone has one course, and that a journal stays sound.
-use Rattle.std.proofs.Common.{◌≡◌, ◌<◌, ◌-◌, ◌==◌, ℕ, zero, suc, cond, List, [], ◌∷◌, Bool, true, false, is_none, is_some, IsFalse, Option, Some, None, refl, sym, ap, ap₂, ◌∙◌, subst, arith}
+use Rattle.std.proofs.Common.{◌≡◌, ◌<◌, ◌≤◌, ◌-◌, ◌==◌, ℕ, zero, suc, cond, List, [], ◌∷◌, Bool, true, false, is_none, is_some, IsFalse, Option, Some, None, refl, sym, ap, ap₂, ◌∙◌, subst, arith}
 use Rattle.std.specs.Option.{option_or}
 use Rattle.tb_model.specs.declared.entry.Entry.TheVariants.{Stepped}
 use Rattle.tb_model.specs.Names.{Name}
@@ -21,7 +21,7 @@ use Rattle.tb_session.specs.Course.{Course, stopped, behind}
 use Rattle.tb_session.specs.Laws.{IsSound, is_break, met_by}
 use Rattle.tb_session.specs.Texts.{told_step}
 use Rattle.tb_session.specs.Turns.{Goes, IsGo}
-use Rattle.tb_team.specs.Turns.{IsTurn, AreTurns, why_paused, why_idle, stop_of, turned, started, settled}
+use Rattle.tb_team.specs.Turns.{IsTurn, why_paused, why_idle, stop_of, turned, started, settled}
 use Rattle.tb_session.proofs.AloneLemmas.{MayFollow, counting_follows, one_fewer}
 
 -- ---- what a turn leaves

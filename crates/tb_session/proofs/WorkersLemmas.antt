@@ -1,10 +1,10 @@
 -- What asks for a go names a worker at least.
-use Rattle.std.proofs.Common.{◌≡◌, ◌<◌, ◌≤◌, ℕ, List, [], ◌∷◌, Bool, true, false, cond, nat_lt, nat_le, Option, Some, None, refl, arith}
+use Rattle.std.proofs.Common.{◌≡◌, ◌≤◌, ℕ, List, [], ◌∷◌, Bool, true, false, cond, nat_lt, Option, Some, None, refl, arith}
 use Rattle.std.specs.Prelude.{⊤, codes}
 use Rattle.std.proofs.lemmas.Bool.Decides.{nat_tests}
 use Rattle.tb_read.specs.Text.{line_words}
 use Rattle.tb_read.specs.Word.{same_word}
-use Rattle.tb_session.specs.Commands.{Words, with_none, with_one, named, numbered, number_within, positive, break_of, go_with, go_of, asked_of, asked_by, asked_words, asked_with, asked, verb_of, is_bad_line}
+use Rattle.tb_session.specs.Commands.{Words, with_none, with_one, named, numbered, number_within, positive, break_of, go_with, go_of, asked_of, asked_by, asked_with, asked, verb_of, is_bad_line}
 use Rattle.tb_session.specs.declared.command.Command.{Command}
 use Rattle.tb_session.specs.declared.command.Verb.{Verb}
 use Rattle.tb_session.specs.declared.command.Verb.TheVariants.{Step, Undo, Roll, RollTask, RollCell, RollPrint, Run, Clear, Tasks, Task, Cells, Out, Ready, Waits, Deps, Hist, Why, Causes, Who, Races, Breaks}

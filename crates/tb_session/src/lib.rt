@@ -7,6 +7,7 @@ mod breaking;
 mod command;
 mod counting;
 mod divider;
+mod ending;
 mod going;
 mod halt;
 pub mod laws;

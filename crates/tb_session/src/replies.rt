@@ -1,6 +1,6 @@
 //! The reply to a line of a session.
 
-ghost use Rattle.std.specs.Prelude.{◌≡◌, ◌<◌, ◌++◌, IfOk, IsErrOf, codes, string_bytes};
+ghost use Rattle.std.specs.Prelude.{◌≡◌, ◌<◌, ◌++◌, IfOk, IfErr, IsErrOf, codes, string_bytes};
 ghost use Rattle.tb_view.specs.Lines.{line};
 ghost use Rattle.tb_session.specs.Texts.{fault_word, newest_line};
 ghost use Rattle.tb_session.specs.Refusals.{step_refusal, undo_refusal};
@@ -14,6 +14,7 @@ use crate::asked::{Asked, CommandFault};
 use crate::asking::read_line;
 use crate::breaking::{body_reply, break_reply, clear_reply};
 use crate::command::Command;
+use crate::ending::end;
 use crate::going::go_reply;
 use crate::newest::append_newest;
 use crate::refusing::{refused, refused_for, refused_with};
@@ -117,11 +118,56 @@ fn reply(alloc: Global, live: &mut Live, command: Command) -> Result<Vec<u8>, Al
     }
 }
 
+/// Does what a command asks for, and tells it.
+fn command_told(alloc: Global, mut live: Live, command: Command) -> Result<(Live, Vec<u8>), Lost>
+    requires { HasSeats live.session }
+    ensures told { IfOk result (λ r. Reply live.session command r.1.items r.0.session) }
+    ensures memory { IfErr result (λ lost. lost ≡ Lost.Memory) }
+{
+    match reply(alloc, &mut live, command) {
+        Ok(text) => Ok((live, text)),
+        Err(_) => {
+            end(live);
+            Err(Lost::Memory)
+        }
+    }
+}
+
+/// Tells why a line is no command.
+fn fault_told(alloc: Global, live: Live, fault: CommandFault) -> Result<(Live, Vec<u8>), Lost>
+    ensures told { IfOk result (λ r. (r.1.items ≡ line (codes "error " ++ fault_word fault))
+        × (r.0.session ≡ live.session)) }
+    ensures memory { IfErr result (λ lost. lost ≡ Lost.Memory) }
+{
+    match fault_reply(alloc, fault) {
+        Ok(text) => Ok((live, text.into_bytes())),
+        Err(_) => {
+            end(live);
+            Err(Lost::Memory)
+        }
+    }
+}
+
+/// Lets one worker go on for up to so many steps, and tells them.
+fn alone_told(alloc: Global, mut live: Live, most: u32) -> Result<(Live, Vec<u8>), Lost>
+    requires { HasSeats live.session }
+    ensures told { IfOk result (λ r. GoReply 1 most live.session r.1.items r.0.session) }
+    ensures memory { IfErr result (λ lost. lost ≡ Lost.Memory) }
+{
+    match go_reply(alloc, &mut live, most) {
+        Ok(text) => Ok((live, text.into_bytes())),
+        Err(_) => {
+            end(live);
+            Err(Lost::Memory)
+        }
+    }
+}
+
 /// Lets workers go on for up to so many steps, and tells them.
 fn go_told<R: Threads + Wait + Sync>(
     rt: &R,
     alloc: Global,
-    mut live: Live,
+    live: Live,
     workers: Workers,
     most: u32,
 ) -> Result<(Live, Vec<u8>), Lost>
@@ -130,11 +176,12 @@ fn go_told<R: Threads + Wait + Sync>(
     ensures several { IsErrOf result Lost.Journal → 1 < workers }
 {
     if workers.count() == 1 {
-        let text = go_reply(alloc, &mut live, most)?;
-        return Ok((live, text.into_bytes()));
+        return alone_told(alloc, live, most);
     }
-    let (live, text) = team_reply(rt, alloc, live, workers.count(), most)?;
-    Ok((live, text.into_bytes()))
+    match team_reply(rt, alloc, live, workers.count(), most) {
+        Ok((live, text)) => Ok((live, text.into_bytes())),
+        Err(lost) => Err(lost),
+    }
 }
 
 /// Does what a line asks for, and tells it, where `go` may name so many workers. An `Err` may come when
@@ -143,23 +190,24 @@ pub fn answer<R: Threads + Wait + Sync>(
     rt: &R,
     alloc: Global,
     limit: Workers,
-    mut live: Live,
+    live: Live,
     line: &[u8],
 ) -> Result<(Live, Vec<u8>), Lost>
     requires { HasSeats live.session }
     ensures told { IfOk result (λ r. Answers limit live.session line.now r.1.items r.0.session) }
     ensures several { IsErrOf result Lost.Journal → AsksSeveral limit line.now }
 {
-    match read_line(alloc, limit, line)? {
+    let asked = match read_line(alloc, limit, line) {
+        Ok(asked) => asked,
+        Err(_) => {
+            end(live);
+            return Err(Lost::Memory);
+        }
+    };
+    match asked {
         Asked::Nothing => Ok((live, Vec::new(alloc))),
-        Asked::Command(command) => {
-            let text = reply(alloc, &mut live, command)?;
-            Ok((live, text))
-        }
+        Asked::Command(command) => command_told(alloc, live, command),
         Asked::Go { workers, most } => go_told(rt, alloc, live, workers, most),
-        Asked::Fault(fault) => {
-            let text = fault_reply(alloc, fault)?;
-            Ok((live, text.into_bytes()))
-        }
+        Asked::Fault(fault) => fault_told(alloc, live, fault),
     }
 }

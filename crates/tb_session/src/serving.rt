@@ -5,6 +5,7 @@ ghost use Rattle.std.specs.Io.KnownBytes.{prepend_known};
 ghost use Rattle.tb_session.specs.Stages.{Answered, Served};
 ghost use Rattle.tb_team.specs.Gone.{HasSeats};
 
+use crate::ending::end;
 use crate::halt::Halt;
 use crate::line_reader::{LineEnd, LineFault, LineReader};
 use crate::ports::{Sink, Source};
@@ -42,7 +43,10 @@ pub fn answer_line<R: Threads + Wait + Sync, K: Sink>(
     };
     match write_whole(sink, &reply) {
         Ok(()) => Ok(live),
-        Err(_) => Err(Halt::Write),
+        Err(_) => {
+            end(live);
+            Err(Halt::Write)
+        }
     }
 }
 
@@ -69,18 +73,27 @@ pub fn serve<R: Threads + Wait + Sync, S: Source, K: Sink>(
     let mut line = Vec::new(alloc);
     let mut live = live;
     'lines: for _ in rt.forever() {
-        let end = match reader.next_line(rt, source, &mut line) {
-            Ok(end) => end,
-            Err(LineFault::Read) => return Err(Halt::Read),
-            Err(LineFault::Memory) => return Err(Halt::Memory),
+        let line_end = match reader.next_line(rt, source, &mut line) {
+            Ok(line_end) => line_end,
+            Err(LineFault::Read) => {
+                end(live);
+                return Err(Halt::Read);
+            }
+            Err(LineFault::Memory) => {
+                end(live);
+                return Err(Halt::Memory);
+            }
         };
         live = match answer_line(rt, alloc, limit, live, sink, &line) {
             Ok(live) => live,
             Err(halt) => return Err(halt),
         };
-        match end {
+        match line_end {
             LineEnd::Feed => {}
-            LineEnd::Input => return Ok(()),
+            LineEnd::Input => {
+                end(live);
+                return Ok(());
+            }
         }
     }
     unreachable!()

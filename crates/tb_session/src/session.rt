@@ -5,6 +5,7 @@ ghost use Rattle.std.specs.Io.KnownBytes.{prepend_known};
 ghost use Rattle.tb_session.specs.Answer.{Ran};
 ghost use Rattle.tb_session.specs.Stages.{Begun};
 
+use crate::ending::end;
 use crate::halt::Halt;
 use crate::line_reader::{LineEnd, LineFault, LineReader};
 use crate::opening::{gather, open};
@@ -62,15 +63,18 @@ pub fn run<R: Threads + Wait + Sync, S: Source, K: Sink>(
     ensures write { IsErrOf result Halt.Write ↔ (K.failures sink.old < K.failures sink.new) }
 {
     let mut reader = LineReader::new();
-    let (live, end) = match begin(rt, alloc, &mut reader, source, settings.limit) {
+    let (live, line_end) = match begin(rt, alloc, &mut reader, source, settings.limit) {
         Ok(begun) => begun,
         Err(halt) => return Err(halt),
     };
-    match end {
+    match line_end {
         LineEnd::Feed => {
             let workers = Workers::new(settings.workers);
             serve(rt, alloc, workers, live, &mut reader, source, sink)
         }
-        LineEnd::Input => Ok(()),
+        LineEnd::Input => {
+            end(live);
+            Ok(())
+        }
     }
 }

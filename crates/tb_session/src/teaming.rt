@@ -7,12 +7,13 @@ ghost use Rattle.tb_session.specs.Course.{course_text};
 ghost use Rattle.tb_session.specs.Replies.{GoReply};
 ghost use Rattle.tb_team.specs.Gone.{HasSeats};
 
+use crate::ending::end;
 use crate::running::{Taken, append_end};
 use std::alloc::{AllocError, Global};
 use std::sync::Wait;
 use std::thread::Threads;
 use tb_live::Live;
-use tb_team::{Lost, Stop, go_several};
+use tb_team::{Gone, Lost, Stop, go_several};
 use tb_view::append_newest;
 
 /// The lines of so many of the newest steps, and the last line of a run.
@@ -41,7 +42,12 @@ pub fn team_reply<R: Threads + Wait + Sync>(
     requires few { workers ≤ 64 }
     ensures { IfOk result (λ r. GoReply workers most live.session (string_bytes r.1) r.0.session) }
 {
-    let gone = go_several(rt, alloc, live, workers, most)?;
-    let text = course_text(alloc, &gone.live, gone.count, gone.stop)?;
-    Ok((gone.live, text))
+    let Gone { live, count, stop } = go_several(rt, alloc, live, workers, most)?;
+    match course_text(alloc, &live, count, stop) {
+        Ok(text) => Ok((live, text)),
+        Err(_) => {
+            end(live);
+            Err(Lost::Memory)
+        }
+    }
 }

@@ -11,12 +11,13 @@ returns-in-Err-clause-ran g c =
 pub returns-in-Feed-clause-ran : goal.returns-in-Feed-clause-ran
 returns-in-Feed-clause-ran g c =
     let begun = rw (c.new-reader.ensures, c.in-Feed.is) at c.in-Ok.ensures.begun in
-    ran_commands c.args.settings.workers c.args.settings.limit _ _ c.in-Ok.begun.0.session begun _ _ _ _ c.serve.result c.serve.ensures.served c.serve.ensures.emptied
+    let served = rw c.new-workers.ensures at c.serve.ensures.served in
+    ran_commands c.args.settings.workers c.args.settings.limit _ _ c.in-Ok.begun.0.session begun _ _ _ _ c.serve.result served c.serve.ensures.emptied
 
 pub returns-in-Feed-clause-read : goal.returns-in-Feed-clause-read
 returns-in-Feed-clause-read g c = rw (← c.in-Ok.ensures.ok) c.serve.ensures.read
 
-pub returns-clause-ran : goal.returns-clause-ran
-returns-clause-ran g c =
+pub returns-in-Input-clause-ran : goal.returns-in-Input-clause-ran
+returns-in-Input-clause-ran g c =
     let begun = rw (c.new-reader.ensures, c.in-Input.is) at c.in-Ok.ensures.begun in
     ran_no_command c.args.settings.workers c.args.settings.limit _ _ _ _ begun
