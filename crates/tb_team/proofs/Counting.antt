@@ -11,6 +11,12 @@ equal_by a b e = grind (arith, nat_tests)
 pub not_equal : (a b : ℕ) → nat_eq a b ≡ false → a ≤ b → 0 < b - a
 not_equal a b e within = grind (arith, nat_tests)
 
+pub above_none : (n : ℕ) → 0 < suc n
+above_none n = omega arith
+
+pub not_none : (n : ℕ) → 0 < n → n ≡ 0 → ⊥
+not_none n some none = omega (arith, some, none)
+
 pub full_is_not_room : (limit n : ℕ) → nat_le limit n ≡ true → n < limit → ⊥
 full_is_not_room limit n e room = let h = at_most limit n e in omega (arith, h, room)
 

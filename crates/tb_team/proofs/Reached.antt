@@ -4,7 +4,7 @@ use Rattle.std.specs.Prelude.{is_some}
 use Rattle.std.specs.List.{list_all}
 use Rattle.std.specs.Option.{option_or}
 use Rattle.std.proofs.lemmas.Bool.Decides.{nat_tests}
-use Rattle.std.proofs.lemmas.Bool.{false≢true}
+use Rattle.std.proofs.lemmas.Bool.{false≢true, ne_eqb, cond-false}
 use Rattle.std.proofs.lemmas.List.{length_push}
 use Rattle.tb_model.specs.declared.entry.Entry.{Entry}
 use Rattle.tb_model.specs.declared.entry.Entry.TheVariants.{Opened, Stepped, Rolled}
@@ -29,7 +29,7 @@ use Rattle.tb_live.specs.Modes as modes
 use Rattle.tb_live.specs.Moves.{coming, least_task, refusal_for}
 use Rattle.tb_live.specs.Session.{Session, history, is_full, with_seat}
 use Rattle.tb_live.proofs.ReadyLemmas.{can_spawned}
-use Rattle.tb_team.proofs.Counting.{at_most, full_is_not_room, room_left, some_left, one_fewer, less, plus_one, all_of_it}
+use Rattle.tb_team.proofs.Counting.{above_none, at_most, full_is_not_room, not_none, room_left, some_left, one_fewer, less, plus_one, all_of_it}
 use Rattle.tb_team.specs.declared.stop.Stop.{Stop}
 use Rattle.tb_team.specs.Turns.{AreTurns, IsTurn, started, stop_of, turned, why_idle, why_paused}
 use Rattle.tb_team.specs.Looking.{is_turn, meets_newest, none_met}
@@ -69,9 +69,8 @@ all_withdrawn (o ∷ claims) (p ∷ others) e = ap₂ ◌∷◌ (none_left o ∙
 
 -- ---- one turn
 
-counting_some : (left : ℕ) → 0 < left → counting left ≡ Counting left
-counting_some zero some = absurd (let h = some in omega (arith, h))
-counting_some (suc left) some = refl
+pub counting_some : (left : ℕ) → 0 < left → counting left ≡ Counting left
+counting_some left some = cond-false (left == 0) (Paused ByCount) (Counting left) (ne_eqb left 0 (not_none left some))
 
 never_full : (s : Session) → length s.journal < s.limit → is_full s ≡ false
 never_full s room = at (nat_le s.limit (length s.journal)) refl
@@ -187,7 +186,7 @@ module _ (workers most : ℕ) (several : 1 < workers) (s : Session) (well_formed
   none_counts : (o : Option ℕ) (n : ℕ) → is_some o ≡ false → modes.behind o (counting n) ≡ counting (n - 1)
   none_counts (Some k) n e = cc
   none_counts None zero e = refl
-  none_counts None (suc n) e = refl
+  none_counts None (suc n) e = ap counted (counting_some (suc n) (above_none n))
 
   -- steps of workers that met no breakpoint
   pub reach : (es J0 : List Entry) → s.journal ≡ J0 → list_all (is_turn workers) es ≡ true → IsTaken (es ++ J0) → length es ≤ most

@@ -13,7 +13,7 @@ ends_with new old n begins =
     ∙ ap (λ l. reverse (drop n (reverse new)) ++ l) (ap reverse begins ∙ reverse-reverse old)
 
 pub longer : {X : Type 0} (new old : List X) → take (length old) (reverse new) ≡ reverse old → length old ≤ length new
-longer new old begins =
+longer {X = X} new old begins =
     long_take (length old) (length new) (length (take (length old) (reverse new))) (ap length begins ∙ length-reverse old) (subst (λ k. length (take (length old) (reverse new)) ≤ k) (length-reverse new) (shorter (length old) (reverse new)))
   where
     shorter : (n : ℕ) (xs : List X) → length (take n xs) ≤ length xs
