@@ -60,6 +60,9 @@ within_both whole limit bound new a b c = omega (arith, a, b, c)
 pub few_of : (new count most : ℕ) → new ≡ count → count ≤ most → new ≤ most
 few_of new count most a b = omega (arith, a, b)
 
+pub counted_back : (n m from : ℕ) → n ≡ m → from ≤ m → (n - from) + from ≡ m
+counted_back n m from a b = omega (arith, a, b)
+
 -- ---- a slice of all but the newest
 
 pub taken_long : (n count : ℕ) → 1 < count → count ≤ n → n - 1 - (n - count) ≤ n - (n - count)
