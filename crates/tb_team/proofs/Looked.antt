@@ -54,10 +54,10 @@ looked_of workers most from s r t gone well_formed sound within course counted f
   claims = t.control.claims;
   seats = kept.seats ∙ ap (λ (z : Session). length z.control.claims) resumed;
   now =
-    now
-    ∙ same_whole t.control.claims t.program s.program t.limit s.limit t.journal s.journal t.control.breakpoints s.control.breakpoints t.control.mode Resumed
-    (kept.program ∙ ap (λ (z : Session). z.program) resumed) (kept.limit ∙ ap (λ (z : Session). z.limit) resumed) (kept.journal ∙ ap (λ (z : Session). z.journal) resumed)
-    (kept.breakpoints ∙ ap (λ (z : Session). z.control.breakpoints) resumed) (kept.mode ∙ ap (λ (z : Session). z.control.mode) resumed);
+      now
+      ∙ same_whole t.control.claims t.program s.program t.limit s.limit t.journal s.journal t.control.breakpoints s.control.breakpoints t.control.mode Resumed
+      (kept.program ∙ ap (λ (z : Session). z.program) resumed) (kept.limit ∙ ap (λ (z : Session). z.limit) resumed) (kept.journal ∙ ap (λ (z : Session). z.journal) resumed)
+      (kept.breakpoints ∙ ap (λ (z : Session). z.control.breakpoints) resumed) (kept.mode ∙ ap (λ (z : Session). z.control.mode) resumed);
 }
 
 -- ---- lent and looked at

@@ -53,6 +53,7 @@ all_reversed p (x ∷ xs) h =
     both : (a b : Bool) → (a && b) ≡ true → (a ≡ true) × (b ≡ true)
     both true b e = (refl, e)
     both false b e = cc
+
     together : (a b : Bool) → a ≡ true → b ≡ true → (a && b) ≡ true
     together true b e f = f
     together false b e f = cc
@@ -74,9 +75,11 @@ module _ (P : Program) (points : List Breakpoint) (steps : List Step) (count : �
     where
       two_or_more : (n : ℕ) → suc (suc n) ≡ 1 → ⊥
       two_or_more n e = omega (arith, e)
+
       turned : (old mid last : List Step) → steps ≡ old ++ (mid ++ last) → reverse steps ≡ reverse last ++ (reverse mid ++ reverse old)
       turned old mid last whole =
           ap reverse whole ∙ reverse-append old (mid ++ last) ∙ ap (λ l. l ++ reverse old) (reverse-append mid last) ∙ append_assoc (reverse last) (reverse mid) (reverse old)
+
       at : (last : List Step) → length last ≡ 1 → reverse steps ≡ reverse last ++ (reverse (take (length steps - 1 - (length steps - count)) (drop (length steps - count) steps)) ++ reverse (take (length steps - count) steps))
           → length (take (length steps - 1 - (length steps - count)) (drop (length steps - count) steps)) ≡ count - 1 → none_met P points (count - 1) (drop 1 (history_of (reverse steps))) ≡ true
       at [] one whole long = cc
