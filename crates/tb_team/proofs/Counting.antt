@@ -1,5 +1,5 @@
 -- Numbers alone.
-use Rattle.std.proofs.Common.{◌≡◌, ◌<◌, ◌≤◌, ◌+◌, ◌-◌, ℕ, zero, suc, Bool, true, false, ◌&&◌, nat_le, nat_lt, nat_eq, refl, arith}
+use Rattle.std.proofs.Common.{◌≡◌, ◌<◌, ◌≤◌, ◌+◌, ◌-◌, ℕ, zero, suc, Bool, true, false, ◌&&◌, nat_le, nat_lt, nat_eq, refl, arith, Fits, w32}
 use Rattle.std.proofs.lemmas.Bool.Decides.{nat_tests}
 
 pub at_most : (a b : ℕ) → nat_le a b ≡ true → a ≤ b
@@ -59,6 +59,15 @@ within_both whole limit bound new a b c = omega (arith, a, b, c)
 
 pub few_of : (new count most : ℕ) → new ≡ count → count ≤ most → new ≤ most
 few_of new count most a b = omega (arith, a, b)
+
+pub small_count : (n m limit from : ℕ) → n ≡ m → m ≤ limit → limit ≤ 1000000 → Fits w32 (n - from)
+small_count n m limit from a b c = omega (arith, a, b, c)
+
+pub some_of : (n : ℕ) → 1 < n → 1 ≤ n
+some_of n several = omega (arith, several)
+
+pub seats_enough : (workers claims seats count : ℕ) → workers ≤ 64 → 64 < claims → claims ≡ seats → count ≡ seats → workers < count
+seats_enough workers claims seats count a b c d = omega (arith, a, b, c, d)
 
 pub counted_back : (n m from : ℕ) → n ≡ m → from ≤ m → (n - from) + from ≡ m
 counted_back n m from a b = omega (arith, a, b)

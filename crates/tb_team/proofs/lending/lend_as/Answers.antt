@@ -1,4 +1,5 @@
 use Rattle.std.proofs.Common.{sym, ◌∙◌}
+use Rattle.tb_team.proofs.Counting.{seats_enough}
 use Rattle.tb_team.proofs.Returned.{begins_as}
 use Rattle.tb_team.proofs.lending.lend_as.Goals as goal
 
@@ -13,3 +14,22 @@ returns-in-Ok-close g c =
       seats = c.in-Ok-close.ensures.seats ∙ sym c.requires.live.3;
       begins = begins_as old new g.N.Team.begun c.requires.begun c.in-Ok-close.ensures.begins;
     }
+
+pub adopt-requires : goal.adopt-requires
+adopt-requires g c = record {
+  name = c.requires.name;
+  one_each = c.requires.one_each;
+  places = c.requires.places;
+  live = c.requires.live;
+  begun = c.requires.begun;
+  own = c.requires.own;
+}
+
+pub work-requires-clause-seats : goal.work-requires-clause-seats
+work-requires-clause-seats g c = λ κs within. seats_enough c.args.workers _ _ _ c.requires.few c.requires.seats c.requires.live.3 c.in-Ok.ensures.seats.0
+
+pub close-requires : goal.close-requires
+close-requires g c = record {
+  all = c.in_ok-work.ensures ∙ c.in-Ok.ensures.seats.0;
+  parts = sym c.requires.one_each ∙ c.requires.name.1;
+}

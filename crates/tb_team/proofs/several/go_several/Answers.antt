@@ -2,11 +2,18 @@ use Rattle.std.proofs.Common.{length}
 use Rattle.std.proofs.lemmas.Result.{IfOk-weaker}
 use Rattle.tb_team.specs.Gone.{IsGone}
 use Rattle.tb_team.specs.Looking.{IsLooked}
+use Rattle.tb_team.proofs.Counting.{some_of}
 use Rattle.tb_team.proofs.Looked.{seats_stay, seats_back, still_there, gone_from}
 use Rattle.tb_team.proofs.several.go_several.Goals as goal
 
 pub lend-requires-clause-seats : goal.lend-requires-clause-seats
 lend-requires-clause-seats g c = λ κs within. seats_stay c.args.live.session c.withdraw_all.new.self.session c.requires.seats c.withdraw_all.ensures
+
+pub lend-requires-clause-some : goal.lend-requires-clause-some
+lend-requires-clause-some g c = λ κs within. some_of c.args.workers c.requires.several
+
+pub lend-requires-clause-few : goal.lend-requires-clause-few
+lend-requires-clause-few g c = λ κs within. c.requires.few
 
 pub look-requires : goal.look-requires
 look-requires g c =
