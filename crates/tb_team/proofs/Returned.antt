@@ -4,6 +4,7 @@ use Rattle.std.proofs.lemmas.List.{reverse-append, reverse-reverse, length-rever
 use Rattle.tb_team.proofs.Counting.{long_take}
 use Rattle.tb_model.specs.declared.entry.Entry.{Entry}
 use Rattle.tb_live.specs.Session.{Session}
+use Rattle.tb_team.specs.Lending.{IsBack}
 use Rattle.tb_work.specs.Changes.{entries}
 
 -- a list whose reverse begins with that of another ends with the other
@@ -23,3 +24,6 @@ pub begins_as : (old new : Session) (begun : List Entry) → entries old ≡ beg
 begins_as old new begun is begins =
     let n : length old.journal ≡ length begun = sym (length-reverse old.journal) ∙ ap length is in
     ap (λ k. take k (entries new)) n ∙ begins ∙ sym is
+
+pub back_as : (old new same : Session) → IsBack old new → same ≡ new → IsBack old same
+back_as old new same is e = subst (λ (z : Session). IsBack old z) (sym e) is
