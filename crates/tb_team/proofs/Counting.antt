@@ -1,5 +1,5 @@
 -- Numbers alone.
-use Rattle.std.proofs.Common.{◌≡◌, ◌<◌, ◌≤◌, ◌+◌, ◌-◌, ℕ, zero, suc, Bool, true, false, ◌&&◌, nat_le, nat_lt, nat_eq, refl, arith, Fits, w32}
+use Rattle.std.proofs.Common.{◌≡◌, ◌<◌, ◌≤◌, ◌+◌, ◌-◌, ℕ, suc, true, false, nat_le, nat_eq, arith, Fits, w32}
 use Rattle.std.proofs.lemmas.Bool.Decides.{nat_tests}
 
 pub at_most : (a b : ℕ) → nat_le a b ≡ true → a ≤ b

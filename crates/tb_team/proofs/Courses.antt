@@ -1,34 +1,30 @@
 -- What was looked at is a course of turns, and stops where it has to.
-use Rattle.std.proofs.Common.{◌≡◌, ◌≢◌, ◌<◌, ◌≤◌, ◌-◌, ◌+◌, ◌⊎◌, inl, inr, ℕ, zero, suc, List, [], ◌∷◌, ◌++◌, length, drop, reverse, Bool, true, false, ◌&&◌, nat_eq, nat_lt, IsTrue, Option, Some, None, refl, sym, ap, ap₂, ◌∙◌, subst, arith, length-append}
+use Rattle.std.proofs.Common.{◌≡◌, ◌<◌, ◌≤◌, ◌-◌, ◌+◌, ℕ, suc, List, [], ◌∷◌, ◌++◌, length, drop, reverse, Bool, true, false, ◌&&◌, nat_eq, nat_lt, Option, Some, None, refl, sym, ap, ap₂, ◌∙◌, subst, length-append}
 use Rattle.std.specs.Prelude.{is_some}
 use Rattle.std.specs.List.{list_all}
 use Rattle.std.specs.Option.{option_or}
-use Rattle.std.proofs.lemmas.Bool.Decides.{nat_tests}
 use Rattle.std.proofs.lemmas.Bool.{false≢true, lt-ltb}
-use Rattle.std.proofs.lemmas.List.{length-map, length-reverse}
 use Rattle.tb_model.specs.declared.entry.Entry.{Entry}
 use Rattle.tb_model.specs.declared.entry.Entry.TheVariants.{Opened, Stepped, Rolled}
 use Rattle.tb_model.specs.Journal.{hist, Sound}
 use Rattle.tb_model.specs.Program.{Program, situation}
 use Rattle.tb_model.specs.WellFormed.{WellFormed}
 use Rattle.tb_live.specs.declared.mode.Mode.{Mode}
-use Rattle.tb_live.specs.declared.mode.Mode.TheVariants.{Resumed, Counting, Paused}
+use Rattle.tb_live.specs.declared.mode.Mode.TheVariants.{Resumed, Paused}
 use Rattle.tb_live.specs.declared.paused_by.PausedBy.TheVariants.{Break as ByBreak}
 use Rattle.tb_live.specs.Breaks.{Points, met}
-use Rattle.tb_live.specs.Claims.{Claims, withdrawn, unless}
+use Rattle.tb_live.specs.Claims.{Claims, withdrawn}
 use Rattle.tb_live.specs.Modes.{counting, counted}
 use Rattle.tb_live.specs.Modes as modes
 use Rattle.tb_live.specs.Moves.{least_task}
 use Rattle.tb_live.specs.Runs.{unclaimed}
 use Rattle.tb_live.specs.Session.{Session, history, is_full}
-use Rattle.tb_work.specs.Changes.{entries}
 use Rattle.tb_team.specs.declared.gone.Gone.{Gone}
 use Rattle.tb_team.specs.declared.stop.Stop.{Stop}
-use Rattle.tb_team.specs.declared.stop.Stop.TheVariants.{Break, Limit}
 use Rattle.tb_team.specs.Gone.{IsGone}
 use Rattle.tb_team.specs.Lending.{IsBack}
-use Rattle.tb_team.specs.Looking.{is_turn, meets_newest, none_met, reason, freed, IsLooked}
-use Rattle.tb_team.specs.Turns.{settled, started, stop_of, why_idle, why_paused}
+use Rattle.tb_team.specs.Looking.{is_turn, meets_newest, none_met, reason, IsLooked}
+use Rattle.tb_team.specs.Turns.{started, stop_of, why_idle, why_paused}
 use Rattle.tb_team.proofs.Counting.{above_none, equal_by, not_equal, all_taken, less, plus_one, minus_one, one_more_left, new_count, new_left, within_both, few_of}
 use Rattle.tb_team.proofs.Records.{all_reversed}
 use Rattle.tb_team.proofs.Reached.{Reached, counting_some, reach, turn_more, all_withdrawn}

@@ -15,7 +15,7 @@ use Rattle.tb_live.specs.Session.{Session, history}
 use Rattle.tb_team.specs.declared.gone.Gone.{Gone}
 use Rattle.tb_team.specs.Gone.{HasSeats, IsGone}
 use Rattle.tb_team.specs.Lending.{IsBack}
-use Rattle.tb_team.specs.Looking.{meets_newest, reason, freed, IsCourse, IsLooked, KeepsButClaims}
+use Rattle.tb_team.specs.Looking.{meets_newest, reason, IsCourse, IsLooked, KeepsButClaims}
 use Rattle.tb_team.proofs.Courses.{gone_of}
 use Rattle.tb_team.proofs.Returned.{longer}
 

@@ -1,15 +1,13 @@
 -- Turns lead to each journal that grows by steps of workers.
-use Rattle.std.proofs.Common.{◌≡◌, ◌≢◌, ◌<◌, ◌≤◌, ◌-◌, ◌+◌, ◌==◌, ℕ, zero, suc, List, [], ◌∷◌, ◌++◌, length, map, set, Bool, true, false, ◌&&◌, not, cond, nat_le, IsTrue, IsFalse, Option, Some, None, is_none, refl, sym, ap, ap₂, ◌∙◌, subst, arith, length-append, eqb-true, ltb-true}
+use Rattle.std.proofs.Common.{◌≡◌, ◌<◌, ◌≤◌, ◌-◌, ◌+◌, ◌==◌, ℕ, zero, suc, List, [], ◌∷◌, ◌++◌, length, Bool, true, false, ◌&&◌, not, cond, nat_le, Option, Some, None, is_none, refl, sym, ap, ap₂, ◌∙◌, subst, arith}
 use Rattle.std.specs.Prelude.{is_some}
 use Rattle.std.specs.List.{list_all}
 use Rattle.std.specs.Option.{option_or}
-use Rattle.std.proofs.lemmas.Bool.Decides.{nat_tests}
 use Rattle.std.proofs.lemmas.Bool.{false≢true, ne_eqb, cond-false}
 use Rattle.std.proofs.lemmas.List.{length_push}
 use Rattle.tb_model.specs.declared.entry.Entry.{Entry}
 use Rattle.tb_model.specs.declared.entry.Entry.TheVariants.{Opened, Stepped, Rolled}
 use Rattle.tb_model.specs.declared.event.Event.{Event}
-use Rattle.tb_model.specs.Facts.{History}
 use Rattle.tb_model.specs.Hindrances.{Refusal, can_step}
 use Rattle.tb_model.specs.Journal.{hist, Sound}
 use Rattle.tb_model.specs.Names.{Name, same_name}
@@ -19,20 +17,18 @@ use Rattle.tb_model.proofs.JournalLemmas.{journal_legal}
 use Rattle.tb_model.proofs.LeastNameLemmas.{least_found}
 use Rattle.tb_model.proofs.NextStepLemmas.{next_computed, next_isnt_refused}
 use Rattle.tb_model.proofs.TestLemmas.{same_refl}
-use Rattle.tb_live.specs.declared.mode.Mode.{Mode}
-use Rattle.tb_live.specs.declared.mode.Mode.TheVariants.{Resumed, Counting, Paused}
-use Rattle.tb_live.specs.declared.paused_by.PausedBy.TheVariants.{Break as ByBreak, Count as ByCount}
+use Rattle.tb_live.specs.declared.mode.Mode.TheVariants.{Counting, Paused}
+use Rattle.tb_live.specs.declared.paused_by.PausedBy.TheVariants.{Count as ByCount}
 use Rattle.tb_live.specs.Breaks.{met}
 use Rattle.tb_live.specs.Claims.{Claims, withdrawn, with_claim, unless}
 use Rattle.tb_live.specs.Modes.{counting, counted, is_paused}
 use Rattle.tb_live.specs.Modes as modes
-use Rattle.tb_live.specs.Moves.{coming, least_task, refusal_for}
-use Rattle.tb_live.specs.Session.{Session, history, is_full, with_seat}
+use Rattle.tb_live.specs.Moves.{coming, refusal_for}
+use Rattle.tb_live.specs.Session.{Session, history, is_full}
 use Rattle.tb_live.proofs.ReadyLemmas.{can_spawned}
 use Rattle.tb_team.proofs.Counting.{above_none, at_most, full_is_not_room, not_none, room_left, some_left, one_fewer, less, plus_one, all_of_it}
-use Rattle.tb_team.specs.declared.stop.Stop.{Stop}
 use Rattle.tb_team.specs.Turns.{AreTurns, IsTurn, started, stop_of, turned, why_idle, why_paused}
-use Rattle.tb_team.specs.Looking.{is_turn, meets_newest, none_met}
+use Rattle.tb_team.specs.Looking.{is_turn, none_met}
 
 -- ---- claims
 

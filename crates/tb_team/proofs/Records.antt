@@ -1,13 +1,13 @@
 -- What the records of steps say of breakpoints.
-use Rattle.std.proofs.Common.{◌≡◌, ◌<◌, ◌≤◌, ◌+◌, ◌-◌, ℕ, suc, List, [], ◌∷◌, ◌++◌, Bool, true, false, ◌&&◌, not, cond, length, map, take, drop, reverse, refl, sym, ap, ap₂, ◌∙◌, subst, arith, length-append, length-drop, append_assoc, get_or}
+use Rattle.std.proofs.Common.{◌≡◌, ◌<◌, ◌≤◌, ◌-◌, ℕ, suc, List, [], ◌∷◌, ◌++◌, Bool, true, false, ◌&&◌, not, length, map, take, drop, reverse, refl, sym, ap, ap₂, ◌∙◌, subst, arith, length-drop, append_assoc, get_or}
 use Rattle.std.specs.Prelude.{is_some}
 use Rattle.std.specs.List.{list_all}
-use Rattle.std.proofs.lemmas.List.{reverse-append, length-reverse, length-take-le, take-append-drop, drop-drop, drop_all}
+use Rattle.std.proofs.lemmas.List.{reverse-append, length-reverse, length-take-le, take-append-drop, drop_all}
 use Rattle.std.proofs.Math.Seq.{drop-cons}
 use Rattle.std.proofs.lemmas.List.Folds.{list_all-append}
 use Rattle.tb_model.specs.Facts.{History}
-use Rattle.tb_model.specs.Lines.{Departure, LinesFit, events_of}
-use Rattle.tb_model.specs.Program.{Program, LegalFor, situation}
+use Rattle.tb_model.specs.Lines.{LinesFit, events_of}
+use Rattle.tb_model.specs.Program.{Program, LegalFor}
 use Rattle.tb_model.proofs.LinesLemmas.{line_kept}
 use Rattle.tb_model.specs.Legal.{Cells}
 use Rattle.tb_core.specs.declared.entry.Entry.{Entry as Step}

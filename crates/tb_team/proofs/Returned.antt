@@ -1,5 +1,5 @@
 -- What comes back has new entries on the journal that was handed over.
-use Rattle.std.proofs.Common.{◌≡◌, ◌≤◌, ◌+◌, ◌-◌, ℕ, List, subst, [], ◌∷◌, ◌++◌, length, take, drop, reverse, refl, sym, ap, ◌∙◌, arith, length-drop}
+use Rattle.std.proofs.Common.{◌≡◌, ◌≤◌, ℕ, List, subst, ◌++◌, length, take, drop, reverse, sym, ap, ◌∙◌, arith}
 use Rattle.std.proofs.lemmas.List.{reverse-append, reverse-reverse, length-reverse, length-take, take-append-drop}
 use Rattle.tb_team.proofs.Counting.{long_take}
 use Rattle.tb_model.specs.declared.entry.Entry.{Entry}
