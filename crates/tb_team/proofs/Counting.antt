@@ -1,5 +1,5 @@
 -- Numbers alone.
-use Rattle.std.proofs.Common.{◌≡◌, ◌<◌, ◌≤◌, ◌+◌, ◌-◌, ℕ, zero, suc, Bool, true, false, ◌&&◌, nat_le, nat_lt, nat_eq, refl, arith}
+use Rattle.std.proofs.Common.{◌≡◌, ◌<◌, ◌≤◌, ◌+◌, ◌-◌, ℕ, suc, true, false, nat_le, nat_eq, arith, Fits, w32}
 use Rattle.std.proofs.lemmas.Bool.Decides.{nat_tests}
 
 pub at_most : (a b : ℕ) → nat_le a b ≡ true → a ≤ b
@@ -10,6 +10,12 @@ equal_by a b e = grind (arith, nat_tests)
 
 pub not_equal : (a b : ℕ) → nat_eq a b ≡ false → a ≤ b → 0 < b - a
 not_equal a b e within = grind (arith, nat_tests)
+
+pub above_none : (n : ℕ) → 0 < suc n
+above_none n = omega arith
+
+pub not_none : (n : ℕ) → 0 < n → n ≡ 0 → ⊥
+not_none n some none = omega (arith, some, none)
 
 pub full_is_not_room : (limit n : ℕ) → nat_le limit n ≡ true → n < limit → ⊥
 full_is_not_room limit n e room = let h = at_most limit n e in omega (arith, h, room)
@@ -53,6 +59,18 @@ within_both whole limit bound new a b c = omega (arith, a, b, c)
 
 pub few_of : (new count most : ℕ) → new ≡ count → count ≤ most → new ≤ most
 few_of new count most a b = omega (arith, a, b)
+
+pub small_count : (n m limit from : ℕ) → n ≡ m → m ≤ limit → limit ≤ 1000000 → Fits w32 (n - from)
+small_count n m limit from a b c = omega (arith, a, b, c)
+
+pub some_of : (n : ℕ) → 1 < n → 1 ≤ n
+some_of n several = omega (arith, several)
+
+pub seats_enough : (workers claims seats count : ℕ) → workers ≤ 64 → 64 < claims → claims ≡ seats → count ≡ seats → workers < count
+seats_enough workers claims seats count a b c d = omega (arith, a, b, c, d)
+
+pub counted_back : (n m from : ℕ) → n ≡ m → from ≤ m → (n - from) + from ≡ m
+counted_back n m from a b = omega (arith, a, b)
 
 -- ---- a slice of all but the newest
 

@@ -1,37 +1,33 @@
 -- What was looked at is a course of turns, and stops where it has to.
-use Rattle.std.proofs.Common.{◌≡◌, ◌≢◌, ◌<◌, ◌≤◌, ◌-◌, ◌+◌, ◌⊎◌, inl, inr, ℕ, zero, suc, List, [], ◌∷◌, ◌++◌, length, drop, reverse, Bool, true, false, ◌&&◌, nat_eq, nat_lt, IsTrue, Option, Some, None, refl, sym, ap, ap₂, ◌∙◌, subst, arith, length-append}
+use Rattle.std.proofs.Common.{◌≡◌, ◌<◌, ◌≤◌, ◌-◌, ◌+◌, ℕ, suc, List, [], ◌∷◌, ◌++◌, length, drop, reverse, Bool, true, false, ◌&&◌, nat_eq, nat_lt, Option, Some, None, refl, sym, ap, ap₂, ◌∙◌, subst, length-append}
 use Rattle.std.specs.Prelude.{is_some}
 use Rattle.std.specs.List.{list_all}
 use Rattle.std.specs.Option.{option_or}
-use Rattle.std.proofs.lemmas.Bool.Decides.{nat_tests}
-use Rattle.std.proofs.lemmas.Bool.{false≢true}
-use Rattle.std.proofs.lemmas.List.{length-map, length-reverse}
+use Rattle.std.proofs.lemmas.Bool.{false≢true, lt-ltb}
 use Rattle.tb_model.specs.declared.entry.Entry.{Entry}
 use Rattle.tb_model.specs.declared.entry.Entry.TheVariants.{Opened, Stepped, Rolled}
 use Rattle.tb_model.specs.Journal.{hist, Sound}
 use Rattle.tb_model.specs.Program.{Program, situation}
 use Rattle.tb_model.specs.WellFormed.{WellFormed}
 use Rattle.tb_live.specs.declared.mode.Mode.{Mode}
-use Rattle.tb_live.specs.declared.mode.Mode.TheVariants.{Resumed, Counting, Paused}
+use Rattle.tb_live.specs.declared.mode.Mode.TheVariants.{Resumed, Paused}
 use Rattle.tb_live.specs.declared.paused_by.PausedBy.TheVariants.{Break as ByBreak}
 use Rattle.tb_live.specs.Breaks.{Points, met}
-use Rattle.tb_live.specs.Claims.{Claims, withdrawn, unless}
+use Rattle.tb_live.specs.Claims.{Claims, withdrawn}
 use Rattle.tb_live.specs.Modes.{counting, counted}
 use Rattle.tb_live.specs.Modes as modes
 use Rattle.tb_live.specs.Moves.{least_task}
 use Rattle.tb_live.specs.Runs.{unclaimed}
 use Rattle.tb_live.specs.Session.{Session, history, is_full}
-use Rattle.tb_work.specs.Changes.{entries}
 use Rattle.tb_team.specs.declared.gone.Gone.{Gone}
 use Rattle.tb_team.specs.declared.stop.Stop.{Stop}
-use Rattle.tb_team.specs.declared.stop.Stop.TheVariants.{Break, Limit}
 use Rattle.tb_team.specs.Gone.{IsGone}
 use Rattle.tb_team.specs.Lending.{IsBack}
-use Rattle.tb_team.specs.Looking.{is_turn, meets_newest, none_met, reason, freed, IsLooked}
-use Rattle.tb_team.specs.Turns.{settled, started, stop_of, why_idle, why_paused}
-use Rattle.tb_team.proofs.Counting.{equal_by, not_equal, all_taken, less, plus_one, minus_one, one_more_left, new_count, new_left, within_both, few_of}
+use Rattle.tb_team.specs.Looking.{is_turn, meets_newest, none_met, reason, IsLooked}
+use Rattle.tb_team.specs.Turns.{started, stop_of, why_idle, why_paused}
+use Rattle.tb_team.proofs.Counting.{above_none, equal_by, not_equal, all_taken, less, plus_one, minus_one, one_more_left, new_count, new_left, within_both, few_of}
 use Rattle.tb_team.proofs.Records.{all_reversed}
-use Rattle.tb_team.proofs.Reached.{Reached, reach, turn_more, all_withdrawn}
+use Rattle.tb_team.proofs.Reached.{Reached, counting_some, reach, turn_more, all_withdrawn}
 use Rattle.tb_team.proofs.Returned.{ends_with}
 
 -- ---- why it stops
@@ -63,12 +59,8 @@ stop_by s t true all left why program limit journal mode is h =
     ap (λ m. option_or (why_paused m) (why_idle (least_task s) (is_full s))) mode.1 ∙ h
 stop_by s t false true left why program limit journal mode is h =
     ap (λ m. option_or (why_paused m) (why_idle (least_task s) (is_full s))) (mode ∙ ap counting (is.yes_all refl)) ∙ h
-stop_by s t false false zero why program limit journal mode is h = absurd (none_some (is.not_all refl))
-  where
-    none_some : 0 < 0 → ⊥
-    none_some k = omega (arith, k)
-stop_by s t false false (suc left) why program limit journal mode is h =
-    ap (λ m. option_or (why_paused m) (why_idle (least_task s) (is_full s))) mode ∙ (same_idle s t program limit journal ∙ h)
+stop_by s t false false left why program limit journal mode is h =
+    ap (λ m. option_or (why_paused m) (why_idle (least_task s) (is_full s))) (mode ∙ counting_some left (is.not_all refl)) ∙ (same_idle s t program limit journal ∙ h)
 
 -- ---- the whole course
 
@@ -78,12 +70,11 @@ both false b e = cc
 
 mode_of : (o : Option ℕ) (n : ℕ) → IsMode (is_some o) n (modes.behind o (counting (suc n)))
 mode_of (Some number) n = (number, refl)
-mode_of None n = ap counting (minus_one n)
+mode_of None n = ap counted (counting_some (suc n) (above_none n)) ∙ ap counting (minus_one n)
 
 -- some steps are new, so the newest one counts
 newest_counts : (n : ℕ) (b : Bool) → 0 < n → (nat_lt 0 n && b) ≡ b
-newest_counts zero b some = absurd (let h = some in omega (arith, h))
-newest_counts (suc n) b some = refl
+newest_counts n b some = ap (λ c. c && b) (lt-ltb 0 n some)
 
 module _ (workers most : ℕ) (several : 1 < workers) (s : Session) (well_formed : WellFormed s.program) where
   abbrev pub Ends : List Entry → Type 0
@@ -110,11 +101,9 @@ module _ (workers most : ℕ) (several : 1 < workers) (s : Session) (well_formed
       let counted : most - length es ≡ suc left = one_more_left (length es) most few in
       let mode : IsMode (is_some o) left turn.0.at.control.mode = subst (IsMode (is_some o) left) (sym (turn.1 ∙ ap (λ k. modes.behind o (counting k)) counted)) (mode_of o left) in
       let more : length es + 1 ≡ length (Stepped seat v ∷ es) = plus_one (length es) in
-      let newest : is_some o ≡ (nat_lt 0 (length (Stepped seat v ∷ es)) && is_some o) = sym (newest_counts (length (Stepped seat v ∷ es)) (is_some o) (some_more (length es))) in
+      let newest : is_some o ≡ (nat_lt 0 (length (Stepped seat v ∷ es)) && is_some o) = sym (newest_counts (length (Stepped seat v ∷ es)) (is_some o) (above_none (length es))) in
       moved (Stepped seat v ∷ J) (length es + 1) (length (Stepped seat v ∷ es)) (is_some o) (nat_lt 0 (length (Stepped seat v ∷ es)) && is_some o) left more newest turn.0 mode
     where
-      some_more : (n : ℕ) → 0 < suc n
-      some_more n = omega arith
       moved : (J : List Entry) (k n : ℕ) (met met' : Bool) (left : ℕ) → k ≡ n → met ≡ met' → (r : Reached workers (started most s) J k) → IsMode met left r.at.control.mode
           → (r : Reached workers (started most s) J n) × IsMode met' left r.at.control.mode
       moved J k n met met' left e f r mode =

@@ -3,3 +3,4 @@ pub mod Records
 pub mod Returned
 pub mod Reached
 pub mod Courses
+pub mod Looked

@@ -1,15 +1,13 @@
 -- Turns lead to each journal that grows by steps of workers.
-use Rattle.std.proofs.Common.{◌≡◌, ◌≢◌, ◌<◌, ◌≤◌, ◌-◌, ◌+◌, ◌==◌, ℕ, zero, suc, List, [], ◌∷◌, ◌++◌, length, map, set, Bool, true, false, ◌&&◌, not, cond, nat_le, IsTrue, IsFalse, Option, Some, None, is_none, refl, sym, ap, ap₂, ◌∙◌, subst, arith, length-append, eqb-true, ltb-true}
+use Rattle.std.proofs.Common.{◌≡◌, ◌<◌, ◌≤◌, ◌-◌, ◌+◌, ◌==◌, ℕ, zero, suc, List, [], ◌∷◌, ◌++◌, length, Bool, true, false, ◌&&◌, not, cond, nat_le, Option, Some, None, is_none, refl, sym, ap, ap₂, ◌∙◌, subst, arith}
 use Rattle.std.specs.Prelude.{is_some}
 use Rattle.std.specs.List.{list_all}
 use Rattle.std.specs.Option.{option_or}
-use Rattle.std.proofs.lemmas.Bool.Decides.{nat_tests}
-use Rattle.std.proofs.lemmas.Bool.{false≢true}
+use Rattle.std.proofs.lemmas.Bool.{false≢true, ne_eqb, cond-false}
 use Rattle.std.proofs.lemmas.List.{length_push}
 use Rattle.tb_model.specs.declared.entry.Entry.{Entry}
 use Rattle.tb_model.specs.declared.entry.Entry.TheVariants.{Opened, Stepped, Rolled}
 use Rattle.tb_model.specs.declared.event.Event.{Event}
-use Rattle.tb_model.specs.Facts.{History}
 use Rattle.tb_model.specs.Hindrances.{Refusal, can_step}
 use Rattle.tb_model.specs.Journal.{hist, Sound}
 use Rattle.tb_model.specs.Names.{Name, same_name}
@@ -19,20 +17,18 @@ use Rattle.tb_model.proofs.JournalLemmas.{journal_legal}
 use Rattle.tb_model.proofs.LeastNameLemmas.{least_found}
 use Rattle.tb_model.proofs.NextStepLemmas.{next_computed, next_isnt_refused}
 use Rattle.tb_model.proofs.TestLemmas.{same_refl}
-use Rattle.tb_live.specs.declared.mode.Mode.{Mode}
-use Rattle.tb_live.specs.declared.mode.Mode.TheVariants.{Resumed, Counting, Paused}
-use Rattle.tb_live.specs.declared.paused_by.PausedBy.TheVariants.{Break as ByBreak, Count as ByCount}
+use Rattle.tb_live.specs.declared.mode.Mode.TheVariants.{Counting, Paused}
+use Rattle.tb_live.specs.declared.paused_by.PausedBy.TheVariants.{Count as ByCount}
 use Rattle.tb_live.specs.Breaks.{met}
 use Rattle.tb_live.specs.Claims.{Claims, withdrawn, with_claim, unless}
 use Rattle.tb_live.specs.Modes.{counting, counted, is_paused}
 use Rattle.tb_live.specs.Modes as modes
-use Rattle.tb_live.specs.Moves.{coming, least_task, refusal_for}
-use Rattle.tb_live.specs.Session.{Session, history, is_full, with_seat}
+use Rattle.tb_live.specs.Moves.{coming, refusal_for}
+use Rattle.tb_live.specs.Session.{Session, history, is_full}
 use Rattle.tb_live.proofs.ReadyLemmas.{can_spawned}
-use Rattle.tb_team.proofs.Counting.{at_most, full_is_not_room, room_left, some_left, one_fewer, less, plus_one, all_of_it}
-use Rattle.tb_team.specs.declared.stop.Stop.{Stop}
+use Rattle.tb_team.proofs.Counting.{above_none, at_most, full_is_not_room, not_none, room_left, some_left, one_fewer, less, plus_one, all_of_it}
 use Rattle.tb_team.specs.Turns.{AreTurns, IsTurn, started, stop_of, turned, why_idle, why_paused}
-use Rattle.tb_team.specs.Looking.{is_turn, meets_newest, none_met}
+use Rattle.tb_team.specs.Looking.{is_turn, none_met}
 
 -- ---- claims
 
@@ -69,9 +65,8 @@ all_withdrawn (o ∷ claims) (p ∷ others) e = ap₂ ◌∷◌ (none_left o ∙
 
 -- ---- one turn
 
-counting_some : (left : ℕ) → 0 < left → counting left ≡ Counting left
-counting_some zero some = absurd (let h = some in omega (arith, h))
-counting_some (suc left) some = refl
+pub counting_some : (left : ℕ) → 0 < left → counting left ≡ Counting left
+counting_some left some = cond-false (left == 0) (Paused ByCount) (Counting left) (ne_eqb left 0 (not_none left some))
 
 never_full : (s : Session) → length s.journal < s.limit → is_full s ≡ false
 never_full s room = at (nat_le s.limit (length s.journal)) refl
@@ -187,7 +182,7 @@ module _ (workers most : ℕ) (several : 1 < workers) (s : Session) (well_formed
   none_counts : (o : Option ℕ) (n : ℕ) → is_some o ≡ false → modes.behind o (counting n) ≡ counting (n - 1)
   none_counts (Some k) n e = cc
   none_counts None zero e = refl
-  none_counts None (suc n) e = refl
+  none_counts None (suc n) e = ap counted (counting_some (suc n) (above_none n))
 
   -- steps of workers that met no breakpoint
   pub reach : (es J0 : List Entry) → s.journal ≡ J0 → list_all (is_turn workers) es ≡ true → IsTaken (es ++ J0) → length es ≤ most

@@ -1,13 +1,13 @@
 -- What the records of steps say of breakpoints.
-use Rattle.std.proofs.Common.{◌≡◌, ◌<◌, ◌≤◌, ◌+◌, ◌-◌, ℕ, suc, List, [], ◌∷◌, ◌++◌, Bool, true, false, ◌&&◌, not, cond, length, map, take, drop, reverse, refl, sym, ap, ap₂, ◌∙◌, subst, arith, length-append, length-drop, append_assoc, get_or}
+use Rattle.std.proofs.Common.{◌≡◌, ◌<◌, ◌≤◌, ◌-◌, ℕ, suc, List, [], ◌∷◌, ◌++◌, Bool, true, false, ◌&&◌, not, length, map, take, drop, reverse, refl, sym, ap, ap₂, ◌∙◌, subst, arith, length-drop, append_assoc, get_or}
 use Rattle.std.specs.Prelude.{is_some}
 use Rattle.std.specs.List.{list_all}
-use Rattle.std.proofs.lemmas.List.{reverse-append, length-reverse, length-take-le, take-append-drop, drop-drop, drop_all}
+use Rattle.std.proofs.lemmas.List.{reverse-append, length-reverse, length-take-le, take-append-drop, drop_all}
 use Rattle.std.proofs.Math.Seq.{drop-cons}
 use Rattle.std.proofs.lemmas.List.Folds.{list_all-append}
 use Rattle.tb_model.specs.Facts.{History}
-use Rattle.tb_model.specs.Lines.{Departure, LinesFit, events_of}
-use Rattle.tb_model.specs.Program.{Program, LegalFor, situation}
+use Rattle.tb_model.specs.Lines.{LinesFit, events_of}
+use Rattle.tb_model.specs.Program.{Program, LegalFor}
 use Rattle.tb_model.proofs.LinesLemmas.{line_kept}
 use Rattle.tb_model.specs.Legal.{Cells}
 use Rattle.tb_core.specs.declared.entry.Entry.{Entry as Step}
@@ -53,6 +53,7 @@ all_reversed p (x ∷ xs) h =
     both : (a b : Bool) → (a && b) ≡ true → (a ≡ true) × (b ≡ true)
     both true b e = (refl, e)
     both false b e = cc
+
     together : (a b : Bool) → a ≡ true → b ≡ true → (a && b) ≡ true
     together true b e f = f
     together false b e f = cc
@@ -74,9 +75,11 @@ module _ (P : Program) (points : List Breakpoint) (steps : List Step) (count : �
     where
       two_or_more : (n : ℕ) → suc (suc n) ≡ 1 → ⊥
       two_or_more n e = omega (arith, e)
+
       turned : (old mid last : List Step) → steps ≡ old ++ (mid ++ last) → reverse steps ≡ reverse last ++ (reverse mid ++ reverse old)
       turned old mid last whole =
           ap reverse whole ∙ reverse-append old (mid ++ last) ∙ ap (λ l. l ++ reverse old) (reverse-append mid last) ∙ append_assoc (reverse last) (reverse mid) (reverse old)
+
       at : (last : List Step) → length last ≡ 1 → reverse steps ≡ reverse last ++ (reverse (take (length steps - 1 - (length steps - count)) (drop (length steps - count) steps)) ++ reverse (take (length steps - count) steps))
           → length (take (length steps - 1 - (length steps - count)) (drop (length steps - count) steps)) ≡ count - 1 → none_met P points (count - 1) (drop 1 (history_of (reverse steps))) ≡ true
       at [] one whole long = cc

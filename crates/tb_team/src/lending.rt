@@ -6,6 +6,7 @@ ghost use Rattle.tb_work.specs.Receipts.{all_below};
 ghost use Rattle.tb_team.specs.Gone.{HasSeats};
 ghost use Rattle.tb_team.specs.Lending.{IsBack};
 
+use crate::losing::lose;
 use crate::lost::Lost;
 use crate::open_gate::OpenGate;
 use std::alloc::Global;
@@ -14,7 +15,7 @@ use std::sync::Wait;
 use std::sync::ledger::Blank;
 use std::thread::Threads;
 use tb_live::Live;
-use tb_work::{AdoptRefusal, GoRefusal, Places, Seat, Shared, Team, is_seated};
+use tb_work::{AdoptRefusal, Closed, GoRefusal, Places, Seat, Shared, Team, is_seated};
 
 /// Lets the workers of the seats from 1 on take up to so many steps.
 fn work<N: Team + Send + Sync, R: Threads + Wait + Sync>(
@@ -34,6 +35,31 @@ fn work<N: Team + Send + Sync, R: Threads + Wait + Sync>(
         Ok(_) => Ok(()),
         Err(GoRefusal::Memory) => Err(Lost::Memory),
         Err(GoRefusal::CellTaken) => Err(Lost::Journal),
+    }
+}
+
+/// Why a run that isn't taken in is lost.
+fn why_refused(refusal: AdoptRefusal) -> Lost {
+    match refusal {
+        AdoptRefusal::Memory => Lost::Memory,
+        AdoptRefusal::CellTaken => Lost::Journal,
+    }
+}
+
+/// The run without its receipts.
+fn run_of(closed: Closed) -> Live
+    ensures { result ≡ closed.live }
+{
+    closed.live
+}
+
+/// The run, where its workers met no refusal.
+fn unless_refused(live: Live, worked: Result<(), Lost>) -> Result<Live, Lost>
+    ensures { IfOk result (λ back. back.session ≡ live.session) }
+{
+    match worked {
+        Ok(()) => Ok(live),
+        Err(why) => Err(lose(live, why)),
     }
 }
 
@@ -60,13 +86,12 @@ fn lend_as<N: Team + Send + Sync, R: Threads + Wait + Sync>(
 {
     let (shared, mut seats) = match Shared::<N>::adopt(alloc, live, places, blank) {
         Ok(adopted) => adopted,
-        Err((_, AdoptRefusal::Memory)) => return Err(Lost::Memory),
-        Err((_, AdoptRefusal::CellTaken)) => return Err(Lost::Journal),
+        Err((live, refusal)) => return Err(lose(live, why_refused(refusal))),
     };
-    work(rt, &shared, &mut seats, workers, most)?;
+    let worked = work(rt, &shared, &mut seats, workers, most);
     match shared.close(seats) {
-        Ok(closed) => Ok(closed.live),
-        Err(_) => Err(Lost::Journal),
+        Ok(closed) => unless_refused(run_of(closed), worked),
+        Err(gap) => Err(lose(run_of(gap.closed), Lost::Journal)),
     }
 }
 
@@ -84,9 +109,13 @@ pub fn lend<R: Threads + Wait + Sync>(
     ensures { IfOk result (λ back. IsBack live.session back.session) }
 {
     if !is_seated(&live) {
-        return Err(Lost::Journal);
+        return Err(lose(live, Lost::Journal));
     }
-    let places = Places::new(alloc, live.limit())?;
-    let blank = Blank::new(u64::from(live.seats()));
-    lend_as::<Brand, R>(rt, alloc, live, places, blank, workers, most)
+    match Places::new(alloc, live.limit()) {
+        Ok(places) => {
+            let blank = Blank::new(u64::from(live.seats()));
+            lend_as::<Brand, R>(rt, alloc, live, places, blank, workers, most)
+        },
+        Err(_) => Err(lose(live, Lost::Memory)),
+    }
 }

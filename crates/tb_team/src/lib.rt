@@ -4,6 +4,7 @@
 mod gone;
 mod lending;
 mod looking;
+mod losing;
 mod lost;
 mod open_gate;
 mod several;

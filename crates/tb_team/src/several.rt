@@ -7,6 +7,7 @@ ghost use Rattle.tb_team.specs.Looking.{IsLooked};
 use crate::gone::Gone;
 use crate::lending::lend;
 use crate::looking::is_course;
+use crate::losing::lose;
 use crate::lost::Lost;
 use crate::stopping::stop_after;
 use std::alloc::Global;
@@ -24,16 +25,20 @@ fn look(live: Live, workers: u32, most: u32, from: usize) -> Result<Gone, Lost>
     live.journal_is_sound();
     let _core = live.core();
     if !is_course(&live, workers, from) {
-        return Err(Lost::Journal);
+        return Err(lose(live, Lost::Journal));
     }
     let count = (live.journal().len() - from) as u32;
     if most < count {
-        return Err(Lost::Journal);
+        return Err(lose(live, Lost::Journal));
     }
     live.resume();
-    let stop = stop_after(&mut live, count, most)?;
-    live.withdraw_all();
-    Ok(Gone { live, count, stop })
+    match stop_after(&mut live, count, most) {
+        Ok(stop) => {
+            live.withdraw_all();
+            Ok(Gone { live, count, stop })
+        },
+        Err(why) => Err(lose(live, why)),
+    }
 }
 
 /// Lets so many workers take up to so many steps in all. They stop at a breakpoint.

@@ -54,11 +54,7 @@ fn idle_stop(live: &mut Live) -> Result<Option<Stop>, AllocError>
         return Ok(Some(stop));
     }
     let done = is_done(live)?;
-    if done {
-        Ok(Some(Stop::Done))
-    } else {
-        Ok(None)
-    }
+    if done { Ok(Some(Stop::Done)) } else { Ok(None) }
 }
 
 /// Why no step follows after so many of at most so many. Only claims change.

@@ -1,0 +1,36 @@
+use Rattle.std.proofs.Common.{length}
+use Rattle.std.proofs.lemmas.Result.{IfOk-weaker}
+use Rattle.tb_team.specs.Gone.{IsGone}
+use Rattle.tb_team.specs.Looking.{IsLooked}
+use Rattle.tb_team.proofs.Counting.{some_of}
+use Rattle.tb_team.proofs.Looked.{seats_stay, seats_back, still_there, gone_from}
+use Rattle.tb_team.proofs.several.go_several.Goals as goal
+
+pub lend-requires-clause-seats : goal.lend-requires-clause-seats
+lend-requires-clause-seats g c = λ κs within. seats_stay c.args.live.session c.withdraw_all.new.self.session c.requires.seats c.withdraw_all.ensures
+
+pub lend-requires-clause-some : goal.lend-requires-clause-some
+lend-requires-clause-some g c = λ κs within. some_of c.args.workers c.requires.several
+
+pub lend-requires-clause-few : goal.lend-requires-clause-few
+lend-requires-clause-few g c = λ κs within. c.requires.few
+
+pub look-requires : goal.look-requires
+look-requires g c =
+    let s = c.args.live.session in
+    let mid = c.withdraw_all.new.self.session in
+    let back = c.in_ok-live.live.session in
+    let free = c.withdraw_all.ensures in
+    record {
+      seats = seats_back mid back (seats_stay s mid c.requires.seats free) c.in_ok-live.ensures;
+      from = still_there s mid back c.journal-from.result.now free c.journal-from.ensures c.in_ok-live.ensures;
+    }
+
+pub returns : goal.returns
+returns g c =
+    let s = c.args.live.session in
+    let mid = c.withdraw_all.new.self.session in
+    let back = c.in_ok-live.live.session in
+    let es = c.journal-from.result.now in
+    IfOk-weaker c.look.result (IsLooked c.args.workers c.args.most (length es) back) (IsGone c.args.workers c.args.most s)
+    (λ gone looked. gone_from c.args.workers c.args.most s mid back es gone c.requires.several c.withdraw_all.ensures c.journal-from.ensures c.in_ok-live.ensures looked) c.look.ensures
