@@ -1,5 +1,6 @@
 pub mod ChainLemmas
 pub mod AnswerLemmas
+pub mod PlaceLemmas
 pub mod SharingLemmas
 pub mod LaneLemmas
 pub mod AfterLemmas

@@ -4,8 +4,8 @@ ghost use Rattle.std.specs.Prelude.{◌≡◌, ◌≤◌, ◌<◌, ◌-◌, ◌^
 
 use std::alloc::Global;
 use std::sync::Wait;
-use std::thread::Threads;
 use std::test::Fail;
+use std::thread::Threads;
 use tb_session::{Failed, Halt, Settings, Sink, Source, run};
 
 /// A source that hands out so many bytes at a time, of which the call with the number `fails_at`

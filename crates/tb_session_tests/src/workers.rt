@@ -15,7 +15,14 @@ const SUMS: &str = "cells 1\nbody main 0\n\
 #[test]
 fn four_workers_add_up(rt: HostRuntime) -> Result<(), Fail> {
     let text = format!(in rt.alloc(); "{SUMS}go 4 1000\ncells\n")?;
-    assert!(rt; ends_with(&rt, rt.alloc(), text.as_bytes(), "\nran 50 done\ncells 1\n0 36\n"));
+    assert!(rt;
+        ends_with(
+            &rt,
+            rt.alloc(),
+            text.as_bytes(),
+            "\nran 50 done\ncells 1\n0 36\n"
+        )
+    );
     Ok(())
 }
 
@@ -33,6 +40,13 @@ fn a_breakpoint_stops_four_workers(rt: HostRuntime) {
 #[test]
 fn workers_stop_at_the_limit(rt: HostRuntime) -> Result<(), Fail> {
     let text = format!(in rt.alloc(); "{SUMS}go 3 20\ngo 2 0\ngo 5 1\n")?;
-    assert!(rt; ends_with(&rt, rt.alloc(), text.as_bytes(), "\nran 20 limit\nran 0 limit\nerror number\n"));
+    assert!(rt;
+        ends_with(
+            &rt,
+            rt.alloc(),
+            text.as_bytes(),
+            "\nran 20 limit\nran 0 limit\nerror number\n"
+        )
+    );
     Ok(())
 }

@@ -1,6 +1,6 @@
 use Rattle.std.proofs.Common.{sym, ◌∙◌, take}
 use Rattle.tb_core.specs.Scans.{history_of}
-use Rattle.tb_cause.proofs.ConeLemmas.{event_passes, event_passed}
+use Rattle.tb_order.proofs.PlaceLemmas.{event_passes, event_passed}
 use Rattle.tb_order.specs.Linking.{is_linked}
 use Rattle.tb_order.proofs.passing.is_chained.Goals as goal
 
