@@ -16,7 +16,9 @@ fn planned(rt: &(impl Abort + AllocGlobal), live: &mut Live, seat: u32, name: &s
     match live.claim_task(seat, &task(rt, name)) {
         Ok(work) => {
             assert!(rt; work.instr.line == work.config.at);
-            plan(rt.alloc(), &work.instr, &work.config).expect(rt, "a plan")
+            let made = plan(rt.alloc(), &work.instr, &work.config).expect(rt, "a plan");
+            mem::forget(work);
+            made
         }
         Err(_) => panic!(rt; "a claim on {name}"),
     }

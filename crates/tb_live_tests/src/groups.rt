@@ -7,7 +7,7 @@ use std::alloc::AllocGlobal;
 use std::mem;
 use std::process::Abort;
 use tb_live::Live;
-use tb_model::StepId;
+use tb_model::{StepId, TaskName};
 
 /// A group with a child that generates one more, and one that faults.
 const GROUPED: &[u8] = b"cells 1\nbody main 0\n  taskgroup\n    task u\n    task f\n  end\nend\n\
@@ -15,42 +15,62 @@ const GROUPED: &[u8] = b"cells 1\nbody main 0\n  taskgroup\n    task u\n    task
 
 const STEPS: [&str; 8] = ["0", "0", "0", "0", "0.1", "0.1", "0.2", "0.2"];
 
-fn children(rt: &(impl Abort + AllocGlobal), live: &Live, name: &str) -> String {
+fn print_tasks(rt: &(impl Abort + AllocGlobal), tasks: &[TaskName]) -> String {
     let mut text = String::new(rt.alloc());
-    let found = live.unended_children(&task(rt, name));
-    for child in found.expect(rt, "memory is there").as_slice() {
-        child.print(&mut text).expect(rt, "memory is there");
+    for task in tasks {
+        task.print(&mut text).expect(rt, "memory is there");
         text.push_str(" ").expect(rt, "memory is there");
     }
     text
 }
 
-fn members(rt: &(impl Abort + AllocGlobal), live: &Live, group: &StepId) -> String {
+fn print_steps(rt: &(impl Abort + AllocGlobal), steps: &[StepId]) -> String {
     let mut text = String::new(rt.alloc());
-    let found = live.unended_members(group);
-    for member in found.expect(rt, "memory is there").as_slice() {
-        member.print(&mut text).expect(rt, "memory is there");
+    for step in steps {
+        step.print(&mut text).expect(rt, "memory is there");
         text.push_str(" ").expect(rt, "memory is there");
     }
     text
 }
 
-fn groups(rt: &(impl Abort + AllocGlobal), live: &Live, name: &str) -> String {
-    let mut text = String::new(rt.alloc());
-    let found = live.open_groups(&task(rt, name));
-    for group in found.expect(rt, "memory is there").as_slice() {
-        group.print(&mut text).expect(rt, "memory is there");
-        text.push_str(" ").expect(rt, "memory is there");
-    }
-    text
+/// The task's unended children are these.
+fn compare_children(rt: &(impl Abort + AllocGlobal), live: &Live, name: &str, want: &str) {
+    let task = task(rt, name);
+    let found = live.unended_children(&task).expect(rt, "memory is there");
+    let text = print_tasks(rt, &found);
+    assert_eq!(rt; text.as_str(), want);
+    mem::forget(task);
+    mem::forget(found);
+    mem::forget(text);
+}
+
+/// The group's unended members are these.
+fn compare_members(rt: &(impl Abort + AllocGlobal), live: &Live, group: &str, want: &str) {
+    let group = StepId::parse(rt.alloc(), group.as_bytes()).expect(rt, "a step");
+    let found = live.unended_members(&group).expect(rt, "memory is there");
+    let text = print_tasks(rt, &found);
+    assert_eq!(rt; text.as_str(), want);
+    mem::forget(group);
+    mem::forget(found);
+    mem::forget(text);
+}
+
+/// The task's open groups are these.
+fn compare_groups(rt: &(impl Abort + AllocGlobal), live: &Live, name: &str, want: &str) {
+    let task = task(rt, name);
+    let found = live.open_groups(&task).expect(rt, "memory is there");
+    let text = print_steps(rt, &found);
+    assert_eq!(rt; text.as_str(), want);
+    mem::forget(task);
+    mem::forget(found);
+    mem::forget(text);
 }
 
 fn ask(rt: &(impl Abort + AllocGlobal), live: &Live) {
-    let group = StepId::parse(rt.alloc(), b"0#2").expect(rt, "a step");
-    assert_eq!(rt; groups(rt, live, "0").as_str(), "0#2 ");
-    assert_eq!(rt; groups(rt, live, "0.1").as_str(), "");
-    assert_eq!(rt; children(rt, live, "0").as_str(), "0.1 ");
-    assert_eq!(rt; members(rt, live, &group).as_str(), "0.1 0.1.1 ");
+    compare_groups(rt, live, "0", "0#2 ");
+    compare_groups(rt, live, "0.1", "");
+    compare_children(rt, live, "0", "0.1 ");
+    compare_members(rt, live, "0#2", "0.1 0.1.1 ");
     assert!(rt; live.has_faulted(&task(rt, "0.2")));
     assert!(rt; !live.has_faulted(&task(rt, "0.1")));
 }

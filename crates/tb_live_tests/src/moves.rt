@@ -74,7 +74,11 @@ fn are_as_said(answers: &[Answer], rows: &[(&str, &str, u32)]) -> bool {
 /// Whether the moves are answered so.
 fn answers(live: &mut Live, moves: &[Move], rows: &[(&str, &str, u32)]) -> bool {
     match live.run(moves) {
-        Ok(answers) => are_as_said(answers.as_slice(), rows),
+        Ok(answers) => {
+            let right = are_as_said(answers.as_slice(), rows);
+            mem::forget(answers);
+            right
+        }
         Err(_) => false,
     }
 }
@@ -84,5 +88,6 @@ fn moves_are_answered_in_turn(rt: HostRuntime) {
     let moves = moves_of(rt.alloc(), MOVES.as_slice()).expect(&rt, "names of tasks and steps");
     let mut live = opened(rt.alloc()).expect(&rt, "an accepted program");
     assert!(rt; answers(&mut live, moves.as_slice(), MOVES.as_slice()));
+    mem::forget(moves);
     mem::forget(live);
 }

@@ -167,10 +167,16 @@ pub fn step_all(rt: &(impl Abort + AllocGlobal), live: &mut Live, names: &[&str]
 /// How many steps go with this one, and 100 where the rollback is refused.
 pub fn gone(rt: &(impl Abort + AllocGlobal), live: &mut Live, id: &str) -> usize {
     let id = StepId::parse(rt.alloc(), id.as_bytes()).expect(rt, "a step");
-    match live.roll(0, &id) {
-        Ok(removed) => removed.len(),
+    let count = match live.roll(0, &id) {
+        Ok(removed) => {
+            let count = removed.len();
+            mem::forget(removed);
+            count
+        }
         Err(_) => 100,
-    }
+    };
+    mem::forget(id);
+    count
 }
 
 /// The seats that claim, and the answers; `claim` where no task is named, else `claim_task`.

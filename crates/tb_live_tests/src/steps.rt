@@ -5,8 +5,7 @@ ghost use Rattle.std.specs.Prelude.{◌≤◌};
 use std::alloc::{AllocGlobal, Global};
 use std::mem;
 use std::process::Abort;
-use std::test::Fail;
-use tb_live::{Live, StepRefusal, UndoRefusal};
+use tb_live::{Live, Removed, StepRefusal, UndoRefusal};
 use tb_model::{Action, StepId, TaskName};
 use tb_read::read;
 
@@ -95,10 +94,6 @@ fn ends_and_fills(rt: HostRuntime) {
     mem::forget(live);
 }
 
-fn task(alloc: Global, text: &str) -> Option<TaskName> {
-    TaskName::parse(alloc, text.as_bytes()).ok()
-}
-
 /// The task that a refusal names.
 fn named(refusal: &StepRefusal) -> Option<&TaskName> {
     match refusal {
@@ -111,26 +106,33 @@ fn named(refusal: &StepRefusal) -> Option<&TaskName> {
     }
 }
 
-/// The number of the refusal with the task that it names.
-fn refused(text: &mut String, refusal: &StepRefusal) -> Option<()> {
+/// Adds the number of the refusal with the task that it names.
+fn tell_refusal(rt: &impl Abort, text: &mut String, refusal: &StepRefusal) {
     let number = refusal.number();
-    write!(text, "{number} ").ok()?;
+    write!(text, "{number} ").expect(rt, "memory is there");
     if let Some(task) = named(refusal) {
-        task.print(text).ok()?;
+        task.print(text).expect(rt, "memory is there");
     }
-    text.push(' ').ok()
+    text.push(' ').expect(rt, "memory is there");
 }
 
-/// The refusals of steps of the tasks, one after another, and nothing for a step that is taken.
-fn answers(alloc: Global, live: &mut Live, names: &[&str]) -> Option<String> {
-    let mut text = String::new(alloc);
-    for name in names {
-        let task = task(alloc, *name)?;
-        if let Err(refusal) = live.step(&task) {
-            refused(&mut text, &refusal)?;
-        }
+/// Adds the refusal of a step of the task, and nothing for a step that is taken.
+fn answer(rt: &(impl Abort + AllocGlobal), live: &mut Live, name: &str, text: &mut String) {
+    let task = TaskName::parse(rt.alloc(), name.as_bytes()).expect(rt, name);
+    if let Err(refusal) = live.step(&task) {
+        tell_refusal(rt, text, &refusal);
+        mem::forget(refusal);
     }
-    Some(text)
+    mem::forget(task);
+}
+
+/// The refusals of steps of the tasks, one after another.
+fn answers(rt: &(impl Abort + AllocGlobal), live: &mut Live, names: &[&str]) -> String {
+    let mut text = String::new(rt.alloc());
+    for name in names {
+        answer(rt, live, *name, &mut text);
+    }
+    text
 }
 
 /// The program, the steps that are asked for, and the refusals in between.
@@ -179,8 +181,9 @@ const ROWS: [(&[u8], &[&str], &str); 6] = [
 
 fn compare(rt: &(impl Abort + AllocGlobal), text: &[u8], names: &[&str], refusals: &str) {
     let mut live = opened(rt.alloc(), text, 20).expect(rt, "an accepted program");
-    let told = answers(rt.alloc(), &mut live, names).expect(rt, "memory is there");
+    let told = answers(rt, &mut live, names);
     assert_eq!(rt; told.as_str(), refusals, "{text:?}");
+    mem::forget(told);
     mem::forget(live);
 }
 
@@ -195,32 +198,43 @@ fn each_refusal_names_what_stands_in_the_way(rt: HostRuntime) {
 const CONFLICT: &[u8] = b"cells 1\ncell 0 5\nbody main 0\ntask a\ntask b\nend\nbody a 0\n\
     load r0 0\nprint r0\nend\nbody b 0\nlet r0 1\nstore 0 9\nend\n";
 
-fn told(alloc: Global, id: Option<StepId>) -> Option<String> {
-    let mut text = String::new(alloc);
+/// Adds the step, or that there is none.
+fn tell(rt: &impl Abort, text: &mut String, id: &Option<StepId>) {
     match id {
-        Some(id) => id.print(&mut text).ok()?,
-        None => text.push_str("none").ok()?,
+        Some(id) => id.print(text).expect(rt, "memory is there"),
+        None => text.push_str("none").expect(rt, "memory is there"),
     }
-    Some(text)
 }
 
-/// The steps that go with one, or the number of the refusal.
-fn rolled(alloc: Global, live: &mut Live, id: &str) -> Option<String> {
-    let id = StepId::parse(alloc, id.as_bytes()).ok()?;
-    let mut text = String::new(alloc);
-    match live.roll(0, &id) {
+fn tell_removed(rt: &impl Abort, text: &mut String, removed: &[Removed]) {
+    for step in removed {
+        step.id.print(text).expect(rt, "memory is there");
+        text.push(' ').expect(rt, "memory is there");
+    }
+}
+
+/// Adds the steps that go with one, or the number of the refusal.
+fn roll_back(rt: &(impl Abort + AllocGlobal), live: &mut Live, id: &StepId, text: &mut String) {
+    match live.roll(0, id) {
         Ok(removed) => {
-            for step in &removed {
-                step.id.print(&mut text).ok()?;
-                text.push(' ').ok()?;
-            }
+            tell_removed(rt, text, &removed);
+            mem::forget(removed);
         }
         Err(refusal) => {
             let number = refusal.number();
-            write!(text, "{number}").ok()?;
+            write!(text, "{number}").expect(rt, "memory is there");
         }
     }
-    Some(text)
+}
+
+/// The rollback of the step is answered so.
+fn compare_rollback(rt: &(impl Abort + AllocGlobal), live: &mut Live, id: &str, gone: &str) {
+    let step = StepId::parse(rt.alloc(), id.as_bytes()).expect(rt, id);
+    let mut text = String::new(rt.alloc());
+    roll_back(rt, live, &step, &mut text);
+    assert_eq!(rt; text.as_str(), gone, "at {id}");
+    mem::forget(step);
+    mem::forget(text);
 }
 
 /// What is rolled back, one after another, and what goes with it.
@@ -234,50 +248,59 @@ const ROLLBACKS: [(&str, &str); 5] = [
 
 fn roll_all(rt: &(impl Abort + AllocGlobal), live: &mut Live) {
     for (id, gone) in ROLLBACKS {
-        let told = rolled(rt.alloc(), live, id).expect(rt, "memory is there");
-        assert_eq!(rt; told.as_str(), gone, "at {id}");
+        compare_rollback(rt, live, id, gone);
     }
 }
 
-/// The last store to cell 0, and the last print.
-fn newest_of_kinds(alloc: Global, live: &Live) -> Option<(String, String)> {
-    let store = told(alloc, live.last_store(0).ok()?)?;
-    let print = told(alloc, live.last_print().ok()?)?;
-    Some((store, print))
-}
-
-/// The last store to cell 0 and the last print stand so.
-fn compare_newest(rt: &(impl Abort + AllocGlobal), live: &Live, store: &str, print: &str) {
-    let (last_store, last_print) = newest_of_kinds(rt.alloc(), live).expect(rt, "memory is there");
-    assert_eq!(rt; last_store.as_str(), store);
-    assert_eq!(rt; last_print.as_str(), print);
+/// The last store to cell 0 and the last print are these.
+fn compare_newest(rt: &(impl Abort + AllocGlobal), live: &Live, newest: &str) {
+    let mut text = String::new(rt.alloc());
+    let store = live.last_store(0).expect(rt, "memory is there");
+    tell(rt, &mut text, &store);
+    mem::forget(store);
+    text.push(' ').expect(rt, "memory is there");
+    let print = live.last_print().expect(rt, "memory is there");
+    tell(rt, &mut text, &print);
+    mem::forget(print);
+    assert_eq!(rt; text.as_str(), newest);
+    mem::forget(text);
 }
 
 #[test]
 fn a_rollback_takes_what_needs_the_step(rt: HostRuntime) {
     let mut live = opened(rt.alloc(), CONFLICT, 14).expect(&rt, "an accepted program");
     let names = ["0", "0", "0", "0.1", "0.1", "0.1", "0.2", "0.2", "0.2"];
-    let refusals = answers(rt.alloc(), &mut live, names.as_slice());
-    assert!(rt; refusals.expect(&rt, "memory is there").is_empty());
-    compare_newest(&rt, &live, "0.2#3", "0.1#3");
+    let refusals = answers(&rt, &mut live, names.as_slice());
+    assert!(rt; refusals.is_empty());
+    mem::forget(refusals);
+    compare_newest(&rt, &live, "0.2#3 0.1#3");
     roll_all(&rt, &mut live);
     assert!(rt; live.newest().is_none());
     mem::forget(live);
 }
 
-fn take_nine(alloc: Global, live: &mut Live) -> Option<String> {
-    let mut line = String::new(alloc);
-    for _ in 0..9 {
-        match live.step_least() {
-            Ok(id) => line.push_str(told(alloc, id)?.as_str()).ok()?,
-            Err(refusal) => {
-                let number = refusal.number();
-                write!(line, "{number}").ok()?;
-            }
+/// Adds the step that is taken, or the number of the refusal.
+fn take_one(rt: &impl Abort, live: &mut Live, line: &mut String) {
+    match live.step_least() {
+        Ok(id) => {
+            tell(rt, line, &id);
+            mem::forget(id);
         }
-        line.push(' ').ok()?;
+        Err(refusal) => {
+            let number = refusal.number();
+            write!(line, "{number}").expect(rt, "memory is there");
+            mem::forget(refusal);
+        }
     }
-    Some(line)
+    line.push(' ').expect(rt, "memory is there");
+}
+
+fn take_nine(rt: &(impl Abort + AllocGlobal), live: &mut Live) -> String {
+    let mut line = String::new(rt.alloc());
+    for _ in 0..9 {
+        take_one(rt, live, &mut line);
+    }
+    line
 }
 
 /// Two tasks of which the second waits for the first, and a wait for both.
@@ -287,11 +310,12 @@ const ORDERED: &[u8] = b"cells 1\nbody main 0\ntask t depend out 0\ntask t depen
 #[test]
 fn the_least_that_can_step_does(rt: HostRuntime) {
     let mut live = opened(rt.alloc(), ORDERED, 10).expect(&rt, "an accepted program");
-    let line = take_nine(rt.alloc(), &mut live).expect(&rt, "memory is there");
+    let line = take_nine(&rt, &mut live);
     assert_eq!(rt;
         line.as_str(),
         "0#1 0#2 0#3 0.1#1 0.1#2 0.2#1 0.2#2 0#4 0#5 "
     );
+    mem::forget(line);
     mem::forget(live);
 }
 
@@ -323,23 +347,32 @@ fn undo_again(rt: &(impl Abort + AllocGlobal), live: &mut Live, k: u32) {
     }
 }
 
+/// How many steps go with this one, or the number of the refusal.
+fn gone(live: &mut Live, id: &StepId) -> Result<usize, u8> {
+    match live.roll(0, id) {
+        Ok(removed) => {
+            let count = removed.len();
+            mem::forget(removed);
+            Ok(count)
+        }
+        Err(refusal) => Err(refusal.number()),
+    }
+}
+
 /// The same of a rollback of all steps.
 fn roll_again(rt: &(impl Abort + AllocGlobal), live: &mut Live) {
     let first = StepId {
         task: TaskName::root(rt.alloc()),
         k: 1,
     };
-    let count = match live.roll(0, &first) {
-        Ok(removed) => removed.len(),
-        Err(refusal) => {
-            assert_eq!(rt; refusal.number(), 0);
-            assert_eq!(rt; live.output().len(), 1);
-            live.roll(0, &first)
-                .expect(rt, "memory is there again")
-                .len()
-        }
-    };
-    assert_eq!(rt; count, 4);
+    let mut answer = gone(live, &first);
+    if let Err(number) = answer {
+        assert_eq!(rt; number, 0);
+        assert_eq!(rt; live.output().len(), 1);
+        answer = gone(live, &first);
+    }
+    assert_eq!(rt; answer, Ok(4));
+    mem::forget(first);
 }
 
 /// A call that was refused for memory changes nothing, and made again it answers as it would have
