@@ -2,6 +2,7 @@
 
 import cmd
 import re
+import shutil
 import sys
 
 from shell import texts
@@ -290,7 +291,7 @@ class Shell(Walking, Drawing, cmd.Cmd):
         """All commands, or one."""
         name = self.expand(words[0]) if words else None
         if name is None:
-            lines = texts.help_list()
+            lines = texts.help_list(shutil.get_terminal_size().columns)
         elif name in texts.HELP:
             lines = texts.help_of(name)
         else:

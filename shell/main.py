@@ -9,7 +9,7 @@ sys.path.insert(0, os.path.dirname(os.path.dirname(os.path.abspath(__file__))))
 
 from shell import texts  # noqa: E402
 from shell.commands import Shell  # noqa: E402
-from shell.protocol import Ended, Refused  # noqa: E402
+from shell.protocol import Ended, Refused, is_digits  # noqa: E402
 from shell.session import Session  # noqa: E402
 from shell.source import Source, split_session  # noqa: E402
 
@@ -23,8 +23,8 @@ def read_words(words):
     parser.add_argument("file", help="a program, or a session, whose commands `source` plays")
     parser.add_argument("--program", default=os.environ.get("TASKBACK_PROGRAM", BUILT), help="the program to run")
     parser.add_argument("--plain", action="store_true", help="the program's own lines, and nothing beside them")
-    parser.add_argument("--limit", type=int, help="the most entries of the journal")
-    parser.add_argument("--workers", type=int, help="passed to the program")
+    parser.add_argument("--limit", help="the most entries of the journal")
+    parser.add_argument("--workers", help="passed to the program")
     return parser.parse_args(words)
 
 
@@ -41,9 +41,13 @@ def start_session(given):
             text, commands = split_session(file.read())
     except OSError as fault:
         sys.exit(print(f"run: can't read {given.file}: {fault.strerror}", file=sys.stderr) or 2)
-    options = [] if given.workers is None else ["--workers", str(given.workers)]
+    options = [] if given.workers is None else ["--workers", given.workers]
+    limit = int(given.limit) if given.limit and is_digits(given.limit) else None
+    if given.limit is not None and limit is None:
+        # The program says what is wrong with it.
+        options += ["--limit", given.limit]
     try:
-        return Session(given.program, Source(text, given.file), given.limit, options), commands or []
+        return Session(given.program, Source(text, given.file), limit, options), commands or []
     except Refused as refused:
         for line in texts.fault_lines(os.path.basename(given.file), text, refused.line, refused.kind):
             print(line, file=sys.stderr)

@@ -2,6 +2,7 @@
 
 import difflib
 import re
+import textwrap
 
 from shell.protocol import words_of
 
@@ -59,9 +60,10 @@ ERRORS = {
 }
 
 FORMS = {
-    "cells": "cells N", "cell": "cell C V", "body": "body NAME PARAMETERS", "let": "let rK A   or   let rK A OP B",
+    "cells": "cells N", "cell": "cell C V", "body": "body NAME PARAMETERS", "let": "let rK A   or   let rK A OP B, where OP is + - *",
     "load": "load rK ADDR", "store": "store ADDR VAL", "print": "print VAL", "taskwait": "taskwait   or   taskwait depend TYPE ADDR",
-    "task": "task NAME ARG.. depend TYPE ADDR", "taskgroup": "taskgroup", "if": "if A CMP B", "while": "while A CMP B",
+    "task": "task NAME ARG.. depend TYPE ADDR", "taskgroup": "taskgroup",
+    "if": "if A CMP B, where CMP is == != < <=", "while": "while A CMP B, where CMP is == != < <=",
     "else": "else", "end": "end",
 }
 
@@ -78,13 +80,17 @@ FAULTS = {
 TYPES = ("in", "out", "inout", "mutexinoutset", "inoutset")
 
 
-def help_list():
-    """All commands, a line each."""
+# What stands for comparisons that the notation hasn't, of a line's words.
+COMPARED = {"=": "{0} {1} == {3}", ">": "{0} {3} < {1}", ">=": "{0} {3} <= {1}"}
+
+
+def help_list(columns):
+    """All commands, each with what it does beside it, in so many columns."""
     width = max(len(form[0]) for name, form in HELP.items() if name != "break")
     lines = []
     for usage, text, _ in HELP.values():
         shown = usage if len(usage) <= width else usage.split(" ")[0] + " ..."
-        lines.append(f"  {shown:<{width}}  {text}")
+        lines += textwrap.wrap(text, max(columns, width + 24), initial_indent=f"  {shown:<{width}}  ", subsequent_indent=" " * (width + 4))
     return lines + ["Enter repeats the last step. `help COMMAND` gives an example."]
 
 
@@ -263,10 +269,21 @@ def should_be(words):
         return None
     if words[0] == "let" and "=" in words:
         return " ".join(word for word in words if word != "=")
+    if words[1:2] == ["="] and re.fullmatch(r"r[0-9]+", words[0]):
+        return " ".join(["let", words[0]] + words[2:])
+    if words[0] in ("if", "while") and len(words) == 4 and words[2] in COMPARED:
+        return COMPARED[words[2]].format(*words)
     if words[0] not in FORMS:
         near = difflib.get_close_matches(words[0], FORMS, 1)
         return FORMS[near[0]] if near else None
     return FORMS[words[0]]
+
+
+def nearest_body(lines, words):
+    """The line with the body that it may mean, where the one that it names isn't there."""
+    bodies = [told[1] for told in map(words_of, lines) if told[:1] == ["body"] and len(told) > 1]
+    near = difflib.get_close_matches(words[1], bodies, 1) if len(words) > 1 else []
+    return " ".join([words[0], near[0]] + words[2:]) if near else None
 
 
 def fault_lines(name, text, number, kind):
@@ -285,4 +302,6 @@ def fault_lines(name, text, number, kind):
         shown.append(" " * (len(head) + starts[place]) + "^" * len(words[place]))
     shown.append(f"  {meaning} ({kind})")
     form = should_be(words) if kind in ("BadNumber", "UnknownWord", "Arity", "Register", "DependType") else None
+    if kind == "UnknownBody":
+        form = nearest_body(lines, words)
     return shown + ([f"  it should look like: {form}"] if form else [])

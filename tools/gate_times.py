@@ -114,7 +114,7 @@ def row(name, minutes):
 
 def main():
     start = time.time()
-    gate = subprocess.Popen(["bash", f"{TOP}/.ci/run"], stdout=subprocess.PIPE, stderr=subprocess.STDOUT, text=True, errors="replace")
+    gate = subprocess.Popen(["rt", "ci"], cwd=TOP, stdin=subprocess.DEVNULL, stdout=subprocess.PIPE, stderr=subprocess.STDOUT, text=True, errors="replace")
     watch = Watch(gate.pid)
     watch.start()
     for line in gate.stdout:

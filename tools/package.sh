@@ -7,7 +7,8 @@ top=$(cd "$(dirname "$(readlink -f "${BASH_SOURCE[0]}")")/.." && pwd)
 program=crates/taskback/out/taskback
 into=$(cd "${1-.}" && pwd)
 cd "$top"
-if [ ! -x "$program" ] || [ -n "$(find crates -path '*/out' -prune -o \( -name '*.rt' -o -name '*.antt' \) -newer "$program" -print -quit)" ]; then
+if [ ! -x "$program" ] || [ -n "$(find crates \( -name out -o -name '*_tests' -o -name '*_rows' \) -prune \
+    -o \( -name '*.rt' -o -name '*.antt' \) -newer "$program" -print -quit)" ]; then
     echo "package: no proved program of these sources: ./run --prove makes it" >&2
     exit 2
 fi

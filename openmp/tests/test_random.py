@@ -5,9 +5,17 @@ import unittest
 
 import random_programs
 import support
+from taskrun import trace as t
 
 COUNT = int(os.environ.get("TASKBACK_OPENMP_RANDOM", "200"))
 AT_ONCE = 20
+EXCLUDES = 4    # the type of an item of `mutexinoutset`
+
+
+def is_task_lost(trace):
+    """Whether a task that excludes others was never started: libomp 14 loses such a one at times, at the end of a region."""
+    excluding = {event.task for event in trace.events if event.kind == t.ITEM and event.mark == EXCLUDES}
+    return bool(excluding - {event.task for event in trace.events if event.kind == t.START})
 
 
 @support.needs_clang
@@ -22,10 +30,19 @@ class RandomPrograms(support.Recorded):
                     self.check_seed(program, seed)
 
     def check_seed(self, program, seed):
-        answers = {threads: self.check(program, threads, [str(seed)]) for threads in support.THREADS}
+        answers = {}
+        for threads in support.THREADS:
+            trace = support.Trace(self.record(program, threads, [str(seed)])[0])
+            session = support.Session(trace)
+            status, lines = support.answer.answer(session, support.replies_to(session.text(), len(session.taken)))
+            if is_task_lost(trace):
+                # So the run isn't legal, and that is told.
+                self.assertEqual((status, lines[0].split(":")[0]), (1, "fault of the run"), lines)
+            else:
+                answers[threads] = status, lines
         for threads, (status, lines) in answers.items():
             self.assertIn(status, (0, 2), f"{threads} threads: {lines}\n{random_programs.function(seed)}")
-        self.assertEqual(len({status for status, _ in answers.values()}), 1, answers)
+        self.assertLessEqual(len({status for status, _ in answers.values()}), 1, answers)
 
 
 if __name__ == "__main__":

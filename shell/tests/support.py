@@ -103,6 +103,15 @@ class Terminal:
         lines = shown.replace("\r\n", "\n")[:-len(PROMPT)].split("\n")
         return [text for text in lines[1:] if text]
 
+    def stopped(self, line, shown):
+        """Types a long run, and presses Ctrl-C once this is shown; how many steps it took."""
+        self.send(line + "\n")
+        self.read_until(shown)
+        self.send("\x03")
+        told = self.read_until("stopped by Ctrl-C; the session goes on")
+        self.read_until("(taskback) ")
+        return int(told.rsplit("ran ", 1)[1].split(" ")[0])
+
     def interrupt(self):
         """Presses Ctrl-C once the shell waits for a key: readline doesn't see one that comes just before."""
         while not self.sleeps():

@@ -67,6 +67,14 @@ class Stalling(unittest.TestCase):
         shell.read_until("as Ctrl-D does")
         shell.read_until("(taskback) ")
 
+    def cut_by_the_second(self, shell, told):
+        """Presses Ctrl-C in a command that asks for many replies: the first waits for the one that stalls, the second cuts it."""
+        self.wait_for(told)
+        shell.send("\x03")
+        with self.assertRaises(AssertionError):
+            shell.read_until("stopped by", 1)
+        self.press(shell, TOLD)
+
 
 @needs_program
 class InterruptTest(Stalling):
@@ -92,11 +100,7 @@ class InterruptTest(Stalling):
         shell.type("step 0")
         shell.send("run 1000000\n")
         shell.read_until("0#2001 ")
-        self.wait_for(told)
-        shell.send("\x03")
-        with self.assertRaises(AssertionError):
-            shell.read_until("stopped by", 1)
-        self.press(shell, TOLD)
+        self.cut_by_the_second(shell, told)
         self.assertEqual(shell.ask("step 0")[0].split(" ")[0], "0#2002")
         path = write_file(self, "", "saved.session")
         shell.ask("save " + path)

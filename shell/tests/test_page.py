@@ -21,7 +21,27 @@ from test_lanes import walked
 from test_races import has_views
 
 BROWSER = shutil.which("chromium") or shutil.which("chromium-browser") or shutil.which("google-chrome")
-needs_browser = unittest.skipUnless(BROWSER, "left out: no Chromium is here")
+
+
+def shown_by_browser(address, size="1400,4000"):
+    """The document of a page once the browser has shown it and run its scripts."""
+    with tempfile.TemporaryDirectory() as home:
+        return subprocess.run([BROWSER, "--headless", "--no-sandbox", "--disable-gpu", "--disable-dev-shm-usage", f"--user-data-dir={home}",
+                               f"--window-size={size}", "--dump-dom", address], capture_output=True, text=True, timeout=600, check=True).stdout
+
+
+def why_no_browser():
+    """Why there are no tests in a browser, or nothing."""
+    if not BROWSER:
+        return "left out: no Chromium is here"
+    try:
+        return "" if "tried" in shown_by_browser("data:text/html,<p>tried</p>") else "left out: Chromium shows nothing here"
+    except (OSError, subprocess.SubprocessError):
+        return "left out: Chromium does not start here"
+
+
+NO_BROWSER = why_no_browser()
+needs_browser = unittest.skipIf(NO_BROWSER, NO_BROWSER)
 WATCH = """<script>window.faults = []; window.addEventListener("error", (event) => faults.push(event.message));
 document.addEventListener("securitypolicyviolation", (event) => faults.push(event.violatedDirective));</script>"""
 TOOLS = """
@@ -94,10 +114,7 @@ def in_browser(path, script, size="1400,4000"):
     head, tail = page.split("<head>")
     with open(path + ".tried.html", "w", encoding="utf-8") as file:
         file.write(head + "<head>" + WATCH + tail.replace("</body>", told))
-    with tempfile.TemporaryDirectory() as home:
-        done = subprocess.run([BROWSER, "--headless", "--no-sandbox", "--disable-gpu", f"--user-data-dir={home}", f"--window-size={size}",
-                               "--dump-dom", "file://" + path + ".tried.html"], capture_output=True, text=True, timeout=180, check=True)
-    text = re.search(r"<body>(.*)</body>", done.stdout, re.S)[1]
+    text = re.search(r"<body>(.*)</body>", shown_by_browser("file://" + path + ".tried.html", size), re.S)[1]
     for mark, sign in (("&lt;", "<"), ("&gt;", ">"), ("&amp;", "&")):
         text = text.replace(mark, sign)
     return json.loads(text)

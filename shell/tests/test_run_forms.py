@@ -48,11 +48,16 @@ class Forms(unittest.TestCase):
         return path
 
     def test_wrong_words_are_one_line_and_status_2(self):
-        for words in (["-i"], ["--limit"], ["--workers"], ["a", "b"], ["-i", "a", "b"], ["no such file"], ["-i", "no such file"]):
+        for words in (["-i"], ["--limit"], ["--workers"], ["a", "b"], ["-i", "a", "b"], ["no such file"], ["-i", "no such file"],
+                      [self.folder], ["-i", self.folder]):
             with self.subTest(words=words):
                 out, told, status = ran(*words)
                 self.assertEqual((out, told.count(b"\n"), status), (b"", 1, 2))
                 self.assertTrue(told.startswith(b"run: "))
+
+    def test_a_named_program_is_run(self):
+        for named, wanted in (("/bin/cat", (OK.encode(), b"", 0)), ("/no/program", (b"", b"run: can't run /no/program, which TASKBACK_PROGRAM names\n", 2))):
+            self.assertEqual(ran(self.file("ok.task", OK), env=dict(os.environ, TASKBACK_PROGRAM=named)), wanted)
 
     def test_a_link_runs(self):
         link = os.path.join(self.folder, "linked")
@@ -107,7 +112,6 @@ class Forms(unittest.TestCase):
             self.assertEqual(running.wait(timeout=300), 0)
         with open(RACE.replace(".session", ".out"), "rb") as wanted:
             self.assertEqual(out.replace(b"\r\n", b"\n"), wanted.read())
-
 
     def test_without_a_file_a_terminal_is_told_what_to_type(self):
         end, terminal = pty.openpty()

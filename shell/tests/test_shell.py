@@ -71,13 +71,8 @@ class TerminalTest(unittest.TestCase):
 
     def test_interrupt_keeps_the_session(self):
         shell = self.open("--limit", "1000000", write_file(self, LOOP), NO_COLOR="1")
-        shell.send("run 1000000\n")
-        shell.read_until("0#500 ")
-        shell.send("\x03")
-        told = shell.read_until("stopped by Ctrl-C")
-        taken = int(told.rsplit("ran ", 1)[1].split(" ")[0])
+        taken = shell.stopped("run 1000000", "0#500 ")
         self.assertTrue(0 < taken < 1000000 and taken % 1000 == 0, taken)
-        shell.read_until("(taskback) ")
         self.assertIn(f"0#{taken + 1} ", shell.type("step 0"))
         shell.send("half a line")
         shell.read_until("half a line")
@@ -165,6 +160,12 @@ class TerminalTest(unittest.TestCase):
         self.assertEqual(shown.split("\n")[0], "chol.task:3: let r1 = r0 + 1")
         self.assertEqual(shown.split("\n")[1], " " * 20 + "^")
         self.assertEqual(shell.wait(), 1)
+
+    def test_options_are_refused_as_by_the_program(self):
+        for words in (["--limit", "x"], ["--limit", "0"], ["--workers", "65"], ["--workers", "-1"], ["--limit", "9" * 30]):
+            told = [subprocess.run(start + words + file, stdin=subprocess.DEVNULL, capture_output=True, text=True, timeout=60, check=False)
+                    for start, file in (([PROGRAM], []), ([sys.executable, MAIN, "--program", PROGRAM], [RACE]))]
+            self.assertEqual((told[1].stderr.strip(), told[1].returncode), (told[0].stderr.strip(), 2), words)
 
 
 if __name__ == "__main__":

@@ -30,6 +30,13 @@ class FaultTest(unittest.TestCase):
     def test_forms(self):
         self.assertEqual(texts.should_be(["stroe", "0", "1"]), "store ADDR VAL")
         self.assertIn("print VAL", self.show("print", "Arity")[-1])
+        for line, kind, wanted in (("if r0 = 1", "UnknownWord", "if r0 == 1"), ("while r0 >= r1", "UnknownWord", "while r1 <= r0"),
+                                   ("if r0 => 1", "UnknownWord", "if A CMP B, where CMP is == != < <="), ("r1 = r2 + 3", "UnknownWord", "let r1 r2 + 3"),
+                                   ("let r1 r0 / 2", "UnknownWord", "let rK A   or   let rK A OP B, where OP is + - *")):
+            self.assertEqual(self.show(line, kind)[-1], "  it should look like: " + wanted)
+        text = "cells 1\nbody main 0\n  task ad 1\nend\nbody add 1\nend\n"
+        self.assertEqual(texts.fault_lines("a.task", text, 3, "UnknownBody")[-1], "  it should look like: task add 1")
+        self.assertEqual(texts.fault_lines("a.task", text.replace("ad 1", "nobody"), 3, "UnknownBody")[-1], "  no body has this name (UnknownBody)")
         self.assertEqual(texts.fault_lines("a.task", "cells 1\n", 2, "NoMain"), ["a.task:2: no body is named main (NoMain)"])
 
 
@@ -51,6 +58,11 @@ class WordsTest(unittest.TestCase):
                              ("0.1.1#2 0.2#2 cell 0", "`taskgroup` around line 4"), ("0.1#2 0.2#4 cell 0 apart", "exclude"),
                              ("0.1#2 0.2#4 print", "`depend inout` of one cell on lines 4 and 5")):
             self.assertIn(wanted, texts.race_words(line, spawned))
+
+    def test_the_list_of_commands_keeps_to_the_screen(self):
+        for columns in (80, 100, 200):
+            self.assertLessEqual(max(map(len, texts.help_list(columns))), columns)
+        self.assertEqual(" ".join(" ".join(texts.help_list(80)).split()), " ".join(" ".join(texts.help_list(200)).split()))
 
     def test_every_command_has_help(self):
         for name in texts.HELP:

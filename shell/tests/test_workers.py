@@ -7,7 +7,7 @@ import sys
 import unittest
 
 from support import LOOP, MAIN, PROGRAM, TOP, Terminal, example, needs_program, write_file
-from test_interrupts import TOLD, Stalling
+from test_interrupts import Stalling
 from test_tutorial import agrees, blocks, rows
 from shell.page import page_of
 from shell.protocol import Program
@@ -138,13 +138,8 @@ class Typed(Stalling):
 
     def test_ctrl_c_keeps_the_session(self):
         shell = self.shell(LOOPS, "--limit", "1000000")
-        shell.send("go 4 1000000\n")
-        shell.read_until("#100 ")
-        shell.send("\x03")
-        told = shell.read_until("stopped by Ctrl-C; the session goes on")
-        taken = int(told.rsplit("ran ", 1)[1].split(" ")[0])
+        taken = shell.stopped("go 4 1000000", "#100 ")
         self.assertTrue(0 < taken < 1000000 and taken % 1000 == 0, taken)
-        shell.read_until("(taskback) ")
         self.assertEqual(shell.ask("hist")[0], f"hist {taken}")
         path = write_file(self, "", "saved.session")
         self.assertEqual(shell.ask("save " + path), [f"saved {path}, 2 commands", "  what several workers did is saved as the steps that they took"])
@@ -157,11 +152,7 @@ class Typed(Stalling):
         shell = self.open(program, "--limit", "1000000", write_file(self, LOOP))
         shell.send("go 4 1000000\n")
         shell.read_until("0#2000 ")
-        self.wait_for(told)
-        shell.send("\x03")
-        with self.assertRaises(AssertionError):
-            shell.read_until("stopped by", 1)
-        self.press(shell, TOLD)
+        self.cut_by_the_second(shell, told)
         self.assertEqual(shell.ask("hist")[0], "hist 2000")
         self.assertEqual(shell.ask("go 4 5")[-1], "ran 5 limit")
 

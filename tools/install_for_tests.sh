@@ -1,0 +1,43 @@
+#!/usr/bin/env bash
+# Installs by apt what tests want and this machine lacks: Chromium, Graphviz, groff, clang and its OpenMP runtime.
+# It takes ten minutes at most. What can't be installed is told, and the tests that want it are left out.
+#   tools/install_for_tests.sh
+set -u
+end=$((SECONDS + 600))
+as_root=()
+[ "$(id -u)" = 0 ] || as_root=(sudo -n)
+
+# Runs apt-get for at most what is left of the time, without a question.
+apt() {
+    local left=$((end - SECONDS))
+    [ "$left" -gt 0 ] || return 1
+    "${as_root[@]}" env DEBIAN_FRONTEND=noninteractive timeout -k 10 "$left" apt-get -qq -o DPkg::Lock::Timeout=60 \
+        -o Acquire::Retries=1 -o Acquire::http::Timeout=30 -o Acquire::https::Timeout=30 "$@" < /dev/null > /dev/null 2>&1
+}
+
+has_runtime() {
+    python3 - << 'PROBE' > /dev/null 2>&1
+import sys
+sys.path.insert(0, "openmp")
+from taskrun import building
+sys.exit(not building.has_runtime())
+PROBE
+}
+
+cd "$(dirname "${BASH_SOURCE[0]}")/.." || exit 2
+lacking=()
+command -v dot > /dev/null || lacking+=(graphviz)
+command -v groff > /dev/null || lacking+=(groff)
+command -v clang-14 > /dev/null || command -v clang > /dev/null || lacking+=(clang-14)
+has_runtime || lacking+=(libomp-14-dev)
+# The largest comes last, so that no other waits for it.
+command -v chromium > /dev/null || command -v chromium-browser > /dev/null || command -v google-chrome > /dev/null || lacking+=(chromium)
+[ ${#lacking[@]} != 0 ] || exit 0
+command -v apt-get > /dev/null && apt update || echo "apt-get update failed"
+for package in "${lacking[@]}"; do
+    if apt install -y --no-install-recommends "$package"; then
+        echo "installed: $package"
+    else
+        echo "not installed: $package"
+    fi
+done
