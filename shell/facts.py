@@ -2,13 +2,9 @@
 
 from dataclasses import dataclass, field
 
-from shell.needs import Needs
 from shell.texts import matching_pairs
 
 NOT_THERE = ["error word"]
-# Up to so many steps the program is asked for the causes of each; for many more that takes minutes.
-MOST_ASKED = 2000
-COMPUTED = f"causes: of more than {MOST_ASKED} steps they are computed from the history"
 
 
 @dataclass
@@ -118,14 +114,7 @@ class Facts:
         names = [step.name for step in steps]
         if not steps or self.causes(names[0]) is None:
             return None if steps else {}
-        if len(steps) <= MOST_ASKED:
-            return dict(zip(names, map(causes_of, self.ask_all([f"causes {name}" for name in names]))))
-        found, needs = {}, Needs()
-        for step in steps:
-            if self.stop():
-                raise Stopped
-            found[step.name] = [(kind, names[place]) for kind, place in needs.add(step.name, step.did)]
-        return found
+        return dict(zip(names, map(causes_of, self.ask_all([f"causes {name}" for name in names]))))
 
     def needs(self, step):
         """The steps that a step needs."""

@@ -12,7 +12,7 @@ from dataclasses import dataclass
 if __name__ == "__main__":
     sys.path.insert(0, os.path.dirname(os.path.dirname(os.path.abspath(__file__))))
 
-from shell.facts import COMPUTED, MOST_ASKED, Facts, by_name  # noqa: E402
+from shell.facts import Facts, by_name  # noqa: E402
 
 NO_CAUSES = "this program shows no causes: their arrows are left out"
 NO_RACES = "this program shows no races: they are left out"
@@ -31,9 +31,8 @@ class Lanes:
     shaded: frozenset = frozenset()
 
     def remarks(self):
-        """What isn't drawn, since the program has no such view, and what the program didn't say itself."""
-        computed = [COMPUTED] if self.causes is not None and len(self.steps) > MOST_ASKED else []
-        return [text for view, text in ((self.causes, NO_CAUSES), (self.races, NO_RACES)) if view is None] + computed
+        """What isn't drawn, since the program has no such view."""
+        return [text for view, text in ((self.causes, NO_CAUSES), (self.races, NO_RACES)) if view is None]
 
     def arrows(self):
         """Each immediate need of another task's step: the earlier step, the later one, and the kind."""

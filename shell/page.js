@@ -213,10 +213,11 @@
 
   function drawArrow(early, late, kind, name, bow, parts) {
     const [x, y] = placeOf(early), [toX, toY] = placeOf(late), side = toX > x ? 1 : -1;
-    const from = x + side * 7, to = toX - side * 9, lift = bow + Math.min(120, (toY - y) * 0.25);
-    const racing = name.includes("racing");
+    // Labels stand to the right of the marks: an arrow goes off below them, and comes in from the right above them.
+    const racing = name.includes("racing"), below = side > 0 && !racing ? 7 : 0, above = side > 0 ? 0 : 8;
+    const from = x + side * (below ? 5 : 7), to = toX - side * (above ? 6 : 9), lift = bow + Math.min(120, (toY - y) * 0.25);
     const path = { class: name, "data-from": steps[early].name, "data-to": steps[late].name, "data-kind": kind,
-      d: "M" + from + " " + y + " C" + (from + side * 30) + " " + (y + lift) + " " + (to - side * 40) + " " + (toY - lift * 0.3) + " " + to + " " + toY };
+      d: "M" + from + " " + (y + below) + " C" + (from + side * 30) + " " + (y + below + lift) + " " + (to - side * 40) + " " + (toY - above - lift * 0.3) + " " + to + " " + (toY - above) };
     if (!racing) path["marker-end"] = "url(#head)";
     parts.push(element("path", path));
     if (racing) parts.push(element("text", { class: "kind racing", x: side > 0 ? to - 4 : to + 90, y: toY - 7, "text-anchor": side > 0 ? "end" : "start" }, "✕ " + kind));
@@ -379,7 +380,7 @@
 
   const list = find("program").querySelector("ol");
   data.source.forEach((text) => { item(list, text || " ").append(Object.assign(document.createElement("span"), { className: "stand" })); });
-  find("left-out").textContent = data.leftOut.map((text) => "Left out: " + text).concat(data.remarks).join("; ");
+  find("left-out").textContent = data.leftOut.map((text) => "Left out: " + text).join("; ");
   listen();
   setMoment(data.commands.length);
 }());

@@ -1,7 +1,6 @@
 """A session told command by command, for the page: what stood after each command, by the program's own views."""
 
-from shell.facts import COMPUTED, MOST_ASKED, Facts, Stopped, by_name, causes_of, label_of
-from shell.needs import Needs
+from shell.facts import Facts, by_name, causes_of, label_of
 from shell.protocol import words_of
 from shell.session import CHANGES, Session, is_step
 
@@ -28,7 +27,6 @@ class Story:
         self.cells, self.shown, self.needed = {}, {}, {}
         self.out, self.printed = [], []
         self.has_causes = self.has_races = True
-        self.has_computed = False
         try:
             self.note(0)
             for at, done in enumerate(session.log, 1):
@@ -111,24 +109,12 @@ class Story:
             self.has_causes = False
         if not self.has_causes:
             found = {name: self.whole_needs(name) for name in self.fresh}
-        elif len(self.standing) > MOST_ASKED:
-            found = self.computed_causes()
         else:
             asked = self.facts.ask_all([f"causes {name}" for name in self.fresh])
             found = {name: [[kind, self.standing[early]] for kind, early in causes_of(lines)] for name, lines in zip(self.fresh, asked)}
         for name in self.fresh:
             self.steps[self.standing[name]]["causes"] = found[name]
         self.fresh = []
-
-    def computed_causes(self):
-        """The immediate needs of all steps that stand, which are too many to ask for each."""
-        self.has_computed = True
-        needs, places, found = Needs(), list(self.standing.values()), {}
-        for name, place in self.standing.items():
-            if self.facts.stop():
-                raise Stopped
-            found[name] = [[kind, places[early]] for kind, early in needs.add(name, self.steps[place]["did"])]
-        return found
 
     def whole_needs(self, name):
         """The immediate needs of a step by `why`, for a program without `causes`: pairs of no kind and a place."""
@@ -174,7 +160,6 @@ class Story:
         source = self.session.source
         return {
             "title": source.name, "source": source.lines, "commands": self.commands, "leftOut": left_out,
-            "remarks": [COMPUTED] if self.has_computed else [],
             "steps": [[step["name"], step["did"], step["line"], step["born"], step["died"], step["causes"], step["race"]] for step in self.steps],
             "tasks": [[task["name"], task["body"], task["step"], task["born"], task["died"], task["states"], task["before"], task["apart"]]
                       for task in self.tasks],

@@ -1,16 +1,13 @@
-"""The computed causes of long histories against the program's `causes`, and replies that are asked for together."""
+"""The program's `causes` against those that are computed from the history, and replies that are asked for together."""
 
 import random
 import unittest
-import unittest.mock
 
 from programs import random_program
 from support import PROGRAM, needs_program
-from shell import facts
-from shell.facts import COMPUTED, Facts
-from shell.lanes import lanes_of, text_rows
-from shell.needs import Needs
-from shell.page import page_of
+from needs import Needs
+from shell.facts import Facts
+from shell.lanes import lanes_of
 from shell.session import Session
 from shell.source import Source
 from test_lanes import walked
@@ -49,6 +46,37 @@ body leaf 0
 end
 """
 
+# Readers and writers of 8 cells, undeferred tasks, groups and waits.
+LONG = """cells 8
+body main 0
+  let r0 0
+  let r1 0
+  while r0 < 120
+    task writer r1 depend inout r1
+    task reader r1 depend in r1
+    taskgroup
+      task reader 0
+    end
+    task reader r1 if 0 == 1
+    if r1 == 7
+      taskwait
+      let r1 -1
+    end
+    let r0 r0 + 1
+    let r1 r1 + 1
+  end
+end
+body writer 1
+  load r1 r0
+  let r1 r1 + 1
+  store r0 r1
+end
+body reader 1
+  load r1 r0
+  print r1
+end
+"""
+
 
 def schedule(test, text, seed):
     """A session of this program, its steps in a random order."""
@@ -79,18 +107,17 @@ class NeedsTest(unittest.TestCase):
             kinds |= {kind.split(":")[0].split(" ")[0] for lines in wanted for kind in lines}
         self.assertEqual(kinds, {"task", "spawn", "cell", "print", "before", "apart", "wait", "group", "undeferred"})
 
-    def test_a_picture_of_a_long_history_is_the_same_and_says_so(self):
+    def test_a_picture_of_a_long_history_is_drawn_from_replies(self):
         if not has_views(self):
             return
-        for seed in range(6):
-            session, _ = walked(self, seed)
-            lanes, page = lanes_of(session), page_of(session)[0]
-            with unittest.mock.patch.object(facts, "MOST_ASKED", 0), unittest.mock.patch("shell.lanes.MOST_ASKED", 0), \
-                    unittest.mock.patch("shell.story.MOST_ASKED", 0):
-                self.assertEqual(lanes_of(session).causes, lanes.causes)
-                if lanes.steps:
-                    self.assertIn("  " + COMPUTED, text_rows(lanes, 200))
-                    self.assertEqual(page_of(session)[0].replace(f'"remarks":["{COMPUTED}"]', '"remarks":[]'), page)
+        session = Session(PROGRAM, Source(LONG, "x.task"))
+        self.addCleanup(session.close)
+        session.do("run 1000000")
+        lanes, needs = lanes_of(session), Needs()
+        self.assertGreater(len(lanes.steps), 3000)
+        names = [step.name for step in lanes.steps]
+        self.assertEqual(lanes.causes, {step.name: [(kind, names[place]) for kind, place in needs.add(step.name, step.did)]
+                                        for step in lanes.steps})
 
     def test_replies_that_are_asked_for_together(self):
         session, _ = walked(self, 3)

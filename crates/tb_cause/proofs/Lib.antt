@@ -13,3 +13,7 @@ pub mod AskedNeedLemmas
 pub mod NameLemmas
 pub mod SpawnLemmas
 pub mod GroupLemmas
+pub mod NearestLemmas
+pub mod AnsweredLemmas
+pub mod NearestPassLemmas
+pub mod LoneLemmas

@@ -3,3 +3,4 @@ pub mod Chains
 pub mod Keys
 pub mod Asked
 pub mod Indexes
+pub mod Nearest

@@ -146,7 +146,7 @@ fn pass(
 }
 
 /// Whether the entry at this place gives one of the keys.
-fn is_asked(
+pub(crate) fn is_asked(
     keys: &Keys,
     entries: &[Entry],
     spawns: &IndexMap<TaskName, u32>,
@@ -164,7 +164,7 @@ fn is_asked(
 }
 
 /// Notes the keys of the entry at this place, and the place behind the others.
-fn enter(
+pub(crate) fn enter(
     keys: &mut Keys,
     places: &mut Vec<u32>,
     entries: &[Entry],
@@ -187,7 +187,7 @@ fn enter(
 }
 
 /// Notes the keys of the entry at this place.
-fn note_at(
+pub(crate) fn note_at(
     keys: &mut Keys,
     entries: &[Entry],
     held: &IndexMap<u32, TaskName>,

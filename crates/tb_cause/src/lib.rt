@@ -1,6 +1,7 @@
 //! Which steps need a step, and which it needs, directly or through others.
 #![tactic(auto)]
 
+mod answering;
 mod asking;
 mod cause_refusal;
 mod causes;
@@ -9,6 +10,7 @@ mod finding;
 mod giving;
 mod keys;
 mod names;
+mod nearest;
 mod noting;
 mod spawns;
 mod standing;
@@ -18,3 +20,4 @@ pub use asking::{needed_by, needs};
 pub use cause_refusal::CauseRefusal;
 pub use cone::Cone;
 pub use finding::cone_of;
+pub use nearest::nearest_places;

@@ -1,6 +1,4 @@
-pub mod ChainLemmas
 pub mod AnswerLemmas
-pub mod PlaceLemmas
 pub mod SharingLemmas
 pub mod LaneLemmas
 pub mod AfterLemmas
@@ -10,3 +8,4 @@ pub mod SoundLemmas
 pub mod OwnLemmas
 pub mod NumberLemmas
 pub mod TableLemmas
+pub mod CauseLemmas

@@ -2,3 +2,4 @@ pub mod Linking
 pub mod Lanes
 pub mod Clocks
 pub mod Numbering
+pub mod Told

@@ -25,7 +25,7 @@ pub fn causes(alloc: Global, core: &Core, step: &StepId) -> Result<Vec<Cause>, C
     let Some(at) = place_of(entries, step) else {
         return Err(CauseRefusal::NoSuchStep);
     };
-    match immediate(alloc, &entries[..at], &entries[at].event) {
+    match immediate(alloc, entries, at) {
         Ok(causes) => Ok(causes),
         Err(_) => Err(CauseRefusal::Memory),
     }

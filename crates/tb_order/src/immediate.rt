@@ -1,54 +1,62 @@
 //! The immediate needs of a step.
 
-ghost use Rattle.std.specs.Prelude.{◌≡◌, ◌<◌, ◌≤◌, IfOk, Some, length, take, reverse, slice_get};
-ghost use Rattle.tb_core.specs.declared.entry.Entry.{Entry};
+ghost use Rattle.std.specs.Prelude.{◌≡◌, ◌<◌, ◌≤◌, IfOk, IsTrue, Some, is_some, length, map, take, reverse, get_or};
+ghost use Rattle.std.specs.List.{All};
+ghost use Rattle.tb_core.specs.declared.entry.Entry.{Entry as AnEntry};
 ghost use Rattle.tb_core.specs.Scans.{AreLegal, history_of};
-ghost use Rattle.tb_races.specs.Immediate.{cause, immediate};
+ghost use Rattle.tb_races.specs.declared.cause.Cause.{Cause as ACause};
+ghost use Rattle.tb_races.specs.Immediate.{immediate};
+ghost use Rattle.tb_order.specs.Told.{told};
 
 use crate::kinds::need_kind;
-use crate::passing::is_by_way;
-use crate::relation::Relation;
 use std::alloc::{AllocError, Global};
+use tb_cause::nearest_places;
 use tb_core::{Entry, step_at};
 use tb_model::Event;
 use tb_races::Cause;
 
-/// The immediate needs of `v`, which stands behind these entries.
-pub fn immediate(alloc: Global, front: &[Entry], v: &Event) -> Result<Vec<Cause>, AllocError>
+/// The immediate needs of the step at this place.
+pub fn immediate(alloc: Global, entries: &[Entry], at: usize) -> Result<Vec<Cause>, AllocError>
+    requires legal { AreLegal entries.now }
+    requires bound { length entries.now ≤ 1000000 }
+    requires within { at < length entries.now }
+    ensures { IfOk result (λ causes. (v : AnEntry) → v ≡ get_or entries.now at v →
+        causes.items ≡ reverse (immediate (history_of (take at entries.now)) v.event (history_of (take at entries.now)))) }
+{
+    let places = nearest_places(alloc, entries, at)?;
+    let causes = causes_at(alloc, &entries[..at], &entries[at].event, &places)?;
+    Ok(causes)
+}
+
+/// Those at these places, for `v` behind these entries.
+fn causes_at(
+    alloc: Global,
+    front: &[Entry],
+    v: &Event,
+    places: &[u32],
+) -> Result<Vec<Cause>, AllocError>
     requires legal { AreLegal front.now }
     requires bound { length front.now ≤ 1000000 }
-    ensures { IfOk result (λ causes. causes.items
-        ≡ reverse (immediate (history_of front.now) v.now (history_of front.now))) }
+    requires within { All (λ p. p < length front.now) places.now }
+    requires near { All (λ p. IsTrue (is_some (told front.now v.now p))) places.now }
+    ensures { IfOk result (λ causes. map (λ (c : ACause). Some c) causes.items ≡ map (told front.now v.now) places.now) }
 {
     let mut causes = Vec::new(alloc);
-    for first in 0..front.len() {
-        if let Some(cause) = cause_at(alloc, front, v, first)? {
-            causes.push(cause)?;
-        }
+    for place in places {
+        causes.push(cause_at(front, v, *place as usize)?)?;
     }
     Ok(causes)
 }
 
-#[tactic(auto, using(crate::proofs::AnswerLemmas::no_kind, crate::proofs::AnswerLemmas::kind_by_way, crate::proofs::AnswerLemmas::kind_itself))]
-/// The entry at this place, where it is an immediate need of `v`.
-fn cause_at(
-    alloc: Global,
-    front: &[Entry],
-    v: &Event,
-    first: usize,
-) -> Result<Option<Cause>, AllocError>
+/// The entry at this place, which is an immediate need of `v`.
+fn cause_at(front: &[Entry], v: &Event, first: usize) -> Result<Cause, AllocError>
     requires legal { AreLegal front.now }
     requires bound { length front.now ≤ 1000000 }
     requires within { first < length front.now }
-    ensures { IfOk result (λ o. (u : Entry) → slice_get front.now first ≡ Some u →
-        o ≡ cause (history_of front.now) v.now (history_of (take first front.now)) u.event) }
+    requires near { IsTrue (is_some (told front.now v.now first)) }
+    ensures { IfOk result (λ c. told front.now v.now first ≡ Some c) }
 {
-    let Some(kind) = need_kind(front, v, &front[first].event) else {
-        return Ok(None);
-    };
-    if is_by_way(alloc, Relation::Needs, front, v, first)? {
-        return Ok(None);
-    }
+    let kind = need_kind(front, v, &front[first].event).unwrap();
     let step = step_at(front, first)?;
-    Ok(Some(Cause { kind, step }))
+    Ok(Cause { kind, step })
 }

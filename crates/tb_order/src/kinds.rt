@@ -6,20 +6,9 @@ ghost use Rattle.tb_races.specs.Kinds;
 ghost use Rattle.tb_races.specs.Racing;
 ghost use Rattle.tb_order.specs.Linking;
 
-use crate::relation::Relation;
-use tb_core::{Entry, holds, is_apart, is_before, is_covered, is_member, needs};
+use tb_core::{Entry, holds, is_apart, is_before, is_covered, is_member};
 use tb_model::{Action, Event, TaskName};
 use tb_races::{Conflict, NeedKind};
-
-/// Whether `v`, which stands behind these entries, is linked to their event `u`.
-pub fn is_linked(relation: Relation, front: &[Entry], v: &Event, u: &Event) -> bool
-    ensures { AreLegal front.now → result ≡ Linking.is_linked relation (history_of front.now) v.now u.now }
-{
-    match relation {
-        Relation::Needs => needs(front, v, u),
-        Relation::Order { exclusion } => counts(exclusion, need_kind(front, v, u)),
-    }
-}
 
 /// Whether a need of the kind is one of synchronisation, where exclusion counts or doesn't.
 pub fn counts(exclusion: bool, kind: Option<NeedKind>) -> bool

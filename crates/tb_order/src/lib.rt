@@ -9,9 +9,7 @@ mod lanes;
 mod merging;
 mod numbering;
 mod ordinals;
-mod passing;
 mod racing;
-mod relation;
 mod tasks;
 mod waiting;
 

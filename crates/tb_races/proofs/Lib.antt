@@ -1,3 +1,3 @@
 pub mod KindLemmas
-mod ImmediateLemmas
+pub mod ImmediateLemmas
 pub mod PassLemmas

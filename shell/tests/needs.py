@@ -1,7 +1,5 @@
-"""What each step of a long history needs at once, computed from the lines of `hist` alone.
-
-The program's `causes` looks at all steps in front of one, so for thousands of steps it takes minutes. This takes
-seconds, by the same definitions (docs/RACES.md); the tests compare the two.
+"""What each step of a history needs at once, computed from the lines of `hist` alone, by the definitions of
+docs/RACES.md: what the program's `causes` is compared with.
 """
 
 from shell.texts import needs_order

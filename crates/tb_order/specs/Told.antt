@@ -1,0 +1,16 @@
+-- The immediate needs of a step by their places.
+use Rattle.std.specs.Prelude.{ℕ, List, Option, Some, None, take, slice_get}
+use Rattle.tb_model.specs.declared.event.Event.{Event}
+use Rattle.tb_model.specs.Facts.{History}
+use Rattle.tb_core.specs.declared.entry.Entry.{Entry}
+use Rattle.tb_core.specs.Scans.{history_of}
+use Rattle.tb_races.specs.declared.cause.Cause.{Cause}
+use Rattle.tb_races.specs.Immediate.{cause}
+
+abbrev pub told_so : History → Event → History → Option Entry → Option Cause
+told_so H v K None = None
+told_so H v K (Some u) = cause H v K u.event
+
+-- the entry at this place, as an immediate need of v behind these entries
+abbrev pub told : List Entry → Event → ℕ → Option Cause
+told front v p = told_so (history_of front) v (history_of (take p front)) (slice_get front p)
