@@ -279,6 +279,21 @@ impl Core {
         }
     }
 
+    /// Takes the step of a plan that isn't refused, and tells its event: nothing is asked again.
+    pub fn step_open(&mut self, plan: Plan) -> Result<(StepId, Event), AllocError>
+        requires fits { Fits self.old.run plan }
+        requires open { IsOpen self.old.run plan }
+        ensures steps { IfOk result (λ taken. Steps self.old.run plan self.new.run taken.0) }
+        ensures event { IfOk result (λ taken. taken.1 ≡ event_of self.old.run plan) }
+        ensures err { OnErr result (self.new.run ≡ self.old.run) }
+    {
+        let event = planned(&self.tables, &plan)?;
+        match self.take(plan) {
+            Ok(id) => Ok((id, event)),
+            Err(_) => Err(AllocError),
+        }
+    }
+
     /// The event of the plan, for which all room is made.
     fn prepare(&mut self, plan: &Plan) -> Result<Event, AllocError>
         requires fits { Fits self.old.run plan.now }

@@ -55,7 +55,7 @@ lawful_on H K claims still l = record {
   apart = l.apart;
 }
 
-still_spawned : (v : Event) (H : History) (t : Name) → is_spawned H t ≡ true → is_spawned (v ∷ H) t ≡ true
+pub still_spawned : (v : Event) (H : History) (t : Name) → is_spawned H t ≡ true → is_spawned (v ∷ H) t ≡ true
 still_spawned v H [] h = refl
 still_spawned v H (n ∷ t) h = at (spawns (n ∷ t) v)
   where

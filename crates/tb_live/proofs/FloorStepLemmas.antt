@@ -1,6 +1,6 @@
 -- The floor after a step, and the look from it to the least task that can step.
 use Rattle.std.proofs.Common.{◌≡◌, ◌≢◌, ⊎_elim, ℕ, List, [], ◌∷◌, Bool, true, false, refl, sym, ap, ◌∙◌, subst, IsTrue, Option, Some, None}
-use Rattle.std.specs.Prelude.{is_none, slice_get, Result, Ok, Err, OnOk, OnErr}
+use Rattle.std.specs.Prelude.{is_none, option_map, slice_get, Result, Ok, Err, OnOk, OnErr}
 use Rattle.std.specs.List.{list_any}
 use Rattle.std.specs.Ordering.{ordering_reverse, is_eq, is_gt}
 use Rattle.std.specs.declared.cmp.Ordering.{Ordering}
@@ -14,7 +14,7 @@ use Rattle.tb_model.specs.NameLaws.{name_cmp_total, name_cmp_ties}
 use Rattle.tb_model.specs.Facts.{History, is_end, ends}
 use Rattle.tb_model.specs.LeastNames.{IsAtMost, IsLeastName}
 use Rattle.tb_model.specs.Program.{Program, LegalFor}
-use Rattle.tb_model.specs.Hindrances.{can_step, least_ready}
+use Rattle.tb_model.specs.Hindrances.{Hindrance, By, can_step, least_ready}
 use Rattle.tb_model.proofs.TestLemmas.{same_true}
 use Rattle.tb_model.proofs.LeastNameLemmas.{one_least, least_found, at_most_itself}
 use Rattle.tb_model.proofs.NextStepLemmas.{next_isnt_refused}
@@ -22,15 +22,15 @@ use Rattle.tb_read.specs.declared.planned.Plan.{Plan}
 use Rattle.tb_core.specs.declared.step_refusal.StepRefusal.{StepRefusal}
 use Rattle.tb_core.specs.Seen.{Seen}
 use Rattle.tb_core.specs.Seen as core
-use Rattle.tb_core.specs.Outcomes.{event_of, Steps}
+use Rattle.tb_core.specs.Outcomes.{event_of, hindrance_of, Steps}
 use Rattle.tb_live.specs.declared.control.Control.{Control}
 use Rattle.tb_live.specs.Claims.{Claims, IsFreeBeside}
 use Rattle.tb_live.specs.Floor.{IsFloor, IsRaised, IsKeptBelow, IsLowered, IsCarried, IsPassed}
-use Rattle.tb_live.specs.Plans.{IsPlanOf, IsNative, Enters, CanTake}
+use Rattle.tb_live.specs.Plans.{IsPlanOf, IsNative, IsReady, Enters, CanTake}
 use Rattle.tb_live.specs.Soundness.{Fits}
 use Rattle.tb_live.proofs.CommitLemmas.{native_plan}
 use Rattle.tb_live.proofs.FloorLemmas.{floor_stays, floor_lowered}
-use Rattle.tb_live.proofs.PlanLemmas.{IsPlan}
+use Rattle.tb_live.proofs.PlanLemmas.{IsPlan, refusal_of_plan}
 use Rattle.tb_live.proofs.ReadyLemmas.{can_spawned}
 use Rattle.tb_live.proofs.RunLemmas.{next_event}
 
@@ -154,3 +154,13 @@ first_free P H claims seat t l free = record {
   found = λ u e. subst (CanTake P H claims seat) (let s : t ≡ u = cc in s) (least_can P H t l, free);
   least = λ u q. (t, refl, least_floor P H t l u q.0);
 }
+
+-- ---- nothing keeps the least task that can step from the plan of its step
+
+clear_by : (h : Option Hindrance) → is_none (option_map By h) ≡ true → h ≡ None
+clear_by None e = refl
+clear_by (Some h) e = absurd (false≢true e)
+
+pub plan_clear : (P : Program) (run : Seen) (p : Plan) → Fits P run → IsReady P run (Some p) → hindrance_of run p ≡ None
+plan_clear P run p fits ready =
+    clear_by (hindrance_of run p) (sym (ap is_none (refusal_of_plan P run p.config.task p fits ready.0)) ∙ least_can P (core.history run) p.config.task ready.1)

@@ -13,3 +13,4 @@ pub mod RunsLemmas
 pub mod BreakLemmas
 pub mod CommitLemmas
 pub mod PreparedLemmas
+pub mod GoingLemmas

@@ -42,6 +42,7 @@ work_so P run H t w f leaves k = record {
   position = k.position;
   instr = k.instr;
   cells = k.cells;
+  strip = k.strip;
 }
 
 -- ---- what the walk answers

@@ -1,5 +1,5 @@
 -- Which task each seat claims, and when a claim is withdrawn.
-use Rattle.std.specs.Prelude.{◌≡◌, ◌≢◌, ◌<◌, ℕ, List, Bool, ◌||◌, map, length, Option, Some, None, slice_index_or, slice_set, if◌then◌else◌}
+use Rattle.std.specs.Prelude.{◌≡◌, ◌≢◌, ◌<◌, ◌≤◌, ℕ, List, Bool, ◌||◌, map, length, Option, Some, None, slice_index_or, slice_set, if◌then◌else◌}
 use Rattle.std.specs.List.{list_any}
 use Rattle.tb_model.specs.Names.{Name, same_name}
 use Rattle.tb_model.specs.Facts.{History, IsSpawned, is_spawn_of}
@@ -15,6 +15,10 @@ claim_of claims seat = slice_index_or claims seat None
 -- the seat has this claim in place of its former one
 abbrev pub with_claim : Claims → ℕ → Option Name → Claims
 with_claim claims seat claim = slice_set claims seat claim
+
+-- no seat from this one on claims a task
+abbrev pub AreFreeFrom : ℕ → Claims → Type 0
+AreFreeFrom end claims = (seat : ℕ) → end ≤ seat → claim_of claims seat ≡ None
 
 -- another seat claims the task, this one
 pub record IsHeldBeside (claims : Claims) (seat : ℕ) (t : Name) (other : ℕ) : Type 0 where

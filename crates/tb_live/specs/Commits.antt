@@ -11,7 +11,7 @@ use Rattle.tb_live.specs.declared.commit_refusal.CommitRefusal.{CommitRefusal}
 use Rattle.tb_live.specs.declared.commit_refusal.CommitRefusal.TheVariants.{Paused, Withdrawn, Step}
 use Rattle.tb_live.specs.Claims.{claim_of}
 use Rattle.tb_live.specs.Modes.{is_paused}
-use Rattle.tb_live.specs.Session.{Session, Held, history, is_full}
+use Rattle.tb_live.specs.Session.{Session, Held, history, is_full, with_seat}
 use Rattle.tb_live.specs.Moves.{MayStep, StepsFor, Refuses, has_ended, coming, refusal_for}
 use Rattle.tb_live.specs.Plans.{IsOfProgram}
 use Rattle.tb_live.specs.Working.{configuration}
@@ -73,6 +73,17 @@ pub record IsCommitted (seat : ℕ) (s : Session) (p : Plan) (new : Session) (at
 abbrev pub Commits : ℕ → Session → Plan → Session → Result ℕ CommitRefusal → Type 0
 Commits seat s p new (Ok place) = IsCommitted seat s p new place
 Commits seat s p new (Err e) = (new ≡ s) × RefusesCommit s seat p e
+
+-- the step is taken as by a commit, and the seat claims the task still
+pub record IsCommittedOn (seat : ℕ) (s : Session) (p : Plan) (new : Session) (at : ℕ) : Type 0 where
+  pub ended : Session
+  pub committed : IsCommitted seat s p ended at
+  pub claims : new ≡ with_seat ended seat (Some p.config.task)
+
+-- the same by the answer
+abbrev pub CommitsMore : ℕ → Session → Plan → Session → Result ℕ CommitRefusal → Type 0
+CommitsMore seat s p new (Ok place) = IsCommittedOn seat s p new place
+CommitsMore seat s p new (Err e) = (new ≡ s) × RefusesCommit s seat p e
 
 -- the commit may come, and its entry is the one that is prepared
 pub record IsPrepared (seat : ℕ) (held : Held) (p : Plan) (e : Entry) : Type 0 where

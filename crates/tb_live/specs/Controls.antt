@@ -1,10 +1,10 @@
 -- What a step and a removal change beside the journal.
-use Rattle.std.specs.Prelude.{ℕ, List}
+use Rattle.std.specs.Prelude.{ℕ, List, Some}
 use Rattle.tb_model.specs.declared.event.Event.{Event}
-use Rattle.tb_model.specs.Names.{same_name}
+use Rattle.tb_model.specs.Names.{Name, same_name}
 use Rattle.tb_core.specs.declared.removed.Removed.{Removed}
 use Rattle.tb_live.specs.declared.control.Control.{Control}
-use Rattle.tb_live.specs.Claims.{withdrawn, is_hit}
+use Rattle.tb_live.specs.Claims.{with_claim, withdrawn, is_hit}
 use Rattle.tb_live.specs.Breaks.{met}
 use Rattle.tb_live.specs.Modes as modes
 
@@ -15,6 +15,10 @@ behind_step line v c = record {
   breakpoints = c.breakpoints;
   mode = modes.behind (met line v c.breakpoints.standing) c.mode;
 }
+
+-- the seat claims the task
+abbrev pub claimed_by : ℕ → Name → Control → Control
+claimed_by seat t c = record { claims = with_claim c.claims seat (Some t); breakpoints = c.breakpoints; mode = c.mode }
 
 -- the claims on tasks of which a step or the spawn was removed are withdrawn
 abbrev pub behind_removal : List Removed → Control → Control

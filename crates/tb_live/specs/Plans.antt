@@ -14,6 +14,7 @@ use Rattle.tb_read.specs.declared.instr.Instr.{Instr}
 use Rattle.tb_read.specs.declared.planned.Plan.{Plan}
 use Rattle.tb_read.specs.Meaning.{IsPosition}
 use Rattle.tb_read.specs.Plans.{instruction}
+use Rattle.tb_read.specs.Strips.{IsStripOf}
 use Rattle.tb_core.specs.declared.step_refusal.StepRefusal.{StepRefusal}
 use Rattle.tb_core.specs.declared.step_refusal.StepRefusal.TheVariants.{Memory, NoSuchTask, Ended, Waiting, Excluded, Children, Group, Full, Stale, Undeferred}
 use Rattle.tb_core.specs.Seen.{Seen, history}
@@ -25,7 +26,7 @@ use Rattle.tb_live.specs.declared.work.Work.{Work}
 use Rattle.tb_live.specs.declared.claim_refusal.ClaimRefusal.{ClaimRefusal}
 use Rattle.tb_live.specs.declared.claim_refusal.ClaimRefusal.TheVariants.{Memory as NoMemory, NoSuchTask as NoTask, Ended as Over, Claimed}
 use Rattle.tb_live.specs.Claims.{Claims, IsHeldBeside, IsFreeBeside}
-use Rattle.tb_live.specs.Controls.{behind_step}
+use Rattle.tb_live.specs.Controls.{behind_step, claimed_by}
 use Rattle.tb_core.specs.Outcomes.{Fits, IsCurrent, IsKept, Steps, event_of, has_ended, hindrance_of}
 
 -- the instruction is the program's at its line
@@ -95,6 +96,13 @@ Enters limit seat run p new old entries before after (Ok i) =
     IsEntered seat run p new old entries i × IsFalse (has_no_place limit old) × (after ≡ behind_step p.config.at (event_of run p) before)
 Enters limit seat run p new old entries before after (Err e) = (new ≡ run) × (entries ≡ old) × (after ≡ before) × IsKeptFrom run p (has_no_place limit old) e
 
+-- the same for a seat that claims the task still
+abbrev pub EntersOn : ℕ → ℕ → Seen → Plan → Seen → List Entry → List Entry → Control → Control → Result StepId StepRefusal → Type 0
+EntersOn limit seat run p new old entries before after (Ok i) =
+    IsEntered seat run p new old entries i × IsFalse (has_no_place limit old)
+    × (after ≡ claimed_by seat p.config.task (behind_step p.config.at (event_of run p) before))
+EntersOn limit seat run p new old entries before after (Err e) = (new ≡ run) × (entries ≡ old) × (after ≡ before) × IsKeptFrom run p (has_no_place limit old) e
+
 -- ---- claims
 
 -- the program's statement for the task's situation
@@ -104,6 +112,7 @@ pub record IsWorkOf (P : Program) (run : Seen) (t : Name) (w : Work) : Type 0 wh
   pub position : IsPosition P w.config.at
   pub instr : instruction w.instr ≡ instr_at P w.config.at
   pub cells : w.instr.cells ≡ length P.cells
+  pub strip : IsStripOf P w.config.at w.strip
 
 -- why a seat can't claim the task
 abbrev pub IsBarred : Seen → Claims → ℕ → Name → ClaimRefusal → Type 0

@@ -7,6 +7,7 @@ use Rattle.tb_model.specs.Program.{Program, instr_at, situation}
 use Rattle.tb_read.specs.declared.config.Config.{Config}
 use Rattle.tb_read.specs.Meaning.{IsPosition}
 use Rattle.tb_read.specs.Plans.{instruction}
+use Rattle.tb_read.specs.Strips.{IsStripOf}
 use Rattle.tb_live.specs.declared.work.Work.{Work}
 use Rattle.tb_live.specs.declared.claim.Claim.{Claim}
 use Rattle.tb_live.specs.declared.claim.Claim.TheVariants.{Work as Works, Later, Done, Stopped}
@@ -22,13 +23,14 @@ use Rattle.tb_live.specs.Plans.{CanTake}
 abbrev pub configuration : Program → History → Name → Config
 configuration P H t = record { task = t; steps = length (own t H); at = (situation P t H).line; regs = (situation P t H).regs }
 
--- the program's statement for the task, and its situation
+-- the program's statement for the task, its situation, and the private statements around it
 pub record IsWork (P : Program) (H : History) (t : Name) (w : Work) : Type 0 where
   pub config : w.config ≡ configuration P H t
   pub line : w.instr.line ≡ w.config.at
   pub position : IsPosition P w.config.at
   pub instr : instruction w.instr ≡ instr_at P w.config.at
   pub cells : w.instr.cells ≡ length P.cells
+  pub strip : IsStripOf P w.config.at w.strip
 
 -- ---- one task
 

@@ -3,7 +3,7 @@
 ghost use Rattle.std.specs.Prelude.{◌≡◌, ◌<◌, ◌≤◌, ◌↔◌, IfOk, IfSome, IfNone, IsTrue, [], ◌∷◌, Some, None, true, length, replicate};
 ghost use Rattle.std.specs.Option.{option_copied};
 ghost use Rattle.tb_model.specs.Names.{same_name};
-ghost use Rattle.tb_live.specs.Claims.{claim_of, with_claim, withdrawn, unless, is_hit, IsHeldBeside, IsFreeBeside};
+ghost use Rattle.tb_live.specs.Claims.{claim_of, with_claim, withdrawn, unless, is_hit, AreFreeFrom, IsHeldBeside, IsFreeBeside};
 
 use std::alloc::{AllocError, Global};
 use std::marker::Model;
@@ -14,17 +14,19 @@ use tb_model::TaskName;
 #[derive(Drop)]
 pub struct Claims {
     rows: Vec<Option<TaskName>>,
+    // no seat from this one on claims a task, so that a step of a run with few seats asks few
+    end: usize,
 }
 
 impl Model for Claims {
     ghost use Rattle.std.specs.Prelude.{◌≤◌, length};
-    ghost use Rattle.tb_live.specs.Claims.{Claims as Rows};
+    ghost use Rattle.tb_live.specs.Claims.{Claims as Rows, AreFreeFrom};
 
     ghost Value = { Rows };
 
     ghost view = { λ c. c.rows.items };
 
-    ghost invariant = { λ c. length c.rows.items ≤ 65 };
+    ghost invariant = { λ c. (length c.rows.items ≤ 65) × (c.end ≤ length c.rows.items) × AreFreeFrom c.end c.rows.items };
 }
 
 impl Claims {
@@ -37,7 +39,7 @@ impl Claims {
         for _ in 0..seats {
             rows.push(None)?;
         }
-        Ok(Claims { rows })
+        Ok(Claims { rows, end: 0 })
     }
 
     /// How many seats there are.
@@ -80,7 +82,7 @@ impl Claims {
         requires { seat < length self.old }
         ensures { self.new ≡ with_claim self.old seat (Some task) }
     {
-        self.rows[seat as usize] = Some(task);
+        self.set(seat, Some(task));
     }
 
     /// Gives the seat this claim in place of its former one, or none.
@@ -89,6 +91,18 @@ impl Claims {
         ensures { self.new ≡ with_claim self.old seat claim }
     {
         self.rows[seat as usize] = claim;
+        if self.end <= seat as usize {
+            self.end = seat as usize + 1;
+        }
+    }
+
+    /// Ends the seat's claim, and tells it.
+    pub fn take(&mut self, seat: u32) -> Option<TaskName>
+        requires { seat < length self.old }
+        ensures claim { result ≡ claim_of self.old seat }
+        ensures after { self.new ≡ with_claim self.old seat None }
+    {
+        self.rows[seat as usize].take()
     }
 
     /// Ends the seat's claim.
@@ -97,34 +111,37 @@ impl Claims {
         ensures { self.new ≡ with_claim self.old seat None }
     {
         self.rows[seat as usize] = None;
+        if self.end == seat as usize + 1 {
+            self.end = seat as usize;
+        }
     }
 
     /// Withdraws each claim on the task.
     pub fn withdraw(&mut self, task: &TaskName)
         ensures { self.new ≡ withdrawn (same_name task.now) self.old }
     {
-        withdraw_task(&mut self.rows, task);
+        withdraw_task(&mut self.rows, self.end, task);
     }
 
     /// Withdraws each claim on a task of which a step or the spawn was removed.
     pub fn withdraw_removed(&mut self, removed: &[Removed])
         ensures { self.new ≡ withdrawn (is_hit removed.now) self.old }
     {
-        withdraw_hit(&mut self.rows, removed);
+        withdraw_hit(&mut self.rows, self.end, removed);
     }
 
     /// Withdraws each claim on the task of this removed step, and on the one that it generated.
     pub fn withdraw_one(&mut self, removed: &Removed)
         ensures { self.new ≡ withdrawn (is_hit (removed.now ∷ [])) self.old }
     {
-        withdraw_by(&mut self.rows, removed);
+        withdraw_by(&mut self.rows, self.end, removed);
     }
 
     /// Withdraws all claims.
     pub fn withdraw_all(&mut self)
         ensures { self.new ≡ withdrawn (λ t. true) self.old }
     {
-        clear(&mut self.rows);
+        clear(&mut self.rows, self.end);
     }
 }
 
@@ -150,35 +167,43 @@ fn is_on(row: &Option<TaskName>, task: &TaskName) -> bool
     }
 }
 
-fn clear(rows: &mut Vec<Option<TaskName>>)
+fn clear(rows: &mut Vec<Option<TaskName>>, end: usize)
+    requires within { end ≤ length rows.old.items }
+    requires free { AreFreeFrom end rows.old.items }
     ensures { rows.new.items ≡ withdrawn (λ t. true) rows.old.items }
 {
-    for row in rows.iter_mut() {
-        forget(row);
+    for at in 0..end {
+        forget(&mut rows[at]);
     }
 }
 
-fn withdraw_task(rows: &mut Vec<Option<TaskName>>, task: &TaskName)
+fn withdraw_task(rows: &mut Vec<Option<TaskName>>, end: usize, task: &TaskName)
+    requires within { end ≤ length rows.old.items }
+    requires free { AreFreeFrom end rows.old.items }
     ensures { rows.new.items ≡ withdrawn (same_name task.now) rows.old.items }
 {
-    for row in rows.iter_mut() {
-        leave(row, task);
+    for at in 0..end {
+        leave(&mut rows[at], task);
     }
 }
 
-fn withdraw_hit(rows: &mut Vec<Option<TaskName>>, removed: &[Removed])
+fn withdraw_hit(rows: &mut Vec<Option<TaskName>>, end: usize, removed: &[Removed])
+    requires within { end ≤ length rows.old.items }
+    requires free { AreFreeFrom end rows.old.items }
     ensures { rows.new.items ≡ withdrawn (is_hit removed.now) rows.old.items }
 {
-    for row in rows.iter_mut() {
-        leave_hit(row, removed);
+    for at in 0..end {
+        leave_hit(&mut rows[at], removed);
     }
 }
 
-fn withdraw_by(rows: &mut Vec<Option<TaskName>>, removed: &Removed)
+fn withdraw_by(rows: &mut Vec<Option<TaskName>>, end: usize, removed: &Removed)
+    requires within { end ≤ length rows.old.items }
+    requires free { AreFreeFrom end rows.old.items }
     ensures { rows.new.items ≡ withdrawn (is_hit (removed.now ∷ [])) rows.old.items }
 {
-    for row in rows.iter_mut() {
-        leave_by(row, removed);
+    for at in 0..end {
+        leave_by(&mut rows[at], removed);
     }
 }
 

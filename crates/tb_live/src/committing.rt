@@ -1,12 +1,13 @@
 //! A plan that was made at some time, and is taken now.
 
-ghost use Rattle.std.specs.Prelude.{◌≡◌, ◌≢◌, ◌<◌, ◌-◌, ◌↔◌, IfOk, IfErr, IfSome, IfNone, IsOk, OnOk, OnErr, IsTrue, IsFalse, None, length, vec_len, vec_capacity};
+ghost use Rattle.std.specs.Prelude.{◌≡◌, ◌≢◌, ◌<◌, ◌-◌, ◌↔◌, IfOk, IfErr, IfSome, IfNone, IsOk, OnOk, OnErr, IsTrue, IsFalse, Some, None, length, vec_len, vec_capacity};
 ghost use Rattle.tb_model.specs.Facts.{is_spawned};
 ghost use Rattle.tb_core.specs.Outcomes.{IsOpen, has_ended};
 ghost use Rattle.tb_core.specs.Outcomes as outcomes;
 ghost use Rattle.tb_core.specs.Seen.{history};
+ghost use Rattle.tb_live.specs.Claims.{claim_of};
 ghost use Rattle.tb_live.specs.Floor.{IsCarried};
-ghost use Rattle.tb_live.specs.Plans.{Enters, IsForeign, IsKeptFrom, IsNative, IsOfProgram, IsStaleAnswer, has_no_place};
+ghost use Rattle.tb_live.specs.Plans.{Enters, EntersOn, IsForeign, IsKeptFrom, IsNative, IsOfProgram, IsStaleAnswer, has_no_place};
 ghost use Rattle.tb_core.specs.declared.step_refusal.StepRefusal.TheVariants.{Memory};
 ghost use Rattle.tb_live.specs.Preparing.{HasRoom, HoldsStep, IsReadied};
 ghost use Rattle.tb_live.specs.Soundness.{Fits};
@@ -136,4 +137,40 @@ pub fn enter_plan(
         Ok(event) => Ok(enter_readied(core, journal, control, floor, seat, plan, event)),
         Err(refusal) => Err(refusal),
     }
+}
+
+/// The same for a seat that goes on with the task: it claims the task still.
+pub fn enter_on(
+    program: &Program,
+    core: &mut Core,
+    journal: &mut Vec<Entry>,
+    control: &mut Control,
+    prepared: &mut Option<Prepared>,
+    floor: &mut Floor,
+    limit: u32,
+    seat: u32,
+    plan: Plan,
+) -> Result<StepId, StepRefusal>
+    requires fits { Fits program.now core.old.run }
+    requires native { IsNative program.now core.old.run plan }
+    requires limit { core.old.run.limit ≡ limit }
+    requires shorter { length core.old.run.steps < length journal.old.items }
+    requires room { HasRoom limit program.now core.old journal.old.items
+        (vec_capacity journal.old - vec_len journal.old) prepared.old }
+    requires claimed { claim_of control.old.claims seat ≡ Some plan.config.task }
+    ensures entered { EntersOn limit seat core.old.run plan core.new.run journal.old.items journal.new.items control.old control.new result }
+    ensures kept { IfErr result (λ e. e ≢ Memory → prepared.new ≡ prepared.old) }
+    ensures serves { HasRoom limit program.now core.new journal.new.items
+        (vec_capacity journal.new - vec_len journal.new) prepared.new }
+    ensures succeeds { HoldsStep prepared.old seat plan.config.task
+        → IsOpen core.old.run plan → IsOk result }
+    ensures carried { OnOk result (IsCarried (history core.new.run) floor.old floor.new) }
+    ensures stays { OnErr result (floor.new ≡ floor.old) }
+{
+    let claim = control.claims.take(seat);
+    let entered = enter_plan(
+        program, core, journal, control, prepared, floor, limit, seat, plan,
+    );
+    control.claims.set(seat, claim);
+    entered
 }

@@ -26,7 +26,7 @@ use crate::planning::plan_of;
 use crate::prepared::{Prepared, forget, take_name, take_roll};
 use crate::ready::{ready_plan, refusal_of};
 use crate::rolling::{enter_roll, fresh_name};
-use crate::stepping::enter_step;
+use crate::stepping::{enter_clear, enter_step};
 use std::alloc::{AllocError, Global};
 use std::marker::Model;
 use tb_core::{Core, Removed, StepRefusal, UndoRefusal};
@@ -187,7 +187,7 @@ impl Live {
             Err(_) => return Err(StepRefusal::Memory),
         };
         self.floor.raise(&plan.config.task);
-        match enter_step(
+        match enter_clear(
             &mut self.core,
             &mut self.journal,
             &mut self.control,

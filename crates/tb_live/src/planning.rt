@@ -15,7 +15,7 @@ use crate::work::Work;
 use std::alloc::{AllocError, Global};
 use tb_core::{Core, StepRefusal};
 use tb_model::TaskName;
-use tb_read::{Config, Plan, Program, plan};
+use tb_read::{Config, Plan, Program, Strip, plan};
 
 /// Evaluates the statement at which a task stands that isn't over.
 fn plan_step(
@@ -89,10 +89,12 @@ fn work_at(program: &Program, core: &Core, config: Config) -> Result<Work, Alloc
     ensures { IfOk result (IsWorkOf program.now core.now.run config.task) }
 {
     let at = config.at;
+    let _lines = program.line_count();
     match program.instr(at) {
         Some(instr) => Ok(Work {
             instr: instr.clone()?,
             config,
+            strip: Strip::around(program, at),
         }),
         None => unreachable!(),
     }

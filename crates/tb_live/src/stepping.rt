@@ -3,7 +3,7 @@
 ghost use Rattle.std.specs.Prelude.{◌≡◌, ◌≢◌, ◌<◌, ◌-◌, IfOk, IfErr, OnOk, OnErr, Some, None, length, vec_len, vec_capacity};
 ghost use Rattle.tb_model.specs.Program.{Program};
 ghost use Rattle.tb_core.specs.declared.step_refusal.StepRefusal.TheVariants.{Memory};
-ghost use Rattle.tb_core.specs.Outcomes.{Fits, IsOpen, event_of};
+ghost use Rattle.tb_core.specs.Outcomes.{Fits, IsCurrent, IsOpen, event_of, hindrance_of};
 ghost use Rattle.tb_core.specs.Seen.{history};
 ghost use Rattle.tb_live.specs.Controls.{behind_step};
 ghost use Rattle.tb_live.specs.Floor.{IsCarried};
@@ -93,6 +93,53 @@ pub fn enter_readied(
     id
 }
 
+/// Takes the step of a plan from which nothing keeps its task, and enters it for the seat: nothing is asked again but
+/// whether the journal has a place. What was prepared is given up, but where it has none.
+pub fn enter_clear(
+    core: &mut Core,
+    journal: &mut Vec<Entry>,
+    control: &mut Control,
+    prepared: &mut Option<Prepared>,
+    floor: &mut Floor,
+    limit: u32,
+    seat: u32,
+    plan: Plan,
+) -> Result<StepId, StepRefusal>
+    requires fits { Fits core.old.run plan }
+    requires current { IsCurrent core.old.run plan }
+    requires clear { hindrance_of core.old.run plan ≡ None }
+    requires limit { core.old.run.limit ≡ limit }
+    requires shorter { length core.old.run.steps < length journal.old.items }
+    ensures entered { Enters limit seat core.old.run plan core.new.run journal.old.items journal.new.items control.old control.new result }
+    ensures kept { IfErr result (λ e. e ≢ Memory → prepared.new ≡ prepared.old) }
+    ensures serves { (P : Program)
+        → HasRoom limit P core.old journal.old.items
+        (vec_capacity journal.old - vec_len journal.old) prepared.old
+        → HasRoom limit P core.new journal.new.items
+        (vec_capacity journal.new - vec_len journal.new) prepared.new }
+    ensures carried { OnOk result (IsCarried (history core.new.run) floor.old floor.new) }
+    ensures stays { OnErr result (floor.new ≡ floor.old) }
+{
+    if limit as usize <= journal.as_slice().len() {
+        return Err(StepRefusal::Full);
+    }
+    forget(prepared);
+    if journal.reserve(1).is_err() {
+        return Err(StepRefusal::Memory);
+    }
+    floor.ready(&plan);
+    let line = plan.config.at;
+    match core.step_open(plan) {
+        Ok((id, event)) => {
+            floor.step_taken(core);
+            control.step_taken(line, &event);
+            journal.push_reserved(Entry::Stepped { seat, event });
+            Ok(id)
+        }
+        Err(_) => Err(StepRefusal::Memory),
+    }
+}
+
 /// Takes the step of a plan, and enters it for the seat. What was prepared is kept where the step is
 /// refused for any reason but memory.
 pub fn enter_step(
@@ -118,8 +165,8 @@ pub fn enter_step(
     ensures carried { OnOk result (IsCarried (history core.new.run) floor.old floor.new) }
     ensures stays { OnErr result (floor.new ≡ floor.old) }
 {
-    match ready_step(core, journal, prepared, floor, limit, &plan) {
-        Ok(event) => Ok(enter_readied(core, journal, control, floor, seat, plan, event)),
-        Err(refusal) => Err(refusal),
+    if let Some(refusal) = core.refusal(&plan) {
+        return Err(refusal);
     }
+    enter_clear(core, journal, control, prepared, floor, limit, seat, plan)
 }

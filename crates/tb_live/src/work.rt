@@ -1,10 +1,12 @@
 //! What a seat works on.
 
-use tb_read::{Config, Instr};
+use tb_read::{Config, Instr, Strip};
 
-/// The statement that a task takes next, and the situation in which it does.
+/// The statement that a task takes next, the situation in which it does, and the private statements
+/// around it.
 #[derive(Debug, Drop)]
 pub struct Work {
     pub instr: Instr,
     pub config: Config,
+    pub strip: Strip,
 }

@@ -13,3 +13,5 @@ pub mod WellFormedLemmas
 pub mod AcceptedLemmas
 pub mod ReadLemmas
 pub mod ProgramLemmas
+pub mod StripLemmas
+pub mod BurstLemmas

@@ -1,6 +1,9 @@
 pub mod Fault
 pub mod Statements
 pub mod Plans
+pub mod Privacy
+pub mod Strips
+pub mod Bursts
 pub mod Text
 pub mod Word
 pub mod Grammar

@@ -182,7 +182,7 @@ fn wait_action(
 }
 
 /// The action that a statement makes for a task with these registers.
-fn action(
+pub(crate) fn action(
     alloc: Global,
     statement: &Statement,
     cells: u32,

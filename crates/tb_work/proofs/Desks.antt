@@ -1,14 +1,15 @@
 -- What a desk keeps, and what an entry more leaves of it.
-use Rattle.std.proofs.Common.{ℕ, ◌+◌, ◌<◌, ◌≤◌, ◌≡◌, suc, List, [], ◌∷◌, ◌++◌, Some, Option, map, take, length, get_or, refl, ap, sym, subst, ◌∙◌, arith, rules}
+use Rattle.std.proofs.Common.{ℕ, ◌+◌, ◌<◌, ◌≤◌, ◌≡◌, suc, List, [], ◌∷◌, ◌++◌, Some, Option, map, take, length, get_or, refl, ap, sym, subst, ◌∙◌, arith, rules, length-set}
 use Rattle.std.specs.Prelude.{reverse, slice_index}
 use Rattle.std.proofs.lemmas.List.{map-append, reverse-append, length-map, length-take, take-append-le}
 use Rattle.std.proofs.Math.Seq.{take-suc, take-length}
 use Rattle.tb_model.specs.declared.entry.Entry.{Entry}
 use Rattle.tb_model.specs.declared.entry.Entry.TheVariants.{Opened, Stepped, Rolled}
+use Rattle.tb_model.specs.Names.{Name}
 use Rattle.tb_model.specs.Program.{Program}
 use Rattle.tb_live.specs.Breaks.{Points}
 use Rattle.tb_live.specs.declared.control.Control.{Control}
-use Rattle.tb_live.specs.Session.{Session, with_entry, control_behind}
+use Rattle.tb_live.specs.Session.{Session, with_entry, with_seat, control_behind}
 use Rattle.tb_work.specs.Changes.{entries}
 
 -- an entry leaves the breakpoints, and as many seats as there were
@@ -66,3 +67,17 @@ agrees_more P limit points seats all begun old mid new e total later cells more 
       named = cell ∙ ap (λ l. l ++ get_or all place 0 ∷ []) a.named ∙ ap (λ k. take (length J) all ++ get_or all k 0 ∷ []) at ∙ sym taken ∙ ap (λ n. take n all) (sym longer);
       noted = note ∙ ap (λ l. l ++ Some e ∷ []) a.noted ∙ sym (map-append (λ x. Some x) (entries old) (e ∷ [])) ∙ ap (map (λ x. Some x)) (sym listed);
     }
+
+-- a claim changes nothing of it
+pub agrees_claimed : (P : Program) (limit : ℕ) (points : Points) (seats : ℕ) (all : List ℕ) (begun : List Entry) (s new : Session) (total seat : ℕ) (o : Option Name) (cells : List ℕ) (known : List (Option Entry))
+    → Agrees P limit points seats all begun s total cells known → new ≡ with_seat s seat o → Agrees P limit points seats all begun new total cells known
+agrees_claimed P limit points seats all begun s new total seat o cells known a is = subst (λ (z : Session). Agrees P limit points seats all begun z total cells known) (sym is) (record {
+  program = a.program;
+  limited = a.limited;
+  breakpoints = a.breakpoints;
+  seated = length-set s.control.claims seat o ∙ a.seated;
+  begins = a.begins;
+  counted = a.counted;
+  named = a.named;
+  noted = a.noted;
+})

@@ -8,3 +8,4 @@ pub mod Growing
 pub mod Numbered
 pub mod Distinct
 pub mod Whole
+pub mod Bursting

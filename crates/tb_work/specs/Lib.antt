@@ -3,3 +3,4 @@ pub mod Changes
 pub mod Closing
 pub mod Claiming
 pub mod Growing
+pub mod Bursts

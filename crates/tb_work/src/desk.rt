@@ -1,16 +1,18 @@
 //! What lies under the lock.
 
 ghost use Rattle.std.specs.Prelude.{◌≡◌, ◌+◌, ◌<◌, ◌≤◌, Some, reverse, length, vec_len, vec_capacity, map, take, IfOk, OnOk, OnErr};
+ghost use Rattle.tb_work.specs.Bursts.{CommitsBurst};
 ghost use Rattle.tb_work.specs.Changes.{Commits, RollsBack, entries};
 ghost use Rattle.tb_work.specs.Claiming.{IsClaim, IsWorkFor};
 
 use crate::asking::{claim_one, claim_work, leave, pause, resume, resume_for};
+use crate::burst::Burst;
 use crate::entering::enter;
 use crate::places::Places;
 use crate::receipt::Receipt;
 use crate::refused::Refused;
 use crate::seat::Seat;
-use crate::taking::{next_place, ready_undo, take_back, take_back_all, take_step};
+use crate::taking::{next_place, ready_undo, take_back, take_back_all, take_more, take_step};
 use crate::team::Team;
 use crate::told::Told;
 use crate::unmade::Unmade;
@@ -84,6 +86,79 @@ impl<N: Team> Desk<N> {
             }
         }
         Ok(take_step(live, seat.number(), plan))
+    }
+
+    /// Commits the plans one after another, until one is refused. The claim ends.
+    pub fn commit_burst(&mut self, places: &Places, seat: &mut Seat<N>, plans: Vec<Plan>) -> Burst
+        requires places { places.now ≡ N.cells }
+        requires enough { N.limit ≤ length N.cells }
+        ensures { CommitsBurst N.program plans.items seat.old seat.new result }
+    {
+        let burst = self.commit_each(places, seat, plans);
+        self.let_go(seat);
+        burst
+    }
+
+    fn commit_each(&mut self, places: &Places, seat: &mut Seat<N>, plans: Vec<Plan>) -> Burst
+        requires places { places.now ≡ N.cells }
+        requires enough { N.limit ≤ length N.cells }
+        ensures { CommitsBurst N.program plans.items seat.old seat.new result }
+    {
+        let mut taken = 0;
+        for plan in plans {
+            match self.commit_more(places, seat, plan) {
+                Ok(_) => taken += 1,
+                Err(refusal) => {
+                    return Burst {
+                        taken,
+                        refusal: Some(refusal),
+                    };
+                }
+            }
+        }
+        Burst {
+            taken,
+            refusal: None,
+        }
+    }
+
+    /// Prepares, writes the entry to the place's cell, and commits. The seat claims the task still.
+    fn commit_more(
+        &mut self,
+        places: &Places,
+        seat: &mut Seat<N>,
+        plan: Plan,
+    ) -> Result<u32, Refused<CommitRefusal>>
+        requires places { places.now ≡ N.cells }
+        requires enough { N.limit ≤ length N.cells }
+        ensures ok { IfOk result (Commits N.program plan seat.old seat.new) }
+        ensures place { IfOk result (λ at. (at ≡ length self.old.live.session.journal) × (length self.new.live.session.journal ≡ at + 1)) }
+        ensures err { OnErr result (seat.new ≡ seat.old) }
+    {
+        let Desk {
+            alloc,
+            live,
+            told,
+            book,
+            spare: _,
+            room: _,
+        } = self;
+        let entry = match live.prepare(seat.number(), &plan) {
+            Ok(entry) => entry,
+            Err(refusal) => return Err(Refused::Run { refusal }),
+        };
+        let place = next_place(live);
+        match enter(*alloc, places, told, book, seat, place, entry) {
+            Ok(()) => {}
+            Err(Unmade::CellTaken) => return Err(Refused::CellTaken),
+            Err(Unmade::Memory) => {
+                let refusal = StepRefusal::Memory;
+                return Err(Refused::Run {
+                    refusal: CommitRefusal::Step { refusal },
+                });
+            }
+        }
+        Ok(take_more(live, seat.number(), plan))
     }
 
     /// Prepares, writes the entry to the place's cell, and takes the step back with all that need it.

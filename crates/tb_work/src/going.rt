@@ -1,11 +1,13 @@
 //! What any thread of a team asks of the run, and the workers.
 
 ghost use Rattle.std.specs.Prelude.{◌≡◌, ◌+◌, ◌<◌, ◌≤◌, length, IfOk, OnOk, OnErr};
+ghost use Rattle.tb_work.specs.Bursts.{CommitsBurst};
 ghost use Rattle.tb_work.specs.Changes.{Commits, RollsBack};
 ghost use Rattle.tb_work.specs.Claiming.{IsClaim, IsWorkFor};
 ghost use Rattle.tb_work.specs.Growing.{GrewBySteps, AllGrew};
 ghost use Rattle.tb_work.specs.Receipts.{receipts_in};
 
+use crate::burst::Burst;
 use crate::ended::Ended;
 use crate::gate::Gate;
 use crate::go_refusal::GoRefusal;
@@ -21,7 +23,7 @@ use std::thread;
 use std::thread::Threads;
 use tb_live::{Claim, ClaimRefusal, CommitRefusal, Removed, RollRefusal, UndoRefusal, Work};
 use tb_model::{StepId, TaskName};
-use tb_read::{Plan, plan};
+use tb_read::{Plan, plan_burst};
 
 impl<N: Team> Shared<N> {
     /// Gives up the seat's former claim, and gives it one on the least task that can step and that no
@@ -63,6 +65,13 @@ impl<N: Team> Shared<N> {
         self.desk.lock(rt).commit(&self.places, seat, plan)
     }
 
+    /// Commits the plans one after another, in one hold of the lock, until one is refused. The claim ends.
+    pub fn commit_burst<R: Wait>(&self, rt: &R, seat: &mut Seat<N>, plans: Vec<Plan>) -> Burst
+        ensures { CommitsBurst N.program plans.items seat.old seat.new result }
+    {
+        self.desk.lock(rt).commit_burst(&self.places, seat, plans)
+    }
+
     /// Takes a step back with all that need it, and tells them in the order of the history, the chosen one
     /// first.
     pub fn roll<R: Wait>(
@@ -100,8 +109,8 @@ impl<N: Team> Shared<N> {
         self.desk.lock(rt).resume();
     }
 
-    #[tactic(auto, using(crate::proofs::Growing::grew_none, crate::proofs::Growing::grew_same, crate::proofs::Growing::grew_committed))]
-    /// Claims once, and commits what was claimed.
+    #[tactic(auto, using(crate::proofs::Growing::grew_none, crate::proofs::Growing::grew_same))]
+    /// Claims once, and commits a burst of what was claimed.
     fn turn<R: Wait, G: Gate>(&self, rt: &R, seat: &mut Seat<N>, gate: &G, nth: &mut u64) -> Turn
         ensures { GrewBySteps seat.old seat.new }
     {
@@ -113,16 +122,17 @@ impl<N: Team> Shared<N> {
                 ended: Ended::Memory,
             },
         };
-        let Ok(plan) = plan(self.alloc, &work.instr, &work.config) else {
+        let Ok(plans) = plan_burst(self.alloc, &work.instr, &work.strip, &work.config) else {
             return Turn::Over {
                 ended: Ended::Memory,
             };
         };
         *nth = nth.saturating_add(1);
         gate.between(seat.number(), *nth);
-        match self.commit(rt, seat, plan) {
-            Ok(_) => Turn::On,
-            Err(refusal) => turn_behind(&refusal),
+        let burst = self.commit_burst(rt, seat, plans);
+        match &burst.refusal {
+            None => Turn::On,
+            Some(refusal) => turn_behind(refusal),
         }
     }
 

@@ -4,6 +4,7 @@
 mod adopt_refusal;
 mod adopting;
 mod asking;
+mod burst;
 mod closed;
 mod closing;
 mod copying;
@@ -30,6 +31,7 @@ mod why;
 
 pub use adopt_refusal::AdoptRefusal;
 pub use adopting::is_seated;
+pub use burst::Burst;
 pub use closed::Closed;
 pub use gap::Gap;
 pub use gate::Gate;

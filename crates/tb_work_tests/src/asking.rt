@@ -5,7 +5,7 @@ use std::process::Abort;
 use std::sync::Wait;
 use tb_live::{Claim, Work};
 use tb_model::{StepId, TaskName};
-use tb_read::{Plan, plan};
+use tb_read::{Plan, plan, plan_burst};
 use tb_work::{Refused, Seat, Shared, Team};
 
 fn task(rt: &(impl Abort + AllocGlobal), text: &str) -> TaskName {
@@ -48,6 +48,37 @@ pub fn planned_at<N: Team, R: Wait + Abort + AllocGlobal>(
         }
         _ => panic!(rt; "work at {line}"),
     }
+}
+
+/// The plans of a burst of the least task that no other seat claims.
+pub fn burst_planned<N: Team, R: Wait + Abort + AllocGlobal>(
+    rt: &R,
+    shared: &Shared<N>,
+    seat: &Seat<N>,
+) -> Vec<Plan> {
+    match shared.claim(rt, seat) {
+        Ok(Claim::Work(work)) => {
+            assert!(rt; work.instr.line == work.config.at);
+            plan_burst(rt.alloc(), &work.instr, &work.strip, &work.config).expect(rt, "plans")
+        }
+        _ => panic!(rt; "work"),
+    }
+}
+
+/// How many plans were committed, and the number of the refusal, or 0.
+pub fn burst_committed<N: Team, R: Wait>(
+    rt: &R,
+    shared: &Shared<N>,
+    seat: &mut Seat<N>,
+    plans: Vec<Plan>,
+) -> (u32, u32) {
+    let burst = shared.commit_burst(rt, seat, plans);
+    let refusal = match &burst.refusal {
+        None => 0,
+        Some(Refused::CellTaken) => 11,
+        Some(Refused::Run { refusal }) => u32::from(refusal.number()),
+    };
+    (burst.taken, refusal)
 }
 
 /// The place of the entry, or 100 more than the number of the refusal.

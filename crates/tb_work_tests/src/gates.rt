@@ -83,3 +83,27 @@ impl Gate for Signal {
         self.called.store(1, SeqCst);
     }
 }
+
+/// Counts the calls.
+#[derive(Drop)]
+pub struct Counting {
+    called: AtomicU64,
+}
+
+impl Counting {
+    pub fn new() -> Counting {
+        Counting {
+            called: AtomicU64::new(0),
+        }
+    }
+
+    pub fn calls(&self) -> u64 {
+        self.called.load(SeqCst)
+    }
+}
+
+impl Gate for Counting {
+    fn between(&self, _seat: u32, _nth: u64) {
+        self.called.fetch_add(1, SeqCst);
+    }
+}

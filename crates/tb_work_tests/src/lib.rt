@@ -8,6 +8,8 @@ mod asking;
 #[cfg(test)]
 mod beside;
 #[cfg(test)]
+mod bursts;
+#[cfg(test)]
 mod gates;
 #[cfg(test)]
 mod goes;

@@ -1,6 +1,7 @@
 //! What the threads of a test do with a run that they share.
 
 use crate::beside::{go_beside_workers, pause_workers, roll_beside_workers};
+use crate::bursts::{burst_in_turn, go_by_bursts, withdraw_a_burst};
 use crate::goes::{fill, go_in_turn, roll_and_go, stop_at_a_breakpoint};
 use crate::meeting::meet;
 use crate::memory::go_and_roll_again;
@@ -25,6 +26,9 @@ pub enum Scenario {
     PauseBeside,
     GoBeside,
     Retry,
+    Burst,
+    GoByBursts,
+    WithdrawBurst,
 }
 
 /// What is left of the run then.
@@ -55,6 +59,9 @@ impl Scenario {
             Scenario::PauseBeside => pause_workers(rt, shared, seats),
             Scenario::GoBeside => go_beside_workers(rt, shared, seats),
             Scenario::Retry => go_and_roll_again(rt, shared, seats),
+            Scenario::Burst => burst_in_turn(rt, shared, seats),
+            Scenario::GoByBursts => go_by_bursts(rt, shared, seats),
+            Scenario::WithdrawBurst => withdraw_a_burst(rt, shared, seats),
         }
     }
 }

@@ -13,7 +13,7 @@ pub const SPAWNED: &[u8] = b"cells 2\nbody main 0\n  task u 0\n  task u 1\nend\n
     let r1 r0 + 1\n  store r0 r1\n  load r2 r0\nend\n";
 
 /// The root's steps.
-const ROOT: [&str; 4] = ["0", "0", "0", "0"];
+pub const ROOT: [&str; 4] = ["0", "0", "0", "0"];
 
 /// One seat takes a step back behind which another claims.
 pub fn remove_a_claimed_step<N: Team + Send + Sync, R: Threads + Wait + Abort + AllocGlobal + Sync>(

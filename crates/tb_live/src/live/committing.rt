@@ -4,12 +4,12 @@ ghost use Rattle.std.specs.Prelude.{◌≡◌, ◌≢◌, IfOk, IfErr, OnErr, If
 ghost use Rattle.tb_model.specs.declared.entry.Entry.TheVariants.{Rolled};
 ghost use Rattle.tb_core.specs.declared.step_refusal.StepRefusal.TheVariants.{Memory};
 ghost use Rattle.tb_live.specs.declared.commit_refusal.CommitRefusal.TheVariants.{Step as NotTaken};
-ghost use Rattle.tb_live.specs.Commits.{Commits, IsPrepared, IsOffered, MayCommit, RefusesCommit, entry_to_come};
+ghost use Rattle.tb_live.specs.Commits.{Commits, CommitsMore, IsPrepared, IsOffered, MayCommit, RefusesCommit, entry_to_come};
 ghost use Rattle.tb_live.specs.Moves.{IsRollPrepared, KeepsAll};
 
 use super::Live;
 use crate::commit_refusal::CommitRefusal;
-use crate::committing::{enter_plan, foreign};
+use crate::committing::{enter_on, enter_plan, foreign};
 use crate::prepared::{Prepared, copy_of, keep};
 use crate::rolling::ready_roll;
 use crate::stepping::ready_step;
@@ -66,6 +66,33 @@ impl Live {
         }
         let place = self.journal.as_slice().len() as u32;
         match enter_plan(
+            &self.program,
+            &mut self.core,
+            &mut self.journal,
+            &mut self.control,
+            &mut self.prepared,
+            &mut self.floor,
+            self.limit,
+            seat,
+            plan,
+        ) {
+            Ok(_) => Ok(place),
+            Err(refusal) => Err(CommitRefusal::Step { refusal }),
+        }
+    }
+
+    /// Takes the step of a plan as `commit` does, and keeps the claim: the seat goes on with the task.
+    pub fn commit_more(&mut self, seat: u32, plan: Plan) -> Result<u32, CommitRefusal>
+        ensures committed { CommitsMore seat self.old.session plan self.new.session result }
+        ensures kept { IfErr result (λ e. e ≢ NotTaken Memory → self.new ≡ self.old) }
+        ensures room { MayCommit self.old.session seat plan
+            → self.old.prepared ≡ Some (entry_to_come seat self.old.session plan) → IsOk result }
+    {
+        if let Some(refusal) = self.withheld(seat, &plan) {
+            return Err(refusal);
+        }
+        let place = self.journal.as_slice().len() as u32;
+        match enter_on(
             &self.program,
             &mut self.core,
             &mut self.journal,

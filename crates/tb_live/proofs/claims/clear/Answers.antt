@@ -1,12 +1,12 @@
-use Rattle.std.proofs.Common.{rules, true}
+use Rattle.std.proofs.Common.{true, rules}
 use Rattle.tb_live.specs.Claims.{unless}
-use Rattle.tb_live.proofs.ClaimLemmas.{next_changed, all_changed}
+use Rattle.tb_live.proofs.ClaimLemmas.{next_changed, all_withdrawn}
 use Rattle.tb_live.proofs.claims.clear.Goals as goal
 
-pub loop-row-preserved : goal.loop-row-preserved
-loop-row-preserved c =
-    next_changed (unless (λ t. true)) c.args.rows.now.items c.deref_mut-row-items.result.now c.loop-row.row-items c.loop-row.row-index c.row-item.result c.forget.new.row c.deref_mut-row-items.ensures.value c.loop-row.invariant c.loop-row-test.true c.forget.ensures
+pub loop-at-preserved : goal.loop-at-preserved
+loop-at-preserved c =
+    next_changed (unless (λ t. true)) c.args.rows.now.items c.loop-at.rows.items c.loop-at.at c.args.end c.index_mut.result.now c.forget.new.row c.loop-at.invariant c.loop-at-test.true c.requires.within c.index_mut.ensures.value c.forget.ensures
 
 pub returns : goal.returns
 returns c =
-    all_changed (unless (λ t. true)) c.args.rows.now.items c.loop-row.row-items c.loop-row.row-index c.args.rows.now.len c.loop-row.invariant (search rules) (search rules)
+    all_withdrawn (λ t. true) c.args.rows.now.items c.loop-at.rows.items c.loop-at.at c.args.end c.loop-at.invariant (search rules) c.requires.free

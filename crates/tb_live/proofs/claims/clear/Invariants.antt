@@ -3,5 +3,5 @@ use Rattle.tb_live.specs.Claims.{unless}
 use Rattle.tb_live.proofs.ClaimLemmas.{changed_to}
 use Rattle.tb_live.proofs.claims.clear.Given as goal
 
-abbrev pub invariant-loop-row : goal.invariant-loop-row
-invariant-loop-row l = l.row-items ≡ changed_to (unless (λ t. true)) l.row-index l.fn.rows.items
+abbrev pub invariant-loop-at : goal.invariant-loop-at
+invariant-loop-at l = l.rows.items ≡ changed_to (unless (λ t. true)) l.at l.fn.rows.items

@@ -1,12 +1,12 @@
 use Rattle.std.proofs.Common.{rules}
 use Rattle.tb_live.specs.Claims.{unless, is_hit}
-use Rattle.tb_live.proofs.ClaimLemmas.{next_changed, all_changed}
+use Rattle.tb_live.proofs.ClaimLemmas.{next_changed, all_withdrawn}
 use Rattle.tb_live.proofs.claims.withdraw_hit.Goals as goal
 
-pub loop-row-preserved : goal.loop-row-preserved
-loop-row-preserved c =
-    next_changed (unless (is_hit c.args.removed.now)) c.args.rows.now.items c.deref_mut-row-items.result.now c.loop-row.row-items c.loop-row.row-index c.row-item.result c.leave_hit.new.row c.deref_mut-row-items.ensures.value c.loop-row.invariant c.loop-row-test.true c.leave_hit.ensures
+pub loop-at-preserved : goal.loop-at-preserved
+loop-at-preserved c =
+    next_changed (unless (is_hit c.args.removed.now)) c.args.rows.now.items c.loop-at.rows.items c.loop-at.at c.args.end c.index_mut.result.now c.leave_hit.new.row c.loop-at.invariant c.loop-at-test.true c.requires.within c.index_mut.ensures.value c.leave_hit.ensures
 
 pub returns : goal.returns
 returns c =
-    all_changed (unless (is_hit c.args.removed.now)) c.args.rows.now.items c.loop-row.row-items c.loop-row.row-index c.args.rows.now.len c.loop-row.invariant (search rules) (search rules)
+    all_withdrawn (is_hit c.args.removed.now) c.args.rows.now.items c.loop-at.rows.items c.loop-at.at c.args.end c.loop-at.invariant (search rules) c.requires.free

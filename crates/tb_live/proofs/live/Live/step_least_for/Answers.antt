@@ -4,31 +4,36 @@ use Rattle.tb_read.specs.declared.planned.Plan.{Plan}
 use Rattle.tb_live.specs.Plans.{IsReady}
 use Rattle.tb_core.specs.declared.step_refusal.StepRefusal.TheVariants.{Memory}
 use Rattle.tb_core.specs.Seen.{history}
-use Rattle.tb_live.proofs.FloorStepLemmas.{floor_after, floor_raised}
+use Rattle.tb_live.proofs.FloorStepLemmas.{floor_after, floor_raised, plan_clear}
 use Rattle.tb_live.proofs.StepLemmas.{longer, held, for_least, for_least_held, enters_held, live_least}
 use Rattle.tb_live.proofs.RunLemmas.{shown}
 use Rattle.tb_live.specs.Moves.{LeastStepsFor}
 use Rattle.tb_live.proofs.live.Live.step_least_for.Goals as goal
 use Rattle.tb_live.specs.Session.{Held}
-use Rattle.tb_live.proofs.live.Live.step_least_for.Goals.{in-Ok, in-Err-enter_step}
+use Rattle.tb_live.proofs.live.Live.step_least_for.Goals.{in-Ok, in-Err-enter_clear}
 
-pub enter_step-requires-clause-shorter : goal.enter_step-requires-clause-shorter
-enter_step-requires-clause-shorter c =
+pub enter_clear-requires-clause-shorter : goal.enter_clear-requires-clause-shorter
+enter_clear-requires-clause-shorter c =
     let i = c.self.inside in
     longer i.program i.limit i.journal.items i.core.run c.self.invariant.0
+
+pub enter_clear-requires-clause-clear : goal.enter_clear-requires-clause-clear
+enter_clear-requires-clause-clear c =
+    let i = c.self.inside in
+    plan_clear i.program i.core.run c.in-Ok-Some.plan c.self.invariant.0.fits (subst (λ (o : Option Plan). IsReady i.program i.core.run o) c.in-Ok-Some.field-0-is c.in-Ok-Some.ensures)
 
 pub invariant_of-self : goal.invariant_of-self
 invariant_of-self c =
     let i = c.self.inside in
     let ready = subst (λ (o : Option Plan). IsReady i.program i.core.run o) c.in-Ok-Some.field-0-is c.in-Ok-Some.ensures in
     let l = live_least c.args.seat i.program i.limit i.journal.items i.control i.core.run c.args.self.now.session (ap (λ (h : Held). h.session) c.self.view_is) (c.self.invariant.0, c.self.invariant.1) c.in-Ok-Some.plan ready
-    c.enter_step.new.journal.items c.enter_step.new.control c.enter_step.new.core.run c.enter_step.result c.enter_step.ensures.entered
+    c.enter_clear.new.journal.items c.enter_clear.new.control c.enter_clear.new.core.run c.enter_clear.result c.enter_clear.ensures.entered
     in (
       l.keeps.sound,
       l.keeps.lawful,
-      c.enter_step.ensures.serves i.program c.self.invariant.2,
-      floor_after i.limit c.args.seat i.program i.core.run c.enter_step.new.core.run c.in-Ok-Some.plan.config.task c.in-Ok-Some.plan i.journal.items c.enter_step.new.journal.items i.control c.enter_step.new.control c.enter_step.result c.self.invariant.0.fits ready.0
-          c.enter_step.ensures.entered c.raise.new.self c.enter_step.new.floor c.enter_step.ensures.carried c.enter_step.ensures.stays
+      c.enter_clear.ensures.serves i.program c.self.invariant.2,
+      floor_after i.limit c.args.seat i.program i.core.run c.enter_clear.new.core.run c.in-Ok-Some.plan.config.task c.in-Ok-Some.plan i.journal.items c.enter_clear.new.journal.items i.control c.enter_clear.new.control c.enter_clear.result c.self.invariant.0.fits ready.0
+          c.enter_clear.ensures.entered c.raise.new.self c.enter_clear.new.floor c.enter_clear.ensures.carried c.enter_clear.ensures.stays
           (floor_raised i.program (history i.core.run) c.in-Ok-Some.plan.config.task c.raise.new.self ready.1 c.raise.ensures),
     )
 
@@ -37,20 +42,20 @@ returns-clause-stepped c =
     let i = c.self.inside in
     let ready = subst (λ (o : Option Plan). IsReady i.program i.core.run o) c.in-Ok-Some.field-0-is c.in-Ok-Some.ensures in
     let answer = (live_least c.args.seat i.program i.limit i.journal.items i.control i.core.run c.args.self.now.session (ap (λ (h : Held). h.session) c.self.view_is) (c.self.invariant.0, c.self.invariant.1) c.in-Ok-Some.plan ready
-    c.enter_step.new.journal.items c.enter_step.new.control c.enter_step.new.core.run c.enter_step.result c.enter_step.ensures.entered).answer
+    c.enter_clear.new.journal.items c.enter_clear.new.control c.enter_clear.new.core.run c.enter_clear.result c.enter_clear.ensures.entered).answer
     in
-    elim c.match-enter_step.branch [
-      | in-Ok w ↦ subst (LeastStepsFor c.args.seat c.args.self.now.session (shown i.program i.limit c.enter_step.new.journal.items c.enter_step.new.control)) (ap for_least w.in-Ok.is ∙ sym w.result-is) answer
-      | in-Err-enter_step w ↦ subst (LeastStepsFor c.args.seat c.args.self.now.session (shown i.program i.limit c.enter_step.new.journal.items c.enter_step.new.control)) (ap for_least w.in-Err-enter_step.is ∙ sym w.result-is) answer
+    elim c.match-enter_clear.branch [
+      | in-Ok w ↦ subst (LeastStepsFor c.args.seat c.args.self.now.session (shown i.program i.limit c.enter_clear.new.journal.items c.enter_clear.new.control)) (ap for_least w.in-Ok.is ∙ sym w.result-is) answer
+      | in-Err-enter_clear w ↦ subst (LeastStepsFor c.args.seat c.args.self.now.session (shown i.program i.limit c.enter_clear.new.journal.items c.enter_clear.new.control)) (ap for_least w.in-Err-enter_clear.is ∙ sym w.result-is) answer
     ]
 
 pub returns-clause-kept : goal.returns-clause-kept
 returns-clause-kept c =
     let i = c.self.inside in
-    let k = for_least_held _ c.enter_step.result
-    (enters_held i.program i.limit i.journal.items c.enter_step.new.journal.items i.control c.enter_step.new.control i.prepared c.enter_step.new.prepared c.args.self.now c.self.view_is c.args.seat i.core.run c.enter_step.new.core.run c.in-Ok-Some.plan c.enter_step.result c.enter_step.ensures.entered c.enter_step.ensures.kept)
+    let k = for_least_held _ c.enter_clear.result
+    (enters_held i.program i.limit i.journal.items c.enter_clear.new.journal.items i.control c.enter_clear.new.control i.prepared c.enter_clear.new.prepared c.args.self.now c.self.view_is c.args.seat i.core.run c.enter_clear.new.core.run c.in-Ok-Some.plan c.enter_clear.result c.enter_clear.ensures.entered c.enter_clear.ensures.kept)
     in
-    elim c.match-enter_step.branch [
-      | in-Ok w ↦ subst (λ r. IfErr r (λ e. e ≢ Memory → held i.program i.limit c.enter_step.new.journal.items c.enter_step.new.control c.enter_step.new.prepared ≡ c.args.self.now)) (ap for_least w.in-Ok.is ∙ sym w.result-is) k
-      | in-Err-enter_step w ↦ subst (λ r. IfErr r (λ e. e ≢ Memory → held i.program i.limit c.enter_step.new.journal.items c.enter_step.new.control c.enter_step.new.prepared ≡ c.args.self.now)) (ap for_least w.in-Err-enter_step.is ∙ sym w.result-is) k
+    elim c.match-enter_clear.branch [
+      | in-Ok w ↦ subst (λ r. IfErr r (λ e. e ≢ Memory → held i.program i.limit c.enter_clear.new.journal.items c.enter_clear.new.control c.enter_clear.new.prepared ≡ c.args.self.now)) (ap for_least w.in-Ok.is ∙ sym w.result-is) k
+      | in-Err-enter_clear w ↦ subst (λ r. IfErr r (λ e. e ≢ Memory → held i.program i.limit c.enter_clear.new.journal.items c.enter_clear.new.control c.enter_clear.new.prepared ≡ c.args.self.now)) (ap for_least w.in-Err-enter_clear.is ∙ sym w.result-is) k
     ]

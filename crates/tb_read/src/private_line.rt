@@ -1,0 +1,17 @@
+//! A private statement with the lines that follow it.
+
+ghost use Rattle.std.specs.Prelude.{IsTrue};
+ghost use Rattle.tb_read.specs.Privacy.{statement_of};
+ghost use Rattle.tb_read.specs.Statements.{is_sound};
+
+use crate::private::Private;
+
+/// The private statement of a line, and the lines that follow (`otherwise` behind a test that says no).
+#[derive(Clone, Copy, Debug, Drop)]
+pub struct PrivateLine {
+    pub statement: Private,
+    pub next: u32,
+    pub otherwise: u32,
+    /// Its registers are 0 to 15.
+    pub ghost sound: { IsTrue (is_sound (statement_of statement)) },
+}

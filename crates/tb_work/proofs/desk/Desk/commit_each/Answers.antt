@@ -1,0 +1,40 @@
+use Rattle.std.proofs.Common.{ℕ, suc, ◌≡◌, ◌+◌, List, ◌∷◌, [], ◌++◌, length, length-append, Some, ap, sym, subst, ◌∙◌, arith}
+use Rattle.std.proofs.lemmas.Option.{none-some}
+use Rattle.std.specs.Vec.Iter.{into_iter_items}
+use Rattle.tb_read.specs.declared.planned.Plan.{Plan}
+use Rattle.tb_work.specs.Bursts.{CommitsEach}
+use Rattle.tb_work.specs.Receipts.{Seated}
+use Rattle.tb_work.proofs.Bursting.{each_more, each_before, taken_front}
+use Rattle.tb_work.proofs.desk.Desk.commit_each.Goals as goal
+
+pub loop-plan-preserved : goal.loop-plan-preserved
+loop-plan-preserved g c =
+    let at = c.loop-plan in
+    let first = length c.args.self.now.live.session.journal in
+    let place = c.in-Ok.ensures.place in
+    let more : CommitsEach g.N.Team.program (suc at.taken) first (at.yielded ++ c.in-Some.plan ∷ []) c.args.seat.now c.commit_more.new.seat =
+    each_more g.N.Team.program at.taken first c.in-Ok.field-0 at.yielded c.in-Some.plan c.args.seat.now at.seat c.commit_more.new.seat at.invariant.each at.invariant.all (omega (arith, place.0, at.invariant.place)) c.in-Ok.ensures.ok in
+    let next : suc at.taken ≡ at.taken + 1 = omega arith in
+    record {
+      each = subst (λ (n : ℕ). CommitsEach g.N.Team.program n first (at.yielded ++ c.in-Some.plan ∷ []) c.args.seat.now c.commit_more.new.seat) next more;
+      all = length-append at.yielded (c.in-Some.plan ∷ []) ∙ ap (λ n. n + 1) at.invariant.all;
+      place = omega (arith, place.0, place.1, at.invariant.place);
+    }
+
+pub returns-in-Err : goal.returns-in-Err
+returns-in-Err g c =
+    let at = c.loop-plan in
+    let first = length c.args.self.now.live.session.journal in
+    let rest = into_iter_items c.next.new.self in
+    let given : into_iter_items c.into_iter-plan-iterator.result ≡ c.args.plans.items = c.into_iter-plan-iterator.ensures.into_iter_gives.0 in
+    let front : into_iter_items c.into_iter-plan-iterator.result ≡ at.yielded ++ into_iter_items at.plan-iterator = taken_front c.into_iter-plan-iterator.result at.yielded at.plan-iterator at.yielded_by in
+    let step : into_iter_items at.plan-iterator ≡ c.in-Some.plan ∷ rest = c.in-Some.ensures.steps.0 in
+    let whole : at.yielded ++ c.in-Some.plan ∷ rest ≡ c.args.plans.items = ap (λ (l : List Plan). at.yielded ++ l) (sym step) ∙ sym front ∙ given in
+    let here : CommitsEach g.N.Team.program at.taken first at.yielded c.args.seat.now c.commit_more.new.seat =
+    subst (λ (s : Seated). CommitsEach g.N.Team.program at.taken first at.yielded c.args.seat.now s) (sym c.in-Err.ensures.err) at.invariant.each in
+    let long : length c.args.plans.items ≡ length at.yielded + suc (length rest) = ap length (sym whole) ∙ length-append at.yielded (c.in-Some.plan ∷ rest) in
+    record {
+      place = first;
+      each = subst (λ (l : List Plan). CommitsEach g.N.Team.program at.taken first l c.args.seat.now c.commit_more.new.seat) whole (each_before g.N.Team.program at.taken first at.yielded (c.in-Some.plan ∷ rest) c.args.seat.now c.commit_more.new.seat here);
+      whole = ((λ is. absurd (none-some c.in-Err.refusal (sym is))), (λ is. absurd (omega (arith, is, long, at.invariant.all))));
+    }
