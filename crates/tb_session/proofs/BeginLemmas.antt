@@ -2,15 +2,15 @@
 use Rattle.std.proofs.Common.{◌≡◌, ℕ, List, [], ◌∷◌, ◌++◌, sym, ap, ◌∙◌, subst, append_assoc, append-nil, Option, Some, None, Ok, Err}
 use Rattle.tb_read.specs.declared.fault.ReadFault.{ReadFault}
 use Rattle.tb_read.specs.Text.{lines_of}
-use Rattle.tb_session.specs.Lines.{spelled}
+use Rattle.tb_lines.specs.Lines.{spelled}
 use Rattle.tb_live.specs.Session.{Held}
-use Rattle.tb_session.specs.Reading.{IsProgram, IsRefused}
+use Rattle.tb_replies.specs.Reading.{IsProgram, IsRefused}
 use Rattle.tb_session.specs.Answer.{program_text, Refuses}
 use Rattle.tb_session.specs.Stages.{Divided, Whole, Gathered, Opens, Opened, Halted, Begun}
 use Rattle.tb_session.specs.declared.halt.Halt.{Halt}
 use Rattle.tb_session.specs.declared.halt.Halt.TheVariants.{Refused, Read, Write, Memory, Journal}
-use Rattle.tb_session.specs.declared.line_reader.LineEnd.{LineEnd}
-use Rattle.tb_session.specs.declared.line_reader.LineEnd.TheVariants.{Feed, Input}
+use Rattle.tb_lines.specs.declared.line_reader.LineEnd.{LineEnd}
+use Rattle.tb_lines.specs.declared.line_reader.LineEnd.TheVariants.{Feed, Input}
 use Rattle.tb_session.proofs.LineLemmas.{lines_of_spelled}
 use Rattle.tb_session.proofs.GatherLemmas.{program_of_divided}
 

@@ -4,14 +4,14 @@ use Rattle.std.specs.Prelude.{IsErrOf}
 use Rattle.std.specs.Io.KnownBytes.{Consumes, IsAtEnd, prepend_known}
 use Rattle.tb_read.specs.declared.fault.ReadFault.{ReadFault}
 use Rattle.tb_read.specs.Text.{lines_of}
-use Rattle.tb_session.specs.Lines.{AreUnbroken, spelled}
+use Rattle.tb_lines.specs.Lines.{AreUnbroken, spelled}
 use Rattle.tb_live.specs.Session.{Session, opened}
-use Rattle.tb_session.specs.Reading.{IsProgram}
+use Rattle.tb_replies.specs.Reading.{IsProgram}
 use Rattle.tb_session.specs.Answer.{command_lines, program_text, Replies, AnswerTo, Ran, Refuses}
 use Rattle.tb_session.specs.Stages.{Divides, Ends, Begun, Served}
 use Rattle.tb_session.specs.declared.halt.Halt.{Halt}
 use Rattle.tb_session.specs.declared.halt.Halt.TheVariants.{Refused, Read, Write, Memory, Journal}
-use Rattle.tb_session.proofs.KnownLemmas.{consumes_trans, appends_nil}
+use Rattle.tb_lines.proofs.KnownLemmas.{consumes_trans, appends_nil}
 use Rattle.tb_session.proofs.LineLemmas.{lines_of_spelled, spelled_append}
 use Rattle.tb_session.proofs.GatherLemmas.{program_of_divided, commands_of_divided}
 

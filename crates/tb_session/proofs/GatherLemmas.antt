@@ -2,14 +2,15 @@
 use Rattle.std.proofs.Common.{◌≡◌, ℕ, List, [], ◌∷◌, ◌++◌, refl, sym, ap, ◌∙◌, subst, Option, Ok, Err, true, false}
 use Rattle.std.specs.Io.KnownBytes.{Consumes}
 use Rattle.tb_read.specs.Text.{lines_of}
-use Rattle.tb_session.specs.Lines.{IsUnbroken, AreUnbroken, last_line, spelled, GaveLine, is_divider}
+use Rattle.tb_lines.specs.Lines.{IsUnbroken, AreUnbroken, last_line, spelled, GaveLine}
+use Rattle.tb_session.specs.Divider.{is_divider}
 use Rattle.tb_session.specs.Answer.{AreUndivided, program_lines, command_lines, program_text}
 use Rattle.tb_session.specs.Stages.{Halted, Gathered, line_at}
-use Rattle.tb_session.specs.declared.line_reader.LineEnd.{LineEnd}
-use Rattle.tb_session.specs.declared.line_reader.LineEnd.TheVariants.{Feed, Input}
-use Rattle.tb_session.specs.declared.line_reader.LineFault.{LineFault}
-use Rattle.tb_session.specs.declared.line_reader.LineFault.TheVariants.{Read as NotRead, Memory as NoMemory}
-use Rattle.tb_session.proofs.KnownLemmas.{consumes_nil, consumes_trans}
+use Rattle.tb_lines.specs.declared.line_reader.LineEnd.{LineEnd}
+use Rattle.tb_lines.specs.declared.line_reader.LineEnd.TheVariants.{Feed, Input}
+use Rattle.tb_lines.specs.declared.line_reader.LineFault.{LineFault}
+use Rattle.tb_lines.specs.declared.line_reader.LineFault.TheVariants.{Read as NotRead, Memory as NoMemory}
+use Rattle.tb_lines.proofs.KnownLemmas.{consumes_nil, consumes_trans}
 use Rattle.tb_session.proofs.LineLemmas.{lines_of_spelled, lines_of_last, spelled_append, all_more}
 
 -- ---- the first divider

@@ -2,7 +2,7 @@
 use Rattle.std.proofs.Common.{◌≡◌, ℕ, List, [], ◌∷◌, ◌++◌, refl, sym, ap, ◌∙◌, append_assoc, append-nil}
 use Rattle.std.specs.List.{AllByRecursion}
 use Rattle.tb_read.specs.Text.{lines_of, onto_first}
-use Rattle.tb_session.specs.Lines.{IsUnbroken, AreUnbroken, last_line, spelled}
+use Rattle.tb_lines.specs.Lines.{IsUnbroken, AreUnbroken, last_line, spelled}
 
 lines_of_line : (line rest : List ℕ) → IsUnbroken line → lines_of (line ++ 10 ∷ rest) ≡ line ∷ lines_of rest
 lines_of_line [] rest h = refl

@@ -3,18 +3,18 @@ use Rattle.std.proofs.Common.{◌≡◌, ℕ, ◌+◌, List, [], ◌∷◌, ◌+
 use Rattle.std.proofs.Math.Seq.{take-append-add}
 use Rattle.std.specs.Io.KnownBytes.{Consumes, Appends}
 use Rattle.tb_read.specs.Text.{lines_of}
-use Rattle.tb_session.specs.Lines.{IsUnbroken, AreUnbroken, spelled, GaveLine}
+use Rattle.tb_lines.specs.Lines.{IsUnbroken, AreUnbroken, spelled, GaveLine}
 use Rattle.tb_live.specs.Session.{Session, Held}
-use Rattle.tb_session.specs.Commands.{AsksSeveral}
-use Rattle.tb_session.specs.Replies.{Answers}
+use Rattle.tb_commands.specs.Commands.{AsksSeveral}
+use Rattle.tb_replies.specs.Replies.{Answers}
 use Rattle.tb_session.specs.Answer.{RunOf}
 use Rattle.tb_session.specs.Stages.{Answered, Served, line_at}
 use Rattle.tb_session.specs.declared.halt.Halt.{Halt}
 use Rattle.tb_session.specs.declared.halt.Halt.TheVariants.{Refused, Read, Write, Memory, Journal}
-use Rattle.tb_session.specs.declared.line_reader.LineEnd.{LineEnd}
-use Rattle.tb_session.specs.declared.line_reader.LineEnd.TheVariants.{Feed, Input}
-use Rattle.tb_session.specs.declared.line_reader.LineFault.{LineFault}
-use Rattle.tb_session.proofs.KnownLemmas.{consumes_nil, consumes_trans, appends_nil, appends_trans}
+use Rattle.tb_lines.specs.declared.line_reader.LineEnd.{LineEnd}
+use Rattle.tb_lines.specs.declared.line_reader.LineEnd.TheVariants.{Feed, Input}
+use Rattle.tb_lines.specs.declared.line_reader.LineFault.{LineFault}
+use Rattle.tb_lines.proofs.KnownLemmas.{consumes_nil, consumes_trans, appends_nil, appends_trans}
 use Rattle.tb_session.proofs.LineLemmas.{lines_of_spelled, lines_of_whole, lines_of_last, spelled_append, all_more}
 use Rattle.tb_session.proofs.RunLemmas.{run_append, run_one}
 

@@ -5,11 +5,12 @@ use Rattle.std.specs.Io.KnownBytes.{Consumes, IsAtEnd, Appends}
 use Rattle.tb_model.specs.Program.{Program}
 use Rattle.tb_read.specs.declared.fault.ReadFault.{ReadFault}
 use Rattle.tb_read.specs.Text.{lines_of}
-use Rattle.tb_session.specs.Lines.{spelled, AreUnbroken, IsUnbroken, is_divider}
-use Rattle.tb_session.specs.Reading.{IsProgram, IsRefused}
+use Rattle.tb_lines.specs.Lines.{spelled, AreUnbroken, IsUnbroken}
+use Rattle.tb_session.specs.Divider.{is_divider}
+use Rattle.tb_replies.specs.Reading.{IsProgram, IsRefused}
 use Rattle.tb_live.specs.Session.{Session, opened}
-use Rattle.tb_session.specs.Commands.{AsksSeveral}
-use Rattle.tb_session.specs.Replies.{Answers}
+use Rattle.tb_commands.specs.Commands.{AsksSeveral}
+use Rattle.tb_replies.specs.Replies.{Answers}
 use Rattle.tb_session.specs.declared.halt.Halt.{Halt}
 use Rattle.tb_session.specs.declared.halt.Halt.TheVariants.{Refused, Read, Write, Memory, Journal}
 

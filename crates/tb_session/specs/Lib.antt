@@ -1,15 +1,4 @@
-pub mod Lines
-pub mod Commands
-pub mod Texts
-pub mod Refusals
-pub mod Bodies
-pub mod Rolled
-pub mod Course
-pub mod Turns
-pub mod Alone
-pub mod Replies
-pub mod Laws
-pub mod Reading
+pub mod Divider
 pub mod Answer
 pub mod Stages
 pub mod Halt

@@ -3,18 +3,19 @@ use Rattle.std.specs.Prelude.{◌≡◌, ℕ, List, [], ◌∷◌, ◌++◌, tak
 use Rattle.std.specs.Io.KnownBytes.{Consumes, IsAtEnd, Appends}
 use Rattle.tb_model.specs.Program.{Program}
 use Rattle.tb_read.specs.Text.{lines_of}
-use Rattle.tb_session.specs.Lines.{last_line, spelled, AreUnbroken, IsUnbroken, is_divider}
-use Rattle.tb_session.specs.Reading.{IsProgram, IsRefused}
+use Rattle.tb_lines.specs.Lines.{last_line, spelled, AreUnbroken, IsUnbroken}
+use Rattle.tb_session.specs.Divider.{is_divider}
+use Rattle.tb_replies.specs.Reading.{IsProgram, IsRefused}
 use Rattle.tb_live.specs.Session.{Session, Held, opened}
-use Rattle.tb_session.specs.Commands.{AsksSeveral}
-use Rattle.tb_session.specs.Replies.{Answers}
+use Rattle.tb_commands.specs.Commands.{AsksSeveral}
+use Rattle.tb_replies.specs.Replies.{Answers}
 use Rattle.tb_session.specs.Answer.{Replies, AreUndivided, program_text, command_lines, Refuses}
 use Rattle.tb_session.specs.declared.halt.Halt.{Halt}
 use Rattle.tb_session.specs.declared.halt.Halt.TheVariants.{Refused, Read, Write, Memory, Journal}
-use Rattle.tb_session.specs.declared.line_reader.LineEnd.{LineEnd}
-use Rattle.tb_session.specs.declared.line_reader.LineEnd.TheVariants.{Feed, Input}
-use Rattle.tb_session.specs.declared.line_reader.LineFault.{LineFault}
-use Rattle.tb_session.specs.declared.line_reader.LineFault.TheVariants.{Read as NotRead, Memory as NoMemory}
+use Rattle.tb_lines.specs.declared.line_reader.LineEnd.{LineEnd}
+use Rattle.tb_lines.specs.declared.line_reader.LineEnd.TheVariants.{Feed, Input}
+use Rattle.tb_lines.specs.declared.line_reader.LineFault.{LineFault}
+use Rattle.tb_lines.specs.declared.line_reader.LineFault.TheVariants.{Read as NotRead, Memory as NoMemory}
 
 -- whole lines of the program were taken, and a part of one more
 abbrev pub Cut : Option (List ℕ) → Option (List ℕ) → Type 0

@@ -1,7 +1,7 @@
 //! The line between a program and its commands.
 
 ghost use Rattle.std.specs.Prelude.{◌≡◌, IfOk};
-ghost use Rattle.tb_session.specs.Lines.{is_divider};
+ghost use Rattle.tb_session.specs.Divider.{is_divider};
 
 use std::alloc::{AllocError, Global};
 use tb_read::{line_words, same_word};

@@ -6,10 +6,9 @@ ghost use Rattle.tb_session.specs.Stages.{Gathered, Kept, Opens};
 
 use crate::divider::is_divider;
 use crate::halt::Halt;
-use crate::line_reader::{LineEnd, LineFault, LineReader};
-use crate::ports::Source;
 use std::alloc::{AllocError, Global};
 use std::sync::Wait;
+use tb_lines::{LineEnd, LineFault, LineReader, Source};
 use tb_live::Live;
 use tb_read::{FaultKind, read};
 

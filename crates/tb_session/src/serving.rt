@@ -5,17 +5,14 @@ ghost use Rattle.std.specs.Io.KnownBytes.{prepend_known};
 ghost use Rattle.tb_session.specs.Stages.{Answered, Served};
 ghost use Rattle.tb_team.specs.Gone.{HasSeats};
 
-use crate::ending::end;
 use crate::halt::Halt;
-use crate::line_reader::{LineEnd, LineFault, LineReader};
-use crate::ports::{Sink, Source};
-use crate::replies::answer;
-use crate::workers::Workers;
-use crate::writing::write_whole;
 use std::alloc::Global;
 use std::sync::Wait;
 use std::thread::Threads;
-use tb_live::Live;
+use tb_commands::Workers;
+use tb_lines::{LineEnd, LineFault, LineReader, Sink, Source, write_whole};
+use tb_live::{Live, end};
+use tb_replies::answer;
 use tb_team::Lost;
 
 /// Works on a line, and writes its reply.

@@ -5,17 +5,15 @@ ghost use Rattle.std.specs.Io.KnownBytes.{prepend_known};
 ghost use Rattle.tb_session.specs.Answer.{Ran};
 ghost use Rattle.tb_session.specs.Stages.{Begun};
 
-use crate::ending::end;
 use crate::halt::Halt;
-use crate::line_reader::{LineEnd, LineFault, LineReader};
 use crate::opening::{gather, open};
-use crate::ports::{Sink, Source};
 use crate::serving::serve;
-use crate::workers::Workers;
 use std::alloc::Global;
 use std::sync::Wait;
 use std::thread::Threads;
-use tb_live::Live;
+use tb_commands::Workers;
+use tb_lines::{LineEnd, LineFault, LineReader, Sink, Source};
+use tb_live::{Live, end};
 use tb_options::Settings;
 
 /// Reads the program and opens its session, and tells what ended the program's text.

@@ -3,12 +3,12 @@
 ghost use Rattle.std.specs.Prelude.{◌≡◌};
 
 use crate::lost::Lost;
-use tb_live::Live;
+use tb_live::{Live, end};
 
-/// Gives up a run that can't be given back, for this reason. No other function drops a run: what drops one
-/// has to show it for each of its tables.
-pub fn lose(_live: Live, why: Lost) -> Lost
+/// Gives up a run that can't be given back, for this reason.
+pub fn lose(live: Live, why: Lost) -> Lost
     ensures { result ≡ why }
 {
+    end(live);
     why
 }

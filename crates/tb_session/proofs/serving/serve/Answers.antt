@@ -1,5 +1,5 @@
 use Rattle.std.proofs.Common.{rules, refl}
-use Rattle.tb_session.proofs.SeatLemmas.{line_seats}
+use Rattle.tb_replies.proofs.SeatLemmas.{line_seats}
 use Rattle.tb_session.proofs.ServeLemmas.{serve_starts, serve_read, serve_memory, serve_halts, serve_more, serve_ends}
 use Rattle.tb_session.proofs.serving.serve.Goals as goal
 

@@ -1,0 +1,9 @@
+pub mod ResultLemmas
+pub mod TotalLemmas
+pub mod CourseLemmas
+pub mod AloneLemmas
+pub mod TurnLemmas
+pub mod SeatLemmas
+pub mod RolledLemmas
+pub mod BodyLemmas
+pub mod TeamLemmas

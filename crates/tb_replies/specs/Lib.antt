@@ -1,0 +1,10 @@
+pub mod Texts
+pub mod Refusals
+pub mod Bodies
+pub mod Rolled
+pub mod Course
+pub mod Turns
+pub mod Alone
+pub mod Replies
+pub mod Reading
+pub mod Laws

@@ -1,0 +1,107 @@
+//! Turns of a worker alone.
+
+ghost use Rattle.std.specs.Prelude.{◌≡◌, ◌≢◌, IfOk, None, Some, [], string_bytes};
+ghost use Rattle.tb_replies.specs.Alone.{HasNoClaims, IsIdle, IsIdleStop, IsUnderWay, IsWhole, Stops, TakesTurn};
+ghost use Rattle.tb_replies.specs.Replies.{GoReply};
+ghost use Rattle.tb_team.specs.Turns.{stop_of};
+ghost use Rattle.tb_team.specs.Gone.{HasSeats};
+
+use crate::newest::append_newest;
+use crate::running::{Taken, append_end};
+use std::alloc::{AllocError, Global};
+use tb_live::{Live, Mode, PausedBy, StepRefusal};
+use tb_team::Stop;
+
+/// Takes the next step of the least task that can step, as the worker's claim and its commit would, and tells it. False
+/// where there is no such task, or the run is paused.
+fn take_turn(text: &mut String, live: &mut Live) -> Result<bool, AllocError>
+    requires free { HasNoClaims live.old.session }
+    requires going { IsUnderWay live.old.session.control.mode }
+    ensures { IfOk result (TakesTurn live.old.session (string_bytes text.old)
+        (string_bytes text.new) live.new.session) }
+{
+    if live.mode().is_paused() {
+        return Ok(false);
+    }
+    match live.step_least_for(1) {
+        Ok(Some(id)) => {
+            append_newest(text, live, &id)?;
+            Ok(true)
+        }
+        Ok(None) => Ok(false),
+        Err(StepRefusal::Full) => Ok(false),
+        Err(StepRefusal::Memory) => Err(AllocError),
+        _ => unreachable!(),
+    }
+}
+
+/// Why no turn follows in a run that goes on. No step is taken: no task can step, or the journal is
+/// full.
+fn idle_stop(live: &mut Live) -> Result<Stop, AllocError>
+    requires { IsIdle live.old.session }
+    ensures { IfOk result (λ why. IsIdleStop live.old.session live.new.session why) }
+{
+    match live.step_least_for(1) {
+        Ok(None) => Ok(Stop::Done),
+        Err(StepRefusal::Full) => Ok(Stop::Full),
+        Err(StepRefusal::Memory) => Err(AllocError),
+        _ => unreachable!(),
+    }
+}
+
+/// Why no turn follows.
+fn stop(live: &mut Live) -> Result<Stop, AllocError>
+    requires { stop_of live.old.session ≢ None }
+    ensures { IfOk result (λ why. (stop_of live.old.session ≡ Some why)
+        × (live.new.session ≡ live.old.session)) }
+{
+    match live.mode() {
+        Mode::Paused {
+            by: PausedBy::Break { .. },
+        } => Ok(Stop::Break),
+        Mode::Paused {
+            by: PausedBy::Count,
+        } => Ok(Stop::Limit),
+        _ => idle_stop(live),
+    }
+}
+
+/// Ends the turns, of which there were so many: gives up all claims, and lets the run go on.
+fn settle(live: &mut Live, count: u32) -> Result<Taken, AllocError>
+    requires { stop_of live.old.session ≢ None }
+    ensures { IfOk result (Stops live.old.session count live.new.session) }
+{
+    let stop = stop(live)?;
+    live.withdraw_all();
+    live.resume();
+    Ok(Taken { count, stop })
+}
+
+/// Takes up to so many turns, and appends the line of each as soon as it is taken.
+fn take_turns(text: &mut String, live: &mut Live, most: u32) -> Result<Taken, AllocError>
+    requires seats { HasSeats live.old.session }
+    requires empty { string_bytes text.old ≡ [] }
+    ensures { IfOk result (IsWhole most live.old.session (string_bytes text.new) live.new.session) }
+{
+    live.withdraw_all();
+    live.resume_for(most);
+    let mut count = 0;
+    'turns: while count < most {
+        if !take_turn(text, live)? {
+            return settle(live, count);
+        }
+        count += 1;
+    }
+    settle(live, count)
+}
+
+/// Lets one worker go on for up to so many steps, and tells them. It stops at a breakpoint.
+pub fn go_reply(alloc: Global, live: &mut Live, most: u32) -> Result<String, AllocError>
+    requires { HasSeats live.old.session }
+    ensures { IfOk result (λ text. GoReply 1 most live.old.session (string_bytes text) live.new.session) }
+{
+    let mut text = String::new(alloc);
+    let taken = take_turns(&mut text, live, most)?;
+    append_end(&mut text, taken)?;
+    Ok(text)
+}

@@ -1,6 +1,0 @@
-use Rattle.std.proofs.Common.{append_assoc, ◌∙◌}
-use Rattle.tb_session.proofs.ResultLemmas.{ok_then}
-use Rattle.tb_session.proofs.refusing.refused.Goals as goal
-
-pub returns : goal.returns
-returns c = ok_then c.format.result _ _ (λ text h. h ∙ simp append_assoc) c.format.ensures.ok
