@@ -1,5 +1,5 @@
 -- The list of all items with the links of each.
-use Rattle.std.proofs.Common.{◌≡◌, ◌<◌, ◌≤◌, ◌-◌, ℕ, suc, List, [], ◌∷◌, ◌++◌, Bool, true, false, ◌&&◌, cond, length, slice_get, Option, Some, None, refl, sym, ap, ap₂, ◌∙◌, subst, inl, inr, arith, is_some, nat_eq}
+use Rattle.std.proofs.Common.{◌≡◌, ◌<◌, ◌≤◌, ◌-◌, ℕ, suc, List, [], ◌∷◌, ◌++◌, Bool, true, false, ◌&&◌, cond, length, slice_get, Option, Some, None, refl, sym, ap, ap₂, ◌∙◌, subst, inl, inr, arith, is_some, nat_eq, unwrap_or}
 use Rattle.std.specs.Prelude.{IsTrue, max}
 use Rattle.std.specs.Map.{lookup}
 use Rattle.std.proofs.lemmas.Bool.{cases_lt, false≢true, and_parts}
@@ -11,7 +11,7 @@ use Rattle.tb_model.specs.declared.item.Item.{Item}
 use Rattle.tb_model.specs.Items.{relation, is_before, same_place, meets}
 use Rattle.tb_depend.specs.declared.link.Link.{Link}
 use Rattle.tb_depend.specs.declared.heads.Heads.{Heads}
-use Rattle.tb_depend.specs.Chains.{head, has_head, or_zero, is_place, is_of, is_met, IsLast, IsLink, AreChained}
+use Rattle.tb_depend.specs.Chains.{head, has_head, is_place, is_of, is_met, IsLast, IsLink, AreChained}
 use Rattle.tb_depend.proofs.LastLemmas.{get_front, get_behind, get_either, last_all, last_front, last_back, last_is, last_stays, last_stayed, last_either, place_self, place_same, met_by, all_met, met_both, one_kind}
 
 link_front : (items ys : List Item) (n : ℕ) (i : Item) (l : Link) → n ≤ length items → IsLink items n i l → IsLink (items ++ ys) n i l
@@ -84,7 +84,7 @@ module _ (items items2 : List Item) (links links2 : List Link) (heads heads2 : H
       let short : length items2 < length items = omega (arith, ap length i, long items2 x) in
       named x.place ((chained.headed x.place).last (length items2) x short last_item (place_self x.place))
     where
-      some : (o : Option ℕ) → length items2 < or_zero o → is_some o ≡ true
+      some : (o : Option ℕ) → length items2 < unwrap_or o 0 → is_some o ≡ true
       some None h = absurd (omega (arith, h))
       some (Some n) h = refl
 

@@ -1,6 +1,6 @@
 -- What the table notes of each item: which items in front of it name its place, and which come before it. No public clause
 -- cites this module.
-use Rattle.std.specs.Prelude.{◌≡◌, ◌<◌, ◌≤◌, ℕ, suc, Bool, true, false, ◌==◌, List, Option, Some, None, IsTrue, Contains, nat_eq, slice_get, length}
+use Rattle.std.specs.Prelude.{◌≡◌, ◌<◌, ◌≤◌, ℕ, suc, Bool, true, false, ◌==◌, List, Some, IsTrue, Contains, nat_eq, slice_get, length, unwrap_or}
 use Rattle.std.specs.Map.{lookup}
 use Rattle.tb_model.specs.declared.place.Place.{Place}
 use Rattle.tb_model.specs.declared.place.Place.TheVariants.{Cell, All}
@@ -10,13 +10,9 @@ use Rattle.tb_depend.specs.Table.{is_named}
 use Rattle.tb_depend.specs.declared.link.Link.{Link}
 use Rattle.tb_depend.specs.declared.heads.Heads.{Heads}
 
-abbrev pub or_zero : Option ℕ → ℕ
-or_zero None = 0
-or_zero (Some n) = n
-
 -- one above the place of the last item of this place
 abbrev pub head : Heads → Place → ℕ
-head heads (Cell c) = or_zero (lookup (nat_eq c) heads.cells.entries)
+head heads (Cell c) = unwrap_or (lookup (nat_eq c) heads.cells.entries) 0
 head heads All = heads.all
 
 -- there is room for the place's head

@@ -1,13 +1,13 @@
 //! The last item of each place.
 
-ghost use Rattle.std.specs.Prelude.{◌≡◌, ◌+◌, ℕ, true, OnOk, IsOk, Contains, is_some, nat_eq, option_map, if◌then◌else◌};
-ghost use Rattle.std.specs.Map.{lookup};
+ghost use Rattle.std.specs.Prelude.{◌≡◌, true, OnOk, IsOk, if◌then◌else◌};
 ghost use Rattle.tb_model.specs.declared.place.Place.{Place as APlace};
 ghost use Rattle.tb_model.specs.declared.item.Item.{Item as AnItem};
-ghost use Rattle.tb_depend.specs.Chains.{head, or_zero, has_head, is_place, AreSameHeads, KeepsHeads, HasHeadsFor};
+ghost use Rattle.tb_depend.specs.Chains.{head, has_head, is_place, AreSameHeads, KeepsHeads, HasHeadsFor};
 
 use indexmap::IndexMap;
 use std::alloc::{AllocError, Global};
+use tb_cells::{reserve_cell, set_cell};
 use tb_model::{Item, Place};
 
 /// For each place that an item ever named, one above the place of its last item in the list of all
@@ -57,7 +57,7 @@ impl Heads {
         ensures succeeds { has_head self.old place ≡ true → IsOk result }
     {
         match place {
-            Place::Cell(cell) => reserve_cell(&mut self.cells, cell),
+            Place::Cell(cell) => reserve_cell(&mut self.cells, cell, 0),
             Place::All => Ok(()),
         }
     }
@@ -72,30 +72,5 @@ impl Heads {
             Place::Cell(cell) => set_cell(&mut self.cells, cell, to),
             Place::All => self.all = to,
         }
-    }
-}
-
-fn reserve_cell(cells: &mut IndexMap<u32, usize>, cell: u32) -> Result<(), AllocError>
-    ensures ok { OnOk result (is_some (lookup (nat_eq cell) cells.new.entries) ≡ true) }
-    ensures same { (c : ℕ) → or_zero (lookup (nat_eq c) cells.new.entries)
-        ≡ or_zero (lookup (nat_eq c) cells.old.entries) }
-    ensures keeps { (c : ℕ) → is_some (lookup (nat_eq c) cells.old.entries) ≡ true
-        → is_some (lookup (nat_eq c) cells.new.entries) ≡ true }
-    ensures succeeds { is_some (lookup (nat_eq cell) cells.old.entries) ≡ true → IsOk result }
-{
-    if cells.contains_key(&cell) {
-        return Ok(());
-    }
-    cells.reserve(1)?;
-    cells.insert(cell, 0).unwrap();
-    Ok(())
-}
-
-fn set_cell(cells: &mut IndexMap<u32, usize>, cell: u32, to: usize)
-    ensures { (c : ℕ) → lookup (nat_eq c) cells.new.entries
-        ≡ (if nat_eq cell c then option_map (λ _. to) (lookup (nat_eq c) cells.old.entries) else lookup (nat_eq c) cells.old.entries) }
-{
-    if let Some(head) = cells.get_mut(&cell) {
-        *head = to;
     }
 }

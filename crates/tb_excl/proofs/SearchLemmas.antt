@@ -10,7 +10,7 @@ use Rattle.tb_model.specs.Names.{Name, child}
 use Rattle.tb_model.specs.Items.{same_place}
 use Rattle.tb_model.specs.LeastNames.{IsAtMost, IsLeastName}
 use Rattle.tb_model.proofs.OrderLemmas.{at_most_below, at_most_later}
-use Rattle.tb_excl.specs.Holders.{Holders, holder, or_none, is_exclusive, excludes, Excludes, IsLeastNumber}
+use Rattle.tb_excl.specs.Holders.{Holders, holder, is_exclusive, excludes, Excludes, IsLeastNumber}
 use Rattle.tb_excl.specs.Search.{lesser, least_held, holder_at, least_holder}
 
 -- ---- the least of two
@@ -72,7 +72,7 @@ is_held h c n e (d ∷ es) x l = at (λ m. is_held h c n e es x m) (nat_eq c d.0
     at rest true t = inl (subst (λ k. holder h (Cell k) ≡ Some n) (eqb-true c d.0 t) e)
     at rest false t = inr (rest (sym (ap (λ b. cond b (Some d.1) (lookup (nat_eq c) es)) t) ∙ l))
 
-known : (o : Option (Option ℕ)) (n : ℕ) → or_none o ≡ Some n → o ≡ Some (Some n)
+known : (o : Option (Option ℕ)) (n : ℕ) → unwrap_or o None ≡ Some n → o ≡ Some (Some n)
 known None n e = cc
 known (Some x) n e = ap Some e
 

@@ -1,6 +1,6 @@
 -- What a contract sees of the exclusive sets of one task's children. OpenMP 5.2, 15.9.5 depend Clause: of the tasks that
 -- name a place by `mutexinoutset` one runs at a time.
-use Rattle.std.specs.Prelude.{◌≡◌, ◌≤◌, ℕ, Bool, true, false, ◌&&◌, ◌==◌, List, Option, Some, None, is_some, if◌then◌else◌, nat_eq}
+use Rattle.std.specs.Prelude.{◌≡◌, ◌≤◌, ℕ, Bool, true, false, ◌&&◌, ◌==◌, List, Option, Some, None, is_some, if◌then◌else◌, nat_eq, unwrap_or}
 use Rattle.std.specs.Map.{lookup}
 use Rattle.std.specs.List.{list_any}
 use Rattle.tb_model.specs.declared.kind.Kind.{Kind}
@@ -18,13 +18,9 @@ pub record Holders : Type 0 where
   pub cells : List (ℕ × Option ℕ)
   pub all : Option ℕ
 
-abbrev pub or_none : Option (Option ℕ) → Option ℕ
-or_none None = None
-or_none (Some h) = h
-
 -- the child that holds the place
 abbrev pub holder : Holders → Place → Option ℕ
-holder holders (Cell c) = or_none (lookup (nat_eq c) holders.cells)
+holder holders (Cell c) = unwrap_or (lookup (nat_eq c) holders.cells) None
 holder holders All = holders.all
 
 -- there is room for a holder of the place

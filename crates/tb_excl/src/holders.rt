@@ -4,12 +4,13 @@ ghost use Rattle.std.specs.Prelude.{◌≡◌, ◌<◌, ◌≤◌, ℕ, [], ◌�
 ghost use Rattle.std.specs.Map.{lookup, keys_of};
 ghost use Rattle.tb_model.specs.declared.place.Place.{Place as APlace};
 ghost use Rattle.tb_model.specs.LeastNames.{IsLeastName};
-ghost use Rattle.tb_excl.specs.Holders.{holder, has_room, or_none, is_exclusive, is_place, HasRoomFor, KeepsRoom, IsSet, IsSame, Excludes, ExcludesTask, IsLeastNumber};
+ghost use Rattle.tb_excl.specs.Holders.{holder, has_room, is_exclusive, is_place, HasRoomFor, KeepsRoom, IsSet, IsSame, Excludes, ExcludesTask, IsLeastNumber};
 ghost use Rattle.tb_excl.specs.Search.{lesser, holder_at, least_held, least_holder, AreFromOne};
 
 use indexmap::IndexMap;
 use std::alloc::{AllocError, Global};
 use std::marker::Model;
+use tb_cells::{reserve_cell, set_cell};
 use tb_model::{Item, Kind, Place, TaskName};
 
 /// The exclusive sets of one task's children: each cell that was ever taken, with the child that
@@ -162,7 +163,7 @@ impl Holders {
         ensures succeeds { has_room self.old place ≡ true → IsOk result }
     {
         match place {
-            Place::Cell(cell) => reserve_cell(&mut self.cells, cell),
+            Place::Cell(cell) => reserve_cell(&mut self.cells, cell, None),
             Place::All => Ok(()),
         }
     }
@@ -238,29 +239,6 @@ impl Holders {
             }
         }
         least
-    }
-}
-
-fn reserve_cell(cells: &mut IndexMap<u32, Option<u32>>, cell: u32) -> Result<(), AllocError>
-    ensures ok { OnOk result (is_some (lookup (nat_eq cell) cells.new.entries) ≡ true) }
-    ensures holders { (c : ℕ) → or_none (lookup (nat_eq c) cells.new.entries) ≡ or_none (lookup (nat_eq c) cells.old.entries) }
-    ensures keeps { (c : ℕ) → is_some (lookup (nat_eq c) cells.old.entries) ≡ true → is_some (lookup (nat_eq c) cells.new.entries) ≡ true }
-    ensures succeeds { is_some (lookup (nat_eq cell) cells.old.entries) ≡ true → IsOk result }
-{
-    if cells.contains_key(&cell) {
-        return Ok(());
-    }
-    cells.reserve(1)?;
-    cells.insert(cell, None).unwrap();
-    Ok(())
-}
-
-fn set_cell(cells: &mut IndexMap<u32, Option<u32>>, cell: u32, to: Option<u32>)
-    ensures { (c : ℕ) → lookup (nat_eq c) cells.new.entries
-        ≡ (if nat_eq cell c then option_map (λ _. to) (lookup (nat_eq c) cells.old.entries) else lookup (nat_eq c) cells.old.entries) }
-{
-    if let Some(holder) = cells.get_mut(&cell) {
-        *holder = to;
     }
 }
 
