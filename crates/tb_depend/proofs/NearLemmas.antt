@@ -87,6 +87,16 @@ module _ (items : List Item) (over : ℕ → Bool) (new : Item) (from : ℕ) whe
             let behind = kind_turned its.kind here.kind b in
             closed (at - 1) k here old r f g (both here old (met_both new c p here old n met) (subst (λ q. is_before (relation here.kind q) ≡ true) same behind)) here_over
 
+-- the last one is the same as the new one, and is over
+pub over_alike : (items : List Item) (over : ℕ → Bool) (new its : Item) (from : ℕ) → AreItemsClosed items over → (0 < from) → slice_get items (from - 1) ≡ Some its → its ≡ new → IsTrue (over (from - 1)) →
+    AreItemsOver items over new from
+over_alike items over new its from closed some e same o k old h f t = elim (cases_lt k (from - 1)) [
+  | inl q ↦ closed (from - 1) k its old q e f (subst (λ x. IsTrue (meets is_before x old)) (sym same) t) o
+  | inr q ↦
+      let s : from - 1 ≡ k = omega (arith, q, h) in
+      subst (λ n. IsTrue (over n)) s o
+]
+
 -- one of the run comes before the new one, as the last does
 pub of_run : (new its here : Item) → IsTrue (meets is_before new its) → IsTrue (is_met new here) → is_before (relation its.kind here.kind) ≡ false → IsTrue (meets is_before new here)
 of_run new its here t m b = both new here m (subst (λ q. is_before (relation new.kind q) ≡ true) (one_kind its.kind here.kind b) (kinds new its t))

@@ -90,6 +90,27 @@ fn cell_over<T: Over>(chain: &Chain, ends: &[usize], new: Item, from: usize, ove
     true
 }
 
+/// Whether the last of the first `from` items is the same as the new one, and over: what comes before
+/// the new one comes before that one too. So one of a row is asked, and not all that the row waits for.
+fn alike_over<T: Over>(chain: &Chain, ends: &[usize], new: Item, from: usize, over: &T) -> bool
+    requires ends { AreEnds 0 ends.now (length chain.now.items) }
+    requires from { from ≤ length chain.now.items }
+    ensures { AreItemsClosed chain.now.items (λ k. T.over over.now (child_at ends.now k)) →
+        IsTrue result → AreItemsOver chain.now.items
+        (λ k. T.over over.now (child_at ends.now k)) new from }
+{
+    if from == 0 {
+        return false;
+    }
+    is_same(chain.item(from - 1), new) && is_over(over, ends, from - 1)
+}
+
+fn is_same(old: Item, new: Item) -> bool
+    ensures { IsTrue result → old ≡ new }
+{
+    old == new
+}
+
 /// Whether those of the first `from` items that come before this one are over.
 fn those_over<T: Over>(chain: &Chain, ends: &[usize], new: Item, from: usize, over: &T) -> bool
     requires ends { AreEnds 0 ends.now (length chain.now.items) }
@@ -99,7 +120,9 @@ fn those_over<T: Over>(chain: &Chain, ends: &[usize], new: Item, from: usize, ov
         (λ k. T.over over.now (child_at ends.now k)) new from }
 {
     match new.place {
-        Place::Cell(_) => cell_over(chain, ends, new, from, over),
+        Place::Cell(_) => {
+            alike_over(chain, ends, new, from, over) || cell_over(chain, ends, new, from, over)
+        }
         Place::All => all_over(chain, ends, new, from, over),
     }
 }

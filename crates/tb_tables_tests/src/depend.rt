@@ -49,24 +49,25 @@ fn a_writer_waits_for_both_readers(rt: HostRuntime) {
     mem::forget(siblings);
 }
 
-/// All children are over but this one, whatever depends on it: an answer tells whether it is asked.
+/// All children are over but these two, whatever depends on them: an answer tells whether they are asked.
 #[derive(Drop)]
 struct AllBut {
     child: usize,
+    other: usize,
 }
 
 impl Over for AllBut {
-    ghost use Rattle.std.specs.Prelude.{not, nat_eq};
+    ghost use Rattle.std.specs.Prelude.{not, nat_eq, ◌&&◌};
 
-    ghost over = { λ a n. not (nat_eq n a.child) };
+    ghost over = { λ a n. not (nat_eq n a.child) && not (nat_eq n a.other) };
 
     fn is_over(&self, child: usize) -> bool {
-        child != self.child
+        child != self.child && child != self.other
     }
 }
 
 /// Of siblings that read, write, read, read and write one cell, the ones near each are none, 1, 2, 2,
-/// and 3 and 4. The others aren't asked.
+/// and 3 and 4. The others aren't asked, and by 4 not even 2, where 3 is over, which reads as 4 does.
 #[test]
 fn only_those_near_are_asked(rt: HostRuntime) {
     let mut siblings = Siblings::new(rt.alloc());
@@ -76,16 +77,18 @@ fn only_those_near_are_asked(rt: HostRuntime) {
     assert!(rt; follows(&mut siblings, Kind::In, [2].as_slice()));
     assert!(rt; follows(&mut siblings, Kind::Out, [1, 2, 3, 4].as_slice()));
     for child in 1..6usize {
-        let asked = AllBut { child };
+        let asked = AllBut { child, other: 0 };
         assert!(rt; siblings.are_preds_over(1, &asked));
         assert_eq!(rt; siblings.are_preds_over(2, &asked), child != 1);
         assert_eq!(rt; siblings.are_preds_over(3, &asked), child != 2);
-        assert_eq!(rt; siblings.are_preds_over(4, &asked), child != 2);
+        assert!(rt; siblings.are_preds_over(4, &asked));
         assert_eq!(rt;
             siblings.are_preds_over(5, &asked),
             child != 3 && child != 4
         );
     }
+    let neither = AllBut { child: 2, other: 3 };
+    assert!(rt; !siblings.are_preds_over(4, &neither));
     mem::forget(siblings);
 }
 
