@@ -6,7 +6,7 @@ use Rattle.tb_model.specs.Names.{Name, same_name, is_within}
 use Rattle.tb_model.specs.NameLaws.{pointwise_same}
 
 -- names of two lengths aren't one
-different : (c m : Name) → (length c ≡ length m → ⊥) → same_name c m ≡ false
+pub different : (c m : Name) → (length c ≡ length m → ⊥) → same_name c m ≡ false
 different [] [] h = absurd (h refl)
 different [] (k ∷ m) h = refl
 different (n ∷ c) [] h = refl

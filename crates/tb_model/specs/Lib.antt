@@ -1,7 +1,9 @@
 pub mod Names
 pub mod Spelling
 pub mod Texts
+pub mod NameHash
 pub mod NameLaws
+pub mod Boxed
 pub mod Items
 pub mod Facts
 pub mod Legal

@@ -11,6 +11,7 @@ use Rattle.std.proofs.lemmas.List.{reverse-reverse}
 use Rattle.std.proofs.lemmas.Map.Text.{is_eq-slice_cmp}
 use Rattle.std.proofs.lemmas.Slice.Eq.{bytes_eq-Decides}
 use Rattle.tb_model.specs.Names.{Name, same_name, name_cmp}
+use Rattle.tb_model.specs.NameHash.{digest}
 
 pub pointwise_same : (a b : List ℕ) → pointwise nat_eq a b ≡ same_name a b
 pointwise_same [] [] = refl
@@ -42,5 +43,5 @@ pub name_cmp_partial : IsPartialOrder same_name (as_partial_cmp name_cmp)
 name_cmp_partial = po name_cmp_total name_cmp_ties
 
 -- equal names are hashed alike
-pub same_name_feeds : (a b : Name) → IsTrue (same_name a b) → fed.slice fed.u32 a ≡ fed.slice fed.u32 b
-same_name_feeds a b h = ap (fed.slice fed.u32) ((bytes_eq-Decides a b).0 (pointwise_same a b ∙ h))
+pub same_name_feeds : (a b : Name) → IsTrue (same_name a b) → fed.u32 (digest a) ≡ fed.u32 (digest b)
+same_name_feeds a b h = ap (λ t. fed.u32 (digest t)) ((bytes_eq-Decides a b).0 (pointwise_same a b ∙ h))

@@ -1,14 +1,15 @@
 //! The arguments of a task.
 
-ghost use Rattle.std.specs.Prelude.{◌≡◌, IfOk, [], OnOk, OnErr, ◌++◌, ◌∷◌};
+ghost use Rattle.std.specs.Prelude.{◌≡◌, [], OnOk, OnErr, ◌++◌, ◌∷◌};
 
+use crate::boxed_list::BoxedList;
 use std::alloc::{AllocError, Global};
 use std::marker::Model;
 
 /// The arguments of a task, in the order of its registers.
 #[derive(Drop, Debug)]
 pub struct Args {
-    list: Vec<i64>,
+    list: BoxedList<i64>,
 }
 
 impl Model for Args {
@@ -16,7 +17,7 @@ impl Model for Args {
 
     ghost Value = { List ℤ };
 
-    ghost view = { λ a. a.list.items };
+    ghost view = { λ a. a.list };
 }
 
 impl Args {
@@ -25,17 +26,16 @@ impl Args {
         ensures { result ≡ [] }
     {
         Args {
-            list: Vec::new(alloc),
+            list: BoxedList::new(alloc),
         }
     }
 
-    /// Adds an argument behind the others.
+    /// Adds an argument after the others.
     pub fn push(&mut self, value: i64) -> Result<(), AllocError>
         ensures ok { OnOk result (self.new ≡ self.old ++ value ∷ []) }
         ensures err { OnErr result (self.new ≡ self.old) }
     {
-        self.list.push(value)?;
-        Ok(())
+        self.list.push(value)
     }
 
     /// The arguments, in order.
@@ -51,7 +51,7 @@ impl Clone for Args {
 
     fn clone(&self) -> Result<Args, AllocError> {
         Ok(Args {
-            list: self.list.clone()?,
+            list: self.list.copy()?,
         })
     }
 }

@@ -1,7 +1,8 @@
 //! The items of a depend clause.
 
-ghost use Rattle.std.specs.Prelude.{◌≡◌, IfOk, [], OnOk, OnErr, ◌++◌, ◌∷◌};
+ghost use Rattle.std.specs.Prelude.{◌≡◌, [], OnOk, OnErr, ◌++◌, ◌∷◌};
 
+use crate::boxed_list::BoxedList;
 use crate::item::Item;
 use std::alloc::{AllocError, Global};
 use std::marker::Model;
@@ -9,7 +10,7 @@ use std::marker::Model;
 /// The items of a depend clause, in the order in which they were written.
 #[derive(Drop, Debug)]
 pub struct Items {
-    list: Vec<Item>,
+    list: BoxedList<Item>,
 }
 
 impl Model for Items {
@@ -18,7 +19,7 @@ impl Model for Items {
 
     ghost Value = { List Item };
 
-    ghost view = { λ a. a.list.items };
+    ghost view = { λ a. a.list };
 }
 
 impl Items {
@@ -27,17 +28,16 @@ impl Items {
         ensures { result ≡ [] }
     {
         Items {
-            list: Vec::new(alloc),
+            list: BoxedList::new(alloc),
         }
     }
 
-    /// Adds an item behind the others.
+    /// Adds an item after the others.
     pub fn push(&mut self, item: Item) -> Result<(), AllocError>
         ensures ok { OnOk result (self.new ≡ self.old ++ item ∷ []) }
         ensures err { OnErr result (self.new ≡ self.old) }
     {
-        self.list.push(item)?;
-        Ok(())
+        self.list.push(item)
     }
 
     /// The items, in order.
@@ -53,7 +53,7 @@ impl Clone for Items {
 
     fn clone(&self) -> Result<Items, AllocError> {
         Ok(Items {
-            list: self.list.clone()?,
+            list: self.list.copy()?,
         })
     }
 }

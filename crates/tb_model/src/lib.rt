@@ -4,6 +4,7 @@
 mod action;
 mod address;
 mod args;
+mod boxed_list;
 mod clause;
 mod clauses;
 mod comparison;
@@ -16,6 +17,7 @@ mod items;
 mod kind;
 pub mod laws;
 mod name;
+mod name_hash;
 mod name_refusal;
 mod name_text;
 pub mod next_laws;

@@ -5,9 +5,11 @@ ghost use Rattle.std.specs.Cmp.Rules.{comparing};
 ghost use Rattle.std.specs.Hash as fed;
 ghost use Rattle.std.specs.Ordering.{as_partial_cmp};
 ghost use Rattle.tb_model.specs.Names.{same_name, name_cmp, child, parent, is_child, is_elder, is_within};
+ghost use Rattle.tb_model.specs.NameHash.{digest};
 ghost use Rattle.tb_model.specs.Spelling.{name_text, spells_name, spelled_name};
 ghost use Rattle.tb_model.specs.NameLaws.{same_name_equivalence, same_name_partial, name_cmp_total, name_cmp_ties, same_name_feeds, name_cmp_partial};
 
+use crate::name_hash::digest;
 use crate::name_refusal::NameRefusal;
 use crate::name_text::{append_name, last_part, spells_name};
 use crate::ordinal::ordinal;
@@ -54,9 +56,8 @@ impl PartialEq for TaskName {
 
     ghost laws = { same_name_partial };
 
-    #[tactic(auto, using(crate::specs::NameLaws::pointwise_same))]
     fn eq(&self, other: &TaskName) -> bool {
-        self.numbers == other.numbers
+        are_same(self.numbers.as_slice(), other.numbers.as_slice())
     }
 }
 
@@ -90,12 +91,12 @@ impl PartialOrd for TaskName {
 }
 
 impl Hash for TaskName {
-    ghost hash_input = { fed.slice fed.u32 };
+    ghost hash_input = { λ t. fed.u32 (digest t) };
 
     ghost respects_eq = { same_name_feeds };
 
     fn hash<H: Hasher>(&self, state: &mut H) {
-        self.numbers.hash(state);
+        digest(self.numbers.as_slice()).hash(state);
     }
 }
 
@@ -182,13 +183,12 @@ impl TaskName {
     }
 
     /// Whether the other is a child of this.
-    #[tactic(auto, using(crate::specs::NameLaws::pointwise_same))]
     pub fn is_parent_of(&self, other: &TaskName) -> bool
         ensures { result ≡ is_child self.now other.now }
     {
         match other.numbers.as_slice() {
             [] => false,
-            [_, parent @ ..] => parent == self.numbers.as_slice(),
+            [_, parent @ ..] => are_same(parent, self.numbers.as_slice()),
         }
     }
 
@@ -203,13 +203,29 @@ impl TaskName {
     }
 
     /// Whether the two are children of one task, and this one was generated first.
-    #[tactic(auto, using(crate::specs::NameLaws::pointwise_same))]
     pub fn is_elder_of(&self, other: &TaskName) -> bool
         ensures { result ≡ is_elder self.now other.now }
     {
         match (self.numbers.as_slice(), other.numbers.as_slice()) {
-            ([m, parent @ ..], [n, others @ ..]) => *m < *n && parent == others,
+            ([m, parent @ ..], [n, others @ ..]) => *m < *n && are_same(parent, others),
             _ => false,
         }
     }
+}
+
+#[tactic(auto, using(crate::proofs::WithinLemmas::different))]
+fn are_same(a: &[u32], b: &[u32]) -> bool
+    ensures { result ≡ same_name a.now b.now }
+{
+    if a.len() != b.len() {
+        return false;
+    }
+    let mut i = 0;
+    'numbers: while i < a.len() {
+        if a[i] != b[i] {
+            return false;
+        }
+        i += 1;
+    }
+    true
 }
