@@ -126,34 +126,36 @@ module _ (old mid new : Rows) (same : (p : Name) → holders_of new p ≡ holder
   holders_back_on t (Test b) g = λ p. same p ∙ g p
 
 -- the event acted, its number was written, and its task advanced
-pub changed : (v : Event) (to : ℕ) (old acted stored new : Seen) → Acted v old acted
+pub changed : (v : Event) (to : ℕ) (old acted stored front : Seen) → Acted v old acted
     → stored.store.cells ≡ cells_by v.action acted.store.cells → stored.store.output ≡ output_by v.action acted.store.output → stored ≡ record acted { store = stored.store }
-    → IsRest stored new → ((u : Name) → task new.rows u ≡ cond (is_of u v) (option_map (advanced v.action to) (task stored.rows u)) (task stored.rows u))
-    → ((p : Name) → holders_of new.rows p ≡ holders_of stored.rows p)
+    → front ≡ stored → (new : Seen) → IsRest front new → ((u : Name) → task new.rows u ≡ cond (is_of u v) (option_map (advanced v.action to) (task front.rows u)) (task front.rows u))
+    → ((p : Name) → holders_of new.rows p ≡ holders_of front.rows p)
     → Changed v to old new
-changed v to old acted stored new a cells output same rest tasks holders =
-    let rows : stored.rows ≡ acted.rows = ap (λ s. s.rows) same in
+changed v to old acted stored front a cells output same is new rest tasks holders =
+    let all : front ≡ record acted { store = stored.store } = is ∙ same in
+    let rows : front.rows ≡ acted.rows = ap (λ s. s.rows) all in
     record {
-      cells = ap (λ s. s.cells) rest.store ∙ cells ∙ ap (λ s. cells_by v.action s.cells) a.store;
-      output = ap (λ s. s.output) rest.store ∙ output ∙ ap (λ s. output_by v.action s.output) a.store;
-      waits = subst (λ w. ChangesBy v.task v.action old.waits.tasks w.tasks) (sym (rest.waits ∙ ap (λ s. s.waits) same)) a.waits;
-      marks = subst (λ w. MarkedBy v.task v.action old.marks.tasks w.tasks) (sym (rest.marks ∙ ap (λ s. s.marks) same)) a.marks;
+      cells = ap (λ s. s.cells) (rest.store ∙ ap (λ s. s.store) is) ∙ cells ∙ ap (λ s. cells_by v.action s.cells) a.store;
+      output = ap (λ s. s.output) (rest.store ∙ ap (λ s. s.store) is) ∙ output ∙ ap (λ s. output_by v.action s.output) a.store;
+      waits = subst (λ w. ChangesBy v.task v.action old.waits.tasks w.tasks) (sym (rest.waits ∙ ap (λ s. s.waits) all)) a.waits;
+      marks = subst (λ w. MarkedBy v.task v.action old.marks.tasks w.tasks) (sym (rest.marks ∙ ap (λ s. s.marks) all)) a.marks;
       tasks = λ u. tasks u ∙ ap (λ o. cond (is_of u v) (option_map (advanced v.action to) o) o) (ap (λ r. task r u) rows ∙ a.tasks u);
       holders = holders_on old.rows acted.rows new.rows (λ p. holders p ∙ ap (λ r. holders_of r p) rows) v.task v.action a.holders;
     }
 
-pub changed_back : (v : Event) (replaced : Replaced) (old acted stored new : Seen) → ActedBack v old acted
+pub changed_back : (v : Event) (replaced : Replaced) (old acted stored front : Seen) → ActedBack v old acted
     → stored.store.cells ≡ cells_back v.action replaced.number acted.store.cells → stored.store.output ≡ output_back v.action acted.store.output → stored ≡ record acted { store = stored.store }
-    → IsRest stored new → ((u : Name) → task new.rows u ≡ cond (is_of u v) (option_map (retreated v.action replaced.number replaced.at) (task stored.rows u)) (task stored.rows u))
-    → ((p : Name) → holders_of new.rows p ≡ holders_of stored.rows p)
+    → front ≡ stored → (new : Seen) → IsRest front new → ((u : Name) → task new.rows u ≡ cond (is_of u v) (option_map (retreated v.action replaced.number replaced.at) (task front.rows u)) (task front.rows u))
+    → ((p : Name) → holders_of new.rows p ≡ holders_of front.rows p)
     → ChangedBack v replaced old new
-changed_back v replaced old acted stored new a cells output same rest tasks holders =
-    let rows : stored.rows ≡ acted.rows = ap (λ s. s.rows) same in
+changed_back v replaced old acted stored front a cells output same is new rest tasks holders =
+    let all : front ≡ record acted { store = stored.store } = is ∙ same in
+    let rows : front.rows ≡ acted.rows = ap (λ s. s.rows) all in
     record {
-      cells = ap (λ s. s.cells) rest.store ∙ cells ∙ ap (λ s. cells_back v.action replaced.number s.cells) a.store;
-      output = ap (λ s. s.output) rest.store ∙ output ∙ ap (λ s. output_back v.action s.output) a.store;
-      waits = subst (λ w. ChangesBackBy v.task v.action old.waits.tasks w.tasks) (sym (rest.waits ∙ ap (λ s. s.waits) same)) a.waits;
-      marks = subst (λ w. MarkedBackBy v.task v.action old.marks.tasks w.tasks) (sym (rest.marks ∙ ap (λ s. s.marks) same)) a.marks;
+      cells = ap (λ s. s.cells) (rest.store ∙ ap (λ s. s.store) is) ∙ cells ∙ ap (λ s. cells_back v.action replaced.number s.cells) a.store;
+      output = ap (λ s. s.output) (rest.store ∙ ap (λ s. s.store) is) ∙ output ∙ ap (λ s. output_back v.action s.output) a.store;
+      waits = subst (λ w. ChangesBackBy v.task v.action old.waits.tasks w.tasks) (sym (rest.waits ∙ ap (λ s. s.waits) all)) a.waits;
+      marks = subst (λ w. MarkedBackBy v.task v.action old.marks.tasks w.tasks) (sym (rest.marks ∙ ap (λ s. s.marks) all)) a.marks;
       tasks = λ u. tasks u ∙ ap (λ o. cond (is_of u v) (option_map (retreated v.action replaced.number replaced.at) o) o) (ap (λ r. task r u) rows ∙ a.tasks u);
       holders = holders_back_on old.rows acted.rows new.rows (λ p. holders p ∙ ap (λ r. holders_of r p) rows) v.task v.action a.holders;
     }

@@ -1,5 +1,5 @@
 -- Who holds what behind a step, and in front of it again.
-use Rattle.std.proofs.Common.{◌≡◌, ℕ, zero, suc, List, [], ◌∷◌, Bool, true, false, cond, ◌&&◌, refl, sym, ap, ◌∙◌, subst, ℤ, arith, Option, Some, None, is_some, nat_eq}
+use Rattle.std.proofs.Common.{◌≡◌, ℕ, zero, suc, List, [], ◌∷◌, Bool, true, false, cond, ◌&&◌, refl, sym, ap, ◌∙◌, subst, ℤ, arith, Option, Some, None, is_some, nat_eq, unwrap_or}
 use Rattle.std.specs.List.{list_any}
 use Rattle.std.specs.Map.{lookup}
 use Rattle.std.proofs.lemmas.Bool.{false≢true, and_parts, and_from}
@@ -20,7 +20,7 @@ use Rattle.tb_model.proofs.StateLemmas.{children_numbered}
 use Rattle.tb_model.proofs.SiblingsLemmas.{items_at as items_spawned_at}
 use Rattle.tb_depend.specs.Relations.{items_at}
 use Rattle.tb_depend.proofs.RelationsLemmas.{items_spawned}
-use Rattle.tb_excl.specs.Holders.{Holders, holder, has_room, or_none, HasRoomFor, KeepsRoom, IsSet}
+use Rattle.tb_excl.specs.Holders.{Holders, holder, has_room, HasRoomFor, KeepsRoom, IsSet}
 use Rattle.tb_excl.specs.Histories.{AreHolders}
 use Rattle.tb_excl.proofs.HistoriesLemmas as law
 use Rattle.tb_undo.specs.Tasks.{Rows, task, holders_of}
@@ -33,7 +33,7 @@ use Rattle.tb_undo.proofs.TaskLemmas.{unacted_in, not_child}
 held_room : (h : Holders) (place : Place) (n : ℕ) → holder h place ≡ Some n → has_room h place ≡ true
 held_room h (Cell c) n e = at (lookup (nat_eq c) h.cells) e
   where
-    at : (o : Option (Option ℕ)) → or_none o ≡ Some n → is_some o ≡ true
+    at : (o : Option (Option ℕ)) → unwrap_or o None ≡ Some n → is_some o ≡ true
     at (Some o) e = refl
     at None e = absurd (cc)
 held_room h All n e = refl

@@ -1,56 +1,16 @@
 //! The tasks by name.
 
-ghost use Rattle.std.specs.Prelude.{◌≡◌, ◌≤◌, ◌<◌, ◌+◌, ℕ, List, [], ◌∷◌, IfSome, IfOk, OnOk, OnErr, IsOk, Some, None, is_some, if◌then◌else◌, length, true, false, position, option_map};
-ghost use Rattle.std.specs.Option.{option_copied};
-ghost use Rattle.std.specs.Map.{keys_of};
+ghost use Rattle.std.specs.Prelude.{◌≡◌, ◌<◌, [], IfSome, IfOk, OnOk, IsOk, Some, None, if◌then◌else◌, true};
 ghost use Rattle.indexmap.specs.IndexMap.{spare};
-ghost use Rattle.tb_model.specs.Names.{Name, same_name, is_child};
 ghost use Rattle.tb_model.specs.declared.place.Place.{Place as APlace};
 ghost use Rattle.tb_excl.specs.Holders.{holder};
-ghost use Rattle.tb_undo.specs.declared.row.Row.{Row as ARow};
-ghost use Rattle.tb_undo.specs.Tasks.{fresh_task, Task, row, task, holders_of, advanced, retreated, HasRowRoom, HasChildRoomIn, IsRegister, seen_row};
+ghost use Rattle.tb_undo.specs.Tasks.{fresh_task, row, task, HasChildRoomIn, seen_row};
 ghost use Rattle.tb_undo.specs.Sets.{IsLinked, Sets, Reserves, HasSetRoom, number_of, place_in, Comes, Goes};
 
 use crate::row::Row;
 use indexmap::IndexMap;
 use std::alloc::{AllocError, Global};
-use tb_model::{Action, Item, TaskName};
-
-/// The task takes a step. Where it isn't there, nothing changes.
-pub fn advance(rows: &mut IndexMap<TaskName, Row>, name: &TaskName, action: &Action, to: u32)
-    requires register { IsRegister action.now }
-    requires few { (k : Task) → task rows.old.entries name.now ≡ Some k → k.steps < 4294967295 }
-    requires room { (r : ARow) → row rows.old.entries name.now ≡ Some r → HasRowRoom r action.now }
-    ensures tasks { (u : Name) → task rows.new.entries u ≡
-        (if same_name name.now u
-        then option_map (advanced action.now to) (task rows.old.entries u)
-        else task rows.old.entries u) }
-    ensures holders { (u : Name) → holders_of rows.new.entries u ≡ holders_of rows.old.entries u }
-{
-    if let Some(row) = rows.get_mut(name) {
-        row.advance(action, to);
-    }
-}
-
-/// Takes the task's newest step back. Where it isn't there, nothing changes.
-pub fn retreat(
-    rows: &mut IndexMap<TaskName, Row>,
-    name: &TaskName,
-    action: &Action,
-    number: Option<i64>,
-    at: u32,
-)
-    requires { IsRegister action.now }
-    ensures tasks { (u : Name) → task rows.new.entries u ≡
-        (if same_name name.now u
-        then option_map (retreated action.now number at) (task rows.old.entries u)
-        else task rows.old.entries u) }
-    ensures holders { (u : Name) → holders_of rows.new.entries u ≡ holders_of rows.old.entries u }
-{
-    if let Some(row) = rows.get_mut(name) {
-        row.retreat(action, number, at);
-    }
-}
+use tb_model::{Item, TaskName};
 
 /// The task holds what its items take, or holds it no longer. The root holds nothing.
 pub fn hold(rows: &mut IndexMap<TaskName, Row>, name: &TaskName, held: bool)

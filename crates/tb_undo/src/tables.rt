@@ -1,12 +1,10 @@
 //! The joined tables of a history. They hold no program and no events.
 
-ghost use Rattle.std.specs.Prelude.{◌≡◌, ◌<◌, ◌≤◌, ◌-◌, ◌↔◌, IsTrue, ℕ, ℤ, List, [], ◌∷◌, OnOk, OnErr, IfOk, IsOk, Some, None, drop, length, true, false, if◌then◌else◌, option_map};
-ghost use Rattle.tb_model.specs.Names.{Name};
-ghost use Rattle.tb_model.specs.Facts.{is_of, is_print};
-ghost use Rattle.tb_undo.specs.declared.row.Row.{Row as ARow};
+ghost use Rattle.std.specs.Prelude.{◌≡◌, ◌<◌, ◌≤◌, ◌-◌, ◌↔◌, IsTrue, [], ◌∷◌, OnOk, OnErr, IfOk, IsOk, Some, None, drop, length, true, false, if◌then◌else◌, option_map};
+ghost use Rattle.tb_model.specs.Facts.{is_print};
 ghost use Rattle.tb_wait.specs.Kin.{HasRoomFor as HasRoomForChild, IsNext, IsLast, Adds, Drops, Changes, with_over};
 ghost use Rattle.tb_ready.specs.Tasks.{with_name, without_name, with_mark};
-ghost use Rattle.tb_undo.specs.Tasks.{Task, row, task, holders_of, advanced, retreated, HasRowRoom, HasChildRoomIn, fresh_task, register_by, register_over, IsRegister};
+ghost use Rattle.tb_undo.specs.Tasks.{Task, row, task, HasChildRoomIn, fresh_task, register_by, register_over, IsRegister};
 ghost use Rattle.tb_undo.specs.Sets.{Reserves, IsLinked, HasSetRoom, Sets, Comes, Goes, number_of};
 ghost use Rattle.tb_undo.specs.State.{IsState};
 ghost use Rattle.tb_undo.specs.Steps.{IsAhead, IsBehind, IsRecord, Stands, IsWithout};
@@ -189,12 +187,15 @@ impl Tables {
         let (over, at) = self.stood(name, &event.action);
         self.act(event);
         let number = self.write(&event.action);
-        self.advance(event, to);
-        Replaced {
+        let replaced = Replaced {
             number: number.or(over),
             reg: register(&event.action),
             at,
+        };
+        if let Some(row) = self.rows.get_mut(name) {
+            row.advance(&event.action, to);
         }
+        replaced
     }
 
     /// What the event changes for other tasks.
@@ -311,41 +312,9 @@ impl Tables {
     {
         self.act_back(event);
         self.write_back(&event.action, replaced);
-        self.retreat(event, replaced);
-    }
-
-    /// The task itself takes the step.
-    fn advance(&mut self, event: &Event, to: u32)
-        requires register { IsRegister event.now.action }
-        requires few { (k : Task) → task self.old.rows event.now.task ≡ Some k → k.steps < 4294967295 }
-        requires room { (r : ARow) → row self.old.rows event.now.task ≡ Some r → HasRowRoom r event.now.action }
-        ensures rest { IsRest self.old self.new }
-        ensures tasks { (u : Name) → task self.new.rows u ≡
-            (if is_of u event.now
-            then option_map (advanced event.now.action to) (task self.old.rows u)
-            else task self.old.rows u) }
-        ensures holders { (u : Name) → holders_of self.new.rows u ≡ holders_of self.old.rows u }
-    {
-        rows::advance(&mut self.rows, &event.task, &event.action, to);
-    }
-
-    /// The task itself stands where it stood.
-    fn retreat(&mut self, event: &Event, replaced: Replaced)
-        requires { IsRegister event.now.action }
-        ensures rest { IsRest self.old self.new }
-        ensures tasks { (u : Name) → task self.new.rows u ≡
-            (if is_of u event.now
-            then option_map (retreated event.now.action replaced.number replaced.at) (task self.old.rows u)
-            else task self.old.rows u) }
-        ensures holders { (u : Name) → holders_of self.new.rows u ≡ holders_of self.old.rows u }
-    {
-        rows::retreat(
-            &mut self.rows,
-            &event.task,
-            &event.action,
-            replaced.number,
-            replaced.at,
-        );
+        if let Some(row) = self.rows.get_mut(&event.task) {
+            row.retreat(&event.action, replaced.number, replaced.at);
+        }
     }
 
     /// What was stored or printed is taken back.
