@@ -1,13 +1,9 @@
 -- Needs by scans: a task's items are those of its spawn, and names tell who can't be waited for.
-use Rattle.std.proofs.Common.{◌≡◌, List, [], ◌∷◌, true, Bool, false, ap, ◌∙◌, ◌<◌, length, arith, ⊎_elim, refl, subst}
+use Rattle.std.proofs.Common.{◌≡◌, List, [], ◌∷◌, true, ⊎_elim, refl, subst}
 use Rattle.std.specs.List.{list_any}
-use Rattle.std.proofs.lemmas.Bool.{false≢true, or_cases, or_left, or_right, or_from, and_right}
-use Rattle.tb_model.specs.Names.{Name, same_name, is_child, is_elder, is_within}
-use Rattle.tb_model.specs.declared.action.Action.TheVariants.{Start}
-use Rattle.tb_model.specs.declared.item.Item.{Item}
-use Rattle.tb_model.specs.Items.{Relation, is_before, is_apart, some_meet}
-use Rattle.tb_model.specs.Facts.{History, own, items_of, is_member, holds, before, apart}
-use Rattle.tb_model.specs.Needs.{waits_for}
+use Rattle.std.proofs.lemmas.Bool.{false≢true, or_cases, or_left, or_right}
+use Rattle.tb_model.specs.Names.{Name, same_name, is_child, is_within}
+use Rattle.tb_model.specs.Facts.{own, items_of, is_member, holds}
 use Rattle.tb_model.specs.State.{spawn_of, items_in}
 use Rattle.tb_core.specs.declared.entry.Entry.{Entry}
 use Rattle.tb_core.specs.Scans.{AreLegal, history_of}
@@ -46,21 +42,3 @@ member_within entries t u l =
 -- the undeferred task at which t stands is its child
 pub held_within : (entries : List Entry) (t u : Name) → AreLegal entries → holds (own t (history_of entries)) u ≡ true → is_child t u ≡ true
 held_within entries t u l h = (held_child l.cells (history_of entries) t u l.legal h).0
-
--- ---- a task without items waits for no sibling
-
-pub none_in : (items : List Item) → length items < 1 → items ≡ []
-none_in [] h = refl
-none_in (i ∷ items) h = absurd (omega (arith, h))
-
-meets_none : (test : Relation → Bool) (items : List Item) → some_meet test items [] ≡ false
-meets_none test [] = refl
-meets_none test (i ∷ items) = meets_none test items
-
-pub bare_waits_not : (H : History) (t u : Name) → items_of t H ≡ [] → waits_for H t Start u ≡ false
-bare_waits_not H t u bare =
-    or_from (before H u t) (apart H u t)
-    (and_right (is_elder u t) _ (ap (λ xs. some_meet is_before xs (items_of u H)) bare))
-    (or_from _ _
-    (and_right (is_elder u t) _ (ap (λ xs. some_meet is_apart xs (items_of u H)) bare))
-    (and_right (is_elder t u) _ (ap (some_meet is_apart (items_of u H)) bare ∙ meets_none is_apart (items_of u H))))

@@ -16,7 +16,7 @@ mod undo_refusal;
 mod unwinding;
 
 pub use entry::Entry;
-pub use needing::{first_needer, is_apart, is_before, is_covered, may_wait, needs, needs_if};
+pub use needing::{first_needer, is_apart, is_before, is_covered, needs};
 pub use places::{ordinal_of, place_of, step_at};
 pub use removed::Removed;
 pub use rollback::Rollback;

@@ -1,9 +1,8 @@
 //! Which event of the entries needs which. It is found by scans: nothing is kept for it, and no
 //! memory is taken.
 
-ghost use Rattle.std.specs.Prelude.{◌≡◌, ◌<◌, ◌||◌, IfSome, IsFalse, Some, false, length};
+ghost use Rattle.std.specs.Prelude.{◌≡◌, ◌<◌, ◌||◌, IfSome, Some, length};
 ghost use Rattle.tb_model.specs.declared.step_id.StepId.{StepId};
-ghost use Rattle.tb_model.specs.Names.{Name};
 ghost use Rattle.tb_model.specs.Facts.{before, apart, covers};
 ghost use Rattle.tb_model.specs.Needs;
 ghost use Rattle.tb_model.specs.Needers;
@@ -33,58 +32,19 @@ pub fn first_needer(entries: &[Entry], at: usize) -> Option<usize>
 pub fn needs(front: &[Entry], v: &Event, u: &Event) -> bool
     ensures { AreLegal front.now → result ≡ Needs.needs (history_of front.now) v.now u.now }
 {
-    needs_if(front, v, true, u)
-}
-
-/// Whether the event may wait for ends: the start of a task without items waits for none. Who asks
-/// what one event needs of many asks this once.
-pub fn may_wait(front: &[Entry], v: &Event) -> bool
-    ensures { AreLegal front.now → IsFalse result → (t : Name) →
-        Needs.waits_for (history_of front.now) v.now.task v.now.action t ≡ false }
-{
-    match &v.action {
-        Action::Start => match items_of(front, &v.task) {
-            [] => false,
-            _ => true,
-        },
-        _ => true,
-    }
-}
-
-/// The same as `needs`, where `may_wait` has answered.
-pub fn needs_if(front: &[Entry], v: &Event, may_wait: bool, u: &Event) -> bool
-    requires { AreLegal front.now → IsFalse may_wait → (t : Name) →
-        Needs.waits_for (history_of front.now) v.now.task v.now.action t ≡ false }
-    ensures { AreLegal front.now → result ≡ Needs.needs (history_of front.now) v.now u.now }
-{
     u.is_of(&v.task)
         || (u.spawns(&v.task)
             || (v.action.conflicts_with(&u.action)
-                || ((u.action.is_end() && needs_end_of(front, v, may_wait, &u.task))
+                || ((u.action.is_end() && needs_end_of(front, v, &u.task))
                     || (v.action.is_print() && u.action.is_print()))))
 }
 
 /// Whether `v` comes behind the end of `u`.
-fn needs_end_of(front: &[Entry], v: &Event, may_wait: bool, u: &TaskName) -> bool
-    requires { AreLegal front.now → IsFalse may_wait → (t : Name) →
-        Needs.waits_for (history_of front.now) v.now.task v.now.action t ≡ false }
+fn needs_end_of(front: &[Entry], v: &Event, u: &TaskName) -> bool
     ensures { AreLegal front.now →
         result ≡ Needs.needs_end_of (history_of front.now) v.now.task v.now.action u.now }
 {
-    holds(front, &v.task, u) || waits_if(front, v, may_wait, u)
-}
-
-/// Whether the event waits for the end of `u`, if it may wait.
-fn waits_if(front: &[Entry], v: &Event, may_wait: bool, u: &TaskName) -> bool
-    requires { AreLegal front.now → IsFalse may_wait → (t : Name) →
-        Needs.waits_for (history_of front.now) v.now.task v.now.action t ≡ false }
-    ensures { AreLegal front.now →
-        result ≡ Needs.waits_for (history_of front.now) v.now.task v.now.action u.now }
-{
-    if !may_wait {
-        return false;
-    }
-    waits_for(front, &v.task, &v.action, u)
+    holds(front, &v.task, u) || waits_for(front, &v.task, &v.action, u)
 }
 
 /// Whether the action of `t` waits for the end of `u`.
