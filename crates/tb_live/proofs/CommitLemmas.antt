@@ -14,11 +14,10 @@ use Rattle.tb_model.specs.Facts.{is_spawned, ends}
 use Rattle.tb_model.specs.Journal.{hist}
 use Rattle.tb_model.specs.Program.{Program, instr_at}
 use Rattle.tb_model.specs.Hindrances.{Hindrance, By, refusal_of, next_event}
-use Rattle.tb_model.specs.Hindrances.{Undeferred as TheUndeferred, Waiting as IsWaiting, Excluded as IsExcluded, Children as TheChildren, Group as TheGroup}
 use Rattle.tb_read.specs.Plans.{instruction}
 use Rattle.tb_read.specs.declared.planned.Plan.{Plan}
 use Rattle.tb_core.specs.declared.step_refusal.StepRefusal.{StepRefusal}
-use Rattle.tb_core.specs.declared.step_refusal.StepRefusal.TheVariants.{Memory, NoSuchTask, Ended, Waiting, Excluded, Children, Group, Full, Stale, Undeferred}
+use Rattle.tb_core.specs.declared.step_refusal.StepRefusal.TheVariants.{Memory, NoSuchTask, Ended, Full, Stale}
 use Rattle.tb_core.specs.Seen.{Seen, Held as HeldCore}
 use Rattle.tb_core.specs.Seen as core
 use Rattle.tb_core.specs.Situation.{config_of}
@@ -75,20 +74,13 @@ module _ (P : Program) (run : Seen) (p : Plan) (f : Fits P run) (native : IsNati
 
 -- what the core finds in the way keeps the task from its action
 pub kept_from : (run : Seen) (p : Plan) (full : Bool) (e : StepRefusal) → IsKept run p e → (run.limit ≤ length run.steps → full ≡ true) → IsKeptFrom run p full e
-kept_from run p full NoSuchTask k h = k
-kept_from run p full Ended k h = k
-kept_from run p full (Stale now) k h = k
-kept_from run p full (Undeferred u) k h = k
-kept_from run p full (Waiting u) k h = k
-kept_from run p full (Excluded u) k h = k
-kept_from run p full (Children u) k h = k
-kept_from run p full (Group u) k h = k
 kept_from run p full Full k h = (k.0, k.1, h k.2)
 kept_from run p full Memory k h = λ current clear. absurd (named k current clear)
   where
     named : IsKept run p Memory → IsCurrent run p → hindrance_of run p ≡ None → ⊥
     named (inl (now, stale)) current clear = stale.elsewhere (current.here ∙ sym stale.now_is)
     named (inr (h, hindered)) current clear = cc (clear, hindered.hindrance)
+kept_from run p full _ k h = k
 
 -- what is prepared for the task is the plan's event
 pub readied_so : (limit : ℕ) (P : Program) (c : HeldCore) (entries : List Entry) (spare : ℕ) (p : Plan) (v : Event) → Fits P c.run → IsNative P c.run p → v.task ≡ p.config.task
@@ -163,12 +155,7 @@ module _ (P : Program) (limit : ℕ) (entries : List Entry) (before : Control) (
   foreign_refused Ended k = no_plan P limit entries before run s shows sound t Ended k
   foreign_refused (Stale now) k = (spawned_so true k.0, ended_so false k.1, k.2 ∙ configuration_so, (λ u. k.3 (program_back u.program)))
   foreign_refused Memory k = (spawned_so true k.0, ended_so false k.1, (λ u n. absurd (k.2 (program_back u.program))))
-  foreign_refused (Waiting u) k = absurd k
-  foreign_refused (Excluded u) k = absurd k
-  foreign_refused (Children u) k = absurd k
-  foreign_refused (Group u) k = absurd k
-  foreign_refused (Undeferred u) k = absurd k
-  foreign_refused Full k = absurd k
+  foreign_refused _ k = absurd k
 
   -- a plan that isn't native may not be committed
   pub foreign_blocks : (e : StepRefusal) → IsForeign P run p e → MayCommit s seat p → ⊥
@@ -176,12 +163,7 @@ module _ (P : Program) (limit : ℕ) (entries : List Entry) (before : Control) (
   foreign_blocks Ended k m = cc (sym (foreign_refused Ended k) ∙ m.may.unrefused)
   foreign_blocks (Stale now) k m = k.3 (program_back m.up_to_date.program)
   foreign_blocks Memory k m = k.2 (program_back m.up_to_date.program)
-  foreign_blocks (Waiting u) k m = absurd k
-  foreign_blocks (Excluded u) k m = absurd k
-  foreign_blocks (Children u) k m = absurd k
-  foreign_blocks (Group u) k m = absurd k
-  foreign_blocks (Undeferred u) k m = absurd k
-  foreign_blocks Full k m = absurd k
+  foreign_blocks _ k m = absurd k
 
   module _ (native : IsNative P run p) where
     plan_so : IsCurrent run p → IsPlanOf P run t p
@@ -214,12 +196,8 @@ module _ (P : Program) (limit : ℕ) (entries : List Entry) (before : Control) (
       ended_so false native.going,
       λ u n. ap is_full (sym shows) ∙ ap (nat_le limit) (length-reverse entries) ∙ k (current_at u) (clear_at u n),
     )
-    native_refused (Waiting u) k = (up_to_date k.current, refused_so k.current (Waiting u) k)
-    native_refused (Excluded u) k = (up_to_date k.current, refused_so k.current (Excluded u) k)
-    native_refused (Children u) k = (up_to_date k.current, refused_so k.current (Children u) k)
-    native_refused (Group u) k = (up_to_date k.current, refused_so k.current (Group u) k)
-    native_refused (Undeferred u) k = (up_to_date k.current, refused_so k.current (Undeferred u) k)
     native_refused Full k = (up_to_date k.0, refused_so k.0 Full k)
+    native_refused e k = (up_to_date k.current, refused_so k.current e k)
 
     -- nothing keeps the task from a plan that may be committed
     pub may_open : MayCommit s seat p → IsOpen run p
@@ -256,20 +234,13 @@ told_so P run t p e None f plan k told = refusal_of_plan P run t p f plan ∙ ap
     full_clear k = k.1
 told_so P run t p e (Some r) f plan k told = at e r k told.0 told.1 told.2
   where
-    by : (h : Hindrance) → hindrance_of run p ≡ Some h → refusal_of P (core.history run) t ≡ Some (By h)
-    by h q = refusal_of_plan P run t p f plan ∙ ap (option_map By) q
-
     mine : (e : StepRefusal) → IsKept run p e → (e ≢ Full) → (e ≢ Memory) → IsRefusalTo P run t e
     mine NoSuchTask k n m = absurd (both_ways (is_spawned (core.history run) p.config.task) k plan.current.spawned)
     mine Ended k n m = absurd (both_ways (has_ended run p.config.task) plan.current.going k.1)
     mine (Stale now) k n m = absurd (k.elsewhere (plan.current.here ∙ sym k.now_is))
     mine Memory k n m = absurd (m refl)
     mine Full k n m = absurd (n refl)
-    mine (Waiting u) k n m = by (IsWaiting u) k.hindrance
-    mine (Excluded u) k n m = by (IsExcluded u) k.hindrance
-    mine (Children u) k n m = by (TheChildren u) k.hindrance
-    mine (Group u) k n m = by (TheGroup u) k.hindrance
-    mine (Undeferred u) k n m = by (TheUndeferred u) k.hindrance
+    mine _ k n m = refusal_of_plan P run t p f plan ∙ ap (option_map By) k.hindrance
 
     at : (e r : StepRefusal) → IsKept run p e → r ≡ e → (e ≢ Full) → (e ≢ Memory) → IsRefusalTo P run t r
     at e r k same n m = subst (IsRefusalTo P run t) (sym same) (mine e k n m)

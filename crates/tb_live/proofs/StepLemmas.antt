@@ -20,7 +20,7 @@ use Rattle.tb_model.proofs.NextStepLemmas.{next_computed, next_isnt_refused}
 use Rattle.tb_read.specs.declared.config.Config.{Config}
 use Rattle.tb_read.specs.declared.planned.Plan.{Plan}
 use Rattle.tb_core.specs.declared.step_refusal.StepRefusal.{StepRefusal}
-use Rattle.tb_core.specs.declared.step_refusal.StepRefusal.TheVariants.{Memory, NoSuchTask, Ended, Waiting, Excluded, Children, Group, Full, Stale, Undeferred}
+use Rattle.tb_core.specs.declared.step_refusal.StepRefusal.TheVariants.{Memory, NoSuchTask, Ended, Full, Stale}
 use Rattle.tb_core.specs.Seen.{Seen}
 use Rattle.tb_core.specs.Seen as core
 use Rattle.tb_core.specs.Situation.{config_of}
@@ -119,11 +119,6 @@ module _ (P : Program) (limit : ℕ) (entries : List Entry) (before : Control) (
   refused NoSuchTask k = absurd (both_ways (is_spawned (core.history run) p.config.task) k plan.current.spawned)
   refused Ended k = absurd (both_ways (has_ended run p.config.task) plan.current.going k.1)
   refused (Stale now) k = absurd (k.elsewhere (plan.current.here ∙ sym k.now_is))
-  refused (Undeferred u) k = refusal_so ∙ ap (option_map By) k.hindrance
-  refused (Waiting u) k = refusal_so ∙ ap (option_map By) k.hindrance
-  refused (Excluded u) k = refusal_so ∙ ap (option_map By) k.hindrance
-  refused (Children u) k = refusal_so ∙ ap (option_map By) k.hindrance
-  refused (Group u) k = refusal_so ∙ ap (option_map By) k.hindrance
   refused Full k = (refusal_so ∙ ap (option_map By) k.1, sym full_so ∙ k.2)
   refused Memory k = (
     subst (λ (z : Session). is_spawned (hist z.journal) t ≡ true) shows
@@ -131,6 +126,7 @@ module _ (P : Program) (limit : ℕ) (entries : List Entry) (before : Control) (
     subst (λ (z : Session). list_any (ends t) (hist z.journal) ≡ false) shows
         (subst (λ H. list_any (ends t) H ≡ false) sound.leaves (subst (λ u. list_any (ends u) (core.history run) ≡ false) plan.of_task plan.current.going)),
   )
+  refused _ k = refusal_so ∙ ap (option_map By) k.hindrance
 
   -- nothing keeps the least task that can step
   clear_so : least_ready P (core.history run) ≡ Some t → refusal_for s t ≡ None
@@ -216,13 +212,7 @@ no_plan P limit entries before run s shows sound t Memory k = (
   ap (λ (z : Session). is_spawned (hist z.journal) t) (sym shows) ∙ ap (λ H. is_spawned H t) (sym sound.leaves) ∙ k.0,
   ap (λ (z : Session). list_any (ends t) (hist z.journal)) (sym shows) ∙ ap (λ H. list_any (ends t) H) (sym sound.leaves) ∙ k.1,
 )
-no_plan P limit entries before run s shows sound t (Undeferred u) k = absurd k
-no_plan P limit entries before run s shows sound t (Waiting u) k = absurd k
-no_plan P limit entries before run s shows sound t (Excluded u) k = absurd k
-no_plan P limit entries before run s shows sound t (Children u) k = absurd k
-no_plan P limit entries before run s shows sound t (Group u) k = absurd k
-no_plan P limit entries before run s shows sound t Full k = absurd k
-no_plan P limit entries before run s shows sound t (Stale now) k = absurd k
+no_plan P limit entries before run s shows sound t _ k = absurd k
 
 -- ---- the step of the least task
 
@@ -235,16 +225,10 @@ for_least_held A (Ok i) k = tt
 for_least_held A (Err r) k = k
 
 least_refused : (seat : ℕ) (s new : Session) (t : Name) (e : StepRefusal) → new ≡ s → least_task s ≡ Some t → refusal_for s t ≡ None → Refuses s t e → LeastStepsFor seat s new (Err e)
-least_refused seat s new t NoSuchTask same l clear r = cc (clear, r)
-least_refused seat s new t Ended same l clear r = cc (clear, r)
-least_refused seat s new t (Stale now) same l clear r = absurd r
-least_refused seat s new t (Undeferred u) same l clear r = cc (clear, r)
-least_refused seat s new t (Waiting u) same l clear r = cc (clear, r)
-least_refused seat s new t (Excluded u) same l clear r = cc (clear, r)
-least_refused seat s new t (Children u) same l clear r = cc (clear, r)
-least_refused seat s new t (Group u) same l clear r = cc (clear, r)
 least_refused seat s new t Full same l clear r = (same, (t, l), r.1)
 least_refused seat s new t Memory same l clear r = same
+least_refused seat s new t (Stale now) same l clear r = absurd r
+least_refused seat s new t _ same l clear r = cc (clear, r)
 
 pub record LeastAnswers (seat : ℕ) (P : Program) (limit : ℕ) (s : Session) (pushed : List Entry) (after : Control) (new : Seen) (result : Result StepId StepRefusal) : Type 0 where
   pub keeps : Keeps P limit pushed after new

@@ -1,5 +1,5 @@
 -- What a step, an undo and a rollback answer, and what they leave.
-use Rattle.std.specs.Prelude.{◌≡◌, ℕ, List, ◌∷◌, reverse, Bool, Option, Some, None, Result, Ok, Err, IsTrue, IsFalse}
+use Rattle.std.specs.Prelude.{◌≡◌, ℕ, List, ◌∷◌, reverse, Bool, Option, Some, None, Result, Ok, Err, IsSomeAnd, IsTrue, IsFalse}
 use Rattle.std.specs.List.{list_any}
 use Rattle.tb_model.specs.declared.entry.Entry.{Entry}
 use Rattle.tb_model.specs.declared.entry.Entry.TheVariants.{Stepped, Rolled}
@@ -12,14 +12,13 @@ use Rattle.tb_model.specs.Needs.{step_of, without}
 use Rattle.tb_model.specs.Needers.{first_needer}
 use Rattle.tb_model.specs.Equivalent.{Equivalent, stands}
 use Rattle.tb_model.specs.Program.{IsNext, situation}
-use Rattle.tb_model.specs.Hindrances.{Refusal, By, refusal_of, least_ready, next_event}
-use Rattle.tb_model.specs.Hindrances.{NoSuchTask as IsMissing, Ended as IsOver}
-use Rattle.tb_model.specs.Hindrances.{Undeferred as TheUndeferred, Waiting as IsWaiting, Excluded as IsExcluded, Children as TheChildren, Group as TheGroup}
+use Rattle.tb_model.specs.Hindrances.{Refusal, refusal_of, least_ready, next_event}
 use Rattle.tb_core.specs.declared.removed.Removed.{Removed}
 use Rattle.tb_core.specs.declared.step_refusal.StepRefusal.{StepRefusal}
-use Rattle.tb_core.specs.declared.step_refusal.StepRefusal.TheVariants.{Memory, NoSuchTask, Ended, Waiting, Excluded, Children, Group, Full, Stale, Undeferred}
+use Rattle.tb_core.specs.declared.step_refusal.StepRefusal.TheVariants.{Memory, Full}
 use Rattle.tb_core.specs.declared.undo_refusal.UndoRefusal.{UndoRefusal}
 use Rattle.tb_core.specs.declared.undo_refusal.UndoRefusal.TheVariants.{Memory as NoMemory, NoSuchStep, Needed, Full as JournalFull}
+use Rattle.tb_core.specs.Refusals.{told_by}
 use Rattle.tb_core.specs.Rolled.{removals}
 use Rattle.tb_roll.specs.declared.roll_refusal.RollRefusal.{RollRefusal}
 use Rattle.tb_roll.specs.declared.roll_refusal.RollRefusal.TheVariants.{NoSuchStep as StepIsMissing, Full as NoPlace, Memory as NoRoom}
@@ -56,25 +55,16 @@ pub record StepsFor (seat : ℕ) (s : Session) (t : Name) (new : Session) (i : S
 abbrev pub Steps : Session → Name → Session → StepId → Type 0
 Steps = StepsFor 0
 
+-- the refusal tells what keeps the task from its next step, a full journal aside
+abbrev pub Hinders : Session → Name → StepRefusal → Type 0
+Hinders s t e = IsSomeAnd (told_by e) (λ told. refusal_for s t ≡ Some told)
+
 -- when a task takes no step; memory may be wanted where the task is there and goes on, at a full journal too: what is in the
 -- way, which comes before a full journal, is known only once the statement is evaluated, and that takes memory
 abbrev pub Refuses : Session → Name → StepRefusal → Type 0
-Refuses s t NoSuchTask = refusal_for s t ≡ Some IsMissing
-Refuses s t Ended = refusal_for s t ≡ Some IsOver
-Refuses s t (Undeferred child) = refusal_for s t ≡ Some (By (TheUndeferred child))
-Refuses s t (Waiting pred) = refusal_for s t ≡ Some (By (IsWaiting pred))
-Refuses s t (Excluded by) = refusal_for s t ≡ Some (By (IsExcluded by))
-Refuses s t (Children first) = refusal_for s t ≡ Some (By (TheChildren first))
-Refuses s t (Group first) = refusal_for s t ≡ Some (By (TheGroup first))
 Refuses s t Full = (refusal_for s t ≡ None) × IsTrue (is_full s)
 Refuses s t Memory = IsTrue (is_spawned (history s) t) × IsFalse (has_ended s t)
-Refuses s t (Stale now) = ⊥
-
--- what keeps the task from its next step, a full journal aside
-abbrev pub Hinders : Session → Name → StepRefusal → Type 0
-Hinders s t Full = ⊥
-Hinders s t Memory = ⊥
-Hinders s t e = Refuses s t e
+Refuses s t e = Hinders s t e
 
 -- a step by its answer: the first refusal that holds; a refusal changes nothing
 abbrev pub StepsBy : Session → Name → Session → Result StepId StepRefusal → Type 0

@@ -1,14 +1,12 @@
 -- The plan of a task's next step by the program, and the entry that it becomes.
-use Rattle.std.specs.Prelude.{◌≡◌, ◌≢◌, ◌++◌, ℕ, List, [], ◌∷◌, Bool, nat_le, length, Option, Some, None, Result, Ok, Err, IsTrue, IsFalse, ⊤}
+use Rattle.std.specs.Prelude.{◌≡◌, ◌≢◌, ◌++◌, ℕ, List, [], ◌∷◌, Bool, nat_le, length, Option, Some, None, Result, Ok, Err, IsSomeAnd, IsTrue, IsFalse, ⊤}
 use Rattle.tb_model.specs.declared.entry.Entry.{Entry}
 use Rattle.tb_model.specs.declared.entry.Entry.TheVariants.{Stepped}
 use Rattle.tb_model.specs.declared.step_id.StepId.{StepId}
 use Rattle.tb_model.specs.Names.{Name}
 use Rattle.tb_model.specs.Facts.{History, is_spawned}
 use Rattle.tb_model.specs.Program.{Program, instr_at}
-use Rattle.tb_model.specs.Hindrances.{By, can_step, least_ready, refusal_of}
-use Rattle.tb_model.specs.Hindrances.{NoSuchTask as IsMissing, Ended as IsOver}
-use Rattle.tb_model.specs.Hindrances.{Undeferred as TheUndeferred, Waiting as IsWaiting, Excluded as IsExcluded, Children as TheChildren, Group as TheGroup}
+use Rattle.tb_model.specs.Hindrances.{can_step, least_ready, refusal_of}
 use Rattle.tb_model.specs.LeastNames.{IsLeastName}
 use Rattle.tb_read.specs.declared.instr.Instr.{Instr}
 use Rattle.tb_read.specs.declared.planned.Plan.{Plan}
@@ -16,7 +14,8 @@ use Rattle.tb_read.specs.Meaning.{IsPosition}
 use Rattle.tb_read.specs.Plans.{instruction}
 use Rattle.tb_read.specs.Strips.{IsStripOf}
 use Rattle.tb_core.specs.declared.step_refusal.StepRefusal.{StepRefusal}
-use Rattle.tb_core.specs.declared.step_refusal.StepRefusal.TheVariants.{Memory, NoSuchTask, Ended, Waiting, Excluded, Children, Group, Full, Stale, Undeferred}
+use Rattle.tb_core.specs.declared.step_refusal.StepRefusal.TheVariants.{Memory, NoSuchTask, Ended, Full, Stale}
+use Rattle.tb_core.specs.Refusals.{told_by}
 use Rattle.tb_core.specs.Seen.{Seen, history}
 use Rattle.tb_core.specs.Situation.{config_of}
 use Rattle.tb_live.specs.declared.control.Control.{Control}
@@ -49,16 +48,9 @@ HasNone run t Ended = IsTrue (is_spawned (history run) t) × IsTrue (has_ended r
 HasNone run t Memory = IsTrue (is_spawned (history run) t) × IsFalse (has_ended run t)
 HasNone run t _ = ⊥
 
--- what keeps a task from its next step by the definitions, a full journal aside
+-- the refusal tells what keeps a task from its next step by the definitions, a full journal aside
 abbrev pub IsRefusalTo : Program → Seen → Name → StepRefusal → Type 0
-IsRefusalTo P run t NoSuchTask = refusal_of P (history run) t ≡ Some IsMissing
-IsRefusalTo P run t Ended = refusal_of P (history run) t ≡ Some IsOver
-IsRefusalTo P run t (Undeferred child) = refusal_of P (history run) t ≡ Some (By (TheUndeferred child))
-IsRefusalTo P run t (Waiting pred) = refusal_of P (history run) t ≡ Some (By (IsWaiting pred))
-IsRefusalTo P run t (Excluded by) = refusal_of P (history run) t ≡ Some (By (IsExcluded by))
-IsRefusalTo P run t (Children first) = refusal_of P (history run) t ≡ Some (By (TheChildren first))
-IsRefusalTo P run t (Group first) = refusal_of P (history run) t ≡ Some (By (TheGroup first))
-IsRefusalTo P run t _ = ⊥
+IsRefusalTo P run t e = IsSomeAnd (told_by e) (λ told. refusal_of P (history run) t ≡ Some told)
 
 abbrev pub IsRefusalOf : Program → Seen → Name → Option StepRefusal → Type 0
 IsRefusalOf P run t None = refusal_of P (history run) t ≡ None
