@@ -3,3 +3,4 @@ pub mod Turns
 pub mod Gone
 pub mod Lending
 pub mod Looking
+pub mod Losing

@@ -5,6 +5,7 @@ ghost use Rattle.tb_work.specs.Changes.{entries};
 ghost use Rattle.tb_work.specs.Receipts.{all_below};
 ghost use Rattle.tb_team.specs.Gone.{HasSeats};
 ghost use Rattle.tb_team.specs.Lending.{IsBack};
+ghost use Rattle.tb_team.specs.Losing.{lost_by};
 
 use crate::losing::lose;
 use crate::lost::Lost;
@@ -39,7 +40,9 @@ fn work<N: Team + Send + Sync, R: Threads + Wait + Sync>(
 }
 
 /// Why a run that isn't taken in is lost.
-fn why_refused(refusal: AdoptRefusal) -> Lost {
+fn why_refused(refusal: AdoptRefusal) -> Lost
+    ensures { result ≡ lost_by refusal }
+{
     match refusal {
         AdoptRefusal::Memory => Lost::Memory,
         AdoptRefusal::CellTaken => Lost::Journal,

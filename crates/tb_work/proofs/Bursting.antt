@@ -1,15 +1,18 @@
 -- Plans that a seat commits one after another.
 use Rattle.std.proofs.Common.{ℕ, zero, suc, ◌+◌, ◌≡◌, List, [], ◌∷◌, ◌++◌, refl, ap, subst, ◌∙◌, arith, length}
-use Rattle.std.specs.Prelude.{Some}
+use Rattle.std.specs.Prelude.{Some, None}
 use Rattle.std.specs.Iterator.{Yields}
 use Rattle.std.specs.Vec.Iter.{into_iter_items, into_iter_steps}
 use Rattle.std.specs.declared.vec.IntoIter.{IntoIter}
 use Rattle.tb_model.specs.Program.{Program}
 use Rattle.tb_read.specs.declared.planned.Plan.{Plan}
-use Rattle.tb_live.specs.Commits.{IsCommittedOn, entry_to_come}
+use Rattle.tb_live.specs.declared.commit_refusal.CommitRefusal.{CommitRefusal}
+use Rattle.tb_live.specs.Commits.{IsCommittedOn, MayCommit, entry_to_come}
 use Rattle.tb_live.specs.Session.{Session, with_entry, with_seat}
 use Rattle.tb_work.specs.declared.burst.Burst.{Burst}
-use Rattle.tb_work.specs.Bursts.{CommitsEach, CommitsBurst}
+use Rattle.tb_work.specs.declared.refused.Refused.{Refused}
+use Rattle.tb_work.specs.Bursts.{CommitsEach, CommitsBurst, TakesEach, stepped_on}
+use Rattle.tb_work.specs.Refusing.{RefusesPlan}
 use Rattle.tb_work.specs.Changes.{Commits}
 use Rattle.tb_work.specs.Growing.{GrewBySteps}
 use Rattle.tb_work.specs.Receipts.{Seated}
@@ -38,6 +41,21 @@ grew_each P (suc taken) place (p ∷ ps) old new each = grew_both old each.0 new
 
 pub grew_burst : (P : Program) (ps : List Plan) (old new : Seated) (b : Burst) → CommitsBurst P ps old new b → GrewBySteps old new
 grew_burst P ps old new b c = grew_each P b.taken c.place ps old new c.each
+
+-- one plan more is taken
+pub takes_more : (seat taken : ℕ) (ps : List Plan) (p : Plan) (s last new : Session) → TakesEach seat taken ps None s last → length ps ≡ taken → MayCommit last seat p → new ≡ stepped_on seat last p → TakesEach seat (suc taken) (ps ++ p ∷ []) None s new
+takes_more seat zero [] p s last new each all may now =
+    (subst (λ (z : Session). MayCommit z seat p) each may, now ∙ ap (λ (z : Session). stepped_on seat z p) each)
+takes_more seat zero (q ∷ ps) p s last new each all may now = absurd (omega (arith, all))
+takes_more seat (suc taken) [] p s last new each all may now = absurd each
+takes_more seat (suc taken) (q ∷ ps) p s last new each all may now = (each.0, takes_more seat taken ps p (stepped_on seat s q) last new each.1 (omega (arith, all)) may now)
+
+-- the next one is refused
+pub takes_no_more : (seat taken : ℕ) (ps qs : List Plan) (p : Plan) (r : Refused CommitRefusal) (s last : Session) → TakesEach seat taken ps None s last → length ps ≡ taken → RefusesPlan seat last p r → TakesEach seat taken (ps ++ p ∷ qs) (Some r) s last
+takes_no_more seat zero [] qs p r s last each all why = (each, subst (λ (z : Session). RefusesPlan seat z p r) each why)
+takes_no_more seat zero (q ∷ ps) qs p r s last each all why = absurd (omega (arith, all))
+takes_no_more seat (suc taken) [] qs p r s last each all why = absurd each
+takes_no_more seat (suc taken) (q ∷ ps) qs p r s last each all why = (each.0, takes_no_more seat taken ps qs p r (stepped_on seat s q) last each.1 (omega (arith, all)) why)
 
 -- what a commit leaves after which the seat claims the task still
 pub taken_on : (s new : Session) (seat at : ℕ) (p : Plan) → IsCommittedOn seat s p new at → new ≡ with_seat (with_entry s (entry_to_come seat s p)) seat (Some p.config.task)

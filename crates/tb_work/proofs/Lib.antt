@@ -9,3 +9,6 @@ pub mod Numbered
 pub mod Distinct
 pub mod Whole
 pub mod Bursting
+pub mod Refusals
+pub mod Over
+pub mod Whys

@@ -3,4 +3,8 @@ pub mod Changes
 pub mod Closing
 pub mod Claiming
 pub mod Growing
+pub mod Refusing
+pub mod Answering
 pub mod Bursts
+pub mod Going
+pub mod Numbers

@@ -1,5 +1,9 @@
 //! Why a run isn't taken in.
 
+ghost use Rattle.std.specs.Prelude.{◌≡◌};
+ghost use Rattle.tb_work.specs.declared.adopt_refusal.AdoptRefusal.TheVariants.{Memory};
+ghost use Rattle.tb_work.specs.Numbers.{adopt_number};
+
 use crate::unmade::Unmade;
 use std::alloc::AllocError;
 
@@ -14,7 +18,9 @@ pub enum AdoptRefusal {
 
 impl AdoptRefusal {
     /// The number by which the refusal is known.
-    pub fn number(&self) -> u8 {
+    pub fn number(&self) -> u8
+        ensures { result ≡ adopt_number self.now }
+    {
         match self {
             AdoptRefusal::Memory => 0,
             AdoptRefusal::CellTaken => 11,
@@ -23,6 +29,8 @@ impl AdoptRefusal {
 }
 
 impl From<AllocError> for AdoptRefusal {
+    ghost from_gives = { λ _ refusal. refusal ≡ Memory };
+
     fn from(_error: AllocError) -> AdoptRefusal {
         AdoptRefusal::Memory
     }

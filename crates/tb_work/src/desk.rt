@@ -1,7 +1,17 @@
 //! What lies under the lock.
 
-ghost use Rattle.std.specs.Prelude.{◌≡◌, ◌+◌, ◌<◌, ◌≤◌, Some, reverse, length, vec_len, vec_capacity, map, take, IfOk, OnOk, OnErr};
-ghost use Rattle.tb_work.specs.Bursts.{CommitsBurst};
+ghost use Rattle.std.specs.Prelude.{◌≡◌, ◌+◌, ◌<◌, ◌≤◌, Some, None, reverse, length, vec_len, vec_capacity, map, take, IfOk, IfErr, OnOk, OnErr};
+ghost use Rattle.tb_live.specs.declared.mode.Mode.TheVariants.{Resumed};
+ghost use Rattle.tb_live.specs.Commits.{MayCommit};
+ghost use Rattle.tb_live.specs.Modes as modes;
+ghost use Rattle.tb_live.specs.Moves.{RollsFor, UndoesFor};
+ghost use Rattle.tb_live.specs.Pauses.{with_mode};
+ghost use Rattle.tb_live.specs.Session.{with_seat};
+ghost use Rattle.tb_live.specs.Working.{ClaimsTask, ClaimsWork};
+ghost use Rattle.tb_work.specs.Answering.{CommitsBy, IsAnswer};
+ghost use Rattle.tb_work.specs.Bursts.{CommitsBurst, TakesBurst, TakesEach, stepped_on};
+ghost use Rattle.tb_work.specs.Going.{IsWhy};
+ghost use Rattle.tb_work.specs.Refusing.{RefusesPlan, RefusesRoll, RefusesUndo};
 ghost use Rattle.tb_work.specs.Changes.{Commits, RollsBack, entries};
 ghost use Rattle.tb_work.specs.Claiming.{IsClaim, IsWorkFor};
 
@@ -12,6 +22,7 @@ use crate::places::Places;
 use crate::receipt::Receipt;
 use crate::refused::Refused;
 use crate::seat::Seat;
+use crate::stopping::why_of;
 use crate::taking::{next_place, ready_undo, take_back, take_back_all, take_more, take_step};
 use crate::team::Team;
 use crate::told::Told;
@@ -20,8 +31,7 @@ use crate::why::Why;
 use std::alloc::{AllocError, Global};
 use std::sync::ledger::{Book, Share};
 use tb_live::{
-    Claim, ClaimRefusal, CommitRefusal, Live, Mode, PausedBy, Removed, RollRefusal, StepRefusal,
-    UndoRefusal, Work,
+    Claim, ClaimRefusal, CommitRefusal, Live, Removed, RollRefusal, StepRefusal, UndoRefusal, Work,
 };
 use tb_model::{StepId, TaskName};
 use tb_read::Plan;
@@ -50,7 +60,7 @@ pub struct Desk<N: Team> {
 }
 
 impl<N: Team> Desk<N> {
-    /// Prepares, writes the entry to the place's cell, and commits.
+    /// Prepares, writes the entry to the place's cell, and commits. The claim ends.
     pub fn commit(
         &mut self,
         places: &Places,
@@ -61,6 +71,25 @@ impl<N: Team> Desk<N> {
         requires enough { N.limit ≤ length N.cells }
         ensures ok { IfOk result (Commits N.program plan seat.old seat.new) }
         ensures err { OnErr result (seat.new ≡ seat.old) }
+
+        ensures run { CommitsBy seat.old.number plan result self.old.live.session self.new.live.session }
+        ensures answer { IsAnswer N.program N.limit N.breakpoints N.seats N.begun (CommitsBy seat.old.number plan result) }
+    {
+        self.live.journal_is_sound();
+        self.commit_now(places, seat, plan)
+    }
+
+    fn commit_now(
+        &mut self,
+        places: &Places,
+        seat: &mut Seat<N>,
+        plan: Plan,
+    ) -> Result<u32, Refused<CommitRefusal>>
+        requires places { places.now ≡ N.cells }
+        requires enough { N.limit ≤ length N.cells }
+        ensures ok { IfOk result (Commits N.program plan seat.old seat.new) }
+        ensures err { OnErr result (seat.new ≡ seat.old) }
+        ensures run { CommitsBy seat.old.number plan result self.old.live.session self.new.live.session }
     {
         let Desk {
             alloc,
@@ -92,8 +121,11 @@ impl<N: Team> Desk<N> {
     pub fn commit_burst(&mut self, places: &Places, seat: &mut Seat<N>, plans: Vec<Plan>) -> Burst
         requires places { places.now ≡ N.cells }
         requires enough { N.limit ≤ length N.cells }
-        ensures { CommitsBurst N.program plans.items seat.old seat.new result }
+        ensures seat { CommitsBurst N.program plans.items seat.old seat.new result }
+        ensures run { TakesBurst seat.old.number plans.items result self.old.live.session self.new.live.session }
+        ensures answer { IsAnswer N.program N.limit N.breakpoints N.seats N.begun (TakesBurst seat.old.number plans.items result) }
     {
+        self.live.journal_is_sound();
         let burst = self.commit_each(places, seat, plans);
         self.let_go(seat);
         burst
@@ -102,7 +134,8 @@ impl<N: Team> Desk<N> {
     fn commit_each(&mut self, places: &Places, seat: &mut Seat<N>, plans: Vec<Plan>) -> Burst
         requires places { places.now ≡ N.cells }
         requires enough { N.limit ≤ length N.cells }
-        ensures { CommitsBurst N.program plans.items seat.old seat.new result }
+        ensures seat { CommitsBurst N.program plans.items seat.old seat.new result }
+        ensures run { TakesEach seat.old.number result.taken plans.items result.refusal self.old.live.session self.new.live.session }
     {
         let mut taken = 0;
         for plan in plans {
@@ -134,6 +167,10 @@ impl<N: Team> Desk<N> {
         ensures ok { IfOk result (Commits N.program plan seat.old seat.new) }
         ensures place { IfOk result (λ at. (at ≡ length self.old.live.session.journal) × (length self.new.live.session.journal ≡ at + 1)) }
         ensures err { OnErr result (seat.new ≡ seat.old) }
+        ensures may { OnOk result (MayCommit self.old.live.session seat.old.number plan) }
+        ensures taken { OnOk result (self.new.live.session ≡ stepped_on seat.old.number self.old.live.session plan) }
+        ensures stays { OnErr result (self.new.live.session ≡ self.old.live.session) }
+        ensures refused { IfErr result (RefusesPlan seat.old.number self.old.live.session plan) }
     {
         let Desk {
             alloc,
@@ -172,6 +209,9 @@ impl<N: Team> Desk<N> {
         requires enough { N.limit ≤ length N.cells }
         ensures ok { OnOk result (RollsBack id.now seat.old seat.new) }
         ensures err { OnErr result (seat.new ≡ seat.old) }
+        ensures rolled { IfOk result (λ removed. RollsFor seat.old.number self.old.live.session id.now self.new.live.session removed.items) }
+        ensures stays { OnErr result (self.new.live.session ≡ self.old.live.session) }
+        ensures refused { IfErr result (RefusesRoll self.old.live.session id.now) }
     {
         let Desk {
             alloc,
@@ -210,6 +250,9 @@ impl<N: Team> Desk<N> {
         requires enough { N.limit ≤ length N.cells }
         ensures ok { OnOk result (RollsBack id.now seat.old seat.new) }
         ensures err { OnErr result (seat.new ≡ seat.old) }
+        ensures undone { IfOk result (UndoesFor seat.old.number self.old.live.session id.now self.new.live.session) }
+        ensures stays { OnErr result (self.new.live.session ≡ self.old.live.session) }
+        ensures refused { IfErr result (RefusesUndo seat.old.number self.old.live.session id.now) }
     {
         let Desk {
             alloc,
@@ -239,56 +282,53 @@ impl<N: Team> Desk<N> {
 
     /// The least task that can step, where no other seat claims it.
     pub fn claim(&mut self, seat: &Seat<N>) -> Result<Claim, AllocError>
-        ensures { IfOk result (IsClaim N.program) }
+        ensures work { IfOk result (IsClaim N.program) }
+        ensures claimed { IfOk result (ClaimsWork self.old.live.session seat.now.number self.new.live.session) }
+        ensures err { OnErr result (self.new.live.session ≡ self.old.live.session) }
     {
         claim_work(&mut self.live, seat.number())
     }
 
     /// A task, where no other seat claims it.
     pub fn claim_task(&mut self, seat: &Seat<N>, task: &TaskName) -> Result<Work, ClaimRefusal>
-        ensures { IfOk result (IsWorkFor N.program task.now) }
+        ensures work { IfOk result (IsWorkFor N.program task.now) }
+        ensures claimed { ClaimsTask self.old.live.session seat.now.number task.now self.new.live.session result }
     {
         claim_one(&mut self.live, seat.number(), task)
     }
 
     /// Ends the seat's claim.
-    pub fn let_go(&mut self, seat: &Seat<N>) {
+    pub fn let_go(&mut self, seat: &Seat<N>)
+        ensures { self.new.live.session ≡ with_seat self.old.live.session seat.now.number None }
+    {
         leave(&mut self.live, seat.number());
     }
 
     /// Pauses the run.
-    pub fn pause(&mut self) {
+    pub fn pause(&mut self)
+        ensures { self.new.live.session ≡ with_mode self.old.live.session (modes.paused self.old.live.session.control.mode) }
+    {
         pause(&mut self.live);
     }
 
     /// Lets the run go on.
-    pub fn resume(&mut self) {
+    pub fn resume(&mut self)
+        ensures { self.new.live.session ≡ with_mode self.old.live.session Resumed }
+    {
         resume(&mut self.live);
     }
 
     /// Lets the run go on for so many steps.
-    pub fn resume_for(&mut self, steps: u32) {
+    pub fn resume_for(&mut self, steps: u32)
+        ensures { self.new.live.session ≡ with_mode self.old.live.session (modes.counting steps) }
+    {
         resume_for(&mut self.live, steps);
     }
 
     /// Why no step is taken now.
-    pub fn why(&self) -> Why {
-        let by = match self.live.mode() {
-            Mode::Paused { by } => Some(by),
-            _ => None,
-        };
-        match by {
-            Some(PausedBy::Break { .. }) => Why::Break,
-            Some(PausedBy::Count) => Why::Limit,
-            _ => {
-                if self.live.core().next_unended(None).is_none() {
-                    Why::Done
-                } else if self.live.is_full() {
-                    Why::Full
-                } else {
-                    Why::Asked
-                }
-            }
-        }
+    pub fn why(&self) -> Why
+        ensures { IsWhy self.now.live.session result }
+    {
+        why_of(&self.live)
     }
 }

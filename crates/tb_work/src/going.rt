@@ -1,7 +1,8 @@
 //! What any thread of a team asks of the run, and the workers.
 
 ghost use Rattle.std.specs.Prelude.{◌≡◌, ◌+◌, ◌<◌, ◌≤◌, length, IfOk, OnOk, OnErr};
-ghost use Rattle.tb_work.specs.Bursts.{CommitsBurst};
+ghost use Rattle.tb_work.specs.Answering.{CommitsBy, IsAnswer};
+ghost use Rattle.tb_work.specs.Bursts.{CommitsBurst, TakesBurst};
 ghost use Rattle.tb_work.specs.Changes.{Commits, RollsBack};
 ghost use Rattle.tb_work.specs.Claiming.{IsClaim, IsWorkFor};
 ghost use Rattle.tb_work.specs.Growing.{GrewBySteps, AllGrew};
@@ -61,13 +62,15 @@ impl<N: Team> Shared<N> {
     ) -> Result<u32, Refused<CommitRefusal>>
         ensures ok { IfOk result (Commits N.program plan seat.old seat.new) }
         ensures err { OnErr result (seat.new ≡ seat.old) }
+        ensures answer { IsAnswer N.program N.limit N.breakpoints N.seats N.begun (CommitsBy seat.old.number plan result) }
     {
         self.desk.lock(rt).commit(&self.places, seat, plan)
     }
 
     /// Commits the plans one after another, in one hold of the lock, until one is refused. The claim ends.
     pub fn commit_burst<R: Wait>(&self, rt: &R, seat: &mut Seat<N>, plans: Vec<Plan>) -> Burst
-        ensures { CommitsBurst N.program plans.items seat.old seat.new result }
+        ensures seat { CommitsBurst N.program plans.items seat.old seat.new result }
+        ensures answer { IsAnswer N.program N.limit N.breakpoints N.seats N.begun (TakesBurst seat.old.number plans.items result) }
     {
         self.desk.lock(rt).commit_burst(&self.places, seat, plans)
     }

@@ -22,6 +22,7 @@ mod receipt;
 mod refused;
 mod seat;
 mod shared;
+mod stopping;
 mod taking;
 mod team;
 mod told;

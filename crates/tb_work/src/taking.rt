@@ -1,9 +1,9 @@
 //! Changes of a run for which all is prepared.
 
-ghost use Rattle.std.specs.Prelude.{◌≡◌, ◌<◌, ◌^◌, Some, IfOk, OnOk, length};
+ghost use Rattle.std.specs.Prelude.{◌≡◌, ◌<◌, ◌^◌, Some, Err, IfOk, IfErr, OnOk, length};
 ghost use Rattle.tb_model.specs.declared.entry.Entry.TheVariants.{Rolled};
 ghost use Rattle.tb_live.specs.Commits.{MayCommit, entry_to_come};
-ghost use Rattle.tb_live.specs.Moves.{IsRollPrepared, MayUndo};
+ghost use Rattle.tb_live.specs.Moves.{IsRollPrepared, KeepsAll, MayUndo, RollsFor, UndoesFor, UndoneFor};
 ghost use Rattle.tb_live.specs.Session.{with_entry, with_seat};
 
 use tb_live::{Live, Removed, RollRefusal, UndoRefusal};
@@ -49,6 +49,7 @@ pub fn take_more(live: &mut Live, seat: u32, plan: Plan) -> u32
 pub fn take_back_all(live: &mut Live, seat: u32, id: &StepId) -> Vec<Removed>
     requires prepared { live.old.prepared ≡ Some (Rolled seat id.now) }
     ensures session { live.new.session ≡ with_entry live.old.session (Rolled seat id.now) }
+    ensures rolled { RollsFor seat live.old.session id.now live.new.session result.items }
 {
     match live.roll(seat, id) {
         Ok(removed) => removed,
@@ -61,6 +62,7 @@ pub fn take_back(live: &mut Live, seat: u32, id: &StepId) -> Removed
     requires may { MayUndo live.old.session id.now }
     requires prepared { live.old.prepared ≡ Some (Rolled seat id.now) }
     ensures session { live.new.session ≡ with_entry live.old.session (Rolled seat id.now) }
+    ensures undone { UndoesFor seat live.old.session id.now live.new.session result }
 {
     match live.undo(seat, id) {
         Ok(removed) => removed,
@@ -73,6 +75,7 @@ pub fn ready_undo(live: &mut Live, seat: u32, id: &StepId) -> Result<Entry, Undo
     ensures session { live.new.session ≡ live.old.session }
     ensures may { OnOk result (MayUndo live.new.session id.now) }
     ensures prepared { IfOk result (IsRollPrepared seat live.new id.now) }
+    ensures refused { IfErr result (λ e. UndoneFor seat live.old.session id.now live.old.session (Err e)) }
 {
     if let Some(refusal) = live.core().keeps(id) {
         return Err(refusal);

@@ -1,5 +1,8 @@
 //! What a worker does after a claim.
 
+ghost use Rattle.std.specs.Prelude.{◌≡◌};
+ghost use Rattle.tb_work.specs.Going;
+
 use crate::ended::Ended;
 use crate::refused::Refused;
 use tb_live::{CommitRefusal, StepRefusal};
@@ -17,7 +20,9 @@ pub enum Turn {
 
 /// How a worker goes on whose commit was refused: a refusal that another claim may get past isn't the
 /// end.
-pub fn turn_behind(refusal: &Refused<CommitRefusal>) -> Turn {
+pub fn turn_behind(refusal: &Refused<CommitRefusal>) -> Turn
+    ensures { result ≡ Going.turn_behind refusal.now }
+{
     let ended = match refusal {
         Refused::CellTaken => Ended::CellTaken,
         Refused::Run { refusal } => match refusal {

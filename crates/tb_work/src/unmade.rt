@@ -1,5 +1,8 @@
 //! Why an entry isn't made that the run would take.
 
+ghost use Rattle.std.specs.Prelude.{◌≡◌};
+ghost use Rattle.tb_work.specs.declared.unmade.Unmade.TheVariants.{Memory};
+
 use std::alloc::AllocError;
 
 /// What keeps an entry from its place.
@@ -12,6 +15,8 @@ pub enum Unmade {
 }
 
 impl From<AllocError> for Unmade {
+    ghost from_gives = { λ _ unmade. unmade ≡ Memory };
+
     fn from(_error: AllocError) -> Unmade {
         Unmade::Memory
     }

@@ -1,5 +1,5 @@
 use Rattle.tb_work.proofs.Claims.{keeps_mode}
 use Rattle.tb_work.proofs.asking.resume_for.Goals as goal
 
-pub returns : goal.returns
-returns c = keeps_mode _ _ _ c.resume_for.ensures
+pub returns-clause-kept : goal.returns-clause-kept
+returns-clause-kept c = keeps_mode _ _ _ c.resume_for.ensures

@@ -1,26 +1,18 @@
-use Rattle.std.proofs.Common.{rules, ◌≡◌, ◌<◌, ◌≤◌, length, arith, refl, ap, sym, ◌∙◌}
-use Rattle.std.specs.Vec.{vec_len, vec_capacity}
-use Rattle.tb_work.proofs.Desks.{agrees_more}
 use Rattle.tb_work.proofs.desk.Desk.commit.Goals as goal
 
-pub invariant_of-self-2 : goal.invariant_of-self-2
-invariant_of-self-2 g c =
+pub returns-clause-answer : goal.returns-clause-answer
+returns-clause-answer g c =
     let d = c.args.self.now in
-    let e = c.in-Ok-enter.ensures in
-    let prepared = c.in-Ok.ensures.prepared in
-    let a = agrees_more g.N.Team.program g.N.Team.limit g.N.Team.breakpoints g.N.Team.seats g.N.Team.cells g.N.Team.begun d.live.session c.prepare.new.self.session c.take_step.new.live.session c.in-Ok.entry
-    d.book.total c.enter.new.book.total _ _ _ _ c.next_place-place.result
-    (record { program = d.program; limited = d.limit; breakpoints = d.breakpoints; seated = d.seats; begins = d.begins; counted = d.counted; named = d.cells; noted = d.known })
-    c.in-Ok.ensures.session (search rules) (search rules) (search rules) e.total (search rules) (search rules) in
     record {
-      program = a.program;
-      limit = a.limited;
-      breakpoints = a.breakpoints;
-      seats = a.seated;
-      begins = a.begins;
-      none_spare = d.none_spare;
-      room_for_all = (d.room_for_all.0, search rules, d.room_for_all.2);
-      counted = a.counted;
-      cells = a.named;
-      known = a.noted;
+      old = d.live.session;
+      new = c.commit_now.new.self.live.session;
+      team = record {
+        program = d.program;
+        limited = d.limit;
+        breakpoints = d.breakpoints;
+        seated = d.seats;
+        begins = d.begins;
+        legal = c.journal_is_sound.ensures.legal;
+      };
+      right = c.commit_now.ensures.run;
     }

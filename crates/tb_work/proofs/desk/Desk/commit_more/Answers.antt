@@ -2,7 +2,11 @@ use Rattle.std.proofs.Common.{rules, ℕ, ◌≡◌, refl, ap, sym, ◌∙◌, S
 use Rattle.tb_model.specs.declared.entry.Entry.{Entry}
 use Rattle.tb_live.specs.Commits.{entry_to_come}
 use Rattle.tb_live.specs.Session.{with_entry, with_seat}
+use Rattle.tb_work.specs.declared.refused.Refused.TheVariants.{Run, CellTaken}
+use Rattle.tb_core.specs.declared.step_refusal.StepRefusal.TheVariants.{Memory}
+use Rattle.tb_live.specs.declared.commit_refusal.CommitRefusal.TheVariants.{Step}
 use Rattle.tb_work.proofs.Desks.{agrees_more, agrees_claimed}
+use Rattle.tb_work.proofs.Refusals.{plan_kept, short_of_memory, stepped_now}
 use Rattle.tb_work.proofs.desk.Desk.commit_more.Goals as goal
 
 pub invariant_of-self-2 : goal.invariant_of-self-2
@@ -32,3 +36,24 @@ invariant_of-self-2 g c =
       cells = k.named;
       known = k.noted;
     }
+
+pub returns-in-Err-clause-refused : goal.returns-in-Err-clause-refused
+returns-in-Err-clause-refused g c =
+    plan_kept c.args.self.now.live.session c.args.self.now.live.session c.number.result c.args.seat.now.number c.args.plan (Run c.in-Err.refusal) refl (search rules) c.in-Err.ensures.refused
+
+pub returns-in-Err-CellTaken-clause-refused : goal.returns-in-Err-CellTaken-clause-refused
+returns-in-Err-CellTaken-clause-refused g c =
+    plan_kept c.args.self.now.live.session c.prepare.new.self.session c.number.result c.args.seat.now.number c.args.plan CellTaken c.in-Ok.ensures.session (search rules) c.in-Ok.ensures.prepared.may
+
+pub returns-in-Err-Memory-clause-refused : goal.returns-in-Err-Memory-clause-refused
+returns-in-Err-Memory-clause-refused g c =
+    plan_kept c.args.self.now.live.session c.prepare.new.self.session c.number.result c.args.seat.now.number c.args.plan (Run (Step Memory)) c.in-Ok.ensures.session (search rules)
+    (short_of_memory c.prepare.new.self.session c.number.result c.args.plan c.in-Ok.ensures.prepared.may)
+
+pub returns-clause-may : goal.returns-clause-may
+returns-clause-may g c =
+    plan_kept c.args.self.now.live.session c.prepare.new.self.session c.number.result c.args.seat.now.number c.args.plan CellTaken c.in-Ok.ensures.session (search rules) c.in-Ok.ensures.prepared.may
+
+pub returns-clause-taken : goal.returns-clause-taken
+returns-clause-taken g c =
+    stepped_now c.args.self.now.live.session c.prepare.new.self.session c.take_more.new.live.session c.number-2.result c.args.seat.now.number c.args.plan c.in-Ok.ensures.session (search rules) c.take_more.ensures.session

@@ -1,6 +1,9 @@
 use Rattle.std.proofs.Common.{rules, ◌≡◌, ◌<◌, ◌≤◌, length, arith, refl, ap, sym, ◌∙◌}
 use Rattle.std.specs.Vec.{vec_len, vec_capacity}
+use Rattle.tb_work.specs.declared.refused.Refused.TheVariants.{Run, CellTaken}
+use Rattle.tb_roll.specs.declared.roll_refusal.RollRefusal.TheVariants.{Memory}
 use Rattle.tb_work.proofs.Desks.{agrees_more}
+use Rattle.tb_work.proofs.Refusals.{roll_kept, rolled_now}
 use Rattle.tb_work.proofs.desk.Desk.roll.Goals as goal
 
 pub invariant_of-self-2 : goal.invariant_of-self-2
@@ -24,3 +27,18 @@ invariant_of-self-2 g c =
       cells = a.named;
       known = a.noted;
     }
+
+pub returns-in-Err-CellTaken-clause-refused : goal.returns-in-Err-CellTaken-clause-refused
+returns-in-Err-CellTaken-clause-refused g c =
+    let p = c.in-Ok.ensures.prepared in
+    roll_kept c.args.self.now.live.session c.prepare_roll.new.self.session c.args.id.now CellTaken c.in-Ok.ensures.session (p.stands, p.room)
+
+pub returns-in-Err-Memory-clause-refused : goal.returns-in-Err-Memory-clause-refused
+returns-in-Err-Memory-clause-refused g c =
+    let p = c.in-Ok.ensures.prepared in
+    roll_kept c.args.self.now.live.session c.prepare_roll.new.self.session c.args.id.now (Run Memory) c.in-Ok.ensures.session (p.stands, p.room)
+
+pub returns-clause-rolled : goal.returns-clause-rolled
+returns-clause-rolled g c =
+    rolled_now c.args.self.now.live.session c.prepare_roll.new.self.session c.take_back_all.new.live.session c.number-2.result c.args.seat.now.number c.args.id.now c.take_back_all.result.items
+    c.in-Ok.ensures.session (search rules) c.take_back_all.ensures.rolled

@@ -1,0 +1,8 @@
+use Rattle.std.proofs.Common.{rules, ℕ, ◌≡◌, subst, IfOk}
+use Rattle.tb_live.specs.Working.{ClaimsWork}
+use Rattle.tb_work.proofs.desk.Desk.claim.Goals as goal
+
+pub returns-clause-claimed : goal.returns-clause-claimed
+returns-clause-claimed g c =
+    let named : c.number.result ≡ c.args.seat.now.number = search rules in
+    subst (λ (n : ℕ). IfOk c.claim_work.result (ClaimsWork c.args.self.now.live.session n c.claim_work.new.live.session)) named c.claim_work.ensures.claimed

@@ -1,0 +1,8 @@
+use Rattle.std.proofs.Common.{rules, ℕ, ◌≡◌, ap, ◌∙◌, None}
+use Rattle.tb_live.specs.Session.{with_seat}
+use Rattle.tb_work.proofs.desk.Desk.let_go.Goals as goal
+
+pub returns : goal.returns
+returns g c =
+    let named : c.number.result ≡ c.args.seat.now.number = search rules in
+    c.leave.ensures.left ∙ ap (λ (n : ℕ). with_seat c.args.self.now.live.session n None) named
