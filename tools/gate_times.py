@@ -1,6 +1,9 @@
 #!/usr/bin/env python3
-"""Runs the gate, stamps each of its lines with the time since its start, and says at its end where
-the time went: a table of processor minutes by crate and by kind of work.
+"""Runs the gate, or the part of it that proves the crates named and those below them; stamps each of its
+lines with the time since its start, and says at its end where the time went: a table of processor minutes
+by crate and by kind of work.
+
+    tools/gate_times.py [CRATE..]
 
 What a crate took is read off /proc while the gate runs: each process below it is looked at twice a
 second, and belongs to the crate that its command line or its folder names. What ends between two
@@ -114,7 +117,7 @@ def row(name, minutes):
 
 def main():
     start = time.time()
-    gate = subprocess.Popen(["rt", "ci"], cwd=TOP, stdin=subprocess.DEVNULL, stdout=subprocess.PIPE, stderr=subprocess.STDOUT, text=True, errors="replace")
+    gate = subprocess.Popen(["rt", "ci", *sys.argv[1:]], cwd=TOP, stdin=subprocess.DEVNULL, stdout=subprocess.PIPE, stderr=subprocess.STDOUT, text=True, errors="replace")
     watch = Watch(gate.pid)
     watch.start()
     for line in gate.stdout:

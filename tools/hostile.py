@@ -1,22 +1,27 @@
 #!/usr/bin/env python3
 """Uses the built program as no friend would: streams that fail at each byte, memory refused at each
-allocation, sizes at and over the limits, and bytes that are no session.
+allocation, threads that can't begin, sizes at and over the limits, and bytes that are no session.
 
-    tools/hostile.py [--program P] [--texts N] [--seed S] [--quick]
+    tools/hostile.py [--program P] [--texts N] [--seed S] [--levels L] [--jobs J] [--quick]
 
-`--quick` takes every seventeenth byte and allocation in place of each. The last line counts the checks.
+`--texts`: so many random byte strings as programs, as many as commands, and as many changed sessions.
+`--levels`: how deep the tasks nest. `--quick` takes every seventeenth byte and allocation in place of each.
+The last line counts the kinds of checks.
 """
 import argparse
+import functools
 import os
 import random
+import resource
 import subprocess
 import sys
 import tempfile
 import time
 from concurrent.futures import ThreadPoolExecutor
 
-TOP = os.path.join(os.path.dirname(os.path.abspath(__file__)), '..')
-DIVIDER = b'\n---\n'
+from hostile_sessions import DIVIDER, TOP, built_library, every_command, is_answer, judge_workers, of_workers, session_of
+
+SMALL_STACK = 256 << 10
 
 
 class Program:
@@ -25,44 +30,29 @@ class Program:
     def __init__(self, path, library):
         self.path, self.library = path, library
 
-    def run(self, text, words=(), **refusals):
+    def run(self, text, words=(), within=None, **refusals):
         there = dict(os.environ, **{name: str(value) for name, value in refusals.items()})
         if refusals:
             there['LD_PRELOAD'] = self.library
-        done = subprocess.run([self.path, *words], input=text, capture_output=True, env=there, timeout=300)
+        done = subprocess.run([self.path, *words], input=text, capture_output=True, env=there, timeout=600, preexec_fn=within, check=False)
         return done.returncode, done.stdout, done.stderr
 
 
 class Count:
-    """What was checked, and what was wrong."""
+    """How many checks there were of each kind, and in which of them one was wrong."""
 
-    def __init__(self):
-        self.passed = self.failed = 0
+    def __init__(self, jobs):
+        self.jobs, self.checks, self.wrong = jobs, {}, set()
 
-    def check(self, name, right, what=''):
-        if right:
-            self.passed += 1
-            return
-        self.failed += 1
-        print('wrong: %s %s' % (name, str(what)[:400]), flush=True)
+    def check(self, kind, right, what=''):
+        self.checks[kind] = self.checks.get(kind, 0) + 1
+        if not right:
+            self.wrong.add(kind)
+            print('wrong: %s %s' % (kind, str(what)[:400]), flush=True)
 
-
-def session_of(name):
-    with open(os.path.join(TOP, name), 'rb') as opened:
-        return opened.read()
-
-
-def every_command():
-    """A session with each command, each kind of refusal and a full journal's neighbourhood."""
-    body = session_of('examples/exclusion.session').split(DIVIDER)[0]
-    commands = ('step 0\nrun 12\ntasks\ntask 0.1\nready\nwaits\ndeps 0.1\ncells\nout\nhist\nwhy 0#3\nwho 0#1\ncauses 0#3\nraces\nundo 0#1\n'
-                'break print\nbreaks\ngo 1 50\nclear 1\nroll 0#2\nrolltask 0.1\nrollcell 0\nrollprint\nrun 99\nout\nfly\n# note\nhist\n')
-    return body + DIVIDER + commands.encode()
-
-
-def in_parallel(check, numbers):
-    with ThreadPoolExecutor(max_workers=os.cpu_count()) as pool:
-        list(pool.map(check, numbers))
+    def in_parallel(self, check, numbers):
+        with ThreadPoolExecutor(max_workers=self.jobs) as pool:
+            list(pool.map(check, numbers))
 
 
 def writes(program, count, stride):
@@ -72,9 +62,9 @@ def writes(program, count, stride):
     for name in ('REFUSE_WRITE', 'EMPTY_WRITE'):
         def check(number):
             said = program.run(text, **{name: number})
-            count.check('%s at %d' % (name, number), said == (3, whole[:number], b'taskback: write\n'), said)
-        in_parallel(check, range(0, len(whole), stride))
-        count.check('%s after all' % name, program.run(text, **{name: len(whole)}) == (0, whole, b''))
+            count.check(name, said == (3, whole[:number], b'taskback: write\n'), (number, said))
+        count.in_parallel(check, range(0, len(whole), stride))
+        count.check(name, program.run(text, **{name: len(whole)}) == (0, whole, b''))
 
 
 def reads(program, count, stride):
@@ -85,9 +75,9 @@ def reads(program, count, stride):
     def check(number):
         answered = program.run(text[:text.rindex(b'\n', 0, number) + 1])[1] if number >= start else b''
         said = program.run(text, REFUSE_READ=number)
-        count.check('a read that fails at %d' % number, said == (3, answered, b'taskback: read\n'), said)
+        count.check('REFUSE_READ', said == (3, answered, b'taskback: read\n'), (number, said))
 
-    in_parallel(check, range(0, len(text) + 1, stride))
+    count.in_parallel(check, range(0, len(text) + 1, stride))
     faulty = text.replace(b'body main 0', b'bodi main 0', 1)
     said = program.run(faulty, REFUSE_READ=start - 3)
     count.check('a read that fails after a faulty line', said == (3, b'', b'taskback: read\n'), said)
@@ -106,11 +96,19 @@ def memory(program, count, stride):
     calls = int(program.run(text, REFUSE=0, REFUSE_COUNT=1)[2].split()[-1])
 
     def check(number):
-        status, out, err = program.run(text, REFUSE=number)
-        stopped = status == 3 and err == b'taskback: memory\n' and whole.startswith(out) and out[-1:] in (b'', b'\n')
-        count.check('allocation %d refused' % number, stopped or (status, out, err) == (0, whole, b''), (status, err))
+        said = program.run(text, REFUSE=number)
+        count.check('REFUSE', is_answer(whole, *said), (number, said))
 
-    in_parallel(check, range(1, calls + 2, stride))
+    count.in_parallel(check, range(1, calls + 2, stride))
+
+
+def threads(program, count, _):
+    """Where only some threads can begin, or none, workers that have one take the steps, or the session does."""
+    text = of_workers(4)
+    is_right = judge_workers(program.path, text)
+    for number in range(1, 9):
+        said = program.run(text, REFUSE_THREADS=number)
+        count.check('REFUSE_THREADS', is_right(*said), (number, said))
 
 
 def streams(program, count, _):
@@ -118,7 +116,8 @@ def streams(program, count, _):
     session = os.path.join(TOP, 'examples/race.session')
     cases = [
         ('> /dev/full', 3, b'taskback: write\n'), ('>&-', 3, b'taskback: write\n'), ('<&-', 3, b'taskback: read\n'),
-        ('< /', 3, b'taskback: read\n'), ('2>&- > /dev/full', 3, b''), ('--limit 2 > /dev/full', 3, b'taskback: write\n')]
+        ('< /', 3, b'taskback: read\n'), ('<&- >&-', 3, b'taskback: read\n'),
+        ('2>&- > /dev/full', 3, b''), ('2>&- <&-', 3, b''), ('--limit 2 > /dev/full', 3, b'taskback: write\n')]
     for words, status, said in cases:
         into = '' if '<' in words else '< "$1" '
         done = subprocess.run(['bash', '-c', '"$0" %s %s' % (into, words), program.path, session], capture_output=True, timeout=60)
@@ -134,26 +133,35 @@ def streams(program, count, _):
     count.check('a closed pipe', (done.stdout, done.stderr) == (b'03\n', b''), done)
 
 
+def bounded(megabytes, stack=None):
+    """Runs in the child before the program: it may have so much memory, and so much stack."""
+    resource.setrlimit(resource.RLIMIT_AS, (megabytes << 20, megabytes << 20))
+    if stack:
+        resource.setrlimit(resource.RLIMIT_STACK, (stack, stack))
+
+
 def refusal(program, count, name, text, said):
     """The text is refused as a program with this line."""
-    status, out, err = program.run(text)
+    status, out, err = program.run(text, within=functools.partial(bounded, 256))
     count.check(name, (status, out, err) == (1, b'', b'taskback: %s\n' % said), (status, out[:80], err[:80]))
 
 
-def accepted(program, count, name, text, lines, words=(), seconds=10):
-    """The session ends with status 0 and these last lines, within its time."""
+def accepted(program, count, name, text, lines, words=(), seconds=60, megabytes=256, stack=None):
+    """The session ends with status 0 and these last lines, within its time and memory."""
     began = time.monotonic()
-    status, out, err = program.run(text, words)
+    status, out, err = program.run(text, words, within=functools.partial(bounded, megabytes, stack))
     took = time.monotonic() - began
-    count.check(name, (status, err) == (0, b'') and out.endswith(lines) and took < seconds, (status, out[-200:], err, '%.1f s' % took))
+    right = (status, err) == (0, b'') and out.endswith(lines) and took < seconds
+    count.check(name, right, (status, out[-200:], err, '%.1f s' % took))
 
 
 def sizes(program, count, _):
     """Sizes at the limits, and one over each."""
     loop = b'cells 0\nbody main 0\nwhile 0 < 1\nlet r0 r0 + 1\nend\nend\n---\n'
-    accepted(program, count, 'a journal of 1,000,000 entries', loop + b'run 999999\nstep 0\n', b'ran 999999 limit\nrefused 7 Full\n', ('--limit', '1000000'))
+    entries = loop + b'run 999999\nstep 0\n'
+    accepted(program, count, 'a journal of 1,000,000 entries', entries, b'ran 999999 limit\nrefused 7 Full\n', ('--limit', '1000000'), megabytes=512)
     lines = b'cells 0\nbody main 0\n' + b'let r0 1\n' * 65533
-    accepted(program, count, '65,536 lines', lines + b'end\n---\nrun 3\n', b'ran 3 limit\n')
+    accepted(program, count, '65,536 lines', lines + b'end\n---\nrun 65536\n', b'ran 65535 done\n')
     refusal(program, count, '65,537 lines', lines + b'let r0 1\nend\n---\n', b'line 65537: TooLarge')
     bodies = b'cells 0\nbody main 0\nend\n' + b''.join(b'body b%d 0\nend\n' % k for k in range(1023))
     accepted(program, count, '1,024 bodies', bodies + b'---\nrun 9\n', b'ran 2 done\n')
@@ -165,38 +173,61 @@ def sizes(program, count, _):
     task = b'cells 1\nbody main 0\ntask t%s\nend\nbody t 0\nend\n---\nrun 9\n'
     accepted(program, count, '64 items', task % items, b'ran 5 done\n')
     refusal(program, count, '65 items', task % (items + b' depend in 0'), b'line 3: TooLarge')
-    deep = b'cells 0\nbody main 0\ntask a 1000\nend\nbody a 1\nif 0 < r0\nlet r1 r0 - 1\ntask a r1\nend\nend\n---\n'
-    ended = b'run 1000000\nhist\ntasks\nout\nrolltask 0.1\nready\nwaits\n'
-    accepted(program, count, 'a name 1,001 levels deep', deep + ended, b'\nready 1\n0.1\nwaits 0\n', seconds=30)
     wide = b'step 0\n' + b'x' * 10_000_000 + b'\nstep 0\n'
     accepted(program, count, 'a line of 10 MB', loop + wide, b'0#1 start\nerror line\n0#2 test yes\n')
     refusal(program, count, 'a line of 10 MB in the program', b'cells 0\n#' + b'x' * 10_000_000 + b'\n', b'line 2: TooLarge')
 
 
+def levels(program, count, depth):
+    """Tasks that each generate the next: views and rollbacks, with a stack that wouldn't do for a call a level."""
+    nested = b'cells 0\nbody main 0\ntask a %d\nend\nbody a 1\nif 0 < r0\nlet r1 r0 - 1\ntask a r1\nend\nend\n---\nrun 1000000\n'
+    begin = nested % depth
+    last = b'0' + b'.1' * (depth + 1)
+    # A line of 1,024 bytes can't name the deepest.
+    named_depth = min(depth + 1, 400)
+    named = b'0' + b'.1' * named_depth
+    spawner, spawned = named[:-2] + b'#4', b' spawn %s a %d\n' % (named, depth + 1 - named_depth)
+    left = b'hist 3\n0#1 start\n0#2 spawn 0.1 a %d\n0#3 end\n' % depth
+    for view, lines in (
+            (b'tasks', last + b' a ended\n'), (b'task ' + named, b'items 0\n'), (b'hist', last + b'#3 end\n'), (b'ready\nwaits', b'ready 0\nwaits 0\n'),
+            (b'why ' + named + b'#1', spawner + spawned), (b'causes ' + named + b'#1', spawner + spawned), (b'who ' + spawner, last + b'#3 end\n'),
+            (b'rolltask ' + named, last + b'#3 end\n'), (b'rolltask 0.1\nhist', left)):
+        accepted(program, count, 'tasks %d levels deep' % depth, begin + view + b'\n', lines, seconds=600, megabytes=1024, stack=SMALL_STACK)
+    said = program.run(nested % 100_000, ('--limit', '1000000'), functools.partial(bounded, 256, SMALL_STACK))
+    count.check('tasks 100,000 levels deep want too much memory', said == (3, b'', b'taskback: memory\n'), said)
+
+
+def random_bytes(r):
+    return bytes(r.randrange(256) for _ in range(r.choice([1, 10, 100, 1000])))
+
+
+def changed(r, session):
+    """The session with some of its bytes replaced, lost or doubled."""
+    text = bytearray(session)
+    for _ in range(r.choice([1, 2, 5, 20])):
+        at = r.randrange(len(text))
+        size = r.choice([0, 1, 1, 5, 40])
+        new = bytes(r.choice(b'0123456789#.-+ \n\tabcdefghijklmnopqrstuvwxyz\x00\xff') for _ in range(r.choice([0, 1, 1, 3])))
+        text[at:at + size] = r.choice([new, bytes(text[at:at + size]) * 2])
+        text = text or bytearray(b'\n')
+    return bytes(text)
+
+
 def texts(program, count, number, seed):
-    """Random bytes, and random changes of sessions, as programs and as commands: no status but 0 to 3."""
+    """Random bytes as programs and as commands, and random changes of sessions: all replies, or a program refused."""
     r = random.Random(seed)
     stored = [session_of('examples/' + name) for name in sorted(os.listdir(os.path.join(TOP, 'examples'))) if name.endswith('.session')]
-
-    def text():
-        kind = r.random()
-        if kind < 0.2:
-            return bytes(r.randrange(256) for _ in range(r.choice([1, 10, 100, 1000])))
-        changed = bytearray(r.choice(stored))
-        for _ in range(r.choice([1, 2, 5, 20])):
-            at = r.randrange(len(changed))
-            size = r.choice([0, 1, 1, 5, 40])
-            new = bytes(r.choice(b'0123456789#.-+ \n\tabcdefghijklmnopqrstuvwxyz\x00\xff') for _ in range(r.choice([0, 1, 1, 3])))
-            changed[at:at + size] = r.choice([new, bytes(changed[at:at + size]) * 2])
-            changed = changed or bytearray(b'\n')
-        return bytes(changed)
+    bodies = [text.split(DIVIDER)[0] + DIVIDER for text in stored]
 
     def check(given):
-        status, out, err = program.run(given, ('--limit', '20000'))
-        right = {0: err == b'', 1: out == b'' and err.startswith(b'taskback: line ')}
-        count.check('random text', right.get(status, False), (status, err, given))
+        kind, text = given
+        status, out, err = program.run(text, ('--limit', '20000'))
+        right = {0: err == b'', 1: kind != 'random commands' and out == b'' and err.startswith(b'taskback: line ')}
+        count.check(kind, right.get(status, False), (status, err, text))
 
-    in_parallel(check, [text() for _ in range(number)])
+    for kind, text in (('random programs', lambda: random_bytes(r)), ('random commands', lambda: r.choice(bodies) + random_bytes(r)),
+                       ('changed sessions', lambda: changed(r, r.choice(stored)))):
+        count.in_parallel(check, ((kind, text()) for _ in range(number)))
 
 
 def main():
@@ -204,19 +235,25 @@ def main():
     args.add_argument('--program', default=os.path.join(TOP, 'crates/taskback/out/taskback'))
     args.add_argument('--texts', type=int, default=20000)
     args.add_argument('--seed', type=int, default=1)
+    args.add_argument('--levels', type=int, default=1000)
+    args.add_argument('--jobs', type=int, default=os.cpu_count())
     args.add_argument('--quick', action='store_true')
     given = args.parse_args()
-    count = Count()
+    count = Count(given.jobs)
+    stride = 17 if given.quick else 1
     with tempfile.TemporaryDirectory() as folder:
-        library = os.path.join(folder, 'refuse.so')
-        subprocess.run(['cc', '-shared', '-fPIC', '-O1', '-o', library, os.path.join(TOP, 'tools/refuse.c'), '-ldl'], check=True)
-        program = Program(os.path.abspath(given.program), library)
-        for part in (writes, reads, short, memory, streams, sizes):
-            part(program, count, 17 if given.quick else 1)
-            print('%s: %d checks so far, %d wrong' % (part.__name__, count.passed + count.failed, count.failed), flush=True)
+        program = Program(os.path.abspath(given.program), built_library(folder))
+        for part, argument in ((writes, stride), (reads, stride), (short, None), (memory, stride), (threads, None), (streams, None),
+                               (sizes, None), (levels, given.levels)):
+            began = time.monotonic()
+            part(program, count, argument)
+            print('%s: %.0f s' % (part.__name__, time.monotonic() - began), flush=True)
         texts(program, count, given.texts, given.seed)
-    print('%d passed, %d failed' % (count.passed, count.failed))
-    sys.exit(1 if count.failed else 0)
+    for kind, checks in count.checks.items():
+        print('%8d %s%s' % (checks, kind, ', some wrong' if kind in count.wrong else ''))
+    print('%d checks' % sum(count.checks.values()))
+    print('%d passed, %d failed' % (len(count.checks) - len(count.wrong), len(count.wrong)))
+    sys.exit(1 if count.wrong else 0)
 
 
 if __name__ == '__main__':

@@ -3,11 +3,13 @@
 //   REFUSE_READ=N    standard input gives N bytes and then fails
 //   REFUSE_WRITE=N   standard output takes N bytes and then fails
 //   EMPTY_WRITE=N    standard output takes N bytes and then says of each write that it took none
+//   REFUSE_THREADS=N the Nth thread and each after it
 //   SHORT=N          each read gives at most N bytes, each write takes at most N
 // With REFUSE_COUNT it says on standard error at the end how many allocations there were.
 #define _GNU_SOURCE
 #include <dlfcn.h>
 #include <errno.h>
+#include <pthread.h>
 #include <stdio.h>
 #include <stdlib.h>
 #include <sys/syscall.h>
@@ -15,6 +17,7 @@
 
 static long refused = -1;
 static long calls = 0;
+static long threads = 0;
 static long got = 0;
 static long put = 0;
 static void *(*next_malloc)(size_t);
@@ -55,6 +58,15 @@ void *realloc(void *old, size_t size)
         return NULL;
     }
     return next_realloc(old, size);
+}
+
+int pthread_create(pthread_t *thread, const pthread_attr_t *how, void *(*body)(void *), void *given)
+{
+    int (*next)(pthread_t *, const pthread_attr_t *, void *(*)(void *), void *) = dlsym(RTLD_NEXT, "pthread_create");
+    long first = number("REFUSE_THREADS", 0);
+    if (first > 0 && __atomic_add_fetch(&threads, 1, __ATOMIC_SEQ_CST) >= first)
+        return EAGAIN;
+    return next(thread, how, body, given);
 }
 
 // How much of `size` bytes a call may move: what is left of `most`, where that is known, and `SHORT`.

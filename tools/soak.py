@@ -19,8 +19,7 @@ import time
 from concurrent.futures import ThreadPoolExecutor
 
 from compare_sessions import answer, kinds_of, pick_session
-
-TOP = os.path.join(os.path.dirname(os.path.abspath(__file__)), '..')
+from hostile_sessions import TOP, built_library
 
 
 class Soak:
@@ -84,9 +83,7 @@ def main():
     args.add_argument('--jobs', type=int, default=os.cpu_count())
     given = args.parse_args()
     with tempfile.TemporaryDirectory() as folder:
-        library = os.path.join(folder, 'refuse.so')
-        subprocess.run(['cc', '-shared', '-fPIC', '-O1', '-o', library, os.path.join(TOP, 'tools/refuse.c'), '-ldl'], check=True)
-        soak = Soak(os.path.abspath(given.program), shlex.split(given.other), library)
+        soak = Soak(os.path.abspath(given.program), shlex.split(given.other), built_library(folder))
         soak.run(given.seed, given.minutes, given.jobs)
     for kind, number in sorted(soak.kinds.items()):
         print('%8d %s' % (number, kind))

@@ -1,0 +1,122 @@
+"""Sessions for the tools that refuse memory, reads and writes, and what tells whether an answer to one is right."""
+import os
+import re
+import subprocess
+
+TOP = os.path.join(os.path.dirname(os.path.abspath(__file__)), '..')
+DIVIDER = b'\n---\n'
+
+# Eight tasks exclude each other and add up.
+SUM = b'cells 1\nbody main 0\n' + b''.join(b'task add %d depend mutexinoutset 0\n' % k for k in range(1, 9)) + b'''end
+body add 1
+load r1 0
+let r1 r1 + r0
+store 0 r1
+end'''
+
+# Groups, an undeferred task, prints, and a child that waits for its own.
+GROUPS = b'''cells 2
+body main 0
+taskgroup
+task outer 3 depend inout 0 depend in 1
+task outer 4 depend in 0
+end
+task inner 5 if 1 == 2
+print 1
+end
+body outer 1
+taskgroup
+task inner r0
+end
+store 0 r0
+taskwait
+end
+body inner 1
+load r1 0
+print r1
+store 1 r0
+end'''
+
+VIEWS = ('tasks', 'task 0.1', 'ready', 'waits', 'deps 0.2', 'breaks', 'cells', 'out', 'hist', 'why 0.1#2', 'causes 0.1#2', 'who 0#2', 'races')
+
+
+def session_of(name):
+    with open(os.path.join(TOP, name), 'rb') as opened:
+        return opened.read()
+
+
+def every_command():
+    """A session with each command, each kind of refusal and a full journal's neighbourhood."""
+    body = session_of('examples/exclusion.session').split(DIVIDER)[0]
+    commands = ('step 0\nrun 12\ntasks\ntask 0.1\nready\nwaits\ndeps 0.1\ncells\nout\nhist\nwhy 0#3\nwho 0#1\ncauses 0#3\nraces\nundo 0#1\n'
+                'break print\nbreaks\ngo 1 50\nclear 1\nroll 0#2\nrolltask 0.1\nrollcell 0\nrollprint\nrun 99\nout\nfly\n# note\nhist\n')
+    return body + DIVIDER + commands.encode()
+
+
+def views():
+    """Sessions that show one view each, in the midst of a run, by the names of what they show."""
+    race = session_of('examples/race.session').split(DIVIDER)[0]
+    for name, program, steps in (('sum', SUM, 13), ('groups', GROUPS, 14), ('race', race, 99)):
+        for view in VIEWS:
+            commands = 'break cell 0\nbreak print\nrun %d\n%s\n' % (steps, view)
+            yield '%s of %s' % (view, name), program + DIVIDER + commands.encode()
+
+
+def of_workers(count):
+    """The sum by so many workers, half of it taken back and done again."""
+    return SUM + DIVIDER + b'go %d 1000\ncells\nrolltask 0.3\ngo %d 1000\ncells\n' % (count, count)
+
+
+def replayed(text, out):
+    """A session that takes by `step`, in their order, the steps which workers are told to have taken; and what it has to answer.
+
+    Where a `go` is told to be at its end, no task can step: a `run` behind its steps says so.
+    """
+    goes, said, taken, removed = [], [], [], 0
+    for line in out.splitlines(keepends=True):
+        step, ran = re.match(rb'([0-9.]+)#\d+ ', line), re.match(rb'ran (\d+) done\n', line)
+        if ran:
+            goes.append(taken + [b'run 1'])
+            line = b'ran 0 done\n' if int(ran.group(1)) == len(taken) else b'another count of steps'
+            taken = []
+        elif step and not removed:
+            taken.append(b'step ' + step.group(1))
+        else:
+            rolled = re.match(rb'rolled (\d+)\n', line)
+            removed = int(rolled.group(1)) if rolled else max(0, removed - 1)
+        said.append(line)
+    goes = iter(goes + [taken])
+    commands = text.partition(DIVIDER)[2].splitlines()
+    lines = [line for command in commands for line in (next(goes, []) if command.startswith(b'go ') else [command])]
+    return text.partition(DIVIDER)[0] + DIVIDER + b'\n'.join(lines) + b'\n', b''.join(said)
+
+
+def is_answer(whole, status, out, err):
+    """Whether the program gave the whole output, or a beginning that ends with a whole line and status 3."""
+    if status == 0:
+        return out == whole and err == b''
+    return status == 3 and err == b'taskback: memory\n' and out[-1:] in (b'', b'\n') and whole.startswith(out)
+
+
+def judge(program, text):
+    """What tells whether an answer to the session of one worker is right."""
+    whole = subprocess.run([program], input=text, capture_output=True, check=False, timeout=300).stdout
+    return lambda status, out, err: is_answer(whole, status, out, err)
+
+
+def judge_workers(program, text):
+    """What tells whether an answer to the session of several workers is right: one worker can take the same steps."""
+
+    def is_right(status, out, err):
+        steps, said = replayed(text, out)
+        whole = subprocess.run([program], input=steps, capture_output=True, check=False, timeout=300).stdout
+        return is_answer(whole, status, said, err)
+
+    return is_right
+
+
+def built_library(folder):
+    """The library that refuses, built there."""
+    library = os.path.join(folder, 'refuse.so')
+    subprocess.run(['cc', '-shared', '-fPIC', '-O1', '-o', library, os.path.join(TOP, 'tools/refuse.c'), '-ldl'], check=True)
+    return library
