@@ -14,4 +14,5 @@ pub mod Preparing
 pub mod Commits
 pub mod Numbers
 pub mod Floor
+pub mod Statements
 pub use Rattle.tb_core.specs.Refusals

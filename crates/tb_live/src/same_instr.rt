@@ -1,6 +1,7 @@
 //! Whether two instructions are the same.
 
 ghost use Rattle.std.specs.Prelude.{◌≡◌, ◌↔◌, IsTrue};
+ghost use Rattle.tb_live.specs.Statements.{IsCompute, IsTask};
 
 use tb_model::{Clause, Condition, Operand, Statement};
 use tb_read::Instr;
@@ -27,20 +28,7 @@ fn is_same_statement(a: &Statement, b: &Statement) -> bool
                 value: operand,
             },
         ) => reg == other && value == operand,
-        (
-            Statement::Compute {
-                reg,
-                left,
-                operator,
-                right,
-            },
-            Statement::Compute {
-                reg: other,
-                left: first,
-                operator: sign,
-                right: second,
-            },
-        ) => reg == other && left == first && operator == sign && right == second,
+        (Statement::Compute { .. }, Statement::Compute { .. }) => is_same_compute(a, b),
         (
             Statement::Load { reg, address },
             Statement::Load {
@@ -56,6 +44,49 @@ fn is_same_statement(a: &Statement, b: &Statement) -> bool
             },
         ) => address == place && value == operand,
         (Statement::Print { value }, Statement::Print { value: operand }) => value == operand,
+        (Statement::Task { .. }, Statement::Task { .. }) => is_same_task(a, b),
+        (Statement::Taskwait { depends }, Statement::Taskwait { depends: clauses }) => {
+            are_same_clauses(depends.as_slice(), clauses.as_slice())
+        }
+        (Statement::Test { condition }, Statement::Test { condition: test }) => condition == test,
+        (Statement::Start, Statement::Start)
+        | (Statement::Taskgroup, Statement::Taskgroup)
+        | (Statement::EndTaskgroup, Statement::EndTaskgroup)
+        | (Statement::End, Statement::End) => true,
+        _ => false,
+    }
+}
+
+/// Whether both are a `let` with an operator, and the same.
+fn is_same_compute(a: &Statement, b: &Statement) -> bool
+    ensures same { IsTrue result → a.now ≡ b.now }
+    ensures found { IsCompute a.now → a.now ≡ b.now → IsTrue result }
+{
+    match (a, b) {
+        (
+            Statement::Compute {
+                reg,
+                left,
+                operator,
+                right,
+            },
+            Statement::Compute {
+                reg: other,
+                left: first,
+                operator: sign,
+                right: second,
+            },
+        ) => reg == other && left == first && operator == sign && right == second,
+        _ => false,
+    }
+}
+
+/// Whether both are a `task` line, and the same.
+fn is_same_task(a: &Statement, b: &Statement) -> bool
+    ensures same { IsTrue result → a.now ≡ b.now }
+    ensures found { IsTask a.now → a.now ≡ b.now → IsTrue result }
+{
+    match (a, b) {
         (
             Statement::Task {
                 body,
@@ -75,14 +106,6 @@ fn is_same_statement(a: &Statement, b: &Statement) -> bool
                 && are_same_clauses(depends.as_slice(), clauses.as_slice())
                 && is_same_test(condition, test)
         }
-        (Statement::Taskwait { depends }, Statement::Taskwait { depends: clauses }) => {
-            are_same_clauses(depends.as_slice(), clauses.as_slice())
-        }
-        (Statement::Test { condition }, Statement::Test { condition: test }) => condition == test,
-        (Statement::Start, Statement::Start)
-        | (Statement::Taskgroup, Statement::Taskgroup)
-        | (Statement::EndTaskgroup, Statement::EndTaskgroup)
-        | (Statement::End, Statement::End) => true,
         _ => false,
     }
 }

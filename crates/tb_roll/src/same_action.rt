@@ -1,6 +1,7 @@
 //! Whether two actions are the same.
 
 ghost use Rattle.std.specs.Prelude.{◌≡◌, ◌↔◌, IsTrue};
+ghost use Rattle.tb_roll.specs.Spawns.{IsSpawn};
 
 use tb_model::{Action, Args, Item, Items, Place, TaskName};
 
@@ -32,6 +33,24 @@ pub fn is_same_action(a: &Action, b: &Action) -> bool
             },
         ) => cell == place && value == number,
         (Action::Print { value }, Action::Print { value: number }) => value == number,
+        (Action::Spawn { .. }, Action::Spawn { .. }) => is_same_spawn(a, b),
+        (Action::Wait { items }, Action::Wait { items: others }) => are_same_items(items, others),
+        (Action::Test { yes }, Action::Test { yes: answer }) => yes == answer,
+        (Action::Start, Action::Start)
+        | (Action::Open, Action::Open)
+        | (Action::Close, Action::Close)
+        | (Action::End, Action::End)
+        | (Action::Fault, Action::Fault) => true,
+        _ => false,
+    }
+}
+
+/// Whether both generate a child, and are the same.
+fn is_same_spawn(a: &Action, b: &Action) -> bool
+    ensures same { IsTrue result → a.now ≡ b.now }
+    ensures found { IsSpawn a.now → a.now ≡ b.now → IsTrue result }
+{
+    match (a, b) {
         (
             Action::Spawn {
                 child,
@@ -52,13 +71,6 @@ pub fn is_same_action(a: &Action, b: &Action) -> bool
                 && deferred == later
                 && is_same_task(child, args, items, task, numbers, others)
         }
-        (Action::Wait { items }, Action::Wait { items: others }) => are_same_items(items, others),
-        (Action::Test { yes }, Action::Test { yes: answer }) => yes == answer,
-        (Action::Start, Action::Start)
-        | (Action::Open, Action::Open)
-        | (Action::Close, Action::Close)
-        | (Action::End, Action::End)
-        | (Action::Fault, Action::Fault) => true,
         _ => false,
     }
 }
