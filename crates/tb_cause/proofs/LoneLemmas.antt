@@ -48,10 +48,10 @@ module _ (entries : List Entry) where
       ∙ or_right (list_any test D) _ (or_left (test x.event) (list_any test (history_of (take q entries))) h)
 
   -- the entry at the place that is noted generates the task
-  generates : (G : Name → Option ℕ) → AreSpawns entries (length entries) G → (t : Name) (b : ℕ) → G t ≡ Some b → (y : Entry) → y ≡ get_or entries b y → spawns t y.event ≡ true
-  generates G told t b is y here =
-      spawn_found t (history_of (take (length entries) entries)) y.event.action
-      (told.spawns t ∙ ap (placed_action entries) is ∙ ap (λ (o : Option Entry). option_map (λ (e : Entry). e.event.action) o) (slice_get_read entries (length entries) b y refl (told.within t b is) here))
+  generates : (t : Name) (b : ℕ) → spawn_of t (history_of entries) ≡ placed_action entries (Some b) → b < length entries → (y : Entry) → y ≡ get_or entries b y → spawns t y.event ≡ true
+  generates t b is within y here =
+      spawn_found t (history_of entries) y.event.action
+      (is ∙ ap (λ (o : Option Entry). option_map (λ (e : Entry). e.event.action) o) (slice_get_read entries (length entries) b y refl within here))
 
   module _ (legal : AreLegal entries) where
     -- no two entries generate one task
@@ -103,10 +103,10 @@ module _ (entries : List Entry) where
           (λ r. ⊎_elim (λ o. false≢true (sym (ap (λ acts. held_any f (held_by acts)) first) ∙ o)) (λ o. both_ways rest (no_wait f v.event.action starts) o) (or_cases (held_any f (held_by (own t F))) rest r))
           (or_cases (f (Task t)) (held_any f (held_by (own t F)) || rest) (sym (told_at entries legal at v within isv q x lower here) ∙ h)))
 
-    pub lone_reach : (at : ℕ) → at < length entries → (u : Entry) → u ≡ get_or entries at u → u.event.action ≡ Start → items_told entries u.event.task ≡ [] → (G : Name → Option ℕ) → AreSpawns entries (length entries) G → (b : ℕ) → G u.event.task ≡ Some b → b < at
+    pub lone_reach : (at : ℕ) → at < length entries → (u : Entry) → u ≡ get_or entries at u → u.event.action ≡ Start → items_told entries u.event.task ≡ [] → (b : ℕ) → spawn_of u.event.task (history_of entries) ≡ placed_action entries (Some b) → b < at
         → IsReach entries at b (b + 1)
-    lone_reach at within u isu starts bare G told b is low v isv q x lower other here =
+    lone_reach at within u isu starts bare b is low v isv q x lower other here =
         let y = there entries b (omega (arith, low, within)) in
         let same : u ≡ v = at_one entries at u v within isu isv in
         subst (λ (z : Entry). needs (history_of (take at entries)) z.event x.event ≡ false) same
-        (alone at within u isu starts bare b low y.0 y.1 (generates G told u.event.task b is y.0 y.1) q x lower other here)
+        (alone at within u isu starts bare b low y.0 y.1 (generates u.event.task b is (omega (arith, low, within)) y.0 y.1) q x lower other here)

@@ -7,7 +7,7 @@ use Rattle.tb_model.specs.Names.{Name, same_name}
 use Rattle.tb_model.specs.Facts.{own}
 use Rattle.tb_model.specs.State.{spawn_of, items_in}
 use Rattle.tb_core.specs.declared.entry.Entry.{Entry}
-use Rattle.tb_core.specs.Scans.{history_of, step_at}
+use Rattle.tb_core.specs.Scans.{AreLegal, history_of, step_at}
 use Rattle.tb_cause.specs.Keys.{held_by}
 
 -- of the entries up to this place, G tells those before which their task stood at an undeferred child, and that child
@@ -24,6 +24,13 @@ placed_action entries (Some p) = option_map (λ (e : Entry). e.event.action) (sl
 pub record AreSpawns (entries : List Entry) (at : ℕ) (G : Name → Option ℕ) : Type 0 where
   pub spawns : (t : Name) → spawn_of t (history_of (take at entries)) ≡ placed_action entries (G t)
   pub within : (t : Name) (p : ℕ) → G t ≡ Some p → p < at
+
+-- H and G tell both of these entries, which are a legal history
+pub record AreIndexed (entries : List Entry) (H : ℕ → Option Name) (G : Name → Option ℕ) : Type 0 where
+  pub legal : AreLegal entries
+  pub bound : length entries ≤ 1000000
+  pub held : AreHeld entries (length entries) H
+  pub spawns : AreSpawns entries (length entries) G
 
 -- t is the child that was spawned, if one was
 abbrev pub is_spawned_child : Name → Option Name → Bool

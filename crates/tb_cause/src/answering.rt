@@ -1,35 +1,25 @@
 //! Whether all that a step directly needs is needed by way of steps that were found.
 
-ghost use Rattle.std.specs.Prelude.{◌≡◌, ◌<◌, ◌≤◌, length, take, get_or, nat_eq};
+ghost use Rattle.std.specs.Prelude.{◌≡◌, ◌<◌, length, take, get_or};
 ghost use Rattle.std.specs.Option.{option_copied};
-ghost use Rattle.indexmap.specs.IndexMap.{get};
 ghost use Rattle.tb_model.specs.Facts.{own};
 ghost use Rattle.tb_core.specs.declared.entry.Entry.{Entry as AnEntry};
 ghost use Rattle.tb_core.specs.Scans.{history_of};
-ghost use Rattle.tb_cause.specs.Indexes.{AreHeld};
 ghost use Rattle.tb_cause.specs.Keys.{has, held_by};
 ghost use Rattle.tb_cause.specs.Nearest.{action_answered, answered, held_answered};
 
+use crate::indexed::Indexed;
 use crate::keys::Keys;
-use indexmap::IndexMap;
-use tb_core::Entry;
 use tb_model::{Action, Event, TaskName};
 
 /// Whether each entry that gives a key which the step at this place takes gives one of these keys.
 /// Of a start and of a group's end it isn't said.
-pub(crate) fn is_answered_at(
-    keys: &Keys,
-    entries: &[Entry],
-    held: &IndexMap<u32, TaskName>,
-    at: usize,
-) -> bool
-    requires within { at < length entries.now }
-    requires bound { length entries.now ≤ 1000000 }
-    requires held { AreHeld entries.now (length entries.now) (get nat_eq held.now) }
-    ensures { (v : AnEntry) → v ≡ get_or entries.now at v →
-        result ≡ answered (has keys.now) (held_by (own v.event.task (history_of (take at entries.now)))) v.event }
+pub(crate) fn is_answered_at(keys: &Keys, indexed: &Indexed<'_>, at: usize) -> bool
+    requires within { at < length indexed.now }
+    ensures { (v : AnEntry) → v ≡ get_or indexed.now at v → result ≡
+        answered (has keys.now) (held_by (own v.event.task (history_of (take at indexed.now)))) v.event }
 {
-    is_answered(keys, held.get(&(at as u32)), &entries[at].event)
+    is_answered(keys, indexed.held_at(at), indexed.event_at(at))
 }
 
 /// The same of a step which stands at an undeferred child if one is named.

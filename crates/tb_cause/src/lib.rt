@@ -8,6 +8,7 @@ mod causes;
 mod cone;
 mod finding;
 mod giving;
+mod indexed;
 mod keys;
 mod names;
 mod nearest;

@@ -1,25 +1,21 @@
 //! The steps that a step needs immediately, by one pass back over the entries in front of it. The
 //! pass ends where all that is left is needed by way of what was found.
 
-ghost use Rattle.std.specs.Prelude.{◌≡◌, ◌<◌, ◌≤◌, ◌+◌, ◌∷◌, [], ◌++◌, ◌&&◌, ◌||◌, not, IfOk, OnOk, IfSome, Some, false, length, reverse, take, get_or, nat_eq, if◌then◌else◌};
-ghost use Rattle.indexmap.specs.IndexMap.{get};
-ghost use Rattle.tb_model.specs.Names.{same_name};
+ghost use Rattle.std.specs.Prelude.{◌≡◌, ◌<◌, ◌≤◌, ◌+◌, ◌∷◌, [], ◌++◌, ◌&&◌, ◌||◌, not, IfOk, OnOk, IfSome, Some, false, length, reverse, get_or, if◌then◌else◌};
 ghost use Rattle.tb_core.specs.declared.entry.Entry.{Entry as AnEntry};
 ghost use Rattle.tb_core.specs.Scans.{AreLegal};
 ghost use Rattle.tb_cause.specs.Asked.{AreAskedAt, gives_any};
-ghost use Rattle.tb_cause.specs.Indexes.{AreHeld, AreSpawns, items_told};
+ghost use Rattle.tb_cause.specs.Indexes.{items_told};
 ghost use Rattle.tb_cause.specs.Keys.{Key, has};
 ghost use Rattle.tb_cause.specs.Nearest.{AreNearest, IsReach};
 
 use crate::answering::is_answered_at;
 use crate::causes::{enter, is_asked, note_at};
+use crate::indexed::Indexed;
 use crate::keys::Keys;
-use crate::spawns::{items_of, spawns_of};
-use crate::standing::held_steps;
-use indexmap::IndexMap;
 use std::alloc::{AllocError, Global};
 use tb_core::Entry;
-use tb_model::{Action, TaskName};
+use tb_model::Action;
 
 /// The places of the steps that the one at this place needs immediately.
 pub fn nearest_places(alloc: Global, entries: &[Entry], at: usize) -> Result<Vec<u32>, AllocError>
@@ -39,59 +35,36 @@ fn nearest_among(alloc: Global, entries: &[Entry], at: usize) -> Result<Vec<u32>
     requires within { at < length entries.now }
     ensures { IfOk result (λ places. AreNearest entries.now at places.items) }
 {
-    let held = held_steps(alloc, entries)?;
-    held_known(alloc, entries, &held, at)
+    let indexed = Indexed::of(alloc, entries)?;
+    nearest_indexed(alloc, &indexed, at)
 }
 
-fn held_known(
+fn nearest_indexed(
     alloc: Global,
-    entries: &[Entry],
-    held: &IndexMap<u32, TaskName>,
+    indexed: &Indexed<'_>,
     at: usize,
 ) -> Result<Vec<u32>, AllocError>
-    requires legal { AreLegal entries.now }
-    requires bound { length entries.now ≤ 1000000 }
-    requires within { at < length entries.now }
-    requires held { AreHeld entries.now (length entries.now) (get nat_eq held.now) }
-    ensures { IfOk result (λ places. AreNearest entries.now at places.items) }
+    requires within { at < length indexed.now }
+    ensures { IfOk result (λ places. AreNearest indexed.now at places.items) }
 {
-    let spawns = spawns_of(alloc, entries)?;
-    spawns_known(alloc, entries, held, &spawns, at)
-}
-
-fn spawns_known(
-    alloc: Global,
-    entries: &[Entry],
-    held: &IndexMap<u32, TaskName>,
-    spawns: &IndexMap<TaskName, u32>,
-    at: usize,
-) -> Result<Vec<u32>, AllocError>
-    requires legal { AreLegal entries.now }
-    requires bound { length entries.now ≤ 1000000 }
-    requires within { at < length entries.now }
-    requires held { AreHeld entries.now (length entries.now) (get nat_eq held.now) }
-    requires spawns { AreSpawns entries.now (length entries.now) (get same_name spawns.now) }
-    ensures { IfOk result (λ places. AreNearest entries.now at places.items) }
-{
-    match lone_spawn(entries, spawns, at) {
-        Some(spawn) => reach_known(alloc, entries, held, spawns, at, spawn, spawn + 1),
-        None => reach_known(alloc, entries, held, spawns, at, 0, at),
+    match lone_spawn(indexed, at) {
+        Some(spawn) => reach_known(alloc, indexed, at, spawn, spawn + 1),
+        None => reach_known(alloc, indexed, at, 0, at),
     }
 }
 
 /// The place of the step that generates the task, where the one at this place is its start and its
 /// task has no depend items: then that one alone is needed directly.
-fn lone_spawn(entries: &[Entry], spawns: &IndexMap<TaskName, u32>, at: usize) -> Option<usize>
-    requires legal { AreLegal entries.now }
-    requires within { at < length entries.now }
-    requires spawns { AreSpawns entries.now (length entries.now) (get same_name spawns.now) }
-    ensures { IfSome result (λ spawn. (spawn < at) × IsReach entries.now at spawn (spawn + 1)) }
+fn lone_spawn(indexed: &Indexed<'_>, at: usize) -> Option<usize>
+    requires within { at < length indexed.now }
+    ensures { IfSome result (λ spawn. (spawn < at) × IsReach indexed.now at spawn (spawn + 1)) }
 {
-    let event = &entries[at].event;
+    indexed.history_is_legal();
+    let event = indexed.event_at(at);
     match &event.action {
         Action::Start => {
-            let spawn = *spawns.get(&event.task)? as usize;
-            if items_of(entries, spawns, &event.task).is_empty() && spawn < at {
+            let spawn = indexed.spawn_of(&event.task)?;
+            if indexed.items_of(&event.task).is_empty() && spawn < at {
                 Some(spawn)
             } else {
                 None
@@ -103,51 +76,37 @@ fn lone_spawn(entries: &[Entry], spawns: &IndexMap<TaskName, u32>, at: usize) ->
 
 fn reach_known(
     alloc: Global,
-    entries: &[Entry],
-    held: &IndexMap<u32, TaskName>,
-    spawns: &IndexMap<TaskName, u32>,
+    indexed: &Indexed<'_>,
     at: usize,
     bottom: usize,
     top: usize,
 ) -> Result<Vec<u32>, AllocError>
-    requires legal { AreLegal entries.now }
-    requires bound { length entries.now ≤ 1000000 }
-    requires within { at < length entries.now }
-    requires held { AreHeld entries.now (length entries.now) (get nat_eq held.now) }
-    requires spawns { AreSpawns entries.now (length entries.now) (get same_name spawns.now) }
+    requires within { at < length indexed.now }
     requires top { top ≤ at }
-    requires reach { IsReach entries.now at bottom top }
-    ensures { IfOk result (λ places. AreNearest entries.now at places.items) }
+    requires reach { IsReach indexed.now at bottom top }
+    ensures { IfOk result (λ places. AreNearest indexed.now at places.items) }
 {
     let mut own = Keys::new(alloc);
-    own_known(alloc, &mut own, entries, held, spawns, at, bottom, top)
+    own_known(alloc, &mut own, indexed, at, bottom, top)
 }
 
 fn own_known(
     alloc: Global,
     own: &mut Keys,
-    entries: &[Entry],
-    held: &IndexMap<u32, TaskName>,
-    spawns: &IndexMap<TaskName, u32>,
+    indexed: &Indexed<'_>,
     at: usize,
     bottom: usize,
     top: usize,
 ) -> Result<Vec<u32>, AllocError>
-    requires legal { AreLegal entries.now }
-    requires bound { length entries.now ≤ 1000000 }
-    requires within { at < length entries.now }
-    requires held { AreHeld entries.now (length entries.now) (get nat_eq held.now) }
-    requires spawns { AreSpawns entries.now (length entries.now) (get same_name spawns.now) }
+    requires within { at < length indexed.now }
     requires none { (k : Key) → has own.old k ≡ false }
     requires top { top ≤ at }
-    requires reach { IsReach entries.now at bottom top }
-    ensures { IfOk result (λ places. AreNearest entries.now at places.items) }
+    requires reach { IsReach indexed.now at bottom top }
+    ensures { IfOk result (λ places. AreNearest indexed.now at places.items) }
 {
-    note_at(own, entries, held, spawns, at)?;
+    note_at(own, indexed, at)?;
     let mut keys = Keys::new(alloc);
-    pass(
-        alloc, own, &mut keys, entries, held, spawns, at, bottom, top,
-    )
+    pass(alloc, own, &mut keys, indexed, at, bottom, top)
 }
 
 /// Goes back over the entries from below `top` down to `bottom`. The step's own keys are noted apart
@@ -156,32 +115,27 @@ fn pass(
     alloc: Global,
     own: &Keys,
     keys: &mut Keys,
-    entries: &[Entry],
-    held: &IndexMap<u32, TaskName>,
-    spawns: &IndexMap<TaskName, u32>,
+    indexed: &Indexed<'_>,
     at: usize,
     bottom: usize,
     top: usize,
 ) -> Result<Vec<u32>, AllocError>
-    requires legal { AreLegal entries.now }
-    requires bound { length entries.now ≤ 1000000 }
-    requires within { at < length entries.now }
-    requires held { AreHeld entries.now (length entries.now) (get nat_eq held.now) }
-    requires spawns { AreSpawns entries.now (length entries.now) (get same_name spawns.now) }
-    requires own { AreAskedAt entries.now (at ∷ []) (has own.now) }
+    requires within { at < length indexed.now }
+    requires own { AreAskedAt indexed.now (at ∷ []) (has own.now) }
     requires none { (k : Key) → has keys.old k ≡ false }
     requires top { top ≤ at }
-    requires reach { IsReach entries.now at bottom top }
-    ensures { IfOk result (λ places. AreNearest entries.now at places.items) }
+    requires reach { IsReach indexed.now at bottom top }
+    ensures { IfOk result (λ places. AreNearest indexed.now at places.items) }
 {
+    indexed.history_is_legal();
     let mut found = Vec::new(alloc);
     let mut places = Vec::new(alloc);
     let mut left = top;
     'back: while bottom < left {
         left -= 1;
-        if meet(own, keys, &mut places, entries, spawns, left)? {
-            enter(keys, &mut found, entries, held, spawns, left)?;
-            if is_answered_at(keys, entries, held, at) {
+        if meet(own, keys, &mut places, indexed, left)? {
+            enter(keys, &mut found, indexed, left)?;
+            if is_answered_at(keys, indexed, at) {
                 return Ok(turned(places));
             }
         }
@@ -204,24 +158,21 @@ fn meet(
     own: &Keys,
     keys: &Keys,
     places: &mut Vec<u32>,
-    entries: &[Entry],
-    spawns: &IndexMap<TaskName, u32>,
+    indexed: &Indexed<'_>,
     at: usize,
 ) -> Result<bool, AllocError>
-    requires bound { length entries.now ≤ 1000000 }
-    requires within { at < length entries.now }
-    requires spawns { AreSpawns entries.now (length entries.now) (get same_name spawns.now) }
-    ensures met { IfOk result (λ b. (e : AnEntry) → e ≡ get_or entries.now at e →
-        b ≡ (gives_any (has keys.now) (items_told entries.now) e.event || gives_any (has own.now) (items_told entries.now) e.event)) }
-    ensures places { OnOk result ((e : AnEntry) → e ≡ get_or entries.now at e →
-        places.new.items ≡ places.old.items ++ (if not (gives_any (has keys.now) (items_told entries.now) e.event) && gives_any (has own.now) (items_told entries.now) e.event then at ∷ [] else [])) }
+    requires within { at < length indexed.now }
+    ensures met { IfOk result (λ b. (e : AnEntry) → e ≡ get_or indexed.now at e →
+        b ≡ (gives_any (has keys.now) (items_told indexed.now) e.event || gives_any (has own.now) (items_told indexed.now) e.event)) }
+    ensures places { OnOk result ((e : AnEntry) → e ≡ get_or indexed.now at e → places.new.items ≡ places.old.items
+        ++ (if not (gives_any (has keys.now) (items_told indexed.now) e.event) && gives_any (has own.now) (items_told indexed.now) e.event then at ∷ [] else [])) }
 {
-    if is_asked(keys, entries, spawns, at)? {
+    if is_asked(keys, indexed, at)? {
         return Ok(true);
     }
-    if !is_asked(own, entries, spawns, at)? {
+    if !is_asked(own, indexed, at)? {
         return Ok(false);
     }
-    places.push(at as u32)?;
+    places.push(indexed.place(at))?;
     Ok(true)
 }

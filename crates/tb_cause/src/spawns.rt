@@ -1,16 +1,16 @@
-//! Where the tasks with depend items were spawned.
+//! Where the tasks were spawned.
 
-ghost use Rattle.std.specs.Prelude.{◌≡◌, ◌≤◌, ◌<◌, IfOk, OnOk, Some, length, if◌then◌else◌};
+ghost use Rattle.std.specs.Prelude.{◌≡◌, ◌≤◌, IfOk, OnOk, Some, length, if◌then◌else◌};
 ghost use Rattle.std.specs.Option.{option_copied};
 ghost use Rattle.indexmap.specs.IndexMap.{get};
 ghost use Rattle.tb_model.specs.Names.{Name, same_name};
 ghost use Rattle.tb_model.specs.Facts.{is_spawn_of};
-ghost use Rattle.tb_cause.specs.Indexes.{items_placed, items_told, is_spawned_child, AreSpawns};
+ghost use Rattle.tb_cause.specs.Indexes.{is_spawned_child, AreSpawns};
 
 use indexmap::IndexMap;
 use std::alloc::{AllocError, Global};
 use tb_core::Entry;
-use tb_model::{Action, Item, TaskName};
+use tb_model::{Action, TaskName};
 
 /// The place of the spawn of each task.
 pub(crate) fn spawns_of(
@@ -48,30 +48,4 @@ fn put_spawn(
 {
     spawns.insert(child.clone()?, at)?;
     Ok(())
-}
-
-/// The depend items of the task.
-pub(crate) fn items_of<'a>(
-    entries: &'a [Entry],
-    spawns: &IndexMap<TaskName, u32>,
-    task: &TaskName,
-) -> &'a [Item]
-    requires spawns { AreSpawns entries.now (length entries.now) (get same_name spawns.now) }
-    ensures { result.now ≡ items_told entries.now task.now }
-{
-    match spawns.get(task) {
-        Some(at) => items_at(entries, *at as usize),
-        None => &[],
-    }
-}
-
-/// The items that the spawn at this place names.
-fn items_at<'a>(entries: &'a [Entry], at: usize) -> &'a [Item]
-    requires { at < length entries.now }
-    ensures { result.now ≡ items_placed entries.now at }
-{
-    match &entries[at].event.action {
-        Action::Spawn { items, .. } => items.as_slice(),
-        _ => &[],
-    }
 }

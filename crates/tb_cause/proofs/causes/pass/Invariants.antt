@@ -9,10 +9,10 @@ use Rattle.tb_cause.proofs.causes.pass.Given as goal
 
 abbrev pub invariant-back : goal.invariant-back
 invariant-back l = record {
-  found : IsFound l.entries l.at l.left l.places.items;
-  asked : AreAskedAt l.entries (l.at ∷ l.places.items) (has l.keys);
-  told : AllByRecursion (IsToldByKeys l.entries l.left) (placed_at l.entries (l.at ∷ l.places.items));
-  inside : All (λ p. p < length l.entries) l.places.items;
+  found : IsFound l.indexed l.at l.left l.places.items;
+  asked : AreAskedAt l.indexed (l.at ∷ l.places.items) (has l.keys);
+  told : AllByRecursion (IsToldByKeys l.indexed l.left) (placed_at l.indexed (l.at ∷ l.places.items));
+  inside : All (λ p. p < length l.indexed) l.places.items;
   within : l.left ≤ l.at;
 }
 

@@ -11,10 +11,10 @@ use Rattle.tb_cause.proofs.finding.pass.Goals.{then-branch+in_ok-enter, else-bra
 pub loop-later-preserved : goal.loop-later-preserved
 loop-later-preserved c =
     let l = c.loop-later in
-    let entries = c.args.entries.now in
-    let within = c.loop-later-test.true in
+    let entries = c.args.indexed.now in
+    let within : l.later < length entries = omega (arith, c.loop-later-test.true, c.len-later-end.ensures) in
     let w = there entries l.later within in
-    let needed = taken_is_needed entries l.later w.0 within w.1 c.requires.legal c.args._step.now l.places.items l.invariant.found (has l.keys) l.invariant.given c.in_ok-goes.field-0 (c.in_ok-goes.ensures w.0 w.1) in
+    let needed = taken_is_needed entries l.later w.0 within w.1 c.history_is_legal.ensures.legal c.args._step.now l.places.items l.invariant.found (has l.keys) l.invariant.given c.in_ok-goes.field-0 (c.in_ok-goes.ensures w.0 w.1) in
     elim c.if-branch.branch [
       | then-branch+in_ok-enter x ↦
           let places : c.if-branch.places.items ≡ l.places.items ++ l.later ∷ [] = ap (λ v. v.items) x.places-is ∙ x.in_ok-enter.ensures.places in record {
@@ -34,7 +34,7 @@ loop-later-preserved c =
 
 pub loop-later-init : goal.loop-later-init
 loop-later-init c =
-    let entries = c.args.entries.now in
+    let entries = c.args.indexed.now in
     record {
       found = found_first entries c.args.at c.args._step.now c.requires.within c.requires.here c.args.places.now.items c.requires.first;
       given = c.requires.given;
@@ -45,9 +45,9 @@ loop-later-init c =
 pub returns : goal.returns
 returns c =
     let l = c.loop-later in
-    let end : l.later ≡ length c.args.entries.now = omega (arith, c.loop-later-test.false, l.auto.later-end (omega (arith, c.requires.within))) in
+    let end : l.later ≡ length c.args.indexed.now = omega (arith, c.loop-later-test.false, c.len-later-end.ensures, l.auto.later-end (omega (arith, c.len-later-end.ensures, c.requires.within))) in
     record {
-      found = found_all c.args._step.now c.args.entries.now l.later l.places.items end l.invariant.found;
+      found = found_all c.args._step.now c.args.indexed.now l.later l.places.items end l.invariant.found;
       inside = l.invariant.inside;
       behind = l.invariant.behind;
     }

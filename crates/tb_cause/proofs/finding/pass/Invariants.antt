@@ -7,8 +7,8 @@ use Rattle.tb_cause.proofs.finding.pass.Given as goal
 
 abbrev pub invariant-loop-later : goal.invariant-loop-later
 invariant-loop-later l = record {
-  found : Found l._step l.entries l.later l.places.items;
-  given : AreGivenAt l.entries l.places.items (has l.keys);
-  inside : All (λ p. p < length l.entries) l.places.items;
+  found : Found l._step l.indexed l.later l.places.items;
+  given : AreGivenAt l.indexed l.places.items (has l.keys);
+  inside : All (λ p. p < length l.indexed) l.places.items;
   behind : All (λ p. l.at ≤ p) l.places.items;
 }

@@ -6,7 +6,7 @@ use Rattle.tb_cause.proofs.nearest.own_known.Goals as goal
 
 pub pass-requires-clause-own : goal.pass-requires-clause-own
 pass-requires-clause-own c =
-    let entries = c.args.entries.now in
+    let entries = c.args.indexed.now in
     let at = c.args.at in
     let w = there entries at c.requires.within in
     asked_more entries [] (at ∷ []) at w.0 c.requires.within w.1 (has c.args.own.now) (has c.note_at.new.keys) c.requires.none (λ k. c.in_ok-note_at.ensures k w.0 w.1) refl

@@ -10,21 +10,21 @@ use Rattle.tb_cause.proofs.nearest.pass.Goals as goal
 
 pub back-init : goal.back-init
 back-init c =
-    let entries = c.args.entries.now in
+    let entries = c.args.indexed.now in
     let at = c.args.at in
     let none = c.new-found.ensures.items in record {
-      found = found_first entries c.requires.legal at c.requires.within c.args.bottom c.args.top c.requires.reach c.new-found.result.items none;
+      found = found_first entries c.history_is_legal.ensures.legal at c.requires.within c.args.bottom c.args.top c.requires.reach c.new-found.result.items none;
       asked = subst (λ ps. AreAskedAt entries ps (has c.args.keys.now)) (sym none) c.requires.none;
       told = nothing_told entries c.args.top c.new-found.result.items none;
-      so_far = so_far_first entries c.requires.legal at c.requires.within c.args.bottom c.args.top c.requires.top c.requires.reach c.new-places.result.items c.new-places.ensures.items;
+      so_far = so_far_first entries c.history_is_legal.ensures.legal at c.requires.within c.args.bottom c.args.top c.requires.top c.requires.reach c.new-places.result.items c.new-places.ensures.items;
       within = c.requires.top;
     }
 
 pub returns-then-is_answered_at : goal.returns-then-is_answered_at
 returns-then-is_answered_at c =
     let l = c.back in
-    let entries = c.args.entries.now in
-    let legal = c.requires.legal in
+    let entries = c.args.indexed.now in
+    let legal = c.history_is_legal.ensures.legal in
     let at = c.args.at in
     let p = l.left - 1 in
     let next : l.left ≡ p + 1 = omega (arith, c.back-test.true) in
@@ -47,8 +47,8 @@ returns-then-is_answered_at c =
 pub back-preserved-else-is_answered_at : goal.back-preserved-else-is_answered_at
 back-preserved-else-is_answered_at c =
     let l = c.back in
-    let entries = c.args.entries.now in
-    let legal = c.requires.legal in
+    let entries = c.args.indexed.now in
+    let legal = c.history_is_legal.ensures.legal in
     let at = c.args.at in
     let p = l.left - 1 in
     let next : l.left ≡ p + 1 = omega (arith, c.back-test.true) in
@@ -71,8 +71,8 @@ back-preserved-else-is_answered_at c =
 pub back-preserved : goal.back-preserved
 back-preserved c =
     let l = c.back in
-    let entries = c.args.entries.now in
-    let legal = c.requires.legal in
+    let entries = c.args.indexed.now in
+    let legal = c.history_is_legal.ensures.legal in
     let at = c.args.at in
     let p = l.left - 1 in
     let next : l.left ≡ p + 1 = omega (arith, c.back-test.true) in
@@ -94,4 +94,4 @@ back-preserved c =
 pub returns : goal.returns
 returns c =
     let l = c.back in
-    told_below c.args.entries.now c.requires.legal c.args.at c.requires.within c.args.bottom c.args.top l.left l.places.items c.turned-2.result.items (omega (arith, c.back-test.false)) l.invariant.within c.requires.reach l.invariant.so_far c.turned-2.ensures
+    told_below c.args.indexed.now c.history_is_legal.ensures.legal c.args.at c.requires.within c.args.bottom c.args.top l.left l.places.items c.turned-2.result.items (omega (arith, c.back-test.false)) l.invariant.within c.requires.reach l.invariant.so_far c.turned-2.ensures

@@ -10,10 +10,10 @@ use Rattle.tb_cause.proofs.nearest.pass.Given as goal
 
 abbrev pub invariant-back : goal.invariant-back
 invariant-back l = record {
-  found : (v : Entry) → v ≡ get_or l.entries l.at v → AreFound l.entries l.at v.event l.left (placed_at l.entries l.found.items);
-  asked : AreAskedAt l.entries l.found.items (has l.keys);
-  told : AllByRecursion (IsToldByKeys l.entries l.left) (placed_at l.entries l.found.items);
-  so_far : AreSoFar l.entries l.at l.left l.places.items;
+  found : (v : Entry) → v ≡ get_or l.indexed l.at v → AreFound l.indexed l.at v.event l.left (placed_at l.indexed l.found.items);
+  asked : AreAskedAt l.indexed l.found.items (has l.keys);
+  told : AllByRecursion (IsToldByKeys l.indexed l.left) (placed_at l.indexed l.found.items);
+  so_far : AreSoFar l.indexed l.at l.left l.places.items;
   within : l.left ≤ l.at;
 }
 

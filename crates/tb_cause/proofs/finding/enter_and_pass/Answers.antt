@@ -2,14 +2,14 @@ use Rattle.std.proofs.Common.{◌++◌, ◌∷◌, [], ap, ◌∙◌}
 use Rattle.tb_cause.specs.Keys.{has}
 use Rattle.tb_cause.proofs.ConeLemmas.{there}
 use Rattle.tb_cause.proofs.KeyedLemmas.{given_more}
-use Rattle.tb_cause.proofs.finding.passed.Goals as goal
+use Rattle.tb_cause.proofs.finding.enter_and_pass.Goals as goal
 
 pub pass-requires-clause-first : goal.pass-requires-clause-first
 pass-requires-clause-first c = c.in_ok-enter.ensures.places ∙ ap (λ xs. xs ++ c.args.at ∷ []) c.new-places.ensures.items
 
 pub pass-requires-clause-given : goal.pass-requires-clause-given
 pass-requires-clause-given c =
-    let entries = c.args.entries.now in
+    let entries = c.args.indexed.now in
     let w = there entries c.args.at c.requires.within in
     given_more entries [] c.enter.new.places.items c.args.at w.0 c.requires.within w.1 (has c.args.keys.now) (has c.enter.new.keys) c.requires.none (λ k. c.in_ok-enter.ensures.keys k w.0 w.1)
     (c.in_ok-enter.ensures.places ∙ ap (λ xs. xs ++ c.args.at ∷ []) c.new-places.ensures.items)

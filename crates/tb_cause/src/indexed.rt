@@ -1,0 +1,147 @@
+//! The entries of a history, with what is looked up in them.
+
+ghost use Rattle.std.specs.Prelude.{◌≡◌, ◌≤◌, ◌<◌, IfOk, IfSome, length, take, get_or};
+ghost use Rattle.std.specs.Option.{option_copied};
+ghost use Rattle.tb_model.specs.Facts.{own};
+ghost use Rattle.tb_model.specs.State.{spawn_of};
+ghost use Rattle.tb_core.specs.declared.entry.Entry.{Entry as AnEntry};
+ghost use Rattle.tb_core.specs.Scans.{AreLegal, history_of};
+ghost use Rattle.tb_cause.specs.Indexes.{items_placed, items_told, placed_action};
+ghost use Rattle.tb_cause.specs.Keys.{held_by};
+
+use crate::spawns::spawns_of;
+use crate::standing::held_steps;
+use indexmap::IndexMap;
+use std::alloc::{AllocError, Global};
+use std::marker::Model;
+use tb_core::Entry;
+use tb_model::{Action, Event, Item, TaskName};
+
+/// The entries of a legal history, with what is looked up in them by place and by name.
+#[derive(Drop)]
+pub(crate) struct Indexed<'a> {
+    entries: &'a [Entry],
+    // by the place of each step before which its task's newest step had generated an undeferred
+    // child: that child
+    held: IndexMap<u32, TaskName>,
+    // the place of each task's spawn
+    spawns: IndexMap<TaskName, u32>,
+}
+
+impl<'a> Model for Indexed<'a> {
+    ghost use Rattle.std.specs.Prelude.{List, nat_eq};
+    ghost use Rattle.indexmap.specs.IndexMap.{get};
+    ghost use Rattle.tb_model.specs.Names.{same_name};
+    ghost use Rattle.tb_core.specs.declared.entry.Entry.{Entry as AnEntry};
+    ghost use Rattle.tb_cause.specs.Indexes.{AreIndexed};
+
+    ghost Value = { List AnEntry };
+
+    ghost view = { λ i. i.entries.now };
+
+    ghost invariant = { λ i. AreIndexed i.entries.now (get nat_eq i.held) (get same_name i.spawns) };
+}
+
+impl<'a> Indexed<'a> {
+    pub fn of(alloc: Global, entries: &'a [Entry]) -> Result<Indexed<'a>, AllocError>
+        requires legal { AreLegal entries.now }
+        requires bound { length entries.now ≤ 1000000 }
+        ensures { IfOk result (λ indexed. indexed ≡ entries.now) }
+    {
+        let held = held_steps(alloc, entries)?;
+        let spawns = spawns_of(alloc, entries)?;
+        Ok(Indexed {
+            entries,
+            held,
+            spawns,
+        })
+    }
+
+    /// What always holds, for a caller to cite.
+    pub fn history_is_legal(&self)
+        ensures legal { AreLegal self.now }
+        ensures bound { length self.now ≤ 1000000 }
+    {
+        let _entries = self.entries;
+    }
+
+    /// How many entries there are.
+    pub fn len(&self) -> usize
+        ensures { result ≡ length self.now }
+    {
+        self.entries.len()
+    }
+
+    /// The place as answers keep it.
+    pub fn place(&self, at: usize) -> u32
+        requires { at < length self.now }
+        ensures { result ≡ at }
+    {
+        self.history_is_legal();
+        at as u32
+    }
+
+    /// The entries in front of this place.
+    pub fn front(&self, at: usize) -> &[Entry]
+        requires { at < length self.now }
+        ensures { result.now ≡ take at self.now }
+    {
+        &self.entries[..at]
+    }
+
+    /// The event of the entry at this place.
+    pub fn event_at(&self, at: usize) -> &Event
+        requires { at < length self.now }
+        ensures { (e : AnEntry) → e ≡ get_or self.now at e → result.now ≡ e.event }
+    {
+        event_in(self.entries, at)
+    }
+
+    /// The undeferred child that the newest step of this one's task had generated before it.
+    pub fn held_at(&self, at: usize) -> Option<&TaskName>
+        requires { at < length self.now }
+        ensures { (e : AnEntry) → e ≡ get_or self.now at e →
+            option_copied result ≡ held_by (own e.event.task (history_of (take at self.now))) }
+    {
+        self.held.get(&self.place(at))
+    }
+
+    /// The place of the task's spawn.
+    pub fn spawn_of(&self, task: &TaskName) -> Option<usize>
+        ensures spawn { spawn_of task.now (history_of self.now) ≡ placed_action self.now result }
+        ensures within { IfSome result (λ at. at < length self.now) }
+    {
+        match self.spawns.get(task) {
+            Some(at) => Some(*at as usize),
+            None => None,
+        }
+    }
+
+    /// The depend items of the task.
+    pub fn items_of(&self, task: &TaskName) -> &[Item]
+        ensures { result.now ≡ items_told self.now task.now }
+    {
+        match self.spawn_of(task) {
+            Some(at) => items_at(self.entries, at),
+            None => &[],
+        }
+    }
+}
+
+fn event_in(entries: &[Entry], at: usize) -> &Event
+    requires { at < length entries.now }
+    ensures { (e : AnEntry) → e ≡ get_or entries.now at e → result.now ≡ e.event }
+{
+    &entries[at].event
+}
+
+/// The items that the spawn at this place names.
+fn items_at(entries: &[Entry], at: usize) -> &[Item]
+    requires { at < length entries.now }
+    ensures { result.now ≡ items_placed entries.now at }
+{
+    match &entries[at].event.action {
+        Action::Spawn { items, .. } => items.as_slice(),
+        _ => &[],
+    }
+}
