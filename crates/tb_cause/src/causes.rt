@@ -58,11 +58,7 @@ fn places_in_front(alloc: Global, entries: &[Entry], at: usize) -> Result<Vec<u3
     places_indexed(alloc, &indexed, at)
 }
 
-fn places_indexed(
-    alloc: Global,
-    indexed: &Indexed<'_>,
-    at: usize,
-) -> Result<Vec<u32>, AllocError>
+fn places_indexed(alloc: Global, indexed: &Indexed<'_>, at: usize) -> Result<Vec<u32>, AllocError>
     requires within { at < length indexed.now }
     ensures { IfOk result (λ places. AreCausesAt indexed.now at places.items) }
 {

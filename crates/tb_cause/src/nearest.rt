@@ -39,11 +39,7 @@ fn nearest_among(alloc: Global, entries: &[Entry], at: usize) -> Result<Vec<u32>
     nearest_indexed(alloc, &indexed, at)
 }
 
-fn nearest_indexed(
-    alloc: Global,
-    indexed: &Indexed<'_>,
-    at: usize,
-) -> Result<Vec<u32>, AllocError>
+fn nearest_indexed(alloc: Global, indexed: &Indexed<'_>, at: usize) -> Result<Vec<u32>, AllocError>
     requires within { at < length indexed.now }
     ensures { IfOk result (λ places. AreNearest indexed.now at places.items) }
 {

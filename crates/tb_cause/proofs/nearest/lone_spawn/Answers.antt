@@ -16,11 +16,12 @@ returns-then-spawn-at c =
     let same = c.event_at-event.ensures w.0 w.1 in
     let starts : c.event_at-event.result.now.action ≡ Start = search rules in
     let none : length c.items_of.result.now ≡ 0 = search rules in
-    let bare = sym c.items_of.ensures ∙ no_length c.items_of.result.now none in
-    (c.if-spawn-at.true,
-    lone_reach entries c.history_is_legal.ensures.legal c.args.at c.requires.within w.0 w.1
-    (subst (λ (v : Event). v.action ≡ Start) same starts)
-    (subst (λ (v : Event). items_told entries v.task ≡ []) same bare)
-    b
-    (subst (λ (v : Event). spawn_of v.task (history_of entries) ≡ placed_action entries (Some b)) same c.in_ok-spawn-in-Start.ensures.spawn)
-    c.if-spawn-at.true)
+    let bare = sym c.items_of.ensures ∙ no_length c.items_of.result.now none in (
+      c.if-spawn-at.true,
+      lone_reach entries c.history_is_legal.ensures.legal c.args.at c.requires.within w.0 w.1
+          (subst (λ (v : Event). v.action ≡ Start) same starts)
+          (subst (λ (v : Event). items_told entries v.task ≡ []) same bare)
+          b
+          (subst (λ (v : Event). spawn_of v.task (history_of entries) ≡ placed_action entries (Some b)) same c.in_ok-spawn-in-Start.ensures.spawn)
+          c.if-spawn-at.true,
+    )
