@@ -15,5 +15,6 @@ pub mod SpawnLemmas
 pub mod GroupLemmas
 pub mod NearestLemmas
 pub mod AnsweredLemmas
+pub mod CausePassLemmas
 pub mod NearestPassLemmas
 pub mod LoneLemmas

@@ -16,7 +16,7 @@ use Rattle.tb_model.specs.State.{spawn_of}
 use Rattle.tb_model.proofs.FactsLemmas.{no_acts, not_again, spawned_by}
 use Rattle.tb_core.specs.declared.entry.Entry.{Entry}
 use Rattle.tb_core.specs.Scans.{AreLegal, history_of}
-use Rattle.tb_cause.specs.Indexes.{AreSpawns, placed_action, items_told}
+use Rattle.tb_cause.specs.Indexes.{placed_action, items_told}
 use Rattle.tb_cause.specs.Keys.{Key, Task, gives, held_by, held_any, action_any, wait_any, items_any, item_any}
 use Rattle.tb_cause.specs.Nearest.{IsReach}
 use Rattle.tb_cause.proofs.AskedNeedLemmas.{told_at}

@@ -1,15 +1,17 @@
 //! Questions to a core: what needs a step, and what does it need.
 
-ghost use Rattle.std.specs.Prelude.{◌≡◌, ◌↔◌, IfOk, IsErrOf, IsFalse, reverse, ◌<◌, vec_len, drop};
+ghost use Rattle.std.specs.Prelude.{◌≡◌, ◌↔◌, IfOk, IsErrOf, IsFalse, IsTrue, Some, map, reverse, ◌<◌, length, vec_len, drop};
 ghost use Rattle.tb_model.specs.Equivalent.{stands};
+ghost use Rattle.tb_core.specs.Scans.{history_of, step_at};
 ghost use Rattle.tb_core.specs.Seen.{history};
+ghost use Rattle.tb_core.specs.Soundness.{departure};
 ghost use Rattle.tb_cause.specs.Chains.{needers, causes_of};
 
 use crate::cause_refusal::CauseRefusal;
 use crate::causes::causes_of;
 use crate::finding::cone_of;
 use std::alloc::Global;
-use tb_core::{Core, place_of};
+use tb_core::{Core, Entry, place_of};
 use tb_model::StepId;
 
 /// The steps that need this one, directly or through others, in the order of the history.
@@ -19,13 +21,8 @@ pub fn needed_by(alloc: Global, core: &Core, step: &StepId) -> Result<Vec<StepId
     ensures absent { IsErrOf result CauseRefusal.NoSuchStep
         ↔ IsFalse (stands step.now (history core.now.run)) }
 {
-    if !core.has_step(step) {
-        return Err(CauseRefusal::NoSuchStep);
-    }
     let entries = core.legal_entries();
-    let Some(at) = place_of(entries, step) else {
-        return Err(CauseRefusal::NoSuchStep);
-    };
+    let at = place_in(core, entries, step)?;
     match cone_of(alloc, entries, at, step) {
         Ok(cone) => Ok(behind_first(cone.steps)),
         Err(_) => Err(CauseRefusal::Memory),
@@ -39,16 +36,29 @@ pub fn needs(alloc: Global, core: &Core, step: &StepId) -> Result<Vec<StepId>, C
     ensures absent { IsErrOf result CauseRefusal.NoSuchStep
         ↔ IsFalse (stands step.now (history core.now.run)) }
 {
-    if !core.has_step(step) {
-        return Err(CauseRefusal::NoSuchStep);
-    }
     let entries = core.legal_entries();
-    let Some(at) = place_of(entries, step) else {
-        return Err(CauseRefusal::NoSuchStep);
-    };
+    let at = place_in(core, entries, step)?;
     match causes_of(alloc, entries, at) {
         Ok(steps) => Ok(steps),
         Err(_) => Err(CauseRefusal::Memory),
+    }
+}
+
+/// The place of the step among these, which are the core's entries.
+fn place_in(core: &Core, entries: &[Entry], step: &StepId) -> Result<usize, CauseRefusal>
+    requires { map departure (reverse entries.now) ≡ core.now.run.steps }
+    ensures place { IfOk result (λ at. step_at entries.now at ≡ Some step.now) }
+    ensures within { IfOk result (λ at. at < length entries.now) }
+    ensures there { IfOk result (λ at. IsTrue (stands step.now (history_of entries.now))) }
+    ensures absent { IsErrOf result CauseRefusal.NoSuchStep
+        ↔ IsFalse (stands step.now (history core.now.run)) }
+{
+    if !core.has_step(step) {
+        return Err(CauseRefusal::NoSuchStep);
+    }
+    match place_of(entries, step) {
+        Some(at) => Ok(at),
+        None => Err(CauseRefusal::NoSuchStep),
     }
 }
 

@@ -1,4 +1,4 @@
-use Rattle.std.proofs.Common.{◌≡◌, [], Some, length, rules, subst, sym, ap, ◌∙◌}
+use Rattle.std.proofs.Common.{◌≡◌, [], Some, length, rules, subst, sym, ◌∙◌}
 use Rattle.tb_model.specs.declared.action.Action.TheVariants.{Start}
 use Rattle.tb_model.specs.declared.event.Event.{Event}
 use Rattle.tb_model.specs.State.{spawn_of}
