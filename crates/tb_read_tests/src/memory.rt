@@ -1,12 +1,16 @@
 //! What is refused for memory.
 
+use std::mem;
 use std::process::Abort;
 use std::test::Fail;
-use tb_model::{Action, TaskName};
-use tb_read::{Config, FaultKind, Program, ReadFault, plan, read};
+use tb_model::{Action, NameRefusal, TaskName};
+use tb_read::{Config, FaultKind, Program, ReadFault, Strip, plan, plan_burst, read};
 
 const TEXT: &[u8] =
     b"cells 2\ncell 1 5\nbody main 0\nif r0 == 0\ntask b r0 7 depend in r0 depend out all if 1 < 2\nelse\ntaskwait\nend\nend\nbody b 2\nend\n";
+
+/// 19 private statements where `r0` is 0, one after another, and a print.
+const LOOP: &[u8] = b"cells 0\nbody main 0\nwhile r0 < 9\nlet r0 r0 + 1\nend\nprint r0\nend\n";
 
 /// The answer, or at a refusal for memory that of the same call made again.
 fn read_twice(rt: &(impl Abort + AllocGlobal), text: &[u8]) -> Result<Program, ReadFault> {
@@ -65,5 +69,37 @@ fn a_refused_growth_of_plan_leaves_its_answer(rt: HostRuntime) -> Result<(), Fai
     assert_eq!(rt; args.as_slice(), [1, 7].as_slice());
     assert_eq!(rt; items.as_slice().len(), 2);
     assert_eq!(rt; planned.to(), 9);
+    Ok(())
+}
+
+/// The name, where a copy of it takes memory.
+fn deep_name(rt: &(impl Abort + AllocGlobal)) -> Result<TaskName, NameRefusal> {
+    let name = b"0.1.1.1.1.1.1.1";
+    match TaskName::parse(rt.alloc(), name) {
+        Err(NameRefusal::Memory) => TaskName::parse(rt.alloc(), name),
+        answer => answer,
+    }
+}
+
+#[test]
+fn a_refused_growth_of_plan_burst_leaves_its_answer(rt: HostRuntime) -> Result<(), Fail> {
+    let program = read_twice(&rt, LOOP)?;
+    let instr = program.instr(3).ok_or("no loop")?;
+    let strip = Strip::around(&program, 3);
+    let config = Config {
+        task: deep_name(&rt)?,
+        steps: 2,
+        at: 3,
+        regs: [0; 16],
+    };
+    let plans = match plan_burst(rt.alloc(), instr, &strip, &config) {
+        Ok(plans) => plans,
+        Err(_) => plan_burst(rt.alloc(), instr, &strip, &config)?,
+    };
+    assert_eq!(rt; plans.as_slice().len(), 19);
+    let last = plans.as_slice().last().ok_or("no plan")?;
+    assert_eq!(rt; last.config.regs[0], 9);
+    assert_eq!(rt; (last.config.steps, last.to()), (20, 6));
+    mem::forget(plans);
     Ok(())
 }
