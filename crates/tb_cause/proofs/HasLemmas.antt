@@ -1,14 +1,16 @@
 -- What keys there are once some more are put in.
-use Rattle.std.proofs.Common.{◌≡◌, ℕ, suc, List, [], ◌∷◌, Bool, true, false, nat_eq, ◌+◌, ◌&&◌, ◌||◌, Option, Some, None, refl, sym, ap, ap₂, ◌∙◌, length}
+use Rattle.std.proofs.Common.{◌≡◌, ◌⊎◌, inl, inr, ⊎_elim, ◌≤◌, arith, ℕ, suc, List, [], ◌∷◌, Bool, true, false, nat_eq, ◌+◌, ◌&&◌, ◌||◌, Option, Some, None, refl, sym, ap, ap₂, ◌∙◌, length}
 use Rattle.std.specs.List.{list_any}
+use Rattle.std.proofs.lemmas.Bool.{or_cases, or_right}
 use Rattle.tb_model.specs.declared.action.Action.TheVariants.{Start, Wait}
 use Rattle.tb_model.specs.declared.item.Item.{Item as AnItem}
 use Rattle.tb_model.specs.declared.place.Place.{Place}
 use Rattle.tb_model.specs.declared.place.Place.TheVariants.{Cell, All}
 use Rattle.tb_model.specs.Names.{Name, same_name, is_within, parent}
 use Rattle.tb_model.proofs.AlikeLemmas.{any_same}
+use Rattle.tb_model.proofs.TestLemmas.{same_true}
 use Rattle.tb_cause.specs.Asked.{some_above, same_key, group_key, new_items_key}
-use Rattle.tb_cause.specs.Keys.{Key, Task, Ended, Parent, Within, Item, Stored, Touched, Printed, place_key, place_any, kind_any, item_any, items_any, kinds, kind_number, comes_behind}
+use Rattle.tb_cause.specs.Keys.{Key, Task, Ended, Parent, Within, Item, Stored, Touched, Printed, IsUpward, place_key, place_any, kind_any, item_any, items_any, kinds, kind_number, comes_behind}
 use Rattle.tb_cause.proofs.KeyLemmas.{same_turned, any_none, and_none, or_none}
 
 -- ---- a task and those above it
@@ -30,6 +32,45 @@ one_above q (n ∷ m) b = at (same_name (n ∷ m) q) (is_within q m) ∙ ap (λ 
     at true false = refl
     at false true = refl
     at false false = refl
+
+-- of t and those above it, all but next and those above that are put to those that were there; none of those put is as short as next
+pub record IsPutSoFar (t : Name) (was now : Name → Bool) (next : Option Name) : Type 0 where
+  pub put : (q : Name) → (is_above q next || now q) ≡ (is_within q t || was q)
+  pub kept : (q : Name) → was q ≡ true → now q ≡ true
+  pub low : (q : Name) → now q ≡ true → (was q ≡ true) ⊎ (depth next ≤ length q)
+
+pub put_none : (t u : Name) (was : Name → Bool) → u ≡ t → IsPutSoFar t was was (Some u)
+put_none t u was same = record {
+  put = λ q. ap (λ w. is_within q w || was q) same;
+  kept = λ q h. h;
+  low = λ q h. inl h;
+}
+
+depth_above : (w : Name) → depth (parent w) ≤ length w
+depth_above [] = omega arith
+depth_above (n ∷ m) = omega arith
+
+module _ (t : Name) (was now : Name → Bool) (next : Option Name) (so_far : IsPutSoFar t was now next) (name : Name) (is : next ≡ Some name) where
+  pub put_one : (now' : Name → Bool) → ((q : Name) → now' q ≡ (same_name name q || now q)) → (next' : Option Name) → next' ≡ parent name → IsPutSoFar t was now' next'
+  put_one now' changed next' up = record {
+    put = λ q. ap₂ (λ a b. a || b) (ap (is_above q) up) (changed q) ∙ one_above q name (now q) ∙ ap (λ o. is_above q o || now q) (sym is) ∙ so_far.put q;
+    kept = λ q h. changed q ∙ or_right (same_name name q) (now q) (so_far.kept q h);
+    low = λ q h.
+        ⊎_elim (λ s. inr (omega (arith, depth_above name, ap depth up, ap length (same_true name q s))))
+        (λ o. ⊎_elim (λ a. inl a) (λ l. inr (omega (arith, l, ap depth is, ap depth up, depth_above name))) (so_far.low q o))
+        (or_cases (same_name name q) (now q) (sym (changed q) ∙ h));
+  }
+
+  -- where next is there, those above it are too
+  pub put_all : IsUpward was → now name ≡ true → (q : Name) → now q ≡ (is_within q t || was q)
+  put_all upward h q = known (is_within q name) (now q) (λ w. so_far.kept q (upward q name w there)) ∙ ap (λ o. is_above q o || now q) (sym is) ∙ so_far.put q
+    where
+      there : was name ≡ true
+      there = ⊎_elim (λ a. a) (λ l. absurd (omega (arith, l, ap depth is))) (so_far.low name h)
+
+      known : (a b : Bool) → (a ≡ true → b ≡ true) → b ≡ (a || b)
+      known true b f = f refl
+      known false b f = refl
 
 -- ---- an item
 

@@ -1,27 +1,27 @@
 -- The pass that finds what needs a step, by keys.
-use Rattle.std.proofs.Common.{◌≡◌, ◌≢◌, ◌<◌, ◌+◌, ℕ, suc, List, [], ◌∷◌, ◌++◌, Bool, true, false, ◌||◌, refl, sym, ap, ◌∙◌, subst, length, take, drop, reverse, get_or, append_assoc}
+use Rattle.std.proofs.Common.{◌≡◌, ◌≢◌, ◌<◌, ◌+◌, ℕ, suc, List, [], ◌∷◌, ◌++◌, Bool, true, false, ◌&&◌, ◌||◌, ⊎_elim, refl, sym, ap, ◌∙◌, subst, length, take, drop, reverse, get_or, append_assoc}
 use Rattle.std.specs.List.{list_any, AllByRecursion}
-use Rattle.std.proofs.lemmas.Bool.{and_from, or_left, or_right}
+use Rattle.std.proofs.lemmas.Bool.{and_from, false≢true, or_cases, or_left, or_right}
 use Rattle.std.proofs.lemmas.List.Folds.{list_any-append}
 use Rattle.std.proofs.lemmas.List.Sorted.{list_any-IsPermutation, IsPermutation-reverse}
 use Rattle.tb_model.specs.declared.event.Event.{Event}
 use Rattle.tb_model.specs.declared.item.Item.{Item}
 use Rattle.tb_model.specs.declared.step_id.StepId.{StepId}
-use Rattle.tb_model.specs.Names.{Name}
+use Rattle.tb_model.specs.Names.{Name, same_name, is_within}
 use Rattle.tb_model.specs.declared.action.Action.TheVariants.{Close}
 use Rattle.tb_model.specs.Facts.{History, HasEnded, IsSpawned, groups, own, is_end, is_of, ends, items_of, prepend_if}
 use Rattle.tb_model.specs.Legal.{Continues, Legal}
 use Rattle.tb_model.specs.Needs.{needs, is_removed, removed}
 use Rattle.tb_model.proofs.NeighboursLemmas.{legal_below}
 use Rattle.tb_model.proofs.SettledLemmas.{items_settled}
-use Rattle.tb_model.proofs.TestLemmas.{same_refl}
+use Rattle.tb_model.proofs.TestLemmas.{any_weaker, same_refl, same_true}
 use Rattle.tb_core.specs.declared.entry.Entry.{Entry}
 use Rattle.tb_core.specs.Scans.{AreLegal, history_of}
 use Rattle.tb_core.proofs.NeedsLemmas.{items_named}
 use Rattle.tb_core.proofs.ScanLemmas.{history_cut, history_more}
 use Rattle.tb_cause.specs.Chains.{AreGivenAt, events_at}
 use Rattle.tb_cause.specs.Indexes.{items_told}
-use Rattle.tb_cause.specs.Keys.{Key, gives, takes_any}
+use Rattle.tb_cause.specs.Keys.{Key, Within, IsUpward, gives, takes_any}
 use Rattle.tb_cause.proofs.ConeLemmas.{Found, events_pushed}
 use Rattle.tb_cause.proofs.ItemLemmas.{by_items}
 use Rattle.tb_cause.proofs.KeyNeedLemmas.{needed_by_keys, needs_of_given}
@@ -41,6 +41,21 @@ ended_in e (v ∷ H) = by (is_removed e H v) (all_weaker (EndsIn H) (EndsIn (v �
     by : (b : Bool) → AllByRecursion (EndsIn (v ∷ H)) (removed e H) → AllByRecursion (EndsIn (v ∷ H)) (prepend_if b v (removed e H))
     by true rest = (λ z. or_left (ends v.task v) _ (and_from (is_of v.task v) (is_end v.action) (same_refl v.task) z), rest)
     by false rest = rest
+
+-- what is above a name is above all that are below it
+within_on : (q m t : Name) → is_within q m ≡ true → is_within m t ≡ true → is_within q t ≡ true
+within_on q m [] above h = subst (λ u. is_within q u ≡ true) (same_true m [] h) above
+within_on q m (n ∷ t) above h =
+    ⊎_elim (λ s. subst (λ u. is_within q u ≡ true) (same_true m (n ∷ t) s) above) (λ r. or_right (same_name q (n ∷ t)) (is_within q t) (within_on q m t above r)) (or_cases (same_name m (n ∷ t)) (is_within m t) h)
+
+-- an end is given with all above it
+pub given_upward : (entries : List Entry) (places : List ℕ) (f : Key → Bool) → AreGivenAt entries places f → IsUpward (λ t. f (Within t))
+given_upward entries places f given q m above h =
+    given (Within q) ∙ any_weaker (λ u. gives (items_told entries) u (Within m)) (λ u. gives (items_told entries) u (Within q)) (λ u. upward u.task (is_end u.action)) (events_at entries places) (sym (given (Within m)) ∙ h)
+  where
+    upward : (t : Name) (end : Bool) → (end && (is_within m t || false)) ≡ true → (end && (is_within q t || false)) ≡ true
+    upward t false z = z
+    upward t true z = or_left (is_within q t) false (within_on q m t above (⊎_elim (λ a. a) (λ b. absurd (false≢true b)) (or_cases (is_within m t) false z)))
 
 -- with those of one more
 pub given_more : (entries : List Entry) (places places' : List ℕ) (p : ℕ) (w : Entry) → p < length entries → w ≡ get_or entries p w → (f f' : Key → Bool) → AreGivenAt entries places f

@@ -149,6 +149,10 @@ has m (Stored c) = contains nat_eq m.stored c
 has m (Touched c) = contains nat_eq m.touched c
 has m Printed = m.printed
 
+-- with each name, those above it are among these
+abbrev pub IsUpward : (Name → Bool) → Type 0
+IsUpward f = (q m : Name) → is_within q m ≡ true → f m ≡ true → f q ≡ true
+
 -- these are the keys that some of the events gives
 abbrev pub AreGiven : (Name → List AnItem) → History → Keys → Type 0
 AreGiven I F m = (k : Key) → has m k ≡ list_any (λ u. gives I u k) F

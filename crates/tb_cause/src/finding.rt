@@ -7,7 +7,7 @@ ghost use Rattle.tb_core.specs.declared.entry.Entry.{Entry as AnEntry};
 ghost use Rattle.tb_core.specs.Scans.{AreLegal, history_of, step_at};
 ghost use Rattle.tb_cause.specs.Chains.{AreAllBehind, AreGivenAt, IsCone};
 ghost use Rattle.tb_cause.specs.Indexes.{items_told};
-ghost use Rattle.tb_cause.specs.Keys.{Key, gives, has, takes_any};
+ghost use Rattle.tb_cause.specs.Keys.{Key, Within, IsUpward, gives, has, takes_any};
 
 use crate::cone::Cone;
 use crate::giving::give;
@@ -152,6 +152,7 @@ fn enter(
     at: usize,
 ) -> Result<(), AllocError>
     requires within { at < length indexed.now }
+    requires upward { IsUpward (λ t. has keys.old (Within t)) }
     ensures places { OnOk result (places.new.items ≡ places.old.items ++ at ∷ []) }
     ensures keys { OnOk result ((k : Key) (e : AnEntry) → e ≡ get_or indexed.now at e →
         has keys.new k ≡ (gives (items_told indexed.now) e.event k || has keys.old k)) }

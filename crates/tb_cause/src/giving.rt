@@ -6,7 +6,7 @@ ghost use Rattle.indexmap.specs.IndexSet.{contains};
 ghost use Rattle.tb_model.specs.declared.item.Item.{Item as AnItem};
 ghost use Rattle.tb_model.specs.Names.{Name, same_name, is_within};
 ghost use Rattle.tb_cause.specs.Asked.{action_gives, parent_gives, over_gives, place_gives, item_gives, items_give, gives_any, some_above};
-ghost use Rattle.tb_cause.specs.Keys.{Key, has, gives, own_key, action_key, over_key, items_key, item_key, place_key, kind_number, same_item_key};
+ghost use Rattle.tb_cause.specs.Keys.{Key, Within, IsUpward, has, gives, own_key, action_key, over_key, items_key, item_key, place_key, kind_number, same_item_key};
 
 use crate::keys::{Keys, has_item, put, put_cell, put_item};
 use indexmap::IndexSet;
@@ -15,6 +15,7 @@ use tb_model::{Action, Event, Item, Kind, Place, TaskName};
 
 /// Puts the keys that the event gives, whose task has these items.
 pub(crate) fn give(keys: &mut Keys, event: &Event, items: &[Item]) -> Result<(), AllocError>
+    requires { IsUpward (λ t. has keys.old (Within t)) }
     ensures { OnOk result ((k : Key) (I : Name → List AnItem) → I event.now.task ≡ items.now →
         has keys.new k ≡ (gives I event.now k || has keys.old k)) }
 {
@@ -55,6 +56,7 @@ fn give_action(keys: &mut Keys, action: &Action) -> Result<(), AllocError>
 
 /// Puts the keys that the end of the task gives, but for its items.
 fn give_over(keys: &mut Keys, task: &TaskName) -> Result<(), AllocError>
+    requires { IsUpward (λ t. has keys.old (Within t)) }
     ensures { OnOk result ((k : Key) → has keys.new k ≡ (over_key task.now k || has keys.old k)) }
 {
     put(&mut keys.ended, task)?;
@@ -77,12 +79,16 @@ fn give_items(keys: &mut Keys, task: &TaskName, items: &[Item]) -> Result<(), Al
     }
 }
 
-/// Puts the task and those above it.
+/// Puts the task and those above it, as far as one that is there: those above that one are there too.
 fn put_above(set: &mut IndexSet<TaskName>, task: &TaskName) -> Result<(), AllocError>
+    requires { IsUpward (contains same_name set.old) }
     ensures { OnOk result ((q : Name) → contains same_name set.new q ≡ (is_within q task.now || contains same_name set.old q)) }
 {
     let mut next = Some(task.clone()?);
     'up: while let Some(name) = next {
+        if set.contains(&name) {
+            return Ok(());
+        }
         put(set, &name)?;
         next = name.parent()?;
     }

@@ -43,6 +43,7 @@ impl<'a> Model for Indexed<'a> {
 }
 
 impl<'a> Indexed<'a> {
+    /// Passes over the entries twice.
     pub fn of(alloc: Global, entries: &'a [Entry]) -> Result<Indexed<'a>, AllocError>
         requires legal { AreLegal entries.now }
         requires bound { length entries.now ≤ 1000000 }
@@ -57,7 +58,7 @@ impl<'a> Indexed<'a> {
         })
     }
 
-    /// What always holds, for a caller to cite.
+    /// What always holds, for a caller to cite. It does nothing.
     pub fn history_is_legal(&self)
         ensures legal { AreLegal self.now }
         ensures bound { length self.now ≤ 1000000 }

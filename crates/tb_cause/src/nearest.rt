@@ -43,9 +43,65 @@ fn nearest_indexed(alloc: Global, indexed: &Indexed<'_>, at: usize) -> Result<Ve
     requires within { at < length indexed.now }
     ensures { IfOk result (λ places. AreNearest indexed.now at places.items) }
 {
+    let mut own = Keys::new(alloc);
+    note_and_pass(alloc, &mut own, indexed, at)
+}
+
+fn note_and_pass(
+    alloc: Global,
+    own: &mut Keys,
+    indexed: &Indexed<'_>,
+    at: usize,
+) -> Result<Vec<u32>, AllocError>
+    requires within { at < length indexed.now }
+    requires none { (k : Key) → has own.old k ≡ false }
+    ensures { IfOk result (λ places. AreNearest indexed.now at places.items) }
+{
+    note_at(own, indexed, at)?;
+    let mut keys = Keys::new(alloc);
+    pass(alloc, own, &mut keys, indexed, at)
+}
+
+/// Goes back over the entries that may be needed. The step's own keys are noted apart from those of
+/// the steps that are found: an entry that gives one of the latter is needed by way.
+fn pass(
+    alloc: Global,
+    own: &Keys,
+    keys: &mut Keys,
+    indexed: &Indexed<'_>,
+    at: usize,
+) -> Result<Vec<u32>, AllocError>
+    requires within { at < length indexed.now }
+    requires own { AreAskedAt indexed.now (at ∷ []) (has own.now) }
+    requires none { (k : Key) → has keys.old k ≡ false }
+    ensures { IfOk result (λ places. AreNearest indexed.now at places.items) }
+{
+    indexed.history_is_legal();
+    let mut found = Vec::new(alloc);
+    let mut places = Vec::new(alloc);
+    let (bottom, top) = reach_of(indexed, at);
+    let mut left = top;
+    'back: while bottom < left {
+        left -= 1;
+        if meet(own, keys, &mut places, indexed, left)? {
+            enter(keys, &mut found, indexed, left)?;
+            if is_answered_at(keys, indexed, at) {
+                return Ok(turned(places));
+            }
+        }
+    }
+    Ok(turned(places))
+}
+
+/// Where those that are needed directly stand: from the first place on, in front of the second.
+fn reach_of(indexed: &Indexed<'_>, at: usize) -> (usize, usize)
+    requires within { at < length indexed.now }
+    ensures top { result.1 ≤ at }
+    ensures reach { IsReach indexed.now at result.0 result.1 }
+{
     match lone_spawn(indexed, at) {
-        Some(spawn) => reach_known(alloc, indexed, at, spawn, spawn + 1),
-        None => reach_known(alloc, indexed, at, 0, at),
+        Some(spawn) => (spawn, spawn + 1),
+        None => (0, at),
     }
 }
 
@@ -68,75 +124,6 @@ fn lone_spawn(indexed: &Indexed<'_>, at: usize) -> Option<usize>
         }
         _ => None,
     }
-}
-
-fn reach_known(
-    alloc: Global,
-    indexed: &Indexed<'_>,
-    at: usize,
-    bottom: usize,
-    top: usize,
-) -> Result<Vec<u32>, AllocError>
-    requires within { at < length indexed.now }
-    requires top { top ≤ at }
-    requires reach { IsReach indexed.now at bottom top }
-    ensures { IfOk result (λ places. AreNearest indexed.now at places.items) }
-{
-    let mut own = Keys::new(alloc);
-    own_known(alloc, &mut own, indexed, at, bottom, top)
-}
-
-fn own_known(
-    alloc: Global,
-    own: &mut Keys,
-    indexed: &Indexed<'_>,
-    at: usize,
-    bottom: usize,
-    top: usize,
-) -> Result<Vec<u32>, AllocError>
-    requires within { at < length indexed.now }
-    requires none { (k : Key) → has own.old k ≡ false }
-    requires top { top ≤ at }
-    requires reach { IsReach indexed.now at bottom top }
-    ensures { IfOk result (λ places. AreNearest indexed.now at places.items) }
-{
-    note_at(own, indexed, at)?;
-    let mut keys = Keys::new(alloc);
-    pass(alloc, own, &mut keys, indexed, at, bottom, top)
-}
-
-/// Goes back over the entries from below `top` down to `bottom`. The step's own keys are noted apart
-/// from those of the steps that are found: an entry that gives one of the latter is needed by way.
-fn pass(
-    alloc: Global,
-    own: &Keys,
-    keys: &mut Keys,
-    indexed: &Indexed<'_>,
-    at: usize,
-    bottom: usize,
-    top: usize,
-) -> Result<Vec<u32>, AllocError>
-    requires within { at < length indexed.now }
-    requires own { AreAskedAt indexed.now (at ∷ []) (has own.now) }
-    requires none { (k : Key) → has keys.old k ≡ false }
-    requires top { top ≤ at }
-    requires reach { IsReach indexed.now at bottom top }
-    ensures { IfOk result (λ places. AreNearest indexed.now at places.items) }
-{
-    indexed.history_is_legal();
-    let mut found = Vec::new(alloc);
-    let mut places = Vec::new(alloc);
-    let mut left = top;
-    'back: while bottom < left {
-        left -= 1;
-        if meet(own, keys, &mut places, indexed, left)? {
-            enter(keys, &mut found, indexed, left)?;
-            if is_answered_at(keys, indexed, at) {
-                return Ok(turned(places));
-            }
-        }
-    }
-    Ok(turned(places))
 }
 
 /// The same places, from the last one on.

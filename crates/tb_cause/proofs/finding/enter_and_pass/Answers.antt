@@ -1,8 +1,12 @@
-use Rattle.std.proofs.Common.{◌++◌, ◌∷◌, [], ap, ◌∙◌}
-use Rattle.tb_cause.specs.Keys.{has}
+use Rattle.std.proofs.Common.{◌++◌, ◌∷◌, [], sym, ap, ◌∙◌}
+use Rattle.std.proofs.lemmas.Bool.{false≢true}
+use Rattle.tb_cause.specs.Keys.{Within, has}
 use Rattle.tb_cause.proofs.ConeLemmas.{there}
 use Rattle.tb_cause.proofs.KeyedLemmas.{given_more}
 use Rattle.tb_cause.proofs.finding.enter_and_pass.Goals as goal
+
+pub enter-requires-clause-upward : goal.enter-requires-clause-upward
+enter-requires-clause-upward c q m w h = absurd (false≢true (sym (c.requires.none (Within m)) ∙ h))
 
 pub pass-requires-clause-first : goal.pass-requires-clause-first
 pass-requires-clause-first c = c.in_ok-enter.ensures.places ∙ ap (λ xs. xs ++ c.args.at ∷ []) c.new-places.ensures.items

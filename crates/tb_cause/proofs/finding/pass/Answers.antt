@@ -4,7 +4,7 @@ use Rattle.tb_cause.specs.Chains.{events_at}
 use Rattle.tb_cause.specs.Indexes.{items_told}
 use Rattle.tb_cause.specs.Keys.{gives, has}
 use Rattle.tb_cause.proofs.ConeLemmas.{there, found_first, found_same, found_more, all_pushed, found_all}
-use Rattle.tb_cause.proofs.KeyedLemmas.{given_more, taken_is_needed}
+use Rattle.tb_cause.proofs.KeyedLemmas.{given_more, given_upward, taken_is_needed}
 use Rattle.tb_cause.proofs.finding.pass.Goals as goal
 use Rattle.tb_cause.proofs.finding.pass.Goals.{then-branch+in_ok-enter, else-branch}
 
@@ -31,6 +31,9 @@ loop-later-preserved c =
         behind = subst (λ v. All (λ p. c.args.at ≤ p) v.items) (sym x.places-is) l.invariant.behind;
       }
     ]
+
+pub enter-requires-clause-upward : goal.enter-requires-clause-upward
+enter-requires-clause-upward c = given_upward c.args.indexed.now c.loop-later.places.items (has c.loop-later.keys) c.loop-later.invariant.given
 
 pub loop-later-init : goal.loop-later-init
 loop-later-init c =

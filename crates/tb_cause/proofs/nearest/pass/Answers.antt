@@ -5,7 +5,7 @@ use Rattle.tb_cause.proofs.nearest.pass.Goals as goal
 
 pub back-init : goal.back-init
 back-init c =
-    passed_first c.args.indexed.now c.history_is_legal.ensures.legal c.args.at c.requires.within c.args.bottom c.args.top c.requires.top c.requires.reach c.new-found.result.items c.new-places.result.items
+    passed_first c.args.indexed.now c.history_is_legal.ensures.legal c.args.at c.requires.within c.reach_of-bottom.result.0 c.reach_of-bottom.result.1 c.reach_of-bottom.ensures.top c.reach_of-bottom.ensures.reach c.new-found.result.items c.new-places.result.items
     c.new-found.ensures.items c.new-places.ensures.items (has c.args.keys.now) c.requires.none
 
 pub returns-then-is_answered_at : goal.returns-then-is_answered_at
@@ -34,5 +34,5 @@ back-preserved c =
 pub returns : goal.returns
 returns c =
     let l = c.back in
-    told_below c.args.indexed.now c.history_is_legal.ensures.legal c.args.at c.requires.within c.args.bottom c.args.top l.left l.found.items l.places.items c.turned-2.result.items (has l.keys) l.invariant
-    (omega (arith, c.back-test.false)) c.requires.reach c.turned-2.ensures
+    told_below c.args.indexed.now c.history_is_legal.ensures.legal c.args.at c.requires.within c.reach_of-bottom.result.0 c.reach_of-bottom.result.1 l.left l.found.items l.places.items c.turned-2.result.items (has l.keys) l.invariant
+    (omega (arith, c.back-test.false)) c.reach_of-bottom.ensures.reach c.turned-2.ensures
