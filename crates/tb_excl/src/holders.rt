@@ -114,10 +114,10 @@ impl Holders {
         self.least_holder(items)
     }
 
-    /// The name of that child. Takes memory only where the parent's name has six numbers or more.
+    /// The name of that child. Takes memory only where the parent's name has three numbers or more.
     pub fn busy(&self, items: &[Item]) -> Result<Option<TaskName>, AllocError>
         ensures busy { IfOk result (IsLeastName (ExcludesTask self.now items.now)) }
-        ensures short { length self.now.parent < 6 → IsOk result }
+        ensures short { length self.now.parent < 3 → IsOk result }
     {
         match self.busy_number(items) {
             None => Ok(None),

@@ -5,6 +5,7 @@ pub mod PartLemmas
 pub mod ReadLemmas
 pub mod StepIdLemmas
 pub mod WithinLemmas
+pub mod InCommonLemmas
 pub mod PartsLemmas
 pub mod RemovalLemmas
 pub mod AlikeLemmas

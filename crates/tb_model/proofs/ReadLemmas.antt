@@ -63,9 +63,9 @@ module _ (text rest : List ℕ) (at : ℕ) (r : Option ℕ) (l : IsLastPart rest
         let positive : 0 < n = subst (λ m. 0 < m) (sym is_some.1) (ordinal_above_zero (drop at rest) is_some.0) in
         subst AreFromOne (sym e) (from_one_snoc numbers n h positive)
 
-    -- with no room for one more, there are seven
-    pub seven : (numbers : List ℕ) (room : ℕ) → 6 ≤ room → (length numbers + 1 ≤ room → ⊥) → numbers ++ spelled_name rest ≡ spelled_name text → 6 < length (spelled_name text)
-    seven numbers room six full h =
+    -- with no room for one more, there are many
+    pub many : (numbers : List ℕ) (room : ℕ) → 8 ≤ room → (length numbers + 1 ≤ room → ⊥) → numbers ++ spelled_name rest ≡ spelled_name text → 3 < length (spelled_name text)
+    many numbers room eight full h =
         let one = spelled_down rest at l some in
         let total : length numbers + suc (length (spelled_name (take (at - 1) rest))) ≡ length (spelled_name text) = sym (length-append numbers _) ∙ ap (λ ns. length (numbers ++ ns)) (sym one) ∙ ap length h in
         omega (arith, full)

@@ -1,7 +1,12 @@
--- Lists that stand in a box, or are empty.
-use Rattle.std.specs.Prelude.{List, [], Option, Some, None, Box, Vec}
+-- Where the elements of a list stand. No public clause cites this module.
+use Rattle.std.specs.Prelude.{List, [], ◌∷◌}
 use Rattle.std.specs.Box.{box_value}
+use Rattle.std.specs.Arc.{arc_value}
+use Rattle.tb_model.specs.declared.listed.Listed.{Listed}
+use Rattle.tb_model.specs.declared.listed.Listed.TheVariants.{Zero, One, Many, Shared}
 
-abbrev pub items_in : {T A B : Type 0} → Option (Box (Vec T A) B) → List T
-items_in None = []
-items_in (Some b) = (box_value b).items
+abbrev pub items_in : {T : Type 0} → Listed T → List T
+items_in Zero = []
+items_in (One x) = x ∷ []
+items_in (Many b) = (box_value b).items
+items_in (Shared a) = (arc_value a).items

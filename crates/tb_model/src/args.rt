@@ -4,10 +4,11 @@ ghost use Rattle.std.specs.Prelude.{◌≡◌, [], OnOk, OnErr, ◌++◌, ◌∷
 
 use crate::boxed_list::BoxedList;
 use std::alloc::{AllocError, Global};
+use std::fmt;
 use std::marker::Model;
 
 /// The arguments of a task, in the order of its registers.
-#[derive(Drop, Debug)]
+#[derive(Drop)]
 pub struct Args {
     list: BoxedList<i64>,
 }
@@ -53,5 +54,11 @@ impl Clone for Args {
         Ok(Args {
             list: self.list.copy()?,
         })
+    }
+}
+
+impl fmt::Debug for Args {
+    fn fmt<W: fmt::Write>(&self, f: &mut fmt::Formatter<W>) -> fmt::Result {
+        f.debug_list().entries(self.as_slice()).finish()
     }
 }

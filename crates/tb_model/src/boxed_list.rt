@@ -1,16 +1,20 @@
-//! A list that is mostly empty.
+//! A list that is mostly empty, or of one element.
 
 ghost use Rattle.std.specs.Prelude.{◌≡◌, [], IfOk, OnOk, OnErr, ◌++◌, ◌∷◌};
+ghost use Rattle.std.specs.Mem.{FitsInMemory};
+ghost use Rattle.tb_model.specs.Boxed.{items_in};
 
+use crate::listed::Listed;
 use std::alloc::{AllocError, Global};
-use std::fmt;
 use std::marker::Model;
+use std::slice;
+use std::sync::Arc;
 
-/// A list that takes less room than a vector where it is empty, and then no memory.
+/// A list that takes less room than a vector. Up to one element takes no memory.
 #[derive(Drop)]
 pub(crate) struct BoxedList<T> {
     alloc: Global,
-    list: Option<Box<Vec<T>>>,
+    list: Listed<T>,
 }
 
 impl<T> Model for BoxedList<T> {
@@ -28,50 +32,68 @@ impl<T: Copy> BoxedList<T> {
     pub fn new(alloc: Global) -> BoxedList<T>
         ensures { result ≡ [] }
     {
-        BoxedList { alloc, list: None }
+        BoxedList {
+            alloc,
+            list: Listed::Zero,
+        }
     }
 
     /// Adds an element at the end.
     pub fn push(&mut self, element: T) -> Result<(), AllocError>
+        requires { FitsInMemory T.row }
         ensures ok { OnOk result (self.new ≡ self.old ++ element ∷ []) }
         ensures err { OnErr result (self.new ≡ self.old) }
     {
-        match &mut self.list {
-            Some(list) => list.push(element)?,
-            None => {
-                let mut list = Vec::new(self.alloc);
-                list.push(element)?;
-                self.list = Some(Box::new(self.alloc, list)?);
-            }
+        if let Listed::Many(list) = &mut self.list {
+            list.push(element)?;
+            return Ok(());
         }
+        self.list = self.grown(element)?;
         Ok(())
+    }
+
+    fn grown(&self, element: T) -> Result<Listed<T>, AllocError>
+        requires { FitsInMemory T.row }
+        ensures { IfOk result (λ list. items_in list ≡ self.now ++ element ∷ []) }
+    {
+        let elements = self.as_slice();
+        if elements.is_empty() {
+            return Ok(Listed::One(element));
+        }
+        let mut list = Vec::from_slice(self.alloc, elements)?;
+        list.push(element)?;
+        Ok(Listed::Many(Box::new(self.alloc, list)?))
     }
 
     /// The elements, in order.
     pub fn as_slice(&self) -> &[T]
+        requires { FitsInMemory T.row }
         ensures { result.now ≡ self.now }
     {
         match &self.list {
-            Some(list) => list.as_slice(),
-            None => &[],
+            Listed::Zero => &[],
+            Listed::One(element) => slice::from_ref(element),
+            Listed::Many(list) => list.as_slice(),
+            Listed::Shared(list) => list.as_slice(),
         }
     }
 
-    /// A copy of it.
+    /// A copy of it. A copy of a copy takes no memory.
     pub fn copy(&self) -> Result<BoxedList<T>, AllocError>
         ensures { IfOk result (λ c. c ≡ self.now) }
     {
-        let mut copy = BoxedList::new(self.alloc);
-        if let Some(list) = &self.list {
-            let elements = Vec::from_slice(self.alloc, list.as_slice())?;
-            copy.list = Some(Box::new(self.alloc, elements)?);
-        }
-        Ok(copy)
-    }
-}
-
-impl<T: Copy + fmt::Debug> fmt::Debug for BoxedList<T> {
-    fn fmt<W: fmt::Write>(&self, f: &mut fmt::Formatter<W>) -> fmt::Result {
-        f.debug_list().entries(self.as_slice()).finish()
+        let list = match &self.list {
+            Listed::Zero => Listed::Zero,
+            Listed::One(element) => Listed::One(*element),
+            Listed::Many(list) => {
+                let elements = Vec::from_slice(self.alloc, list.as_slice())?;
+                Listed::Shared(Arc::new(self.alloc, elements)?)
+            }
+            Listed::Shared(list) => Listed::Shared(Arc::try_clone(list)?),
+        };
+        Ok(BoxedList {
+            alloc: self.alloc,
+            list,
+        })
     }
 }

@@ -5,10 +5,11 @@ ghost use Rattle.std.specs.Prelude.{◌≡◌, [], OnOk, OnErr, ◌++◌, ◌∷
 use crate::boxed_list::BoxedList;
 use crate::item::Item;
 use std::alloc::{AllocError, Global};
+use std::fmt;
 use std::marker::Model;
 
 /// The items of a depend clause, in the order in which they were written.
-#[derive(Drop, Debug)]
+#[derive(Drop)]
 pub struct Items {
     list: BoxedList<Item>,
 }
@@ -55,5 +56,11 @@ impl Clone for Items {
         Ok(Items {
             list: self.list.copy()?,
         })
+    }
+}
+
+impl fmt::Debug for Items {
+    fn fmt<W: fmt::Write>(&self, f: &mut fmt::Formatter<W>) -> fmt::Result {
+        f.debug_list().entries(self.as_slice()).finish()
     }
 }

@@ -9,33 +9,41 @@ ghost use Rattle.tb_model.specs.NameHash.{digest};
 ghost use Rattle.tb_model.specs.Spelling.{name_text, spells_name, spelled_name};
 ghost use Rattle.tb_model.specs.NameLaws.{same_name_equivalence, same_name_partial, name_cmp_total, name_cmp_ties, same_name_feeds, name_cmp_partial};
 
+use crate::in_common::{are_same, without_common};
 use crate::name_hash::digest;
 use crate::name_refusal::NameRefusal;
 use crate::name_text::{append_name, last_part, spells_name};
+use crate::numbers::Numbers;
 use crate::ordinal::ordinal;
 use smallvec::SmallVec;
 use std::alloc::{AllocError, Global};
 use std::cmp::Ordering;
 use std::hash::{Hash, Hasher};
 use std::marker::Model;
+use std::mem::size_of;
 
 /// The name of a task. Contracts see the path from the task up to the root: the root is the empty
 /// list, and the nth child of `t` is `n ∷ t`. The numbers stand in that order.
+///
+/// A name takes two words. Up to three numbers stand in them; more stand on the heap, once for all
+/// copies of the name.
 #[derive(Drop, Debug)]
 pub struct TaskName {
-    numbers: SmallVec<u32, 6>,
+    numbers: Numbers,
 }
+
+const _: () = prove!(size_of::<TaskName>() == 16);
 
 impl Model for TaskName {
     ghost use Rattle.std.specs.Prelude.{List, ℕ};
 
     ghost Value = { List ℕ };
 
-    ghost view = { λ a. a.numbers.items };
+    ghost view = { λ a. a.numbers };
 
     ghost use Rattle.tb_model.specs.Names.{AreFromOne};
 
-    ghost invariant = { λ a. AreFromOne a.numbers.items };
+    ghost invariant = { λ a. AreFromOne a.numbers };
 }
 
 impl Clone for TaskName {
@@ -43,10 +51,12 @@ impl Clone for TaskName {
 
     ghost is_clone = { λ a b. b ≡ a };
 
-    ghost is_infallible = { λ a. length a ≤ 6 };
+    ghost is_infallible = { λ a. length a ≤ 3 };
 
+    // takes no memory: a name of more than three numbers has one more owner, and is refused where it
+    // has nine quintillion
     fn clone(&self) -> Result<TaskName, AllocError> {
-        let numbers = SmallVec::from_slice(*self.numbers.allocator(), self.numbers.as_slice())?;
+        let numbers = self.numbers.copy()?;
         Ok(TaskName { numbers })
     }
 }
@@ -75,8 +85,8 @@ impl Ord for TaskName {
     ghost matches_eq = { name_cmp_ties };
 
     fn cmp(&self, other: &TaskName) -> Ordering {
-        let others = other.numbers.as_slice().iter().rev();
-        self.numbers.as_slice().iter().rev().cmp(others)
+        let (own, others) = without_common(self.numbers.as_slice(), other.numbers.as_slice());
+        own.iter().rev().cmp(others.iter().rev())
     }
 }
 
@@ -106,33 +116,31 @@ impl TaskName {
         ensures { result ≡ [] }
     {
         TaskName {
-            numbers: SmallVec::new(alloc),
+            numbers: Numbers::new(alloc),
         }
     }
 
-    /// The name of the nth child. Takes memory only where this has six numbers or more.
+    /// The name of the nth child. Takes memory only where this has three numbers or more.
     pub fn child(&self, n: u32) -> Result<TaskName, AllocError>
         requires { 0 < n }
         ensures child { IfOk result (λ c. c ≡ child self.now n) }
-        ensures short { length self.now < 6 → IsOk result }
+        ensures short { length self.now < 3 → IsOk result }
     {
-        let parent = self.numbers.as_slice();
-        let mut numbers = SmallVec::with_capacity(*self.numbers.allocator(), parent.len() + 1)?;
-        numbers.push_reserved(n);
-        numbers.extend_from_slice(parent)?;
+        let alloc = self.numbers.allocator();
+        let numbers = Numbers::with_first(alloc, n, self.numbers.as_slice())?;
         Ok(TaskName { numbers })
     }
 
-    /// The parent's name, which the root alone hasn't. Takes memory only where that has seven
+    /// The parent's name, which the root alone hasn't. Takes memory only where that has four
     /// numbers or more.
     pub fn parent(&self) -> Result<Option<TaskName>, AllocError>
         ensures parent { IfOk result (λ p. p ≡ parent self.now) }
-        ensures short { length self.now ≤ 7 → IsOk result }
+        ensures short { length self.now ≤ 4 → IsOk result }
     {
         match self.numbers.as_slice() {
             [] => Ok(None),
             [_, parent @ ..] => {
-                let numbers = SmallVec::from_slice(*self.numbers.allocator(), parent)?;
+                let numbers = Numbers::from_slice(self.numbers.allocator(), parent)?;
                 Ok(Some(TaskName { numbers }))
             }
         }
@@ -151,17 +159,17 @@ impl TaskName {
         printed
     }
 
-    /// The name that the text spells. Takes memory only where that has seven numbers or more.
+    /// The name that the text spells. Takes memory only where that has four numbers or more.
     pub fn parse(alloc: Global, text: &[u8]) -> Result<TaskName, NameRefusal>
         ensures name { IfOk result (λ name. name ≡ spelled_name text.now) }
         ensures text { IfOk result (λ name. name_text name ≡ text.now) }
         ensures bad { IsErrOf result NameRefusal.BadName ↔ IsFalse (spells_name text.now) }
-        ensures memory { IsErrOf result NameRefusal.Memory → 6 < length (spelled_name text.now) }
+        ensures memory { IsErrOf result NameRefusal.Memory → 3 < length (spelled_name text.now) }
     {
         if !spells_name(text) {
             return Err(NameRefusal::BadName);
         }
-        let mut numbers = SmallVec::new(alloc);
+        let mut numbers: SmallVec<u32, 8> = SmallVec::new(alloc);
         let mut rest = text;
         let mut at = last_part(rest);
         'parts: while at > 0 {
@@ -172,6 +180,7 @@ impl TaskName {
             rest = &rest[..at - 1];
             at = last_part(rest);
         }
+        let numbers = Numbers::from_slice(alloc, numbers.as_slice())?;
         Ok(TaskName { numbers })
     }
 
@@ -211,21 +220,4 @@ impl TaskName {
             _ => false,
         }
     }
-}
-
-#[tactic(auto, using(crate::proofs::WithinLemmas::different))]
-fn are_same(a: &[u32], b: &[u32]) -> bool
-    ensures { result ≡ same_name a.now b.now }
-{
-    if a.len() != b.len() {
-        return false;
-    }
-    let mut i = 0;
-    'numbers: while i < a.len() {
-        if a[i] != b[i] {
-            return false;
-        }
-        i += 1;
-    }
-    true
 }

@@ -33,13 +33,13 @@ impl StepId {
         printed
     }
 
-    /// The step that the text spells. Takes memory only where its task's name has seven numbers or
+    /// The step that the text spells. Takes memory only where its task's name has four numbers or
     /// more.
     pub fn parse(alloc: Global, text: &[u8]) -> Result<StepId, NameRefusal>
         ensures id { IfOk result (λ id. id ≡ spelled_step_id text.now) }
         ensures text { IfOk result (λ id. step_id_text id ≡ text.now) }
         ensures bad { IsErrOf result NameRefusal.BadName ↔ IsFalse (spells_step_id text.now) }
-        ensures memory { IsErrOf result NameRefusal.Memory → 6 < length (spelled_name (before_hash text.now)) }
+        ensures memory { IsErrOf result NameRefusal.Memory → 3 < length (spelled_name (before_hash text.now)) }
     {
         match ordinal(behind_hash(text)) {
             None => Err(NameRefusal::BadName),

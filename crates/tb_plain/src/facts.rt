@@ -13,9 +13,17 @@ pub fn newest_first(alloc: Global, events: &[Event]) -> Result<Vec<Event>, Alloc
 {
     let mut history = Vec::new(alloc);
     for event in events {
-        history.insert(0, event.clone()?)?;
+        history.insert(0, copy_of(event)?)?;
     }
     Ok(history)
+}
+
+fn copy_of(event: &Event) -> Result<Event, AllocError>
+    ensures { IfOk result (λ copy. copy ≡ event.now) }
+{
+    let task = event.task.clone()?;
+    let action = event.action.clone()?;
+    Ok(Event { task, action })
 }
 
 /// Whether the task has started.

@@ -4,6 +4,7 @@ use Rattle.std.specs.List.{list_all}
 use Rattle.tb_model.specs.declared.place.Place.{Place}
 use Rattle.tb_model.specs.declared.place.Place.TheVariants.{Cell, All}
 use Rattle.tb_model.specs.declared.item.Item.{Item}
+use Rattle.tb_model.specs.Names.{Name}
 use Rattle.tb_model.specs.declared.action.Action.{Action}
 use Rattle.tb_model.specs.declared.action.Action.TheVariants.{Start, Let, Load, Store, Print, Spawn, Wait, Open, Close, Test, End, Fault}
 use Rattle.tb_model.specs.Program.{action_of, moved, zero_ℤ, Instr as Instruction, Config as Situation}
@@ -17,9 +18,14 @@ instruction i = record { statement = i.statement; next = i.next; otherwise = i.o
 abbrev pub situation : Config → Situation
 situation c = record { line = c.at; regs = c.regs }
 
--- the action of the statement, at any cells of that number; a load reads 0 and a child is the first until the step fills them in
+-- the action of the statement for a task with these registers, at any cells of that number; a load reads 0 and a child is
+-- the first until the step fills them in
+abbrev pub IsActionOf : Instr → Name → List ℤ → Action → Type 0
+IsActionOf i t regs a = (cells : List ℤ) → length cells ≡ i.cells → a ≡ action_of cells t 1 regs zero_ℤ i.statement
+
+-- the same for the task of a situation
 abbrev pub IsEvaluation : Instr → Config → Action → Type 0
-IsEvaluation i c a = (cells : List ℤ) → length cells ≡ i.cells → a ≡ action_of cells c.task 1 c.regs zero_ℤ i.statement
+IsEvaluation i c a = IsActionOf i c.task c.regs a
 
 abbrev pub is_place : ℕ → Place → Bool
 is_place cells (Cell c) = nat_lt c cells

@@ -4,7 +4,7 @@ ghost use Rattle.std.specs.Prelude.{◌≡◌, IfOk};
 ghost use Rattle.tb_read.specs.Bursts.{IsBurst, IsFollower, config_behind, regs_behind};
 
 use crate::config::Config;
-use crate::evaluation::{action, plan};
+use crate::evaluation::{evaluate, plan};
 use crate::instr::Instr;
 use crate::planned::Plan;
 use crate::private_instr::instr_of;
@@ -51,13 +51,7 @@ fn planned(alloc: Global, instr: Instr, config: Config) -> Result<Plan, AllocErr
     ensures instr { IfOk result (λ p. p.instr ≡ instr) }
     ensures config { IfOk result (λ p. p.config ≡ config) }
 {
-    let action = action(
-        alloc,
-        &instr.statement,
-        instr.cells,
-        &config.task,
-        &config.regs,
-    )?;
+    let action = evaluate(alloc, &instr, &config.task, &config.regs)?;
     Ok(Plan {
         instr,
         config,

@@ -5,7 +5,8 @@ ghost use Rattle.std.specs.List.{list_all};
 ghost use Rattle.tb_model.specs.Program.{value, computed, compared, is_met, is_deferred, cell_at, place_at, items_at, action_of, zero_ℤ};
 ghost use Rattle.tb_model.specs.declared.statement.Statement.TheVariants.{Load as AsLoad, Store as AsStore, Taskwait as AsTaskwait};
 ghost use Rattle.tb_read.specs.Statements.{is_sound};
-ghost use Rattle.tb_read.specs.Plans.{is_place, is_placed, names_allowed};
+ghost use Rattle.tb_read.specs.Plans.{is_place, is_placed, names_allowed, line_behind, IsActionOf};
+ghost use Rattle.tb_read.specs.declared.config.Config.{Config as Situation};
 
 use crate::config::Config;
 use crate::instr::Instr;
@@ -182,7 +183,7 @@ fn wait_action(
 }
 
 /// The action that a statement makes for a task with these registers.
-pub(crate) fn action(
+fn action(
     alloc: Global,
     statement: &Statement,
     cells: u32,
@@ -235,6 +236,32 @@ pub(crate) fn action(
     }
 }
 
+/// The action that the statement of an instruction makes for a task with these registers.
+pub fn evaluate(
+    alloc: Global,
+    instr: &Instr,
+    task: &TaskName,
+    regs: &[i64; 16],
+) -> Result<Action, AllocError>
+    ensures evaluated { IfOk result (IsActionOf instr.now task.now regs.now) }
+    ensures allowed { IfOk result (λ a. IsTrue (names_allowed instr.now.cells a)) }
+{
+    action(alloc, &instr.statement, instr.cells, task, regs)
+}
+
+/// The line at which the action leaves a task that stood at this one, at the instruction. A task that
+/// is over keeps its line.
+#[inline]
+pub fn line_behind(instr: &Instr, at: u32, action: &Action) -> u32
+    ensures { (c : Situation) → c.at ≡ at → result ≡ line_behind instr.now c action.now }
+{
+    match action {
+        Action::Fault | Action::End => at,
+        Action::Test { yes: false } => instr.otherwise,
+        _ => instr.next,
+    }
+}
+
 /// Evaluates the statement of an instruction for the task that stands at its line.
 pub fn plan(alloc: Global, instr: &Instr, config: &Config) -> Result<Plan, AllocError>
     requires { instr.now.line ≡ config.now.at }
@@ -244,12 +271,6 @@ pub fn plan(alloc: Global, instr: &Instr, config: &Config) -> Result<Plan, Alloc
     Ok(Plan {
         instr: instr.clone()?,
         config: config.clone()?,
-        action: action(
-            alloc,
-            &instr.statement,
-            instr.cells,
-            &config.task,
-            &config.regs,
-        )?,
+        action: evaluate(alloc, instr, &config.task, &config.regs)?,
     })
 }

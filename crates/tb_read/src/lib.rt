@@ -36,7 +36,7 @@ mod word;
 
 pub use burst::plan_burst;
 pub use config::Config;
-pub use evaluation::plan;
+pub use evaluation::{evaluate, line_behind, plan};
 pub use fault::{FaultKind, ReadFault};
 pub use instr::Instr;
 pub use planned::Plan;

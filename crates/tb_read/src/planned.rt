@@ -4,6 +4,7 @@ ghost use Rattle.std.specs.Prelude.{◌≡◌, IsTrue};
 ghost use Rattle.tb_read.specs.Plans.{IsEvaluation, names_allowed, line_behind};
 
 use crate::config::Config;
+use crate::evaluation::line_behind;
 use crate::instr::Instr;
 use tb_model::Action;
 
@@ -24,10 +25,6 @@ impl Plan {
     pub fn to(&self) -> u32
         ensures { result ≡ line_behind self.now.instr self.now.config self.now.action }
     {
-        match &self.action {
-            Action::Fault | Action::End => self.config.at,
-            Action::Test { yes: false } => self.instr.otherwise,
-            _ => self.instr.next,
-        }
+        line_behind(&self.instr, self.config.at, &self.action)
     }
 }

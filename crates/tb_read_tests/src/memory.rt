@@ -72,7 +72,7 @@ fn a_refused_growth_of_plan_leaves_its_answer(rt: HostRuntime) -> Result<(), Fai
     Ok(())
 }
 
-/// The name, where a copy of it takes memory.
+/// A name that takes memory.
 fn deep_name(rt: &(impl Abort + AllocGlobal)) -> Result<TaskName, NameRefusal> {
     let name = b"0.1.1.1.1.1.1.1";
     match TaskName::parse(rt.alloc(), name) {

@@ -115,7 +115,7 @@ fn tests_and_blocks(rt: HostRuntime) -> Result<(), Fail> {
         ("while r0 != 1\nend", "Test { yes: true }", 3),
         ("taskgroup\nend", "Open", 4),
         ("end\nbody c 0", "End", 3),
-        ("taskwait", "Wait { items: Items { list: [] } }", 4),
+        ("taskwait", "Wait { items: [] }", 4),
         ("taskwait depend in 2", "Fault", 3),
         ("taskwait depend in 0 depend out r2", "Fault", 3),
     ];

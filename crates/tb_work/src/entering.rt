@@ -44,6 +44,9 @@ pub fn tell(
     Ok(note)
 }
 
+/// Lets an entry go. It stands apart, since whoever lets one go has to show it for each kind of entry.
+fn lose(_entry: Entry) {}
+
 /// Makes an entry of the seat at the place, which has to be above the seat's last one.
 pub fn enter<N: Team>(
     alloc: Global,
@@ -67,7 +70,13 @@ pub fn enter<N: Team>(
         return Err(Unmade::CellTaken);
     }
     seat.kept.reserve(1)?;
-    let note = tell(alloc, places, told, place, &entry)?;
+    let note = match tell(alloc, places, told, place, &entry) {
+        Ok(note) => note,
+        Err(unmade) => {
+            lose(entry);
+            return Err(unmade);
+        }
+    };
     book.add(&mut seat.share, 1);
     seat.kept.push_reserved(Kept {
         receipt: Receipt { place, entry },

@@ -11,7 +11,7 @@ invariant-parts l = record {
   left : spells_name l.rest ≡ true;
   name : l.numbers.items ++ spelled_name l.rest ≡ spelled_name l.text;
   from_one : AreFromOne l.numbers.items;
-  room : 6 ≤ l.numbers.capacity;
+  room : 8 ≤ l.numbers.capacity;
 }
 
 abbrev pub decreases-parts : goal.decreases-parts

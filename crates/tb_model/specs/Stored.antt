@@ -1,0 +1,20 @@
+-- Where the numbers of a name stand. No public clause cites this module.
+use Rattle.std.specs.Prelude.{◌<◌, ℕ, List, [], length, ⊤}
+use Rattle.std.specs.Arc.{arc_value}
+use Rattle.tb_model.specs.declared.stored.Stored.{Stored}
+use Rattle.tb_model.specs.declared.stored.Stored.TheVariants.{Zero, One, Two, Three, Shared}
+
+abbrev pub numbers_in : Stored → List ℕ
+numbers_in Zero = []
+numbers_in (One a) = a
+numbers_in (Two a) = a
+numbers_in (Three a) = a
+numbers_in (Shared a) = (arc_value a).items
+
+-- what stands on the heap is more than would stand in the value
+abbrev pub IsShortest : Stored → Type 0
+IsShortest Zero = ⊤
+IsShortest (One a) = ⊤
+IsShortest (Two a) = ⊤
+IsShortest (Three a) = ⊤
+IsShortest (Shared a) = 3 < length (arc_value a).items

@@ -1,0 +1,54 @@
+//! What the numbers of two names have in common.
+
+ghost use Rattle.std.specs.Prelude.{◌≡◌};
+ghost use Rattle.tb_model.specs.Names.{same_name, name_cmp};
+
+// So many numbers are looked for at once.
+const BLOCK: usize = 16;
+
+/// Whether the numbers are the same. Four are compared at once.
+#[inline]
+#[tactic(auto, using(crate::proofs::WithinLemmas::different))]
+pub(crate) fn are_same(a: &[u32], b: &[u32]) -> bool
+    ensures { result ≡ same_name a.now b.now }
+{
+    if a.len() != b.len() {
+        return false;
+    }
+    let mut left = a;
+    let mut right = b;
+    'fours: while let ([k, l, m, n, more @ ..], [p, q, r, s, others @ ..]) = (left, right) {
+        if !((*k == *p) & (*l == *q) & (*m == *r) & (*n == *s)) {
+            return false;
+        }
+        left = more;
+        right = others;
+    }
+    'numbers: while let ([n, more @ ..], [s, others @ ..]) = (left, right) {
+        if *n != *s {
+            return false;
+        }
+        left = more;
+        right = others;
+    }
+    true
+}
+
+/// The numbers without most of the last ones that both have, which don't decide the order: deep
+/// names of one program mostly begin alike at the root.
+pub(crate) fn without_common<'a>(a: &'a [u32], b: &'a [u32]) -> (&'a [u32], &'a [u32])
+    ensures { name_cmp result.0.now result.1.now ≡ name_cmp a.now b.now }
+{
+    let mut m = a.len();
+    let mut n = b.len();
+    'common: while m > BLOCK && n > BLOCK {
+        let i = m - BLOCK;
+        let j = n - BLOCK;
+        if !are_same(&a[i..m], &b[j..n]) {
+            return (&a[..m], &b[..n]);
+        }
+        m = i;
+        n = j;
+    }
+    (&a[..m], &b[..n])
+}

@@ -1,0 +1,13 @@
+//! Where the elements of a list stand.
+
+use std::sync::Arc;
+
+/// One element stands in the value itself. More stand on the heap: with the list that they were
+/// added to, and once for all copies of it.
+#[derive(Drop)]
+pub(crate) enum Listed<T> {
+    Zero,
+    One(T),
+    Many(Box<Vec<T>>),
+    Shared(Arc<Vec<T>>),
+}

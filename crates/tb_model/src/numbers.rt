@@ -1,0 +1,130 @@
+//! The numbers of a name.
+
+ghost use Rattle.std.specs.Prelude.{◌≡◌, ◌≤◌, ◌<◌, [], ◌∷◌, ◌++◌, length, IfOk, IsOk, IfSome, IfNone};
+ghost use Rattle.tb_model.specs.Stored.{numbers_in, IsShortest};
+
+use crate::stored::Stored;
+use smallvec::SmallVec;
+use std::alloc::{AllocError, Global};
+use std::fmt;
+use std::marker::Model;
+use std::sync::Arc;
+
+/// A list that takes two words. A short one takes no memory, and the copies of a longer one share
+/// it.
+#[derive(Drop)]
+pub(crate) struct Numbers {
+    alloc: Global,
+    stored: Stored,
+}
+
+impl Model for Numbers {
+    ghost use Rattle.std.specs.Prelude.{List, ℕ};
+
+    ghost Value = { List ℕ };
+
+    ghost use Rattle.tb_model.specs.Stored.{numbers_in, IsShortest};
+
+    ghost view = { λ a. numbers_in a.stored };
+
+    ghost invariant = { λ a. IsShortest a.stored };
+}
+
+impl Numbers {
+    /// No numbers.
+    pub fn new(alloc: Global) -> Numbers
+        ensures { result ≡ [] }
+    {
+        Numbers {
+            alloc,
+            stored: Stored::Zero,
+        }
+    }
+
+    /// These numbers. Takes memory only for more than three.
+    pub fn from_slice(alloc: Global, numbers: &[u32]) -> Result<Numbers, AllocError>
+        ensures ok { IfOk result (λ n. n ≡ numbers.now) }
+        ensures short { length numbers.now ≤ 3 → IsOk result }
+    {
+        let stored = match in_place(numbers) {
+            Some(stored) => stored,
+            None => Stored::Shared(Arc::new(alloc, SmallVec::from_slice(alloc, numbers)?)?),
+        };
+        Ok(Numbers { alloc, stored })
+    }
+
+    /// This number, and those behind it. Takes memory only for more than three.
+    pub fn with_first(alloc: Global, first: u32, rest: &[u32]) -> Result<Numbers, AllocError>
+        ensures ok { IfOk result (λ n. n ≡ first ∷ rest.now) }
+        ensures short { length rest.now < 3 → IsOk result }
+    {
+        let stored = match rest {
+            [] => Stored::One([first]),
+            [a] => Stored::Two([first, *a]),
+            [a, b] => Stored::Three([first, *a, *b]),
+            _ => {
+                let mut list = SmallVec::with_capacity(alloc, rest.len() + 1)?;
+                list.push_reserved(first);
+                list.extend_from_slice(rest)?;
+                Stored::Shared(Arc::new(alloc, list)?)
+            }
+        };
+        Ok(Numbers { alloc, stored })
+    }
+
+    /// The allocator.
+    pub fn allocator(&self) -> Global {
+        self.alloc
+    }
+
+    /// The numbers, in order.
+    pub fn as_slice(&self) -> &[u32]
+        ensures { result.now ≡ self.now }
+    {
+        match &self.stored {
+            Stored::Zero => &[],
+            Stored::One(numbers) => numbers,
+            Stored::Two(numbers) => numbers,
+            Stored::Three(numbers) => numbers,
+            Stored::Shared(list) => list.as_slice(),
+        }
+    }
+
+    /// A copy, which takes no memory. That of a list of more than three is refused where it has
+    /// nine quintillion copies.
+    pub fn copy(&self) -> Result<Numbers, AllocError>
+        ensures ok { IfOk result (λ n. n ≡ self.now) }
+        ensures short { length self.now ≤ 3 → IsOk result }
+    {
+        let stored = match &self.stored {
+            Stored::Zero => Stored::Zero,
+            Stored::One(numbers) => Stored::One(*numbers),
+            Stored::Two(numbers) => Stored::Two(*numbers),
+            Stored::Three(numbers) => Stored::Three(*numbers),
+            Stored::Shared(list) => Stored::Shared(Arc::try_clone(list)?),
+        };
+        Ok(Numbers {
+            alloc: self.alloc,
+            stored,
+        })
+    }
+}
+
+fn in_place(numbers: &[u32]) -> Option<Stored>
+    ensures short { IfSome result (λ s. (numbers_in s ≡ numbers.now) × IsShortest s) }
+    ensures long { IfNone result (3 < length numbers.now) }
+{
+    match numbers {
+        [] => Some(Stored::Zero),
+        [a] => Some(Stored::One([*a])),
+        [a, b] => Some(Stored::Two([*a, *b])),
+        [a, b, c] => Some(Stored::Three([*a, *b, *c])),
+        _ => None,
+    }
+}
+
+impl fmt::Debug for Numbers {
+    fn fmt<W: fmt::Write>(&self, f: &mut fmt::Formatter<W>) -> fmt::Result {
+        f.debug_list().entries(self.as_slice()).finish()
+    }
+}
