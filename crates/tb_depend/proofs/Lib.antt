@@ -5,3 +5,4 @@ pub mod LastLemmas
 pub mod ChainLemmas
 pub mod PlacesLemmas
 pub mod NearLemmas
+mod NearestLemmas

@@ -104,7 +104,7 @@ get_drop (x ∷ xs) (suc a) j = let e : suc (a + j) ≡ suc a + j = omega arith 
 get_range : {A : Type 0} (xs : List A) (a b j : ℕ) → j < b - a → slice_get (slice_range xs a b) j ≡ slice_get xs (a + j)
 get_range xs a b j h = get_take (drop a xs) (b - a) j h ∙ get_drop xs a j
 
-any_at : {A : Type 0} (f : A → Bool) (xs : List A) (j : ℕ) (x : A) → slice_get xs j ≡ Some x → f x ≡ true → list_any f xs ≡ true
+pub any_at : {A : Type 0} (f : A → Bool) (xs : List A) (j : ℕ) (x : A) → slice_get xs j ≡ Some x → f x ≡ true → list_any f xs ≡ true
 any_at f [] j x e t = cc
 any_at f (y ∷ xs) zero x e t = at (f y) (ap f (some_same e) ∙ t)
   where
@@ -116,14 +116,14 @@ any_at f (y ∷ xs) zero x e t = at (f y) (ap f (some_same e) ∙ t)
     at false g = cc
 any_at f (y ∷ xs) (suc j) x e t = or_right (f y) (list_any f xs) (any_at f xs j x e t)
 
-any_where : {A : Type 0} (f : A → Bool) (xs : List A) → list_any f xs ≡ true → (j : ℕ) × (x : A) × (slice_get xs j ≡ Some x) × (f x ≡ true)
+pub any_where : {A : Type 0} (f : A → Bool) (xs : List A) → list_any f xs ≡ true → (j : ℕ) × (x : A) × (slice_get xs j ≡ Some x) × (f x ≡ true)
 any_where f [] e = cc
 any_where f (y ∷ xs) e = elim (or_cases (f y) (list_any f xs) e) [
   | inl h ↦ (0, y, refl, h)
   | inr h ↦ let r = any_where f xs h in (suc r.0, r.1, r.2, r.3)
 ]
 
-nothing : (j : ℕ) (x : Item) → slice_get [] j ≡ Some x → ⊥
+pub nothing : (j : ℕ) (x : Item) → slice_get [] j ≡ Some x → ⊥
 nothing j x f = cc
 
 -- ---- the items of a child, by their places
@@ -143,7 +143,7 @@ module _ (ends : List ℕ) (items : List Item) (a : AreEnds 0 ends (length items
             ∙ get_range items (start_at 0 ends q.0) (get_or ends q.0 0) j within ∙ ap (slice_get items) back ∙ e,
       )
 
-  place_of : (m j : ℕ) (x : Item) → slice_get (items_at rows m) j ≡ Some x →
+  pub place_of : (m j : ℕ) (x : Item) → slice_get (items_at rows m) j ≡ Some x →
       (k : ℕ) × (slice_get items k ≡ Some x) × (child_at ends k ≡ m) × (0 < m) × (m ≤ length ends) × (start_at 0 ends (m - 1) ≤ k) × (k < get_or ends (m - 1) 0)
   place_of zero j x e = cc
   place_of (suc r) j x e = elim (cases_lt r (length ends)) [
@@ -166,7 +166,7 @@ module _ (ends : List ℕ) (items : List Item) (a : AreEnds 0 ends (length items
   ]
 
   -- a child with one item depends on that of another in front of it
-  related : (p k : ℕ) (new old : Item) → slice_get items p ≡ Some new → slice_get items k ≡ Some old → child_at ends k < child_at ends p → IsTrue (meets is_before new old) → IsTrue (depends rows (child_at ends p) (child_at ends k))
+  pub related : (p k : ℕ) (new old : Item) → slice_get items p ≡ Some new → slice_get items k ≡ Some old → child_at ends k < child_at ends p → IsTrue (meets is_before new old) → IsTrue (depends rows (child_at ends p) (child_at ends k))
   related p k new old e f l t =
       let i = item_of p new e in
       let j = item_of k old f in
@@ -199,7 +199,7 @@ module _ (ends : List ℕ) (items : List Item) (a : AreEnds 0 ends (length items
         subst (λ c. IsTrue (over c)) q.2 (each x.0 x.1 x.2 q.0 y.1 (slice_get_within items q.0 y.1 q.1) q.1 y.3)
 
   module _ (over : ℕ → Bool) (n from to : ℕ) (row : IsRow ends (length items) n from to) where
-    in_front : (k i : ℕ) (old : Item) → slice_get items k ≡ Some old → from ≤ i → i < to → k < from → (child_at ends i ≡ n) × (child_at ends k < n)
+    pub in_front : (k i : ℕ) (old : Item) → slice_get items k ≡ Some old → from ≤ i → i < to → k < from → (child_at ends i ≡ n) × (child_at ends k < n)
     in_front k i old e low high front = elim row.there [
       | inl q ↦
           let s : n ≡ suc (n - 1) = omega (arith, q.0) in

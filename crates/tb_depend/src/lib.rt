@@ -8,6 +8,7 @@ pub mod laws;
 mod layout;
 mod link;
 mod near;
+mod nearest;
 mod over;
 mod preds;
 mod siblings;

@@ -16,7 +16,7 @@ use crate::steps::{comes_behind, comes_behind_all, is_before, is_met};
 use tb_model::{Item, Place};
 
 /// The number of the child whose item stands at this place.
-fn child_at(ends: &[usize], at: usize) -> usize
+pub(crate) fn child_at(ends: &[usize], at: usize) -> usize
     requires { (len : ℕ) × AreEnds 0 ends.now len }
     ensures { result ≡ child_at ends.now at }
 {

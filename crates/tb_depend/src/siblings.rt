@@ -4,11 +4,12 @@ ghost use Rattle.std.specs.Prelude.{◌≡◌, ◌<◌, ◌≤◌, ◌+◌, ◌-
 ghost use Rattle.tb_depend.specs.Numbers.{numbers_where};
 ghost use Rattle.tb_depend.specs.Relations.{items_at, depends, excludes, is_covered, preds_of, apart_of, covered_by};
 ghost use Rattle.tb_depend.specs.Table.{HasRoomFor, KeepsRoom, FreesRoom};
-ghost use Rattle.tb_depend.specs.Nearness.{IsClosed, AreOver, AreOverFor};
+ghost use Rattle.tb_depend.specs.Nearness.{IsClosed, AreOver, AreOverFor, AreNear};
 
 use crate::chain::Chain;
 use crate::layout::{pop_row, push_row, row};
 use crate::near::{further_over, preds_over};
+use crate::nearest::{is_among, near_numbers};
 use crate::over::Over;
 use crate::preds::Preds;
 use std::alloc::{AllocError, Global};
@@ -172,6 +173,24 @@ impl Siblings {
     {
         let numbers = Vec::with_capacity(self.alloc, self.len())?;
         Ok(self.fill_preds(n, numbers))
+    }
+
+    /// The numbers of the children near the nth: of each storage location that it names, the last ones
+    /// of one kind in front of it that come before it; an item of all memory counts for every location.
+    /// By way of them it depends on all on which it depends. Each costs a walk over those behind it; a
+    /// start asks by the links of the items, as `are_preds_over` does.
+    #[tactic(auto, using(crate::proofs::NumbersLemmas::rising_where))]
+    pub fn near(&self, n: usize) -> Result<Preds, AllocError>
+        ensures { IfOk result (λ near. AreNear self.now.siblings n near) }
+    {
+        let near = near_numbers(self.alloc, &self.chain, &self.ends, n)?;
+        let mut numbers = Vec::new(self.alloc);
+        for k in 0..self.len() {
+            if is_among(&near, k + 1) {
+                numbers.push(k + 1)?;
+            }
+        }
+        Ok(Preds::of(numbers))
     }
 
     /// The numbers of the children that the nth excludes, before it and behind it.

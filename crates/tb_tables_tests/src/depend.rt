@@ -92,6 +92,95 @@ fn only_those_near_are_asked(rt: HostRuntime) {
     mem::forget(siblings);
 }
 
+/// Whether these are near the child that was added last.
+fn is_near(siblings: &Siblings, numbers: &[usize]) -> bool {
+    lists(siblings.near(siblings.len()), numbers)
+}
+
+/// Adds a child with these items, and tells whether these are near it.
+fn comes_near(siblings: &mut Siblings, items: &[Item], numbers: &[usize]) -> bool {
+    match siblings.add(items) {
+        Ok(_) => is_near(siblings, numbers),
+        Err(_) => false,
+    }
+}
+
+/// Near a child are the last ones of one kind, and where these are of its own kind, the ones before.
+#[test]
+fn those_near_are_the_last_of_one_kind(rt: HostRuntime) {
+    let mut siblings = Siblings::new(rt.alloc());
+    assert!(rt; comes_near(&mut siblings, [item(Kind::In, 0)].as_slice(), &[]));
+    assert!(rt;
+        comes_near(
+            &mut siblings,
+            [item(Kind::Out, 0)].as_slice(),
+            [1].as_slice()
+        )
+    );
+    assert!(rt;
+        comes_near(
+            &mut siblings,
+            [item(Kind::In, 0)].as_slice(),
+            [2].as_slice()
+        )
+    );
+    assert!(rt;
+        comes_near(
+            &mut siblings,
+            [item(Kind::In, 0)].as_slice(),
+            [2].as_slice()
+        )
+    );
+    assert!(rt;
+        comes_near(
+            &mut siblings,
+            [item(Kind::Out, 0)].as_slice(),
+            [3, 4].as_slice()
+        )
+    );
+    assert!(rt; comes_near(&mut siblings, [item(Kind::In, 1)].as_slice(), &[]));
+    let both = [item(Kind::Inoutset, 0), item(Kind::Inoutset, 1)];
+    assert!(rt; comes_near(&mut siblings, both.as_slice(), [5, 6].as_slice()));
+    mem::forget(siblings);
+}
+
+/// An item of all memory comes between those of every storage location, also where there is no cell.
+#[test]
+fn all_memory_is_near_all(rt: HostRuntime) {
+    let mut siblings = Siblings::new(rt.alloc());
+    assert!(rt; comes_near(&mut siblings, [all(Kind::Out)].as_slice(), &[]));
+    assert!(rt; comes_near(&mut siblings, [all(Kind::Inout)].as_slice(), [1].as_slice()));
+    assert!(rt;
+        comes_near(
+            &mut siblings,
+            [item(Kind::Out, 0)].as_slice(),
+            [2].as_slice()
+        )
+    );
+    assert!(rt;
+        comes_near(
+            &mut siblings,
+            [item(Kind::In, 0)].as_slice(),
+            [3].as_slice()
+        )
+    );
+    assert!(rt;
+        comes_near(
+            &mut siblings,
+            [item(Kind::In, 1)].as_slice(),
+            [2].as_slice()
+        )
+    );
+    assert!(rt;
+        comes_near(
+            &mut siblings,
+            [all(Kind::Out)].as_slice(),
+            [2, 4, 5].as_slice()
+        )
+    );
+    mem::forget(siblings);
+}
+
 #[test]
 fn exclusion_orders_nobody(rt: HostRuntime) {
     let mut siblings = Siblings::new(rt.alloc());

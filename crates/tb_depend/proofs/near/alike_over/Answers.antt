@@ -1,4 +1,4 @@
-use Rattle.std.proofs.Common.{◌≡◌, ◌<◌, ℕ, sym, ◌∙◌, arith}
+use Rattle.std.proofs.Common.{ℕ, sym, ◌∙◌, arith}
 use Rattle.tb_depend.specs.Nearness.{child_at}
 use Rattle.tb_depend.proofs.NearLemmas.{over_alike}
 use Rattle.tb_depend.proofs.near.alike_over.Goals as goal
