@@ -7,6 +7,7 @@ use Rattle.std.proofs.lemmas.Bool.{cases_eq, both_ways, eqb-true, eq-eqb}
 use Rattle.std.proofs.lemmas.Bool.Decides.{nat_tests}
 use Rattle.std.proofs.lemmas.List.Quantifiers.{position-Some}
 use Rattle.std.proofs.lemmas.Map.Entries.{length-keys_of}
+use Rattle.std.proofs.lemmas.Option.{slice_get_within}
 use Rattle.std.proofs.lemmas.Map.Keys.{IsDistinct-head, IsDistinct-tail}
 use Rattle.indexmap.specs.IndexMap.{insert_entry}
 use Rattle.tb_model.specs.Names.{Name, same_name}
@@ -255,3 +256,10 @@ unique (t ∷ es) slots d (suc i) zero hi hj e =
     absurd (other_name es slots t.0 i (IsDistinct-head same_name t.0 (keys_of es) d) (omega arith) (sym e))
 unique (t ∷ es) slots d (suc i) (suc j) hi hj e =
     ap suc (unique es slots (IsDistinct-tail same_name t.0 (keys_of es) d) i j (omega arith) (omega arith) e)
+
+-- the name of an entry stands at its place
+pub stands_there : (es : Entries) (slots : Slots) (i : ℕ) (n : Name) (k : ℕ) (name : Name) → slice_get es i ≡ Some (n, k) → same_name n name ≡ true → StandsAt (tasks_of es slots) name i
+stands_there es slots i n k name h same = record {
+  within = omega (arith, length_tasks es slots, slice_get_within es i (n, k) h);
+  is = entry_name es slots i n k h ∙ same_true n name same;
+}

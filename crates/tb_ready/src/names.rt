@@ -1,6 +1,6 @@
 //! Names and their marks, by place.
 
-ghost use Rattle.std.specs.Prelude.{◌≡◌, ◌<◌, ◌≤◌, ◌+◌, [], ◌∷◌, ◌++◌, OnOk, OnErr, IsOk, IfSome, IsSome, Some, None, false, length, slice_get, remove};
+ghost use Rattle.std.specs.Prelude.{◌≡◌, ◌<◌, ◌≤◌, ◌+◌, [], ◌∷◌, ◌++◌, OnOk, OnErr, IsOk, IfSome, IsSome, IsTrue, Some, None, false, length, slice_get, remove};
 ghost use Rattle.std.specs.List.{IsDistinct};
 ghost use Rattle.std.specs.Map.{keys_of};
 ghost use Rattle.tb_model.specs.Names.{same_name};
@@ -18,6 +18,8 @@ use tb_model::TaskName;
 pub(crate) struct Names {
     keys: IndexMap<TaskName, usize>,
     marks: Slab<bool>,
+    // the place that changed last: mostly its name is asked for again, or the one behind it
+    near: usize,
 }
 
 impl Model for Names {
@@ -45,6 +47,7 @@ impl Names {
         Names {
             keys: IndexMap::new(alloc),
             marks: Slab::new(alloc),
+            near: 0,
         }
     }
 
@@ -63,7 +66,24 @@ impl Names {
         ensures absent { result ≡ None → mark_of self.now.tasks name.now ≡ None }
         ensures unique { AreUnique self.now.tasks }
     {
+        if self.stands_at(self.near, name) {
+            return Some(self.near);
+        }
+        let next = self.near.saturating_add(1);
+        if self.stands_at(next, name) {
+            return Some(next);
+        }
         self.keys.get_index_of(name)
+    }
+
+    /// Whether the name stands at the place.
+    fn stands_at(&self, at: usize, name: &TaskName) -> bool
+        ensures { IsTrue result → StandsAt self.now.tasks name.now at }
+    {
+        match self.keys.get_index(at) {
+            Some((key, _)) => key == name,
+            None => false,
+        }
     }
 
     /// The name at a place.
@@ -96,6 +116,7 @@ impl Names {
     {
         let (_, key) = entry(&self.keys, at);
         self.marks[key] = marked;
+        self.near = at;
     }
 
     /// Makes the room for one more name.
@@ -116,6 +137,7 @@ impl Names {
         ensures tasks { self.new.tasks ≡ self.old.tasks ++ (name, false) ∷ [] }
         ensures room { self.old.room ≤ self.new.room + 1 }
     {
+        self.near = self.keys.len();
         let key = self.marks.insert_reserved(false);
         self.keys.insert(name, key).unwrap();
     }
@@ -130,6 +152,7 @@ impl Names {
         let (_, key) = entry(&self.keys, at);
         self.marks.remove(key);
         let _entry = self.keys.shift_remove_index(at);
+        self.near = at.saturating_sub(1);
     }
 }
 

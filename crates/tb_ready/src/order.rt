@@ -22,15 +22,17 @@ fn marked<'a>(names: &'a Names, order: &VecDeque<usize>, k: usize) -> &'a TaskNa
     names.name(order[k])
 }
 
-/// Where a name goes among the marked ones, by binary search.
-fn place_of(names: &Names, order: &VecDeque<usize>, name: &TaskName) -> usize
+/// Where a name goes among the marked ones, by a binary search that begins at a place near by.
+fn place_of(names: &Names, order: &VecDeque<usize>, near: usize, name: &TaskName) -> usize
     requires { IsOrder names.now.tasks order.now.items }
     ensures { IsPlace names.now.tasks order.now.items name.now result }
 {
     let mut low = 0;
     let mut high = order.len();
+    let mut round: u8 = 0;
     'halves: while low < high {
-        let middle = low + (high - low) / 2;
+        let middle = probe(low, high, near, round);
+        round = round.saturating_add(1);
         if marked(names, order, middle).cmp(name).is_lt() {
             low = middle + 1;
         } else {
@@ -40,8 +42,25 @@ fn place_of(names: &Names, order: &VecDeque<usize>, name: &TaskName) -> usize
     low
 }
 
-/// Marks the name at a place, which isn't. The list has room.
-fn put_in(names: &mut Names, order: &mut VecDeque<usize>, at: usize)
+/// Which place between these is looked at in this round of a search: the one near by, and then its
+/// neighbour, come before the halves.
+fn probe(low: usize, high: usize, near: usize, round: u8) -> usize
+    requires { low < high }
+    ensures from { low ≤ result }
+    ensures below { result < high }
+{
+    match round {
+        0 if low <= near && near < high => near,
+        0 => high - 1,
+        1 if near < low => low,
+        1 => high - 1,
+        _ => low + (high - low) / 2,
+    }
+}
+
+/// Marks the name at a place, which isn't, and tells where it goes among the marked ones. The list
+/// has room.
+fn put_in(names: &mut Names, order: &mut VecDeque<usize>, near: usize, at: usize) -> usize
     requires order { IsOrder names.old.tasks order.old.items }
     requires there { at < length names.old.tasks }
     requires unmarked { mark_at names.old.tasks at ≡ false }
@@ -51,13 +70,15 @@ fn put_in(names: &mut Names, order: &mut VecDeque<usize>, at: usize)
     ensures room { names.new.room ≡ names.old.room }
     ensures capacity { deque_capacity order.old ≤ deque_capacity order.new }
 {
-    let place = place_of(names, order, names.name(at));
+    let place = place_of(names, order, near, names.name(at));
     order.insert(place, at).unwrap();
     names.set(at, true);
+    place
 }
 
-/// Unmarks the name at a place, which is marked. The list keeps its room.
-fn take_out(names: &mut Names, order: &mut VecDeque<usize>, at: usize)
+/// Unmarks the name at a place, which is marked, and tells where it was among the marked ones. The
+/// list keeps its room.
+fn take_out(names: &mut Names, order: &mut VecDeque<usize>, near: usize, at: usize) -> usize
     requires order { IsOrder names.old.tasks order.old.items }
     requires there { at < length names.old.tasks }
     requires marked { mark_at names.old.tasks at ≡ true }
@@ -66,13 +87,20 @@ fn take_out(names: &mut Names, order: &mut VecDeque<usize>, at: usize)
     ensures room { names.new.room ≡ names.old.room }
     ensures capacity { deque_capacity order.old ≤ deque_capacity order.new }
 {
-    let place = place_of(names, order, names.name(at));
+    let place = place_of(names, order, near, names.name(at));
     let _at = order.remove(place);
     names.set(at, false);
+    place
 }
 
-/// Sets the mark of the name at a place.
-pub(crate) fn set_mark(names: &mut Names, order: &mut VecDeque<usize>, at: usize, mark: bool)
+/// Sets the mark of the name at a place. Tells a place among the marked names that is near by.
+pub(crate) fn set_mark(
+    names: &mut Names,
+    order: &mut VecDeque<usize>,
+    near: usize,
+    at: usize,
+    mark: bool,
+) -> usize
     requires order { IsOrder names.old.tasks order.old.items }
     requires there { at < length names.old.tasks }
     requires room { length names.old.tasks ≤ deque_capacity order.old }
@@ -82,18 +110,23 @@ pub(crate) fn set_mark(names: &mut Names, order: &mut VecDeque<usize>, at: usize
     ensures capacity { deque_capacity order.old ≤ deque_capacity order.new }
 {
     if names.is_marked(at) == mark {
-        return;
+        return near;
     }
     if mark {
-        put_in(names, order, at);
+        put_in(names, order, near, at)
     } else {
-        take_out(names, order, at);
+        take_out(names, order, near, at)
     }
 }
 
-/// Removes the name at a place, marked or not.
+/// Removes the name at a place, marked or not. Tells a place among the marked names that is near by.
 #[tactic(auto, using(crate::proofs::TasksLemmas::length_set, crate::proofs::TasksLemmas::mark_set_here, crate::proofs::TasksLemmas::remove_set))]
-pub(crate) fn forget(names: &mut Names, order: &mut VecDeque<usize>, at: usize)
+pub(crate) fn forget(
+    names: &mut Names,
+    order: &mut VecDeque<usize>,
+    near: usize,
+    at: usize,
+) -> usize
     requires order { IsOrder names.old.tasks order.old.items }
     requires there { at < length names.old.tasks }
     requires room { length names.old.tasks ≤ deque_capacity order.old }
@@ -102,9 +135,10 @@ pub(crate) fn forget(names: &mut Names, order: &mut VecDeque<usize>, at: usize)
     ensures room { names.old.room ≤ names.new.room }
     ensures capacity { deque_capacity order.old ≤ deque_capacity order.new }
 {
-    set_mark(names, order, at, false);
+    let place = set_mark(names, order, near, at, false);
     close_gap(names, order, at);
     names.remove(at);
+    place
 }
 
 /// Moves the places behind one that goes, whose name is unmarked.
@@ -145,14 +179,19 @@ pub(crate) fn least<'a>(
 }
 
 /// The place of the first marked name behind this one, or of the first of all.
-fn place_behind(names: &Names, order: &VecDeque<usize>, after: Option<&TaskName>) -> usize
+fn place_behind(
+    names: &Names,
+    order: &VecDeque<usize>,
+    near: usize,
+    after: Option<&TaskName>,
+) -> usize
     requires { IsOrder names.now.tasks order.now.items }
     ensures { IsFirstBehind names.now.tasks order.now.items (option_copied after.entry) result }
 {
     let Some(name) = after else {
         return 0;
     };
-    let place = place_of(names, order, name);
+    let place = place_of(names, order, near, name);
     if place < order.len() && marked(names, order, place) == name {
         place + 1
     } else {
@@ -164,12 +203,13 @@ fn place_behind(names: &Names, order: &VecDeque<usize>, after: Option<&TaskName>
 pub(crate) fn next_marked<'a>(
     names: &'a Names,
     order: &VecDeque<usize>,
+    near: usize,
     after: Option<&TaskName>,
 ) -> Option<&'a TaskName>
     requires { IsOrder names.now.tasks order.now.items }
     ensures { IsLeastName (IsMarkedBehind names.now.tasks (option_copied after.entry)) (option_copied result) }
 {
-    let place = place_behind(names, order, after);
+    let place = place_behind(names, order, near, after);
     if place < order.len() {
         Some(marked(names, order, place))
     } else {

@@ -22,6 +22,8 @@ pub struct Ready {
     // the places of the marked names, by rising name, with room for all names; a deque, since tasks
     // are mostly spawned at its end and end at its beginning
     order: VecDeque<usize>,
+    // where in that order a mark changed last: mostly the next change is there too
+    near: usize,
 }
 
 impl Model for Ready {
@@ -45,6 +47,7 @@ impl Ready {
         Ready {
             names: Names::new(alloc),
             order: VecDeque::new(alloc),
+            near: 0,
         }
     }
 
@@ -97,7 +100,7 @@ impl Ready {
     pub fn next_marked(&self, after: Option<&TaskName>) -> Option<&TaskName>
         ensures { IsLeastName (IsMarkedBehind self.now.tasks (option_copied after.entry)) (option_copied result) }
     {
-        next_marked(&self.names, &self.order, after)
+        next_marked(&self.names, &self.order, self.near, after)
     }
 
     /// Makes the room that `add` needs, whatever the name, and changes nothing else.
@@ -134,7 +137,8 @@ impl Ready {
         ensures room { self.old.room ≤ self.new.room }
     {
         if let Some(at) = self.names.find(name) {
-            forget(&mut self.names, &mut self.order, at);
+            let near = forget(&mut self.names, &mut self.order, self.near, at);
+            self.near = near;
         }
     }
 
@@ -144,7 +148,8 @@ impl Ready {
         ensures room { self.old.room ≤ self.new.room }
     {
         if let Some(at) = self.names.find(name) {
-            set_mark(&mut self.names, &mut self.order, at, marked);
+            let near = set_mark(&mut self.names, &mut self.order, self.near, at, marked);
+            self.near = near;
         }
     }
 }

@@ -148,6 +148,10 @@ fn change(table: &mut Wait, tasks: &mut Vec<Task>, seed: u64) -> Result<(), Allo
         Some(task) => task.name.clone()?,
         None => return Ok(()),
     };
+    // the table may be turned to the task or to another
+    if (seed >> 30) % 2 == 0 {
+        table.turn_to(&name);
+    }
     if (seed >> 40) % 4 == 0 {
         undo(table, tasks, which, &name)
     } else {
@@ -311,13 +315,23 @@ fn open_again(rt: &impl Abort, table: &mut Wait, task: &TaskName) {
     assert_eq!(rt; table.groups(task).len(), groups.wrapping_add(1));
 }
 
+// The name of the task's child, and again where memory was refused.
+fn child_again(rt: &(impl Abort + AllocGlobal), task: &TaskName, number: u32) -> TaskName {
+    match task.child(1.max(number)) {
+        Ok(child) => child,
+        Err(_) => task
+            .child(1.max(number))
+            .expect(rt, "memory is there again"),
+    }
+}
+
 // The task generates four children, each in a group of its own, and the first is the least.
 fn grow(rt: &(impl Abort + AllocGlobal), table: &mut Wait, task: &TaskName) {
     for n in 0..4u32 {
         spawn_again(rt, table, task, n);
         open_again(rt, table, task);
     }
-    let first = task.child(1).expect(rt, "a short name takes no memory");
+    let first = child_again(rt, task, 1);
     assert!(rt; table.first_child(task) == Some(&first));
 }
 
@@ -331,7 +345,7 @@ fn a_refused_growth_changes_nothing(rt: HostRuntime) {
     let mut task = TaskName::root(rt.alloc());
     for _ in 0..5 {
         grow(&rt, &mut table, &task);
-        task = task.child(4).expect(&rt, "a short name takes no memory");
+        task = child_again(&rt, &task, 4);
     }
     mem::forget(task);
     mem::forget(table);

@@ -1,3 +1,4 @@
+pub mod NearLemmas
 pub mod RowLemmas
 pub mod RowsLemmas
 pub mod SetsLemmas

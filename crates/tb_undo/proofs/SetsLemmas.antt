@@ -8,13 +8,14 @@ use Rattle.std.proofs.lemmas.Option.{slice_get-get_or}
 use Rattle.indexmap.specs.IndexMap.{IndexMap, IsUnique, with_value_at}
 use Rattle.indexmap.proofs.CallerLemmas.{updates-with_value_at}
 use Rattle.indexmap.proofs.MapLemmas.{Found-position, some_index}
+use Rattle.tb_model.specs.declared.item.Item.{Item}
 use Rattle.tb_model.specs.Names.{Name, same_name, is_child}
 use Rattle.tb_model.specs.NameLaws.{same_name_equivalence}
 use Rattle.tb_model.proofs.TestLemmas.{same_true, same_refl}
 use Rattle.tb_depend.specs.Relations.{items_at}
 use Rattle.tb_excl.specs.Holders.{Holders, HasRoomFor, KeepsRoom, IsSet, IsSame}
 use Rattle.tb_undo.specs.declared.row.Row.{Row}
-use Rattle.tb_undo.specs.Tasks.{Rows, row, seen_row, holders_of}
+use Rattle.tb_undo.specs.Tasks.{Rows, row, seen_row, holders_of, HasChildRoom, HasChildRoomIn}
 use Rattle.tb_undo.specs.Sets.{children_in, items_in, number_of, IsLinked, place_in, Become, Sets, Reserves, HasSetRoom}
 use Rattle.tb_undo.proofs.RowsLemmas.{Writes, kept}
 
@@ -39,7 +40,7 @@ module _ {S : Type 0} (m : IndexMap Name Row S) (p : Name) (i : ℕ) (r w : Row)
   pub writes_at : Writes m.entries p w (with_value_at m i w).entries
   writes_at = (updates-with_value_at m i w same_name_equivalence unique p r (entry_at m.entries i p r (key_at (keys_of m.entries) p i place) value)).0
 
-  found : row m.entries p ≡ Some r
+  pub found : row m.entries p ≡ Some r
   found = (Found-position (same_name p) m.entries i place).value ∙ value
 
   -- the parent of t holds for it, or doesn't any longer
@@ -98,6 +99,12 @@ module _ {S : Type 0} (m : IndexMap Name Row S) (p : Name) (i : ℕ) (r w : Row)
       let holders : w.holders ≡ h = ap (λ o. unwrap_or o h) (sym (ap (option_map (λ (x : Row). x.holders)) new) ∙ at_p ∙ g) in
       subst (λ x. HasRoomFor x (items_in (with_value_at m i w).entries (n ∷ p))) holders
       (subst (HasRoomFor w.holders) (sym (ap (λ o. items_at (children_in (option_map seen_row o)) n) new)) room)
+
+  -- and so is the room for a child
+  pub child_room_there : (items : List Item) (deferred : Bool) → HasChildRoom w items deferred → HasChildRoomIn (with_value_at m i w).entries p items deferred
+  child_room_there items deferred room r e =
+      let new = writes_at p ∙ ap (λ b. cond b (Some w) (row m.entries p)) (same_refl p) in
+      subst (λ x. HasChildRoom x items deferred) (ap (λ o. unwrap_or o r) (sym new ∙ e)) room
 
 -- ---- where the parent's row stands
 

@@ -12,6 +12,7 @@ ghost use Rattle.tb_undo.specs.Tasks.{row, seen_row};
 ghost use Rattle.tb_undo.specs.State.{ForUnended};
 ghost use Rattle.tb_undo.specs.Obstacles.{hindrance_by, IsKnown};
 
+use crate::near::get;
 use crate::obstacle::Obstacle;
 use crate::row::Row;
 use crate::tables::Tables;
@@ -25,7 +26,7 @@ impl Tables {
     pub fn in_the_way(&self, name: &TaskName, action: &Action) -> Option<Obstacle<'_>>
         ensures { ForUnended self.now name.now (λ H. in_the_way H name.now action.now ≡ option_map (hindrance_by name.now) result) }
     {
-        let row = self.rows.get(name)?;
+        let row = get(&self.rows, self.near, name)?;
         if let Some(child) = undeferred(&self.waits, name, row) {
             return Some(Obstacle::Undeferred { child });
         }
@@ -58,13 +59,13 @@ impl Tables {
         let Action::Start = action else {
             return false;
         };
-        let Some(own) = self.rows.get(name) else {
+        let Some(own) = get(&self.rows, self.near, name) else {
             return false;
         };
         let Some(n) = name.numbers().first() else {
             return false;
         };
-        let Some(parent) = self.rows.get(&own.parent) else {
+        let Some(parent) = get(&self.rows, own.above, &own.parent) else {
             return false;
         };
         own.steps == 0
@@ -81,7 +82,7 @@ impl Tables {
         ensures { ForUnended self.now name.now (λ H. IsFree H name.now → in_the_way H name.now Start ≡ option_map (hindrance_by name.now) result) }
     {
         let n = *name.numbers().first()?;
-        let parent = self.rows.get(&own.parent)?;
+        let parent = get(&self.rows, own.above, &own.parent)?;
         if let Some(sibling) = next_before(&self.waits, &parent.children, &own.parent, n) {
             return Some(Obstacle::Waiting { sibling });
         }

@@ -7,7 +7,7 @@ use std::alloc::AllocError;
 use tb_model::TaskName;
 
 /// The copies of a child's name, and of its parent's, that the child's spawn hands to the tables.
-/// Those of deep names take memory, so they are made in advance.
+/// Those of deep names may be refused, so they are made in advance.
 #[derive(Drop)]
 pub struct Copies {
     pub key: TaskName,
@@ -26,7 +26,7 @@ impl Copies {
     pub fn of(parent: &TaskName, child: &TaskName) -> Result<Copies, AllocError>
         requires { parent.now ≡ drop 1 child.now }
         ensures copies { IfOk result (λ copies. copies.key ≡ child.now) }
-        ensures short { length child.now ≤ 6 → IsOk result }
+        ensures short { length child.now ≤ 3 → IsOk result }
     {
         Ok(Copies {
             key: child.clone()?,

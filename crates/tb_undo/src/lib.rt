@@ -5,6 +5,7 @@ mod asking;
 mod copies;
 pub mod laws;
 mod made_of;
+mod near;
 mod obstacle;
 mod over;
 mod reading;

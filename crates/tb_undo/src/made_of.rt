@@ -12,10 +12,12 @@ fn name_every_field(tables: &Tables, row: &Row) {
         waits: _,
         marks: _,
         rows: _,
+        near: _,
         copies: _,
     } = tables;
     let Row {
         parent: _,
+        above: _,
         body: _,
         at: _,
         steps: _,

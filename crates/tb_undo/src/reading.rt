@@ -12,6 +12,7 @@ ghost use Rattle.tb_undo.specs.State.{AreLast, task_of, ForState, ForHistory};
 ghost use Rattle.tb_undo.specs.Obstacles.{sibling};
 ghost use Rattle.tb_undo.specs.Readings.{standing_of, IsNthOf, IsNextChild, IsUnendedBehind};
 
+use crate::near::get;
 use crate::row::Row;
 use crate::standing::Standing;
 use crate::tables::Tables;
@@ -22,7 +23,7 @@ impl Tables {
     pub fn is_there(&self, name: &TaskName) -> bool
         ensures { ForState self.now (λ first root_line D. result ≡ is_spawned (events_of D) name.now) }
     {
-        self.rows.get(name).is_some()
+        get(&self.rows, self.near, name).is_some()
     }
 
     /// Whether the task is over.
@@ -45,7 +46,7 @@ impl Tables {
     pub fn standing(&self, name: &TaskName) -> Option<Standing>
         ensures { ForState self.now (λ first root_line D. result ≡ option_map standing_of (task_of root_line D name.now)) }
     {
-        let row = self.rows.get(name)?;
+        let row = get(&self.rows, self.near, name)?;
         Some(Standing {
             body: row.body,
             at: row.at,
@@ -135,8 +136,8 @@ impl Tables {
         ensures none { result ≡ None → ForHistory self.now (λ H. items_of name.now H ≡ []) }
     {
         let n = *name.numbers().first()?;
-        let row = self.rows.get(name)?;
-        let parent = self.rows.get(&row.parent)?;
+        let row = get(&self.rows, self.near, name)?;
+        let parent = get(&self.rows, row.above, &row.parent)?;
         Some((n, parent))
     }
 }

@@ -15,6 +15,8 @@ use tb_model::{Action, Item, TaskName};
 #[derive(Drop)]
 pub struct Row {
     pub parent: TaskName,
+    // where the parent's row is looked for first
+    pub above: usize,
     pub body: u32,
     pub at: u32,
     pub steps: u32,
@@ -26,8 +28,16 @@ pub struct Row {
 }
 
 impl Row {
-    /// A task that the parent just generated, with its own name beside it.
-    pub fn new(alloc: Global, name: TaskName, parent: TaskName, body: u32, args: &[i64]) -> Row
+    /// A task that the parent just generated, whose row may stand at `above`, with its own name beside
+    /// it.
+    pub fn new(
+        alloc: Global,
+        name: TaskName,
+        parent: TaskName,
+        above: usize,
+        body: u32,
+        args: &[i64],
+    ) -> Row
         requires { length args.now ≤ 16 }
         ensures task { seen_row result ≡ fresh_task parent body args.now }
         ensures name { result.holders.parent ≡ name }
@@ -35,6 +45,7 @@ impl Row {
     {
         Row {
             parent,
+            above,
             body,
             at: body,
             steps: 0,

@@ -11,6 +11,7 @@ ghost use Rattle.tb_undo.specs.Steps.{IsAhead, IsBehind, IsRecord, Stands, IsWit
 ghost use Rattle.tb_undo.specs.Changes.{IsRest, Changed, ChangedBack, Acted, ActedBack, AreSame, HasRoomFor, HasSpawnRoom, CanChange, CanChangeBack, replaced_in, cell_over, IsCell, cells_by, output_by, cells_back, output_back};
 
 use crate::copies::Copies;
+use crate::near::find;
 use crate::row::Row;
 use crate::rows;
 use indexmap::IndexMap;
@@ -30,6 +31,8 @@ pub struct Tables {
     pub(crate) waits: Wait,
     pub(crate) marks: Ready,
     pub(crate) rows: IndexMap<TaskName, Row>,
+    // where the row of the task that took the last step is, so looked for first
+    pub(crate) near: usize,
     pub(crate) copies: Option<Copies>,
 }
 
@@ -56,6 +59,7 @@ impl Tables {
             waits: Wait::open(alloc)?,
             marks: root_mark(alloc)?,
             rows: rows::root_row(alloc, root_line)?,
+            near: 0,
             copies: None,
         })
     }
@@ -104,6 +108,26 @@ impl Tables {
         self.change_back(event, replaced)
     }
 
+    /// Turns to the task, which takes a step: its row, and what is kept of it beside, are looked for
+    /// where they are.
+    fn turn_to(&mut self, name: &TaskName)
+        ensures { self.new ≡ self.old }
+    {
+        if let Some(at) = find(&self.rows, self.near, name) {
+            self.turn_to_place(at, name);
+        }
+    }
+
+    /// The same, where the place of its row is known.
+    fn turn_to_place(&mut self, at: usize, name: &TaskName)
+        ensures { self.new ≡ self.old }
+    {
+        if at != self.near {
+            self.near = at;
+            self.waits.turn_to(name);
+        }
+    }
+
     /// Makes the room for the spawn of a child.
     fn reserve_spawn(
         &mut self,
@@ -117,6 +141,7 @@ impl Tables {
         ensures ok { OnOk result (HasSpawnRoom self.new parent.now child.now items.now deferred) }
         ensures succeeds { HasSpawnRoom self.old parent.now child.now items.now deferred → IsOk result }
     {
+        self.turn_to(parent);
         self.reserve_copies(parent, child)?;
         self.reserve_row(parent, items, deferred)?;
         self.waits.reserve_spawned(parent, child)?;
@@ -138,7 +163,7 @@ impl Tables {
         ensures succeeds { 0 < self.old.row_room →
             HasChildRoomIn self.old.rows parent.now items.now deferred → IsOk result }
     {
-        rows::reserve_row(&mut self.rows, parent, items, deferred)
+        rows::reserve_row(&mut self.rows, self.near, parent, items, deferred)
     }
 
     /// Makes the room for what a start takes.
@@ -148,7 +173,8 @@ impl Tables {
         ensures ok { OnOk result (HasSetRoom self.new.rows name.now) }
         ensures succeeds { HasSetRoom self.old.rows name.now → IsOk result }
     {
-        rows::reserve_hold(&mut self.rows, name)
+        self.turn_to(name);
+        rows::reserve_hold(&mut self.rows, self.near, name)
     }
 
     /// Whether this child's names were copied.
@@ -183,19 +209,21 @@ impl Tables {
         ensures replaced { (k : Task) → task self.old.rows event.now.task ≡ Some k →
             result ≡ replaced_in event.now.action self.old.store.cells k }
     {
-        let name = &event.task;
-        let (over, at) = self.stood(name, &event.action);
         self.act(event);
         let number = self.write(&event.action);
-        let replaced = Replaced {
+        let (place, over, at) = rows::advance(
+            &mut self.rows,
+            self.near,
+            &event.task,
+            &event.action,
+            to,
+        );
+        self.turn_to_place(place, &event.task);
+        Replaced {
             number: number.or(over),
             reg: register(&event.action),
             at,
-        };
-        if let Some(row) = self.rows.get_mut(name) {
-            row.advance(&event.action, to);
         }
-        replaced
     }
 
     /// What the event changes for other tasks.
@@ -217,18 +245,6 @@ impl Tables {
             Action::Close => self.waits.closed(name),
             Action::End | Action::Fault => self.end(name),
             _ => {}
-        }
-    }
-
-    /// The register's number that the action writes over, and where the task stands.
-    fn stood(&self, name: &TaskName, action: &Action) -> (Option<i64>, u32)
-        requires { IsRegister action.now }
-        ensures { (k : Task) → task self.now.rows name.now ≡ Some k →
-            (result.0 ≡ register_over action.now k.regs) × (result.1 ≡ k.at) }
-    {
-        match self.rows.get(name) {
-            Some(row) => (row.over(action), row.at),
-            None => (None, 0),
         }
     }
 
@@ -276,7 +292,7 @@ impl Tables {
         self.waits.spawned(parent, of_waits).unwrap();
         self.marks.add(of_marks).unwrap();
         self.marks.mark(child, true);
-        let row = Row::new(self.alloc, of_holders, its_parent, body, args);
+        let row = Row::new(self.alloc, of_holders, its_parent, self.near, body, args);
         rows::add(&mut self.rows, key, row);
     }
 
@@ -289,7 +305,7 @@ impl Tables {
         ensures marks { self.new.marks ≡ self.old.marks }
         ensures rows { Sets self.old.rows name.now (if held then number_of name.now else None) self.new.rows }
     {
-        rows::hold(&mut self.rows, name, held);
+        rows::hold(&mut self.rows, self.near, name, held);
     }
 
     /// A task is over.
@@ -302,7 +318,7 @@ impl Tables {
     {
         self.waits.ended(name);
         self.marks.mark(name, false);
-        rows::hold(&mut self.rows, name, false);
+        rows::hold(&mut self.rows, self.near, name, false);
     }
 
     /// Takes the event back on all tables, by what it replaced.
@@ -310,11 +326,16 @@ impl Tables {
         requires { CanChangeBack self.old event.now }
         ensures { ChangedBack event.now replaced self.old self.new }
     {
+        self.turn_to(&event.task);
         self.act_back(event);
         self.write_back(&event.action, replaced);
-        if let Some(row) = self.rows.get_mut(&event.task) {
-            row.retreat(&event.action, replaced.number, replaced.at);
-        }
+        rows::retreat(
+            &mut self.rows,
+            self.near,
+            &event.task,
+            &event.action,
+            replaced,
+        );
     }
 
     /// What was stored or printed is taken back.
@@ -371,7 +392,7 @@ impl Tables {
     {
         self.waits.unended(name);
         self.marks.mark(name, true);
-        rows::hold(&mut self.rows, name, true);
+        rows::hold(&mut self.rows, self.near, name, true);
     }
 }
 

@@ -1,3 +1,4 @@
+pub mod NearLemmas
 pub mod NumbersLemmas
 pub mod TreeLemmas
 pub mod RowLemmas

@@ -7,7 +7,8 @@ use Rattle.tb_model.specs.Names.{Name, same_name}
 use Rattle.tb_model.proofs.TestLemmas.{same_true, same_refl}
 use Rattle.tb_wait.specs.Kin.{Kin, Slot, slot, kin, kin_in, is_known, Changes, KeepsRoom, KeepsNames, IsRoomIn, with_children, is_none}
 use Rattle.tb_wait.specs.Rows.{blank, key, slot_at, is_pending, children_of, ChangesSlot, SetsStanding, Fits}
-use Rattle.tb_wait.specs.Tree.{Nodes, node, IsTree, IsPlace, SameLinks}
+use Rattle.tb_wait.specs.Tree.{Nodes, node, IsPlace, SameLinks, SameButRoom}
+use Rattle.tb_wait.proofs.TreeLemmas.{linked_same, linked_room}
 
 pub shown : (slots : List Slot) (i : ℕ) (s : Slot) → i < length slots → s ≡ get_or slots i s → s ≡ slot_at slots i
 shown slots i s l e = e ∙ get_or_default slots i s blank l
@@ -134,11 +135,11 @@ pub record IsLike (s r : Slot) : Type 0 where
   pub child_room : r.child_room ≡ s.child_room
 
 pub fits_change : (names : List Name) (old new : List Slot) (nodes after : Nodes) (at : ℕ) (s : Slot) → Fits names old nodes → ChangesSlot old at s new → IsLike (slot_at old at) s
-    → IsTree after → SameLinks nodes after → ((i : ℕ) → (node after i).pending ≡ is_pending (slot_at new i).kin) → Fits names new after
-fits_change names old new nodes after at s f c k tree links pending = record {
+    → SameLinks nodes after → ((i : ℕ) → (node after i).pending ≡ is_pending (slot_at new i).kin) → Fits names new after
+fits_change names old new nodes after at s f c k links pending = record {
   slots_len = c.len ∙ f.slots_len;
   nodes_len = links.len ∙ f.nodes_len;
-  tree = tree;
+  linked = linked_same nodes after links f.linked;
   root = f.root;
   child = λ j n i p. f.child j n i (back j n i p);
   distinct = f.distinct;
@@ -237,3 +238,33 @@ is_none_reverse xs = by (reverse xs) (length-reverse xs)
     by : (ys : List ℕ) → length ys ≡ length xs → is_none ys ≡ eqb (length xs) 0
     by [] e = sym (eq-eqb (length xs) 0 (sym e))
     by (y ∷ ys) e = sym (ne_eqb (length xs) 0 (λ z. omega (arith, e, z)))
+
+-- a node got room for more children, and its row tells of one
+module _ (names : List Name) (old new : List Slot) (nodes after : Nodes) (f : Fits names old nodes) (r : SameButRoom nodes after) where
+  pub fits_room : length new ≡ length old → ((i : ℕ) → (slot_at new i).kin ≡ (slot_at old i).kin) → ((i : ℕ) → (slot_at new i).child_room ≤ (node after i).room) → Fits names new after
+  fits_room len kins rooms = record {
+    slots_len = len ∙ f.slots_len;
+    nodes_len = r.len ∙ f.nodes_len;
+    linked = linked_room nodes after r f.linked;
+    root = f.root;
+    child = λ j k i p. f.child j k i (back j k i p);
+    distinct = f.distinct;
+    pending = λ i. ap (λ n. n.pending) (r.same i) ∙ f.pending i ∙ ap is_pending (sym (kins i));
+    standing = λ j k i p. ap is_some (kins i) ∙ f.standing j k i (back j k i p) ∙ ap (λ o. nat_lt k (children_of o)) (sym (kins j));
+    enough = λ j. omega (arith, f.enough j, ap children_of (kins j), ap (λ n. length n.places) (r.same j));
+    rooms = rooms;
+  }
+    where
+      back : (j k i : ℕ) → IsPlace after j k i → IsPlace nodes j k i
+      back j k i p = sym (ap (λ n. slice_get n.places k) (r.same j)) ∙ p
+
+  pub fits_reserved : (at : ℕ) → ChangesSlot old at (record (slot_at old at) { child_room = 1 }) new → 0 < (node after at).room → Fits names new after
+  fits_reserved at c more = fits_room c.len (λ i. kins i (i == at) refl) (λ i. rooms i (i == at) refl)
+    where
+      kins : (i : ℕ) (b : Bool) → (i == at) ≡ b → (slot_at new i).kin ≡ (slot_at old i).kin
+      kins i true e = let is = eqb-true i at e in ap (λ x. (slot_at new x).kin) is ∙ ap (λ s. s.kin) c.here ∙ ap (λ x. (slot_at old x).kin) (sym is)
+      kins i false e = ap (λ s. s.kin) (c.others i (λ y. false≢true (sym e ∙ eq-eqb i at y)))
+
+      rooms : (i : ℕ) (b : Bool) → (i == at) ≡ b → (slot_at new i).child_room ≤ (node after i).room
+      rooms i true e = subst (λ x. (slot_at new x).child_room ≤ (node after x).room) (sym (eqb-true i at e)) (omega (arith, ap (λ s. s.child_room) c.here, more))
+      rooms i false e = omega (arith, ap (λ s. s.child_room) (c.others i (λ y. false≢true (sym e ∙ eq-eqb i at y))), f.rooms i, r.keeps i)

@@ -11,7 +11,7 @@ use Rattle.tb_model.proofs.OrderLemmas.{at_most_below, at_most_later}
 use Rattle.tb_wait.specs.Numbers.{has, is_empty, IsNextAbove}
 use Rattle.tb_wait.specs.Kin.{Kin, Slot, Table, slot, kin, kin_in, IsUnended, IsUnendedChild, IsNextUnended, IsUnendedMember, first_of}
 use Rattle.tb_wait.specs.Rows.{key, slot_at, is_pending, groups_of, Fits, IsFirstWithin}
-use Rattle.tb_wait.specs.Tree.{Node, Nodes, node, is_live, is_own, IsPlace, IsTree, IsFirstPlace}
+use Rattle.tb_wait.specs.Tree.{Node, Nodes, node, is_live, is_own, IsPlace, IsTree, KnowsLiveBut, IsFirstPlace, IsNextNumber}
 use Rattle.tb_wait.proofs.RowLemmas.{slot_of_key, key_of_slot, no_slot}
 use Rattle.tb_wait.proofs.WaitLemmas.{at_key, none_any}
 
@@ -82,9 +82,9 @@ module _ (names : List Name) (slots : List Slot) (nodes : Nodes) (f : Fits names
       by : (i : ℕ) → j ≡ i → Above j t n
       by zero z = let clash : n ∷ t ≡ [] = sym e ∙ ap (key names) z ∙ f.root in cc
       by (suc i) z =
-          let up = f.tree.linked.up j (omega (arith, z)) (omega (arith, w, f.nodes_len)) in
+          let up = f.linked.up j (omega (arith, z)) (omega (arith, w, f.nodes_len)) in
           let is = sym (f.child (node nodes j).owner up.0 j up.2) ∙ e in
-          let b = f.tree.linked.before (node nodes j).owner up.0 j up.2 in
+          let b = f.linked.before (node nodes j).owner up.0 j up.2 in
           record { parent = (node nodes j).owner; place = up.0; is_place = up.2; named = tail_is is; numbered = head_is is; within = omega (arith, b, w) }
 
   -- each ancestor of a name that is there is there
@@ -97,15 +97,15 @@ module _ (names : List Name) (slots : List Slot) (nodes : Nodes) (f : Fits names
   not_empty (x ∷ xs) n h = refl
 
   child_not_first : (j k i : ℕ) → IsPlace nodes j k i → i ≢ 0
-  child_not_first j k i p z = let b = f.tree.linked.before j k i p in absurd (omega (arith, b, z))
+  child_not_first j k i p z = let b = f.linked.before j k i p in absurd (omega (arith, b, z))
 
   -- what is live makes all above it live
-  pub live_above : (x : Name) (j i : ℕ) → j < length names → i < length names → key names j ≡ x ++ key names i → is_live (node nodes j) ≡ true → is_live (node nodes i) ≡ true
-  live_above [] j i w v e h = subst (λ k. is_live (node nodes k) ≡ true) (f.distinct j i w v e) h
-  live_above (m ∷ x) j i w v e h =
+  pub live_above : KnowsLiveBut nodes 0 → (x : Name) (j i : ℕ) → j < length names → i < length names → key names j ≡ x ++ key names i → is_live (node nodes j) ≡ true → is_live (node nodes i) ≡ true
+  live_above knows [] j i w v e h = subst (λ k. is_live (node nodes k) ≡ true) (f.distinct j i w v e) h
+  live_above knows (m ∷ x) j i w v e h =
       let a = above j (x ++ key names i) m w e in
-      let known = f.tree.live a.parent a.place j a.is_place (child_not_first a.parent a.place j a.is_place) ∙ h in
-      live_above x a.parent i a.within v a.named (or_right (node nodes a.parent).pending _ (not_empty (node nodes a.parent).live (suc a.place) known))
+      let known = knows a.parent a.place j a.is_place (child_not_first a.parent a.place j a.is_place) ∙ h in
+      live_above knows x a.parent i a.within v a.named (or_right (node nodes a.parent).pending _ (not_empty (node nodes a.parent).live (suc a.place) known))
 
   -- below a task, but not itself: within one of its children
   pub record Through (at j n : ℕ) : Type 0 where
@@ -117,8 +117,8 @@ module _ (names : List Name) (slots : List Slot) (nodes : Nodes) (f : Fits names
     pub live : is_live (node nodes child) ≡ true
     pub numbered : suc number ≡ n
 
-  pub through_child : (at j n : ℕ) (y : Name) → at < length names → j < length names → key names j ≡ y ++ n ∷ key names at → is_live (node nodes j) ≡ true → Through at j n
-  through_child at j n y v w e h =
+  pub through_child : KnowsLiveBut nodes 0 → (at j n : ℕ) (y : Name) → at < length names → j < length names → key names j ≡ y ++ n ∷ key names at → is_live (node nodes j) ≡ true → Through at j n
+  through_child knows at j n y v w e h =
       let c = ancestor y (n ∷ key names at) j w e in
       let a = above c.0 (key names at) n c.1 c.2 in
       let same : a.parent ≡ at = f.distinct a.parent at a.within v a.named in
@@ -128,7 +128,7 @@ module _ (names : List Name) (slots : List Slot) (nodes : Nodes) (f : Fits names
         is_place = subst (λ x. IsPlace nodes x a.place c.0) same a.is_place;
         way = y;
         below = e ∙ ap (λ s. y ++ s) (sym c.2);
-        live = live_above y j c.0 w c.1 (e ∙ ap (λ s. y ++ s) (sym c.2)) h;
+        live = live_above knows y j c.0 w c.1 (e ∙ ap (λ s. y ++ s) (sym c.2)) h;
         numbered = a.numbered;
       }
 
@@ -140,8 +140,8 @@ module _ (names : List Name) (slots : List Slot) (nodes : Nodes) (f : Fits names
   split_at : (y : Name) (n : ℕ) (t : Name) → (y ++ n ∷ []) ++ t ≡ y ++ n ∷ t
   split_at y n t = append_assoc y (n ∷ []) t
 
-  pub so_far_step : (start at c : ℕ) → at < length names → (node nodes at).pending ≡ false → (o : Option ℕ) → IsFirstPlace nodes at 0 is_live o → o ≡ Some c → IsSoFar start at → IsSoFar start c
-  so_far_step start at c v own o first e h j x w b p = ⊎_elim within behind (h j x w b p)
+  pub so_far_step : KnowsLiveBut nodes 0 → (start at c : ℕ) → at < length names → (node nodes at).pending ≡ false → (o : Option ℕ) → IsFirstPlace nodes at 0 is_live o → o ≡ Some c → IsSoFar start at → IsSoFar start c
+  so_far_step knows start at c v own o first e h j x w b p = ⊎_elim within behind (h j x w b p)
     where
       it : (k : ℕ) × (0 ≤ k) × IsPlace nodes at k c × (is_live (node nodes c) ≡ true)
       it = first.found c e
@@ -177,7 +177,7 @@ module _ (names : List Name) (slots : List Slot) (nodes : Nodes) (f : Fits names
       within g = ⊎_elim
           (λ none. let same : j ≡ at = f.distinct j at w v (g.1 ∙ ap (λ y. y ++ key names at) none) in
           absurd (false≢true (sym own ∙ ap (λ i. (node nodes i).pending) (sym same) ∙ p)))
-          (λ some. through some.1 (through_child at j some.1 some.0 v w (g.1 ∙ ap (λ y. y ++ key names at) some.2 ∙ split_at some.0 some.1 (key names at)) (or_left (node nodes j).pending _ p)))
+          (λ some. through some.1 (through_child knows at j some.1 some.0 v w (g.1 ∙ ap (λ y. y ++ key names at) some.2 ∙ split_at some.0 some.1 (key names at)) (or_left (node nodes j).pending _ p)))
           (from_child g.0)
 
   pub so_far_begins : (start : ℕ) → IsSoFar start start
@@ -231,6 +231,26 @@ pub no_unended : (nodes : Nodes) (at low : ℕ) (m : Node) → IsTree nodes → 
 no_unended nodes at low m tree e a =
     first_of_none nodes at low is_own (node nodes at).unended (λ k i q. tree.unended at k i q (no_root nodes at tree k i q)) (tree.children.unended at)
     (subst (λ x. IsNextAbove x.unended low None) e a)
+
+pub next_number : (nodes : Nodes) (at low : ℕ) (m : Node) (o : Option ℕ) → IsTree nodes → m ≡ node nodes at → IsNextAbove m.unended low o → IsNextNumber nodes at low is_own o
+next_number nodes at low m o tree e b = record {
+  found = λ n g.
+      let it = a.found n g in
+      let range = tree.children.unended at n it.1 in
+      let there = slice_get-within (node nodes at).places (n - 1) (omega (arith, range.0, range.1)) in
+      let number : suc (n - 1) ≡ n = omega (arith, range.0) in (
+        n - 1,
+        there.0,
+        sym number,
+        omega (arith, it.0),
+        there.1,
+        sym (tree.unended at (n - 1) there.0 there.1 (no_root nodes at tree (n - 1) there.0 there.1)) ∙ ap (has (node nodes at).unended) number ∙ it.1,
+      );
+  least = λ k i l p t. a.least (suc k) (omega (arith, l)) (tree.unended at k i p (no_root nodes at tree k i p) ∙ t);
+}
+  where
+    a : IsNextAbove (node nodes at).unended low o
+    a = subst (λ x. IsNextAbove x.unended low o) e b
 
 -- one step down
 pub below_step : (names : List Name) (slots : List Slot) (nodes : Nodes) (f : Fits names slots nodes) (start at c : ℕ) (o : Option ℕ) → IsFirstPlace nodes at 0 is_live o → o ≡ Some c
@@ -295,7 +315,7 @@ module _ (table : Table) (names : List Name) (slots : List Slot) (nodes : Nodes)
 
   module _ (t : Name) (at : ℕ) (w : at < length names) (named : key names at ≡ t) where
     place_in : (k i : ℕ) → IsPlace nodes at k i → i < length names
-    place_in k i p = omega (arith, f.tree.linked.within at k i p, f.nodes_len)
+    place_in k i p = omega (arith, f.linked.within at k i p, f.nodes_len)
 
     place_name : (k i : ℕ) → IsPlace nodes at k i → key names i ≡ suc k ∷ t
     place_name k i p = f.child at k i p ∙ ap (λ s. suc k ∷ s) named
@@ -339,20 +359,15 @@ module _ (table : Table) (names : List Name) (slots : List Slot) (nodes : Nodes)
           let l = first.least s.0 s.1 (omega arith) s.3 s.4 in cc;
     }
 
-    pub next_child : (low : ℕ) (o : Option ℕ) → IsNextAbove (node nodes at).unended low o → IsNextUnended table.tasks t low o
+    pub next_child : (low : ℕ) (o : Option ℕ) → IsNextNumber nodes at low is_own o → IsNextUnended table.tasks t low o
     next_child low o a = record {
-      found = λ n e. let it = a.found n e in (it.0, (same_refl t, stands_at n it.1));
-      least = λ n l h. let s = child_at (n ∷ t) n refl h.1 in
-          a.least n l (ap (has (node nodes at).unended) (sym s.2) ∙ f.tree.unended at s.0 s.1 s.3 (no_root nodes at f.tree s.0 s.1 s.3) ∙ s.4);
+      found = λ n e. let it = a.found n e in
+          (omega (arith, it.2, it.3), (same_refl t, subst (IsUnended table.tasks) (place_name it.0 it.1 it.4 ∙ ap (λ m. m ∷ t) (sym it.2)) (unended it.1 (place_in it.0 it.1 it.4) it.5)));
+      least = λ n l h.
+          let s = child_at (n ∷ t) n refl h.1 in
+          let m = a.least s.0 s.1 (omega (arith, l, s.2)) s.3 s.4 in
+          (m.0, m.1, omega (arith, m.2, s.2));
     }
-      where
-        stands_at : (n : ℕ) → has (node nodes at).unended n ≡ true → IsUnended table.tasks (n ∷ t)
-        stands_at n h =
-            let range = f.tree.children.unended at n h in
-            let there = slice_get-within (node nodes at).places (n - 1) (omega (arith, range.0, range.1)) in
-            let number : suc (n - 1) ≡ n = omega (arith, range.0) in
-            let own = sym (f.tree.unended at (n - 1) there.0 there.1 (no_root nodes at f.tree (n - 1) there.0 there.1)) ∙ ap (has (node nodes at).unended) number ∙ h in
-            subst (IsUnended table.tasks) (place_name (n - 1) there.0 there.1 ∙ ap (λ k. k ∷ t) number) (unended there.0 (place_in (n - 1) there.0 there.1) own)
 
     -- ---- members of the innermost open group
 
@@ -365,7 +380,7 @@ module _ (table : Table) (names : List Name) (slots : List Slot) (nodes : Nodes)
     pub member_no_group : first_of (groups_of (slot_at slots at).kin) ≡ None → IsLeastName (IsUnendedMember table.tasks t) None
     member_no_group e = record { found = λ u g. cc; least = λ u h. let is = group_here u h in let clash : None ≡ Some h.1 = sym e ∙ is in cc }
 
-    module _ (g : ℕ) (is_group : first_of (groups_of (slot_at slots at).kin) ≡ Some g) where
+    module _ (g : ℕ) (is_group : first_of (groups_of (slot_at slots at).kin) ≡ Some g) (knows : KnowsLiveBut nodes 0) where
       -- a member that stands and isn't over is within a child of t with a number above the group's
       record Member (m : Name) : Type 0 where
         index : ℕ
@@ -388,7 +403,7 @@ module _ (table : Table) (names : List Name) (slots : List Slot) (nodes : Nodes)
             pending = s.pending;
             number = l.1;
             after = omega (arith, l.2, same);
-            through = through_child names slots nodes f at s.index l.1 l.0 w s.within (s.named ∙ l.3 ∙ ap (λ y. l.0 ++ l.1 ∷ y) (sym named)) (or_left (node nodes s.index).pending _ s.pending);
+            through = through_child names slots nodes f knows at s.index l.1 l.0 w s.within (s.named ∙ l.3 ∙ ap (λ y. l.0 ++ l.1 ∷ y) (sym named)) (or_left (node nodes s.index).pending _ s.pending);
           }
 
       pub member_none : IsFirstPlace nodes at g is_live None → IsLeastName (IsUnendedMember table.tasks t) None

@@ -1,18 +1,18 @@
 -- A child that comes to stand, or stands no longer, by name.
-use Rattle.std.proofs.Common.{◌≡◌, ◌≢◌, ℕ, zero, suc, ◌+◌, ◌-◌, ◌<◌, ◌≤◌, List, [], ◌∷◌, ◌++◌, Bool, true, false, not, cond, ◌&&◌, ◌==◌, nat_lt, Option, Some, None, is_some, option_map, length, slice_get, get_or, refl, sym, ap, ap₂, ◌∙◌, subst, arith, eqb-true, eq-eqb, length-append, ◌⊎◌, inl, inr, ⊎_elim, Result, Ok, Err, OnOk, IfOk}
+use Rattle.std.proofs.Common.{◌≡◌, ◌≢◌, ℕ, zero, suc, ◌+◌, ◌-◌, ◌<◌, ◌≤◌, List, [], ◌∷◌, ◌++◌, Bool, true, false, not, cond, ◌&&◌, ◌==◌, nat_lt, Option, Some, None, is_some, IsTrue, ◌↔◌, option_map, length, slice_get, get_or, refl, sym, ap, ap₂, ◌∙◌, subst, arith, eqb-true, eq-eqb, length-append, ◌⊎◌, inl, inr, ⊎_elim, Result, Ok, Err, OnOk, IfOk}
 use Rattle.std.specs.List.{zip, position, list_any}
 use Rattle.std.proofs.lemmas.Bool.{false≢true}
 use Rattle.std.proofs.lemmas.Bool.Decides.{nat_tests}
-use Rattle.std.proofs.lemmas.Option.{slice_get_within}
+use Rattle.std.proofs.lemmas.Option.{slice_get_within, slice_get-get_or}
 use Rattle.std.proofs.Math.ListN.{get_or-eq_default}
-use Rattle.tb_model.specs.Names.{Name, same_name}
+use Rattle.tb_model.specs.Names.{Name, same_name, is_child}
 use Rattle.tb_model.proofs.TestLemmas.{same_true}
 use Rattle.tb_wait.specs.Kin.{Kin, Slot, Tasks, Table, slot, kin, kin_in, is_known, Adds, Drops, IsNext, IsLast, IsSame, KeepsRoom, KeepsNames, with_children, one_more, one_less, fresh, is_fresh, is_none}
 use Rattle.tb_wait.specs.Rows.{blank, key, slot_at, is_pending, children_of, ChangesSlot, SetsStanding, Fits}
-use Rattle.tb_wait.specs.Tree.{Nodes, node, leaf, IsPlace, IsTree, SetsPending, AddsNode}
-use Rattle.tb_wait.proofs.RowLemmas.{slot_of_key, key_of_slot, two_kins, two_rooms, same_names}
+use Rattle.tb_wait.specs.Tree.{Nodes, node, leaf, IsPlace, SetsPending, AddsNode}
+use Rattle.tb_wait.proofs.RowLemmas.{IsAt, slot_of_key, key_of_slot, two_kins, two_rooms, same_names}
 use Rattle.tb_wait.proofs.WaitLemmas.{at_key, here_slot, fits_standing, known_any}
-use Rattle.tb_wait.proofs.TreeLemmas.{place_either}
+use Rattle.tb_wait.proofs.TreeLemmas.{place_either, add_linked}
 
 head_is : {m n : ℕ} {s t : Name} → m ∷ s ≡ n ∷ t → m ≡ n
 head_is e = cc
@@ -39,22 +39,22 @@ module _ (before : Table) (names : List Name) (old : List Slot) (nodes : Nodes) 
 
   owner_name : key names (node nodes at).owner ≡ p
   owner_name =
-      let up = f.tree.linked.up at not_first in_nodes in
+      let up = f.linked.up at not_first in_nodes in
       tail_is (sym (f.child (node nodes at).owner up.0 at up.2) ∙ named ∙ child)
 
   pub number_is : (node nodes at).number ≡ suc n
   number_is =
-      let up = f.tree.linked.up at not_first in_nodes in
+      let up = f.linked.up at not_first in_nodes in
       up.1 ∙ head_is (sym (f.child (node nodes at).owner up.0 at up.2) ∙ named ∙ child)
 
   pub child_place : IsPlace nodes (node nodes at).owner n at
   child_place =
-      let up = f.tree.linked.up at not_first in_nodes in
+      let up = f.linked.up at not_first in_nodes in
       let same : up.0 ≡ n = omega (arith, sym up.1 ∙ number_is) in
       subst (λ k. IsPlace nodes (node nodes at).owner k at) same up.2
 
   pub owner_below : (node nodes at).owner < at
-  owner_below = f.tree.linked.before (node nodes at).owner n at child_place
+  owner_below = f.linked.before (node nodes at).owner n at child_place
 
   owner_in : (node nodes at).owner < length names
   owner_in = omega (arith, owner_below, within)
@@ -117,11 +117,11 @@ module _ (before : Table) (names : List Name) (old : List Slot) (nodes : Nodes) 
       pub adds_names : KeepsNames before.tasks (zip names new)
       adds_names = subst (λ x. KeepsNames x.tasks (zip names new)) v (same_names names old new f.distinct f.slots_len (s.len ∙ f.slots_len))
 
-      pub adds_fits : (after : Nodes) → k ≡ Some fresh → children ≡ suc n → parent.children ≡ n → IsTree after → SetsPending nodes at true after → Fits names new after
-      adds_fits after e m q tree sets =
+      pub adds_fits : (after : Nodes) → k ≡ Some fresh → children ≡ suc n → parent.children ≡ n → SetsPending nodes at true after → Fits names new after
+      adds_fits after e m q sets =
           fits_standing names old new nodes after f at (node nodes at).owner n k children child_place s true (ap is_some e) (ap is_pending e) (ap children_of e)
           (ap children_of (next_is_absent q)) parent (owner_kin ∙ is_parent)
-          (record { one = grind (arith, nat_tests, m); others = λ x d. other x d }) (omega (arith, m, in_places)) tree sets
+          (record { one = grind (arith, nat_tests, m); others = λ x d. other x d }) (omega (arith, m, in_places)) sets
         where
           other : (x : ℕ) → x ≢ n → nat_lt x children ≡ nat_lt x parent.children
           other x d = by (nat_lt x n) refl
@@ -134,11 +134,11 @@ module _ (before : Table) (names : List Name) (old : List Slot) (nodes : Nodes) 
                   over true g = grind (arith, nat_tests)
                   over false g = absurd (d (grind (arith, nat_tests)))
 
-      pub drops_fits : (after : Nodes) → k ≡ None → children ≡ n → parent.children ≡ suc n → kin before.tasks c ≡ Some fresh → IsTree after → SetsPending nodes at false after → Fits names new after
-      drops_fits after e m q h tree sets =
+      pub drops_fits : (after : Nodes) → k ≡ None → children ≡ n → parent.children ≡ suc n → kin before.tasks c ≡ Some fresh → SetsPending nodes at false after → Fits names new after
+      drops_fits after e m q h sets =
           fits_standing names old new nodes after f at (node nodes at).owner n k children child_place s false (ap is_some e) (ap is_pending e) (ap children_of e)
           (ap children_of (child_kin ∙ h)) parent (owner_kin ∙ is_parent)
-          (record { one = grind (arith, nat_tests, m); others = λ x d. other x d }) (omega (arith, m, in_places)) tree sets
+          (record { one = grind (arith, nat_tests, m); others = λ x d. other x d }) (omega (arith, m, in_places)) sets
         where
           other : (x : ℕ) → x ≢ n → nat_lt x children ≡ nat_lt x parent.children
           other x d = by (nat_lt x n) refl
@@ -190,7 +190,7 @@ module _ (names : List Name) (old : List Slot) (nodes : Nodes) (f : Fits names o
           past (x ∷ xs) zero l e = cc
           past (x ∷ xs) (suc k) l e = past xs k (omega (arith, l)) e
       found (Some i) e l =
-          nowhere i (omega (arith, f.tree.linked.within owner parent.children i e, f.nodes_len)) (f.child owner parent.children i e ∙ ap (λ x. suc parent.children ∷ x) named ∙ sym child)
+          nowhere i (omega (arith, f.linked.within owner parent.children i e, f.nodes_len)) (f.child owner parent.children i e ∙ ap (λ x. suc parent.children ∷ x) named ∙ sym child)
 
       by : (b : Bool) → nat_lt parent.children (length (node nodes owner).places) ≡ b → parent.children ≡ length (node nodes owner).places
       by true e = absurd (found (slice_get (node nodes owner).places parent.children) refl (grind (arith, nat_tests)))
@@ -200,7 +200,7 @@ module _ (names : List Name) (old : List Slot) (nodes : Nodes) (f : Fits names o
   next_number number e = e ∙ ap suc all_stand
 
   module _ (mid : List Slot) (after : Nodes) (room : ℕ) (m : ChangesSlot old owner (record (slot_at old owner) { child_room = room - 1 }) mid) (was_room : room ≡ (slot_at old owner).child_room)
-      (tree : IsTree after) (a : AddsNode nodes owner after) where
+      (a : AddsNode nodes owner after) where
     abbrev names' : List Name
     names' = names ++ c ∷ []
 
@@ -258,13 +258,13 @@ module _ (names : List Name) (old : List Slot) (nodes : Nodes) (f : Fits names o
     PlaceOf j k i = IsPlace nodes j k i ⊎ ((j ≡ owner) × (k ≡ length (node nodes owner).places) × (i ≡ length nodes))
 
     either : (j k i : ℕ) → IsPlace after j k i → PlaceOf j k i
-    either j k i q = place_either nodes after owner f.tree owner_node a j k i q
+    either j k i q = place_either nodes after owner f.linked owner_node a j k i q
 
     parent_in : (j k i : ℕ) → IsPlace nodes j k i → j < length names
-    parent_in j k i q = omega (arith, f.tree.linked.before j k i q, f.tree.linked.within j k i q, f.nodes_len)
+    parent_in j k i q = omega (arith, f.linked.before j k i q, f.linked.within j k i q, f.nodes_len)
 
     child_in : (j k i : ℕ) → IsPlace nodes j k i → i < length names
-    child_in j k i q = omega (arith, f.tree.linked.within j k i q, f.nodes_len)
+    child_in j k i q = omega (arith, f.linked.within j k i q, f.nodes_len)
 
     distinct' : (i j : ℕ) → i < length names' → j < length names' → key names' i ≡ key names' j → i ≡ j
     distinct' i j w x e = ⊎_elim
@@ -299,7 +299,7 @@ module _ (names : List Name) (old : List Slot) (nodes : Nodes) (f : Fits names o
     fits_pushed some = record {
       slots_len = length-push mid blank ∙ ap (λ x. x + 1) mid_len ∙ sym (length-push names c);
       nodes_len = a.len ∙ ap (λ x. x + 1) f.nodes_len ∙ sym (length-push names c);
-      tree = tree;
+      linked = add_linked nodes after owner f.linked owner_node a;
       root = key_front 0 (omega (arith, within)) ∙ f.root;
       child = λ j k i q. ⊎_elim
           (λ o. key_front i (child_in j k i o) ∙ f.child j k i o ∙ ap (λ x. suc k ∷ x) (sym (key_front j (parent_in j k i o))))
@@ -428,3 +428,62 @@ last_from_children tasks p c n e z h g =
     by : (m : ℕ) → n ≡ m → (n ≢ 0) → 0 < n
     by zero e z = absurd (z e)
     by (suc m) e z = omega (arith, e)
+
+-- ---- whether a child was ever generated, by its number
+
+module _ (before : Table) (names : List Name) (old : List Slot) (nodes : Nodes) (room : ℕ) (v : record { tasks = zip names old; room = room } ≡ before) (f : Fits names old nodes)
+    (p c : Name) (owner n : ℕ) (within : owner < length names) (named : key names owner ≡ p) (child : c ≡ n ∷ p) where
+  abbrev HasPlace : ℕ → Type 0
+  HasPlace m = (0 < m) × (m ≤ length (node nodes owner).places)
+
+  -- the child at a place is known
+  placed : (k : ℕ) → n ≡ suc k → HasPlace n → is_some (slot (zip names old) c) ≡ true
+  placed k e h =
+      let places = (node nodes owner).places in
+      let i = get_or places k 0 in
+      let less : k < length places = omega (arith, e, h.1) in
+      let place : IsPlace nodes owner k i = slice_get-get_or places k 0 less in
+      let there : i < length names = omega (arith, f.linked.within owner k i place, f.nodes_len) in
+      let name : key names i ≡ c = f.child owner k i place ∙ ap₂ (λ m q. m ∷ q) (sym e) named ∙ sym child in
+      ap is_some (slot_of_key c names old i f.distinct f.slots_len there name)
+
+  -- and one that is known has its place
+  has_place : (s : Slot) → slot (zip names old) c ≡ Some s → HasPlace n
+  has_place s e = by (key_of_slot c names old s e) n refl
+    where
+      by : (is : IsAt c names old s) (m : ℕ) → n ≡ m → HasPlace n
+      by is zero z =
+          let clash : c ≡ 0 ∷ p = child ∙ ap (λ m. m ∷ p) z in
+          let up = f.linked.up is.index (root_not is.index refl) (omega (arith, is.within, f.nodes_len)) in
+          absurd (no_zero up.0 (sym (f.child (node nodes is.index).owner up.0 is.index up.2) ∙ is.named ∙ clash))
+        where
+          no_zero : (k : ℕ) {q : Name} → suc k ∷ q ≡ 0 ∷ p → ⊥
+          no_zero k h = cc
+
+          root_not : (i : ℕ) → is.index ≡ i → 0 < is.index
+          root_not zero h = let no : n ∷ p ≡ [] = sym child ∙ sym is.named ∙ ap (key names) h ∙ f.root in cc
+          root_not (suc i) h = omega (arith, h)
+      by is (suc k) z =
+          let named_child : c ≡ suc k ∷ p = child ∙ ap (λ m. m ∷ p) z in
+          let place = child_place before names old nodes room v f p c is.index k is.within is.named named_child in
+          let same = f.distinct (node nodes is.index).owner owner (owner_in before names old nodes room v f p c is.index k is.within is.named named_child) within
+          (owner_name before names old nodes room v f p c is.index k is.within is.named named_child ∙ sym named) in
+          let less = slice_get_within (node nodes owner).places k is.index (subst (λ j. IsPlace nodes j k is.index) same place) in
+          (omega (arith, z), omega (arith, z, less))
+
+  pub known_by_place : (b : Bool) → IsTrue b ↔ HasPlace n → b ≡ is_known before.tasks c
+  known_by_place b t = subst (λ x. b ≡ is_known x.tasks c) v (by (slot (zip names old) c) refl b refl)
+    where
+      by : (o : Option Slot) → slot (zip names old) c ≡ o → (d : Bool) → b ≡ d → b ≡ is_known (zip names old) c
+      by (Some s) e d q = t.1 (has_place s e) ∙ sym (ap is_some e)
+      by None e false q = q ∙ sym (ap is_some e)
+      by None e true q = absurd (none n refl (t.0 q))
+        where
+          none : (m : ℕ) → n ≡ m → HasPlace n → ⊥
+          none zero z h = omega (arith, z, h.0)
+          none (suc k) z h = false≢true (sym (ap is_some e) ∙ placed k z h)
+
+-- the number of a task's child
+pub child_number : (t u : Name) → is_child t u ≡ true → (n : ℕ) × (u ≡ n ∷ t)
+child_number t [] h = absurd (false≢true h)
+child_number t (n ∷ q) h = (n, ap (λ w. n ∷ w) (same_true q t h))

@@ -278,7 +278,7 @@ slice_get-either [] y (suc k) i e = cc
 slice_get-either (x ∷ xs) y zero i e = inl e
 slice_get-either (x ∷ xs) y (suc k) i e = ⊎_elim (λ a. inl a) (λ a. inr (ap suc a.0, a.1)) (slice_get-either xs y k i e)
 
-module _ (old new : Nodes) (owner : ℕ) (tree : IsTree old) (within : owner < length old) (c : AddsNode old owner new) where
+module _ (old new : Nodes) (owner : ℕ) (linked : IsLinked old) (within : owner < length old) (c : AddsNode old owner new) where
   -- what holds of a node of before holds of it now, unless it is the owner
   node_else : (P : Node → Node → Type 0) (i : ℕ) → i < length old → P (node old owner) (node new owner) → ((n : Node) → P n n) → P (node old i) (node new i)
   node_else P i w above same = by (i == owner) refl
@@ -328,14 +328,14 @@ module _ (old new : Nodes) (owner : ℕ) (tree : IsTree old) (within : owner < l
   owner_stays : (i : ℕ) → i < length old → (node new i).owner ≡ (node old i).owner
   owner_stays i w = node_else (λ m n. n.owner ≡ m.owner) i w (ap (λ n. n.owner) c.above) (λ n. refl)
 
-  add_linked : IsLinked new
+  pub add_linked : IsLinked new
   add_linked = record {
-    root = omega (arith, tree.linked.root, c.len);
+    root = omega (arith, linked.root, c.len);
     up = λ i b w. by i b w (i == length old) refl;
-    before = λ j k i p. ⊎_elim (λ q. tree.linked.before j k i q) (λ q. omega (arith, q.0, q.2, within)) (place_either j k i p);
-    within = λ j k i p. ⊎_elim (λ q. omega (arith, c.len, tree.linked.within j k i q)) (λ q. omega (arith, q.2, c.len)) (place_either j k i p);
-    owner = λ j k i p. ⊎_elim (λ q. owner_stays i (tree.linked.within j k i q) ∙ tree.linked.owner j k i q) (λ q. ap (λ x. (node new x).owner) q.2 ∙ ap (λ n. n.owner) c.here ∙ sym q.0) (place_either j k i p);
-    number = λ j k i p. ⊎_elim (λ q. number_stays i (tree.linked.within j k i q) ∙ tree.linked.number j k i q)
+    before = λ j k i p. ⊎_elim (λ q. linked.before j k i q) (λ q. omega (arith, q.0, q.2, within)) (place_either j k i p);
+    within = λ j k i p. ⊎_elim (λ q. omega (arith, c.len, linked.within j k i q)) (λ q. omega (arith, q.2, c.len)) (place_either j k i p);
+    owner = λ j k i p. ⊎_elim (λ q. owner_stays i (linked.within j k i q) ∙ linked.owner j k i q) (λ q. ap (λ x. (node new x).owner) q.2 ∙ ap (λ n. n.owner) c.here ∙ sym q.0) (place_either j k i p);
+    number = λ j k i p. ⊎_elim (λ q. number_stays i (linked.within j k i q) ∙ linked.number j k i q)
         (λ q. ap (λ x. (node new x).number) q.2 ∙ ap (λ n. n.number) c.here ∙ ap suc (sym q.1)) (place_either j k i p);
   }
     where
@@ -350,7 +350,7 @@ module _ (old new : Nodes) (owner : ℕ) (tree : IsTree old) (within : owner < l
       by i b w false e =
           let apart : i ≢ length old = λ y. false≢true (sym e ∙ eq-eqb i (length old) y) in
           let l : i < length old = near i w apart in
-          let up = tree.linked.up i b l in
+          let up = linked.up i b l in
           (up.0, number_stays i l ∙ up.1, subst (λ x. IsPlace new x up.0 i) (sym (owner_stays i l)) (place_stays (node old i).owner up.0 i up.2))
         where
           near : (i : ℕ) → i < length new → i ≢ length old → i < length old
@@ -367,8 +367,8 @@ module _ (old new : Nodes) (owner : ℕ) (tree : IsTree old) (within : owner < l
   live_stays : (j m : ℕ) → j < length old → has (node new j).live m ≡ has (node old j).live m
   live_stays j m w = node_else (λ p q. has q.live m ≡ has p.live m) j w (ap (λ n. has n.live m) c.above) (λ n. refl)
 
-  pub add_tree : IsTree new
-  add_tree = record {
+  pub add_tree : IsTree old → IsTree new
+  add_tree tree = record {
     linked = add_linked;
     children = record {
       unended = λ j m h. counted (λ n. n.unended) j m (λ w. sym (unended_stays j m w)) (ap (λ n. n.unended) c.here) refl (tree.children.unended j m) h;
@@ -413,18 +413,27 @@ module _ (old new : Nodes) (owner : ℕ) (tree : IsTree old) (within : owner < l
 
 -- ---- room
 
+pub linked_room : (old new : Nodes) → SameButRoom old new → IsLinked old → IsLinked new
+linked_room old new s linked = record {
+  root = omega (arith, linked.root, s.len);
+  up = λ i b w.
+      let up = linked.up i b (omega (arith, w, s.len)) in
+      (up.0, ap (λ n. n.number) (s.same i) ∙ up.1, subst (λ o. IsPlace new o up.0 i) (sym (ap (λ n. n.owner) (s.same i))) (on (node old i).owner up.0 i up.2));
+  before = λ j k i p. linked.before j k i (back j k i p);
+  within = λ j k i p. omega (arith, linked.within j k i (back j k i p), s.len);
+  owner = λ j k i p. ap (λ n. n.owner) (s.same i) ∙ linked.owner j k i (back j k i p);
+  number = λ j k i p. ap (λ n. n.number) (s.same i) ∙ linked.number j k i (back j k i p);
+}
+  where
+    back : (j k i : ℕ) → IsPlace new j k i → IsPlace old j k i
+    back j k i p = sym (ap (λ n. slice_get n.places k) (s.same j)) ∙ p
+
+    on : (j k i : ℕ) → IsPlace old j k i → IsPlace new j k i
+    on j k i p = ap (λ n. slice_get n.places k) (s.same j) ∙ p
+
 pub links_room : (old new : Nodes) → SameButRoom old new → IsTree old → IsTree new
 links_room old new s tree = record {
-  linked = record {
-    root = omega (arith, tree.linked.root, s.len);
-    up = λ i b w.
-        let up = tree.linked.up i b (omega (arith, w, s.len)) in
-        (up.0, ap (λ n. n.number) (s.same i) ∙ up.1, subst (λ o. IsPlace new o up.0 i) (sym (ap (λ n. n.owner) (s.same i))) (on (node old i).owner up.0 i up.2));
-    before = λ j k i p. tree.linked.before j k i (back j k i p);
-    within = λ j k i p. omega (arith, tree.linked.within j k i (back j k i p), s.len);
-    owner = λ j k i p. ap (λ n. n.owner) (s.same i) ∙ tree.linked.owner j k i (back j k i p);
-    number = λ j k i p. ap (λ n. n.number) (s.same i) ∙ tree.linked.number j k i (back j k i p);
-  };
+  linked = linked_room old new s tree.linked;
   children = record {
     unended = λ j m h. subst (λ ps. (0 < m) × (m ≤ length ps)) (sym (ap (λ n. n.places) (s.same j))) (tree.children.unended j m (sym (ap (λ n. has n.unended m) (s.same j)) ∙ h));
     live = λ j m h. subst (λ ps. (0 < m) × (m ≤ length ps)) (sym (ap (λ n. n.places) (s.same j))) (tree.children.live j m (sym (ap (λ n. has n.live m) (s.same j)) ∙ h));
@@ -436,8 +445,31 @@ links_room old new s tree = record {
     back : (j k i : ℕ) → IsPlace new j k i → IsPlace old j k i
     back j k i p = sym (ap (λ n. slice_get n.places k) (s.same j)) ∙ p
 
-    on : (j k i : ℕ) → IsPlace old j k i → IsPlace new j k i
-    on j k i p = ap (λ n. slice_get n.places k) (s.same j) ∙ p
+-- ---- the root alone
 
-pub owner_under : (nodes : Nodes) (at owner : ℕ) (n : Node) → IsTree nodes → 0 < at → at < length nodes → n ≡ node nodes at → owner ≡ n.owner → owner < at
-owner_under nodes at owner n tree b w e o = owner_before nodes tree.linked at b w owner (o ∙ ap (λ x. x.owner) e)
+pub root_places : (j k i : ℕ) → IsPlace (record (leaf 0 0) { pending = true } ∷ []) j k i → ⊥
+root_places zero k i p = cc
+root_places (suc j) k i p = cc
+
+pub root_tree : IsTree (record (leaf 0 0) { pending = true } ∷ [])
+root_tree = record {
+  linked = record {
+    root = omega arith;
+    up = λ i b w. absurd (omega (arith, b, w));
+    before = λ j k i p. absurd (root_places j k i p);
+    within = λ j k i p. absurd (root_places j k i p);
+    owner = λ j k i p. absurd (root_places j k i p);
+    number = λ j k i p. absurd (root_places j k i p);
+  };
+  children = record { unended = λ j n h. absurd (nobody j n h); live = λ j n h. absurd (nobody_live j n h) };
+  unended = λ j k i p z. absurd (root_places j k i p);
+  live = λ j k i p z. absurd (root_places j k i p);
+}
+  where
+    nobody : (j n : ℕ) → has (node (record (leaf 0 0) { pending = true } ∷ []) j).unended n ≡ true → ⊥
+    nobody zero n h = cc
+    nobody (suc j) n h = cc
+
+    nobody_live : (j n : ℕ) → has (node (record (leaf 0 0) { pending = true } ∷ []) j).live n ≡ true → ⊥
+    nobody_live zero n h = cc
+    nobody_live (suc j) n h = cc

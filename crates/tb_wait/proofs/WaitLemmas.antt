@@ -6,9 +6,9 @@ use Rattle.std.proofs.lemmas.Bool.{false≢true, or_left}
 use Rattle.tb_model.specs.Names.{Name, same_name}
 use Rattle.tb_model.proofs.TestLemmas.{same_true, same_refl}
 use Rattle.tb_wait.specs.Kin.{Kin, Slot, Table, slot, kin, kin_in, is_known, Changes, IsSame, KeepsRoom, KeepsNames, HasGroupRoom, HasOpenGroup, HasChildRoom, with_over, with_children, fresh}
-use Rattle.tb_wait.specs.Numbers.{has}
 use Rattle.tb_wait.specs.Rows.{blank, key, slot_at, is_pending, children_of, groups_of, ChangesSlot, SetsStanding, Fits}
-use Rattle.tb_wait.specs.Tree.{Nodes, node, leaf, IsPlace, IsTree, SameLinks, SetsPending}
+use Rattle.tb_wait.specs.Tree.{Nodes, node, leaf, IsPlace, SameLinks, SetsPending}
+use Rattle.tb_wait.proofs.TreeLemmas.{linked_same, root_places, root_tree}
 use Rattle.tb_wait.proofs.RowLemmas.{slot_of_key, no_slot, kin_changes, room_changes, no_changes, IsLike, fits_change, slot_changes}
 pub use Rattle.tb_wait.proofs.RowLemmas.{here_slot_of}
 
@@ -109,7 +109,7 @@ module _ (before : Table) (names : List Name) (old : List Slot) (nodes : Nodes) 
       -- the rows fit the nodes as before
       pub here_fits : (g : Kin → Kin) → s.kin ≡ option_map g (slot_at old at).kin → s.child_room ≡ (slot_at old at).child_room
           → ((k : Kin) → (g k).children ≡ k.children) → ((k : Kin) → (g k).over ≡ k.over) → Fits names new nodes
-      here_fits g e r many over = fits_change names old new nodes nodes at s f c (like_map g many (slot_at old at) s e r) f.tree (links_all nodes) pending
+      here_fits g e r many over = fits_change names old new nodes nodes at s f c (like_map g many (slot_at old at) s e r) (links_all nodes) pending
         where
           pending : (i : ℕ) → (node nodes i).pending ≡ is_pending (slot_at new i).kin
           pending i = by (i == at) refl
@@ -121,9 +121,9 @@ module _ (before : Table) (names : List Name) (old : List Slot) (nodes : Nodes) 
               by false h = f.pending i ∙ ap (λ x. is_pending x.kin) (sym (c.others i (λ y. false≢true (sym h ∙ eq-eqb i at y))))
 
       pub here_fits_over : (b p : Bool) (after : Nodes) → s.kin ≡ option_map (with_over b) (slot_at old at).kin → s.child_room ≡ (slot_at old at).child_room
-          → p ≡ is_pending (slot_at new at).kin → IsTree after → SetsPending nodes at p after → Fits names new after
-      here_fits_over b p after e r is_p tree sets =
-          fits_change names old new nodes after at s f c (like_map (with_over b) (λ k. refl) (slot_at old at) s e r) tree sets.links pending
+          → p ≡ is_pending (slot_at new at).kin → SetsPending nodes at p after → Fits names new after
+      here_fits_over b p after e r is_p sets =
+          fits_change names old new nodes after at s f c (like_map (with_over b) (λ k. refl) (slot_at old at) s e r) sets.links pending
         where
           pending : (i : ℕ) → (node after i).pending ≡ is_pending (slot_at new i).kin
           pending i = by (i == at) refl
@@ -148,7 +148,7 @@ pub record CountsOne (place before after : ℕ) (stands : Bool) : Type 0 where
 module _ (names : List Name) (old new : List Slot) (nodes after : Nodes) (f : Fits names old nodes) (at owner place : ℕ) (k : Option Kin) (children : ℕ)
     (is_place : IsPlace nodes owner place at) (c : SetsStanding old at owner k children new) where
   owner_not_at : owner ≢ at
-  owner_not_at e = let b = f.tree.linked.before owner place at is_place in omega (arith, e)
+  owner_not_at e = let b = f.linked.before owner place at is_place in omega (arith, e)
 
   -- what each row has become
   row_else : (P : Slot → Slot → Type 0) (i : ℕ) → (i ≡ at → P (slot_at old at) (slot_at new at)) → (i ≡ owner → P (slot_at old owner) (slot_at new owner))
@@ -163,7 +163,7 @@ module _ (names : List Name) (old new : List Slot) (nodes after : Nodes) (f : Fi
 
   module _ (stands : Bool) (is_stands : is_some k ≡ stands) (pending_k : is_pending k ≡ stands) (no_children : children_of k ≡ 0) (had_none : children_of (slot_at old at).kin ≡ 0)
       (parent : Kin) (is_parent : (slot_at old owner).kin ≡ Some parent) (counts : CountsOne place parent.children children stands)
-      (within : children ≤ length (node nodes owner).places) (tree : IsTree after) (sets : SetsPending nodes at stands after) where
+      (within : children ≤ length (node nodes owner).places) (sets : SetsPending nodes at stands after) where
     now_children : children_of (slot_at new owner).kin ≡ children
     now_children = ap (λ s. children_of s.kin) c.above ∙ ap (λ o. children_of (option_map (with_children children) o)) is_parent
 
@@ -193,8 +193,8 @@ module _ (names : List Name) (old new : List Slot) (nodes after : Nodes) (f : Fi
         by : (b : Bool) → (i == at) ≡ b → is_some (slot_at new i).kin ≡ nat_lt n (children_of (slot_at new j).kin)
         by true e =
             let is : i ≡ at = eqb-true i at e in
-            let own : j ≡ owner = sym (f.tree.linked.owner j n i p) ∙ ap (λ x. (node nodes x).owner) is ∙ f.tree.linked.owner owner place at is_place in
-            let nth : suc n ≡ suc place = sym (f.tree.linked.number j n i p) ∙ ap (λ x. (node nodes x).number) is ∙ f.tree.linked.number owner place at is_place in
+            let own : j ≡ owner = sym (f.linked.owner j n i p) ∙ ap (λ x. (node nodes x).owner) is ∙ f.linked.owner owner place at is_place in
+            let nth : suc n ≡ suc place = sym (f.linked.number j n i p) ∙ ap (λ x. (node nodes x).number) is ∙ f.linked.number owner place at is_place in
             let same : n ≡ place = omega (arith, nth) in
             ap (λ x. is_some (slot_at new x).kin) is ∙ ap (λ s. is_some s.kin) c.here ∙ is_stands ∙ sym counts.one
             ∙ ap₂ (λ x y. nat_lt x y) (sym same) (sym now_children) ∙ ap (λ x. nat_lt n (children_of (slot_at new x).kin)) (sym own)
@@ -206,7 +206,7 @@ module _ (names : List Name) (old new : List Slot) (nodes after : Nodes) (f : Fi
     fits_standing = record {
       slots_len = c.len ∙ f.slots_len;
       nodes_len = sets.links.len ∙ f.nodes_len;
-      tree = tree;
+      linked = linked_same nodes after sets.links f.linked;
       root = f.root;
       child = λ j n i p. f.child j n i (place_back' j n i p);
       distinct = f.distinct;
@@ -251,27 +251,11 @@ known_any t (n ∷ names) (s ∷ slots) l = by (same_name t n) (known_any t name
     by true h = refl
     by false h = h
 
-root_places : (j k i : ℕ) → IsPlace (record (leaf 0 0) { pending = true } ∷ []) j k i → ⊥
-root_places zero k i p = cc
-root_places (suc j) k i p = cc
-
 pub fits_root : Fits ([] ∷ []) (record blank { kin = Some fresh } ∷ []) (record (leaf 0 0) { pending = true } ∷ [])
 fits_root = record {
   slots_len = refl;
   nodes_len = refl;
-  tree = record {
-    linked = record {
-      root = omega arith;
-      up = λ i b w. absurd (omega (arith, b, w));
-      before = λ j k i p. absurd (root_places j k i p);
-      within = λ j k i p. absurd (root_places j k i p);
-      owner = λ j k i p. absurd (root_places j k i p);
-      number = λ j k i p. absurd (root_places j k i p);
-    };
-    children = record { unended = λ j n h. absurd (nobody j n h); live = λ j n h. absurd (nobody_live j n h) };
-    unended = λ j k i p z. absurd (root_places j k i p);
-    live = λ j k i p z. absurd (root_places j k i p);
-  };
+  linked = root_tree.linked;
   root = refl;
   child = λ j k i p. absurd (root_places j k i p);
   distinct = λ i j a b e. omega (arith, a, b);
@@ -281,14 +265,6 @@ fits_root = record {
   rooms = rooms;
 }
   where
-    nobody : (j n : ℕ) → has (node (record (leaf 0 0) { pending = true } ∷ []) j).unended n ≡ true → ⊥
-    nobody zero n h = cc
-    nobody (suc j) n h = cc
-
-    nobody_live : (j n : ℕ) → has (node (record (leaf 0 0) { pending = true } ∷ []) j).live n ≡ true → ⊥
-    nobody_live zero n h = cc
-    nobody_live (suc j) n h = cc
-
     pending : (i : ℕ) → (node (record (leaf 0 0) { pending = true } ∷ []) i).pending ≡ is_pending (slot_at (record blank { kin = Some fresh } ∷ []) i).kin
     pending zero = refl
     pending (suc i) = refl

@@ -4,7 +4,7 @@ use Rattle.tb_model.specs.Names.{Name}
 use Rattle.tb_model.specs.LeastNames.{IsAtMost}
 use Rattle.std.specs.Option.{option_map}
 use Rattle.tb_wait.specs.Kin.{Kin, Slot, with_children}
-use Rattle.tb_wait.specs.Tree.{Nodes, node, IsPlace, IsTree}
+use Rattle.tb_wait.specs.Tree.{Nodes, node, IsPlace, IsLinked}
 
 abbrev pub kin_if : Bool → Kin → Option Kin
 kin_if true k = Some k
@@ -32,11 +32,11 @@ key names i = slice_index_or names i []
 abbrev pub slot_at : List Slot → ℕ → Slot
 slot_at slots i = slice_index_or slots i blank
 
--- the nodes have the names' tree, and know what the rows say
+-- the nodes have the names' tree, and say of each task what its row does
 pub record Fits (names : List Name) (slots : List Slot) (nodes : Nodes) : Type 0 where
   pub slots_len : length slots ≡ length names
   pub nodes_len : length nodes ≡ length names
-  pub tree : IsTree nodes
+  pub linked : IsLinked nodes
   pub root : key names 0 ≡ []
   pub child : (j k i : ℕ) → IsPlace nodes j k i → key names i ≡ suc k ∷ key names j
   pub distinct : (i j : ℕ) → i < length names → j < length names → key names i ≡ key names j → i ≡ j

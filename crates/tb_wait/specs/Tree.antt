@@ -63,6 +63,11 @@ pub record IsTree (nodes : Nodes) : Type 0 where
   pub unended : KnowsUnendedBut nodes 0
   pub live : KnowsLiveBut nodes 0
 
+-- what a contract sees of the tree: its nodes, and how many more fit with no memory
+pub record Tree : Type 0 where
+  pub nodes : Nodes
+  pub room : ℕ
+
 -- the same tasks with the same children
 pub record SameLinks (old new : Nodes) : Type 0 where
   pub len : length new ≡ length old
@@ -109,6 +114,11 @@ pub record SameButRoom (old new : Nodes) : Type 0 where
 pub record IsFirstPlace (nodes : Nodes) (j low : ℕ) (test : Node → Bool) (o : Option ℕ) : Type 0 where
   pub found : (i : ℕ) → o ≡ Some i → (k : ℕ) × (low ≤ k) × IsPlace nodes j k i × (test (node nodes i) ≡ true)
   pub least : (k i : ℕ) → low ≤ k → IsPlace nodes j k i → test (node nodes i) ≡ true → (m c : ℕ) × (o ≡ Some c) × IsPlace nodes j m c × (m ≤ k)
+
+-- o is the least number above `low` of a child of the node at j whose node passes, and None exactly where none does
+pub record IsNextNumber (nodes : Nodes) (j low : ℕ) (test : Node → Bool) (o : Option ℕ) : Type 0 where
+  pub found : (n : ℕ) → o ≡ Some n → (k i : ℕ) × (n ≡ suc k) × (low ≤ k) × IsPlace nodes j k i × (test (node nodes i) ≡ true)
+  pub least : (k i : ℕ) → low ≤ k → IsPlace nodes j k i → test (node nodes i) ≡ true → (m : ℕ) × (o ≡ Some m) × (m ≤ suc k)
 
 -- the node's own task stands and hasn't ended
 abbrev pub is_own : Node → Bool

@@ -2,7 +2,9 @@
 #![tactic(auto)]
 
 pub mod laws;
+mod near;
 mod node;
+mod nodes;
 mod numbers;
 mod row;
 mod rows;

@@ -122,8 +122,10 @@ fn gap(items: &VecDeque<u32>, n: u64) -> usize
 {
     let mut low = 0;
     let mut high = items.len();
+    let mut round: u8 = 0;
     while low < high {
-        let middle = low + (high - low) / 2;
+        let middle = probe(low, high, round);
+        round = round.saturating_add(1);
         if (number_at(items, middle) as u64) < n {
             low = middle + 1;
         } else {
@@ -131,6 +133,20 @@ fn gap(items: &VecDeque<u32>, n: u64) -> usize
         }
     }
     low
+}
+
+// Which place between these is looked at in this round of a search: the last one and the first come
+// before the halves, since mostly the number goes to an end.
+fn probe(low: usize, high: usize, round: u8) -> usize
+    requires { low < high }
+    ensures from { low ≤ result }
+    ensures below { result < high }
+{
+    match round {
+        0 => high - 1,
+        1 => low,
+        _ => low + (high - low) / 2,
+    }
 }
 
 fn number_at(items: &VecDeque<u32>, at: usize) -> u32

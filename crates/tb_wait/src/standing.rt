@@ -3,49 +3,40 @@
 ghost use Rattle.std.specs.Prelude.{◌≡◌, ◌<◌, ◌-◌, Some, None, true, false, length, vec_capacity};
 ghost use Rattle.tb_wait.specs.Kin.{fresh};
 ghost use Rattle.tb_wait.specs.Rows.{slot_at, SetsStanding};
-ghost use Rattle.tb_wait.specs.Tree.{node, IsTree, SetsPending};
+ghost use Rattle.tb_wait.specs.Tree.{node, SetsPending};
 
-use crate::node::Node;
 use crate::row::Row;
 use crate::rows;
-use crate::tree::{set_pending, shown};
+use crate::tree::Tree;
 
 /// The task comes to stand.
-#[tactic(auto, using(crate::proofs::TreeLemmas::owner_under))]
-pub fn enter(rows: &mut Vec<Row>, nodes: &mut Vec<Node>, at: usize)
-    requires tree { IsTree nodes.old.items }
-    requires len { length rows.old.items ≡ length nodes.old.items }
+pub fn enter(rows: &mut Vec<Row>, tree: &mut Tree, at: usize)
+    requires len { length rows.old.items ≡ length tree.old.nodes }
     requires below { 0 < at }
-    requires within { at < length nodes.old.items }
+    requires within { at < length tree.old.nodes }
     requires absent { (slot_at rows.old.items at).kin ≡ None }
-    ensures rows { let n = node nodes.old.items at in SetsStanding rows.old.items at n.owner (Some fresh) n.number rows.new.items }
-    ensures tree { IsTree nodes.new.items }
-    ensures set { SetsPending nodes.old.items at true nodes.new.items }
+    ensures rows { let n = node tree.old.nodes at in SetsStanding rows.old.items at n.owner (Some fresh) n.number rows.new.items }
+    ensures set { SetsPending tree.old.nodes at true tree.new.nodes }
     ensures rows_capacity { vec_capacity rows.new ≡ vec_capacity rows.old }
-    ensures nodes_capacity { vec_capacity nodes.new ≡ vec_capacity nodes.old }
+    ensures room { tree.new.room ≡ tree.old.room }
 {
-    let child = shown(nodes, at);
-    let (owner, number) = (child.owner(), child.number());
+    let (owner, number) = (tree.owner(at), tree.number(at));
     rows::enter(rows, at, owner, number);
-    set_pending(nodes, at, true);
+    tree.set_pending(at, true);
 }
 
 /// The task, of which nothing is kept yet, stands no longer.
-#[tactic(auto, using(crate::proofs::TreeLemmas::owner_under))]
-pub fn leave(rows: &mut Vec<Row>, nodes: &mut Vec<Node>, at: usize)
-    requires tree { IsTree nodes.old.items }
-    requires len { length rows.old.items ≡ length nodes.old.items }
+pub fn leave(rows: &mut Vec<Row>, tree: &mut Tree, at: usize)
+    requires len { length rows.old.items ≡ length tree.old.nodes }
     requires below { 0 < at }
-    requires within { at < length nodes.old.items }
+    requires within { at < length tree.old.nodes }
     requires fresh { (slot_at rows.old.items at).kin ≡ Some fresh }
-    ensures rows { let n = node nodes.old.items at in SetsStanding rows.old.items at n.owner None (n.number - 1) rows.new.items }
-    ensures tree { IsTree nodes.new.items }
-    ensures set { SetsPending nodes.old.items at false nodes.new.items }
+    ensures rows { let n = node tree.old.nodes at in SetsStanding rows.old.items at n.owner None (n.number - 1) rows.new.items }
+    ensures set { SetsPending tree.old.nodes at false tree.new.nodes }
     ensures rows_capacity { vec_capacity rows.new ≡ vec_capacity rows.old }
-    ensures nodes_capacity { vec_capacity nodes.new ≡ vec_capacity nodes.old }
+    ensures room { tree.new.room ≡ tree.old.room }
 {
-    let child = shown(nodes, at);
-    let (owner, number) = (child.owner(), child.number());
+    let (owner, number) = (tree.owner(at), tree.number(at));
     rows::leave(rows, at, owner, number);
-    set_pending(nodes, at, false);
+    tree.set_pending(at, false);
 }

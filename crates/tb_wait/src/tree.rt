@@ -1,201 +1,109 @@
-//! The tree of tasks, and what its nodes know of their children.
+//! The tree of tasks, whose nodes know of their children.
 
-ghost use Rattle.std.specs.Prelude.{◌≡◌, ◌≢◌, ◌<◌, ◌≤◌, ℕ, suc, [], ◌∷◌, OnOk, IsOk, IfOk, length, vec_capacity, true, false};
-ghost use Rattle.tb_wait.specs.Tree.{node, leaf, IsTree, IsLinked, AreChildren, KnowsLiveBut, KnowsUnendedBut, SameButLive, SameButUnended, SameButPending, SameButRoom, SetsPending, AddsNode};
-ghost use Rattle.tb_wait.specs.Numbers.{IsPut};
+ghost use Rattle.std.specs.Prelude.{◌≡◌, ◌<◌, ◌≤◌, ◌-◌, ◌↔◌, IsTrue, suc, [], ◌∷◌, OnOk, IsOk, IfOk, length, true};
+ghost use Rattle.tb_wait.specs.Tree.{node, leaf, SameButRoom, SetsPending, AddsNode};
 
 use crate::node::Node;
+use crate::nodes;
 use std::alloc::{AllocError, Global};
+use std::marker::Model;
 
-/// Sets whether the task at the place stands and hasn't ended, and tells all above it. This goes
-/// up the line of owners as far as something changes.
-pub fn set_pending(nodes: &mut Vec<Node>, at: usize, pending: bool)
-    requires tree { IsTree nodes.old.items }
-    requires within { at < length nodes.old.items }
-    ensures tree { IsTree nodes.new.items }
-    ensures set { SetsPending nodes.old.items at pending nodes.new.items }
-    ensures capacity { vec_capacity nodes.new ≡ vec_capacity nodes.old }
-{
-    flag(nodes, at, pending);
-    tell_unended(nodes, at);
-    refresh(nodes, at);
+/// All tasks that were ever generated, each behind its parent. Each node knows which of its children
+/// haven't ended, and within which of them some task hasn't.
+#[derive(Drop)]
+pub(crate) struct Tree {
+    pub nodes: Vec<Node>,
 }
 
-// Tells the owner whether the node stands and hasn't ended.
-fn tell_unended(nodes: &mut Vec<Node>, at: usize)
-    requires linked { IsLinked nodes.old.items }
-    requires children { AreChildren nodes.old.items }
-    requires within { at < length nodes.old.items }
-    requires unended { KnowsUnendedBut nodes.old.items at }
-    requires live { KnowsLiveBut nodes.old.items at }
-    ensures linked { IsLinked nodes.new.items }
-    ensures children { AreChildren nodes.new.items }
-    ensures unended { KnowsUnendedBut nodes.new.items 0 }
-    ensures live { KnowsLiveBut nodes.new.items at }
-    ensures set { SetsPending nodes.old.items at (node nodes.old.items at).pending nodes.new.items }
-    ensures capacity { vec_capacity nodes.new ≡ vec_capacity nodes.old }
-{
-    if at == 0 {
-        return;
+impl Model for Tree {
+    ghost use Rattle.std.specs.Prelude.{◌-◌, vec_len, vec_capacity};
+    ghost use Rattle.tb_wait.specs.Tree.{Tree, IsTree};
+
+    ghost Value = { Tree };
+
+    ghost view = { λ t. record { nodes = t.nodes.items; room = vec_capacity t.nodes - vec_len t.nodes } };
+
+    ghost invariant = { λ t. IsTree t.nodes.items };
+}
+
+impl Tree {
+    /// The root, which stands from the beginning.
+    pub fn root(alloc: Global) -> Result<Tree, AllocError>
+        ensures { IfOk result (λ t. t.nodes ≡ record (leaf 0 0) { pending = true } ∷ []) }
+    {
+        let mut nodes = Vec::with_capacity(alloc, 1)?;
+        let mut node = Node::new(alloc, 0, 0);
+        node.set_pending(true);
+        nodes.push_reserved(node);
+        Ok(Tree { nodes })
     }
-    let child = shown(nodes, at);
-    let (owner, number, pending) = (child.owner(), child.number(), child.is_pending());
-    set_unended(nodes, owner, number, pending);
-}
 
-// Tells the owners upwards whether the node at the place is live.
-fn refresh(nodes: &mut Vec<Node>, start: usize)
-    requires linked { IsLinked nodes.old.items }
-    requires children { AreChildren nodes.old.items }
-    requires within { start < length nodes.old.items }
-    requires live { KnowsLiveBut nodes.old.items start }
-    ensures same { SameButLive nodes.old.items nodes.new.items }
-    ensures linked { IsLinked nodes.new.items }
-    ensures children { AreChildren nodes.new.items }
-    ensures live { KnowsLiveBut nodes.new.items 0 }
-    ensures capacity { vec_capacity nodes.new ≡ vec_capacity nodes.old }
-{
-    let mut at = start;
-    while at > 0 {
-        let owner = shown(nodes, at).owner();
-        if !tell_live(nodes, at) {
-            return;
-        }
-        at = owner;
+    /// The place of the parent, which stands in front.
+    pub fn owner(&self, at: usize) -> usize
+        requires { at < length self.now.nodes }
+        ensures owner { result ≡ (node self.now.nodes at).owner }
+        ensures before { 0 < at → result < at }
+    {
+        nodes::shown(&self.nodes, at).owner()
     }
-}
 
-// Tells the owner whether the node is live, and answers whether the owner took it otherwise.
-fn tell_live(nodes: &mut Vec<Node>, at: usize) -> bool
-    requires linked { IsLinked nodes.old.items }
-    requires children { AreChildren nodes.old.items }
-    requires below { 0 < at }
-    requires within { at < length nodes.old.items }
-    requires live { KnowsLiveBut nodes.old.items at }
-    ensures same { SameButLive nodes.old.items nodes.new.items }
-    ensures linked { IsLinked nodes.new.items }
-    ensures children { AreChildren nodes.new.items }
-    ensures above { result ≡ true → KnowsLiveBut nodes.new.items (node nodes.old.items at).owner }
-    ensures done { result ≡ false → KnowsLiveBut nodes.new.items 0 }
-    ensures capacity { vec_capacity nodes.new ≡ vec_capacity nodes.old }
-{
-    let child = shown(nodes, at);
-    let (owner, number, live) = (child.owner(), child.number(), child.is_live());
-    if shown(nodes, owner).has_live(number) == live {
-        return false;
+    /// The number among the parent's children.
+    pub fn number(&self, at: usize) -> u32
+        requires { at < length self.now.nodes }
+        ensures { result ≡ (node self.now.nodes at).number }
+    {
+        nodes::shown(&self.nodes, at).number()
     }
-    set_live(nodes, owner, number, live);
-    true
-}
 
-/// The node at the place.
-#[tactic(auto, using(crate::proofs::TreeLemmas::shown))]
-pub fn shown(nodes: &Vec<Node>, at: usize) -> &Node
-    requires { at < length nodes.now.items }
-    ensures { result.now ≡ node nodes.now.items at }
-{
-    &nodes[at]
-}
+    /// Whether the task at the place ever generated the child of this number.
+    pub fn has_child(&self, at: usize, number: u32) -> bool
+        requires { at < length self.now.nodes }
+        ensures { IsTrue result ↔ ((0 < number) × (number ≤ length (node self.now.nodes at).places)) }
+    {
+        number > 0 && number as usize <= nodes::shown(&self.nodes, at).len()
+    }
 
-#[tactic(auto, using(crate::proofs::TreeLemmas::shown))]
-fn flag(nodes: &mut Vec<Node>, at: usize, pending: bool)
-    requires { at < length nodes.old.items }
-    ensures set { (node nodes.new.items at).pending ≡ pending }
-    ensures same { SameButPending nodes.old.items nodes.new.items }
-    ensures others { (i : ℕ) → i ≢ at → (node nodes.new.items i).pending ≡ (node nodes.old.items i).pending }
-    ensures capacity { vec_capacity nodes.new ≡ vec_capacity nodes.old }
-{
-    nodes[at].set_pending(pending);
-}
+    /// Sets whether the task at the place stands and hasn't ended, and tells all above it. This goes
+    /// up the line of owners as far as something changes.
+    pub fn set_pending(&mut self, at: usize, pending: bool)
+        requires { at < length self.old.nodes }
+        ensures set { SetsPending self.old.nodes at pending self.new.nodes }
+        ensures room { self.new.room ≡ self.old.room }
+    {
+        nodes::flag(&mut self.nodes, at, pending);
+        nodes::tell_unended(&mut self.nodes, at);
+        nodes::refresh(&mut self.nodes, at);
+    }
 
-#[tactic(auto, using(crate::proofs::TreeLemmas::shown))]
-fn set_unended(nodes: &mut Vec<Node>, at: usize, number: u32, unended: bool)
-    requires within { at < length nodes.old.items }
-    requires from_one { 0 < number }
-    requires child { number ≤ length (node nodes.old.items at).places }
-    ensures set { IsPut (node nodes.old.items at).unended number unended (node nodes.new.items at).unended }
-    ensures same { SameButUnended nodes.old.items nodes.new.items }
-    ensures others { (i : ℕ) → i ≢ at → (node nodes.new.items i).unended ≡ (node nodes.old.items i).unended }
-    ensures capacity { vec_capacity nodes.new ≡ vec_capacity nodes.old }
-{
-    nodes[at].set_unended(number, unended);
-}
+    /// Makes room for one more task, and changes nothing else.
+    pub fn reserve(&mut self) -> Result<(), AllocError>
+        ensures ok { OnOk result (0 < self.new.room) }
+        ensures nodes { self.new.nodes ≡ self.old.nodes }
+        ensures keeps { self.old.room ≤ self.new.room }
+    {
+        self.nodes.reserve(1)
+    }
 
-#[tactic(auto, using(crate::proofs::TreeLemmas::shown))]
-fn set_live(nodes: &mut Vec<Node>, at: usize, number: u32, live: bool)
-    requires within { at < length nodes.old.items }
-    requires from_one { 0 < number }
-    requires child { number ≤ length (node nodes.old.items at).places }
-    ensures set { IsPut (node nodes.old.items at).live number live (node nodes.new.items at).live }
-    ensures same { SameButLive nodes.old.items nodes.new.items }
-    ensures others { (i : ℕ) → i ≢ at → (node nodes.new.items i).live ≡ (node nodes.old.items i).live }
-    ensures capacity { vec_capacity nodes.new ≡ vec_capacity nodes.old }
-{
-    nodes[at].set_live(number, live);
-}
+    /// Makes room for one more child of the task at the place.
+    pub fn reserve_child(&mut self, at: usize) -> Result<(), AllocError>
+        requires { at < length self.old.nodes }
+        ensures ok { OnOk result (0 < (node self.new.nodes at).room) }
+        ensures same { SameButRoom self.old.nodes self.new.nodes }
+        ensures succeeds { 0 < (node self.old.nodes at).room → IsOk result }
+        ensures room { self.new.room ≡ self.old.room }
+    {
+        nodes::reserve_child(&mut self.nodes, at)
+    }
 
-/// One more task, as the last child of the one at `owner`. It doesn't stand yet.
-#[tactic(auto, using(crate::proofs::TreeLemmas::add_tree))]
-pub fn add(nodes: &mut Vec<Node>, alloc: Global, owner: usize, number: u32)
-    requires tree { IsTree nodes.old.items }
-    requires within { owner < length nodes.old.items }
-    requires room { 0 < (node nodes.old.items owner).room }
-    requires spare { length nodes.old.items < vec_capacity nodes.old }
-    requires number { number ≡ suc (length (node nodes.old.items owner).places) }
-    ensures tree { IsTree nodes.new.items }
-    ensures added { AddsNode nodes.old.items owner nodes.new.items }
-    ensures capacity { vec_capacity nodes.new ≡ vec_capacity nodes.old }
-{
-    push(nodes, alloc, owner, number)
-}
-
-#[tactic(auto, using(crate::proofs::TreeLemmas::shown))]
-fn push(nodes: &mut Vec<Node>, alloc: Global, owner: usize, number: u32)
-    requires within { owner < length nodes.old.items }
-    requires room { 0 < (node nodes.old.items owner).room }
-    requires spare { length nodes.old.items < vec_capacity nodes.old }
-    requires number { number ≡ suc (length (node nodes.old.items owner).places) }
-    ensures added { AddsNode nodes.old.items owner nodes.new.items }
-    ensures capacity { vec_capacity nodes.new ≡ vec_capacity nodes.old }
-{
-    let at = nodes.len();
-    nodes[owner].push(at);
-    nodes.push_reserved(Node::new(alloc, owner, number));
-}
-
-/// Makes room for one more child of the task at the place.
-#[tactic(auto, using(crate::proofs::TreeLemmas::links_room))]
-pub fn reserve_child(nodes: &mut Vec<Node>, at: usize) -> Result<(), AllocError>
-    requires tree { IsTree nodes.old.items }
-    requires within { at < length nodes.old.items }
-    ensures ok { OnOk result (0 < (node nodes.new.items at).room) }
-    ensures tree { IsTree nodes.new.items }
-    ensures same { SameButRoom nodes.old.items nodes.new.items }
-    ensures succeeds { 0 < (node nodes.old.items at).room → IsOk result }
-    ensures capacity { vec_capacity nodes.new ≡ vec_capacity nodes.old }
-{
-    reserve(nodes, at)
-}
-
-#[tactic(auto, using(crate::proofs::TreeLemmas::shown))]
-fn reserve(nodes: &mut Vec<Node>, at: usize) -> Result<(), AllocError>
-    requires within { at < length nodes.old.items }
-    ensures ok { OnOk result (0 < (node nodes.new.items at).room) }
-    ensures same { SameButRoom nodes.old.items nodes.new.items }
-    ensures succeeds { 0 < (node nodes.old.items at).room → IsOk result }
-    ensures capacity { vec_capacity nodes.new ≡ vec_capacity nodes.old }
-{
-    nodes[at].reserve()
-}
-
-/// The root, which stands from the beginning.
-pub fn root_nodes(alloc: Global) -> Result<Vec<Node>, AllocError>
-    ensures nodes { IfOk result (λ nodes. nodes.items ≡ record (leaf 0 0) { pending = true } ∷ []) }
-    ensures room { IfOk result (λ nodes. 1 ≤ vec_capacity nodes) }
-{
-    let mut nodes = Vec::with_capacity(alloc, 1)?;
-    let mut node = Node::new(alloc, 0, 0);
-    node.set_pending(true);
-    nodes.push_reserved(node);
-    Ok(nodes)
+    /// One more task, as the last child of the one at `owner`. It doesn't stand yet.
+    pub fn add(&mut self, alloc: Global, owner: usize, number: u32)
+        requires within { owner < length self.old.nodes }
+        requires child_room { 0 < (node self.old.nodes owner).room }
+        requires room { 0 < self.old.room }
+        requires number { number ≡ suc (length (node self.old.nodes owner).places) }
+        ensures added { AddsNode self.old.nodes owner self.new.nodes }
+        ensures room { self.new.room ≡ self.old.room - 1 }
+    {
+        nodes::push(&mut self.nodes, alloc, owner, number)
+    }
 }

@@ -10,10 +10,10 @@ ghost use Rattle.tb_model.specs.Names.{same_name, child};
 ghost use Rattle.tb_model.specs.LeastNames.{IsLeastName};
 ghost use Rattle.tb_wait.specs.Kin.{kin, fresh, with_over, opened_kin, unopened_kin, closed_kin, unclosed_kin, Changes, IsSame, KeepsNames, KeepsRoom, HasGroupRoom, HasChildRoom, HasRoomFor, HasOpenGroup, is_known, Adds, Drops, IsNext, IsLast, is_fresh, IsUnendedChild, IsNextUnended, IsUnendedMember};
 
-use crate::node::Node;
+use crate::near::Near;
 use crate::row::Row;
-use crate::tree::{self, set_pending};
-use crate::{rows, search, standing};
+use crate::tree::Tree;
+use crate::{rows, standing};
 use indexmap::IndexSet;
 use std::alloc::{AllocError, Global};
 use std::marker::Model;
@@ -26,8 +26,10 @@ pub struct Wait {
     alloc: Global,
     names: IndexSet<TaskName>,
     rows: Vec<Row>,
-    nodes: Vec<Node>,
+    tree: Tree,
     room: usize,
+    // where a name is looked for first
+    near: Near,
 }
 
 impl Model for Wait {
@@ -41,10 +43,10 @@ impl Model for Wait {
 
     ghost view = { λ w. record { tasks = zip w.names.keys w.rows.items; room = w.room } };
 
-    ghost invariant = { λ w. Fits w.names.keys w.rows.items w.nodes.items
+    ghost invariant = { λ w. Fits w.names.keys w.rows.items w.tree.nodes
         × (w.room ≤ spare w.names)
         × (length w.rows.items + w.room ≤ vec_capacity w.rows)
-        × (length w.nodes.items + w.room ≤ vec_capacity w.nodes) };
+        × (w.room ≤ w.tree.room) };
 }
 
 impl Wait {
@@ -54,14 +56,26 @@ impl Wait {
     {
         let names = root_names(alloc)?;
         let rows = rows::root_rows(alloc)?;
-        let nodes = tree::root_nodes(alloc)?;
+        let tree = Tree::root(alloc)?;
         Ok(Wait {
             alloc,
             names,
             rows,
-            nodes,
+            tree,
             room: 0,
+            near: Near { own: 0, above: 0 },
         })
+    }
+
+    /// Turns to the task, which is asked of next: it, its parent and the one that was generated after
+    /// it are looked for at their own places first. Nothing that the table tells changes.
+    pub fn turn_to(&mut self, task: &TaskName)
+        ensures { self.new ≡ self.old }
+    {
+        if let Some(own) = self.near.find(&self.names, task) {
+            let above = self.tree.owner(own);
+            self.near = Near { own, above };
+        }
     }
 
     /// Makes the room that `spawned` needs, and changes nothing else.
@@ -71,17 +85,23 @@ impl Wait {
         ensures room { KeepsRoom self.old self.new }
         ensures succeeds { HasRoomFor self.old parent.now child.now → IsOk result }
     {
-        if self.is_known(child) {
+        if self.is_known(parent, child) {
             return Ok(());
         }
         self.reserve_child(parent)?;
         self.reserve_place()
     }
 
-    fn is_known(&self, task: &TaskName) -> bool
-        ensures { result ≡ is_known self.now.tasks task.now }
+    // Whether the child was ever generated. Where its parent is, its number tells that.
+    fn is_known(&self, parent: &TaskName, child: &TaskName) -> bool
+        ensures { result ≡ is_known self.now.tasks child.now }
     {
-        self.names.contains(task)
+        match self.near.find(&self.names, parent) {
+            Some(owner) if parent.is_parent_of(child) => {
+                self.tree.has_child(owner, number_of(child))
+            }
+            _ => self.names.contains(child),
+        }
     }
 
     fn reserve_child(&mut self, task: &TaskName) -> Result<(), AllocError>
@@ -90,10 +110,10 @@ impl Wait {
         ensures room { KeepsRoom self.old self.new }
         ensures succeeds { HasChildRoom self.old.tasks task.now → IsOk result }
     {
-        match self.names.get_index_of(task) {
+        match self.near.find(&self.names, task) {
             Some(at) => {
                 if rows::child_room(&self.rows, at) == 0 {
-                    tree::reserve_child(&mut self.nodes, at)?;
+                    self.tree.reserve_child(at)?;
                     rows::set_child_room(&mut self.rows, at, 1);
                 }
                 Ok(())
@@ -111,7 +131,7 @@ impl Wait {
         if self.room == 0 {
             self.names.reserve(1)?;
             self.rows.reserve(1)?;
-            self.nodes.reserve(1)?;
+            self.tree.reserve()?;
             self.room = 1;
         }
         Ok(())
@@ -127,7 +147,7 @@ impl Wait {
         ensures succeeds { HasRoomFor self.old parent.now child → IsOk result }
     {
         self.reserve_spawned(parent, &child)?;
-        if self.is_known(&child) {
+        if self.is_known(parent, &child) {
             self.enter(parent, &child);
         } else {
             self.enter_new(parent, child);
@@ -142,8 +162,8 @@ impl Wait {
         ensures names { KeepsNames self.old.tasks self.new.tasks }
         ensures room { self.new.room ≡ self.old.room }
     {
-        if let Some(at) = self.names.get_index_of(child) {
-            standing::enter(&mut self.rows, &mut self.nodes, at);
+        if let Some(at) = self.near.find(&self.names, child) {
+            standing::enter(&mut self.rows, &mut self.tree, at);
         }
     }
 
@@ -156,18 +176,18 @@ impl Wait {
         ensures names { KeepsNames self.old.tasks self.new.tasks }
         ensures room { self.old.room ≤ self.new.room + 1 }
     {
-        if let Some(owner) = self.names.get_index_of(parent) {
+        if let Some(owner) = self.near.find(&self.names, parent) {
             let at = self.rows.len();
             make_place(
                 &mut self.names,
                 &mut self.rows,
-                &mut self.nodes,
+                &mut self.tree,
                 self.alloc,
                 owner,
                 child,
             );
             self.room -= 1;
-            standing::enter(&mut self.rows, &mut self.nodes, at);
+            standing::enter(&mut self.rows, &mut self.tree, at);
         }
     }
 
@@ -177,8 +197,8 @@ impl Wait {
         ensures tasks { Drops self.old.tasks parent.now child.now self.new.tasks }
         ensures room { KeepsRoom self.old self.new }
     {
-        if let Some(at) = self.names.get_index_of(child) {
-            standing::leave(&mut self.rows, &mut self.nodes, at);
+        if let Some(at) = self.near.find(&self.names, child) {
+            standing::leave(&mut self.rows, &mut self.tree, at);
         }
     }
 
@@ -205,7 +225,7 @@ impl Wait {
         ensures room { KeepsRoom self.old self.new }
         ensures succeeds { HasGroupRoom self.old.tasks task.now → IsOk result }
     {
-        match self.names.get_index_of(task) {
+        match self.near.find(&self.names, task) {
             Some(at) => rows::reserve_group(&mut self.rows, at),
             None => Ok(()),
         }
@@ -230,7 +250,7 @@ impl Wait {
         ensures names { KeepsNames self.old.tasks self.new.tasks }
         ensures room { self.new.room ≡ self.old.room }
     {
-        if let Some(at) = self.names.get_index_of(task) {
+        if let Some(at) = self.near.find(&self.names, task) {
             rows::open(&mut self.rows, at);
         }
     }
@@ -241,7 +261,7 @@ impl Wait {
         ensures room { KeepsRoom self.old self.new }
         ensures group_room { HasOpenGroup self.old.tasks task.now → HasGroupRoom self.new.tasks task.now }
     {
-        if let Some(at) = self.names.get_index_of(task) {
+        if let Some(at) = self.near.find(&self.names, task) {
             rows::unopen(&mut self.rows, at);
         }
     }
@@ -251,7 +271,7 @@ impl Wait {
         ensures tasks { Changes self.old.tasks task.now closed_kin self.new.tasks }
         ensures room { KeepsRoom self.old self.new }
     {
-        if let Some(at) = self.names.get_index_of(task) {
+        if let Some(at) = self.near.find(&self.names, task) {
             rows::close(&mut self.rows, at);
         }
     }
@@ -261,7 +281,7 @@ impl Wait {
         ensures tasks { Changes self.old.tasks task.now unclosed_kin self.new.tasks }
         ensures room { KeepsRoom self.old self.new }
     {
-        if let Some(at) = self.names.get_index_of(task) {
+        if let Some(at) = self.near.find(&self.names, task) {
             rows::unclose(&mut self.rows, at);
         }
     }
@@ -270,10 +290,10 @@ impl Wait {
     pub fn first_child(&self, task: &TaskName) -> Option<&TaskName>
         ensures { IsLeastName (IsUnendedChild self.now.tasks task.now) (option_copied result) }
     {
-        let Some(at) = self.names.get_index_of(task) else {
+        let Some(at) = self.near.find(&self.names, task) else {
             return None;
         };
-        let Some(first) = search::first_unended(&self.nodes, at) else {
+        let Some(first) = self.tree.first_unended(at) else {
             return None;
         };
         self.names.get_index(first)
@@ -284,26 +304,26 @@ impl Wait {
     pub fn next_unended(&self, task: &TaskName, low: u32) -> Option<u32>
         ensures { IsNextUnended self.now.tasks task.now low result }
     {
-        let Some(at) = self.names.get_index_of(task) else {
+        let Some(at) = self.near.find(&self.names, task) else {
             return None;
         };
-        search::next_unended(&self.nodes, at, low)
+        self.tree.next_unended(at, low)
     }
 
     /// The least member of the task's innermost open group that stands and isn't over.
     pub fn first_member(&self, task: &TaskName) -> Option<&TaskName>
         ensures { IsLeastName (IsUnendedMember self.now.tasks task.now) (option_copied result) }
     {
-        let Some(at) = self.names.get_index_of(task) else {
+        let Some(at) = self.near.find(&self.names, task) else {
             return None;
         };
         let Some(from) = rows::innermost(&self.rows, at) else {
             return None;
         };
-        let Some(child) = search::first_live(&self.nodes, at, from) else {
+        let Some(child) = self.tree.first_live(at, from) else {
             return None;
         };
-        let first = search::first_within(&self.nodes, child);
+        let first = self.tree.first_within(child);
         self.names.get_index(first)
     }
 
@@ -311,7 +331,7 @@ impl Wait {
     pub fn is_over(&self, task: &TaskName) -> Option<bool>
         ensures { result ≡ option_map (λ (k : Kin). k.over) (kin self.now.tasks task.now) }
     {
-        let Some(at) = self.names.get_index_of(task) else {
+        let Some(at) = self.near.find(&self.names, task) else {
             return None;
         };
         rows::is_over(&self.rows, at)
@@ -321,7 +341,7 @@ impl Wait {
     pub fn children(&self, task: &TaskName) -> Option<u32>
         ensures { result ≡ option_map (λ (k : Kin). k.children) (kin self.now.tasks task.now) }
     {
-        let Some(at) = self.names.get_index_of(task) else {
+        let Some(at) = self.near.find(&self.names, task) else {
             return None;
         };
         rows::children(&self.rows, at)
@@ -331,7 +351,7 @@ impl Wait {
     pub fn is_fresh(&self, task: &TaskName) -> bool
         ensures { result ≡ is_fresh (kin self.now.tasks task.now) }
     {
-        let Some(at) = self.names.get_index_of(task) else {
+        let Some(at) = self.near.find(&self.names, task) else {
             return false;
         };
         rows::is_fresh(&self.rows, at)
@@ -342,7 +362,7 @@ impl Wait {
     pub fn groups(&self, task: &TaskName) -> &[u32]
         ensures { result.now ≡ reverse (groups_of (kin self.now.tasks task.now)) }
     {
-        let Some(at) = self.names.get_index_of(task) else {
+        let Some(at) = self.near.find(&self.names, task) else {
             return &[];
         };
         rows::groups(&self.rows, at)
@@ -352,10 +372,10 @@ impl Wait {
         ensures tasks { Changes self.old.tasks task.now (with_over over) self.new.tasks }
         ensures room { KeepsRoom self.old self.new }
     {
-        if let Some(at) = self.names.get_index_of(task) {
+        if let Some(at) = self.near.find(&self.names, task) {
             rows::set_over(&mut self.rows, at, over);
             let pending = rows::is_pending(&self.rows, at);
-            set_pending(&mut self.nodes, at, pending);
+            self.tree.set_pending(at, pending);
         }
     }
 }
@@ -364,30 +384,30 @@ impl Wait {
 fn make_place(
     names: &mut IndexSet<TaskName>,
     rows: &mut Vec<Row>,
-    nodes: &mut Vec<Node>,
+    tree: &mut Tree,
     alloc: Global,
     owner: usize,
     child: TaskName,
 )
-    requires fits { Fits names.old.keys rows.old.items nodes.old.items }
+    requires fits { Fits names.old.keys rows.old.items tree.old.nodes }
     requires within { owner < length names.old.keys }
     requires unknown { slot (zip names.old.keys rows.old.items) child ≡ None }
     requires next { (k : Kin) × ((slot_at rows.old.items owner).kin ≡ Some k) × (child ≡ suc k.children ∷ key names.old.keys owner) }
     requires child_room { 0 < (slot_at rows.old.items owner).child_room }
     requires names_room { 0 < spare names.old }
     requires rows_room { length rows.old.items < vec_capacity rows.old }
-    requires nodes_room { length nodes.old.items < vec_capacity nodes.old }
-    ensures fits { Fits names.new.keys rows.new.items nodes.new.items }
+    requires tree_room { 0 < tree.old.room }
+    ensures fits { Fits names.new.keys rows.new.items tree.new.nodes }
     ensures same { IsSame (zip names.old.keys rows.old.items) (zip names.new.keys rows.new.items) }
     ensures names { KeepsNames (zip names.old.keys rows.old.items) (zip names.new.keys rows.new.items) }
     ensures named { key names.new.keys (length names.old.keys) ≡ child }
     ensures len { length names.new.keys ≡ length names.old.keys + 1 }
     ensures spare { spare names.old ≤ spare names.new + 1 }
     ensures rows_capacity { vec_capacity rows.new ≡ vec_capacity rows.old }
-    ensures nodes_capacity { vec_capacity nodes.new ≡ vec_capacity nodes.old }
+    ensures tree_room { tree.new.room ≡ tree.old.room - 1 }
 {
     let room = rows::child_room(rows, owner);
-    tree::add(nodes, alloc, owner, number_of(&child));
+    tree.add(alloc, owner, number_of(&child));
     rows::set_child_room(rows, owner, room - 1);
     rows::push(rows, alloc);
     names.insert(child).unwrap();

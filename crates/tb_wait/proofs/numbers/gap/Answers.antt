@@ -1,4 +1,4 @@
-use Rattle.std.proofs.Common.{arith, ◌+◌, ◌-◌, ◌/◌}
+use Rattle.std.proofs.Common.{arith}
 use Rattle.tb_wait.proofs.NumbersLemmas.{below_len, search_up, search_down}
 use Rattle.tb_wait.proofs.numbers.gap.Goals as goal
 
@@ -11,13 +11,13 @@ loop-low-init c =
 pub loop-low-preserved-then-number_at-n : goal.loop-low-preserved-then-number_at-n
 loop-low-preserved-then-number_at-n c =
     let h = c.loop-low.invariant in
-    let up = search_up 0 c.args.items.now.items c.requires.0 c.args.n (c.loop-low.low + (c.loop-low.high - c.loop-low.low) / 2) 0 c.requires.1
-    (omega (arith, c.loop-low-test.true, h.within)) (omega (arith, c.number_at.ensures, c.if-number_at-n.true)) in
+    let up = search_up 0 c.args.items.now.items c.requires.0 c.args.n c.probe-middle.result 0 c.requires.1
+    (omega (arith, c.probe-middle.ensures.below, h.within)) (omega (arith, c.number_at.ensures, c.if-number_at-n.true)) in
     record { low = omega (arith, up); high = h.high; within = h.within }
 
 pub loop-low-preserved : goal.loop-low-preserved
 loop-low-preserved c =
     let h = c.loop-low.invariant in
-    let down = search_down 0 c.args.items.now.items c.requires.0 c.args.n (c.loop-low.low + (c.loop-low.high - c.loop-low.low) / 2) 0 c.requires.1
-    (omega (arith, c.loop-low-test.true, h.within)) (omega (arith, c.number_at.ensures, c.if-number_at-n.false)) in
-    record { low = h.low; high = down; within = omega (arith, c.loop-low-test.true, h.within) }
+    let down = search_down 0 c.args.items.now.items c.requires.0 c.args.n c.probe-middle.result 0 c.requires.1
+    (omega (arith, c.probe-middle.ensures.below, h.within)) (omega (arith, c.number_at.ensures, c.if-number_at-n.false)) in
+    record { low = h.low; high = down; within = omega (arith, c.probe-middle.ensures.below, h.within) }

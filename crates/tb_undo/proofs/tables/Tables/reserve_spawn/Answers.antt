@@ -1,4 +1,4 @@
-use Rattle.std.proofs.Common.{sym, ap, subst, ◌<◌}
+use Rattle.std.proofs.Common.{sym, ap, ◌∙◌, subst, ◌<◌}
 use Rattle.std.specs.Result.{IsOk}
 use Rattle.std.proofs.lemmas.Bool.{false≢true}
 use Rattle.indexmap.proofs.MapLemmas.{OnOk-map}
@@ -10,8 +10,9 @@ use Rattle.tb_undo.proofs.tables.Tables.reserve_spawn.Goals as goal
 pub returns-in_err-reserve_row-clause-succeeds : goal.returns-in_err-reserve_row-clause-succeeds
 returns-in_err-reserve_row-clause-succeeds c room =
     let rest = c.reserve_copies.ensures.rest in
-    let done = c.reserve_row.ensures.succeeds (subst (λ n. 0 < n) (sym (ap (λ s. s.row_room) rest)) room.row)
-    (subst (λ rows. HasChildRoomIn rows c.args.parent.now c.args.items.now c.args.deferred) (sym (ap (λ s. s.rows) rest)) room.child) in
+    let turned = c.turn_to.ensures in
+    let done = c.reserve_row.ensures.succeeds (subst (λ n. 0 < n) (sym (ap (λ s. s.row_room) rest ∙ ap (λ s. s.row_room) turned)) room.row)
+    (subst (λ rows. HasChildRoomIn rows c.args.parent.now c.args.items.now c.args.deferred) (sym (ap (λ s. s.rows) rest ∙ ap (λ s. s.rows) turned)) room.child) in
     absurd (false≢true (subst IsOk c.in_err-reserve_row.was done))
 
 pub returns-clause-ok : goal.returns-clause-ok

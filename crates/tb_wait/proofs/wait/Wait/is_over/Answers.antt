@@ -4,7 +4,7 @@ use Rattle.tb_wait.proofs.SearchLemmas.{kin_of_row, kin_of_none}
 use Rattle.tb_wait.proofs.wait.Wait.is_over.Goals as goal
 
 pub returns-in_default : goal.returns-in_default
-returns-in_default c = sym (ap (option_map (λ (k : Kin). k.over)) (kin_of_none c.args.self.now c.self.inside.names.keys c.self.inside.rows.items c.self.inside.nodes.items c.self.inside.room c.self.view_is c.self.invariant.0 c.args.task.now c.in_default.ensures.found))
+returns-in_default c = sym (ap (option_map (λ (k : Kin). k.over)) (kin_of_none c.args.self.now c.self.inside.names.keys c.self.inside.rows.items c.self.inside.tree.nodes c.self.inside.room c.self.view_is c.self.invariant.0 c.args.task.now c.in_default.ensures.found))
 
 pub returns : goal.returns
-returns c = c.is_over.ensures ∙ sym (ap (option_map (λ (k : Kin). k.over)) (kin_of_row c.args.self.now c.self.inside.names.keys c.self.inside.rows.items c.self.inside.nodes.items c.self.inside.room c.self.view_is c.self.invariant.0 c.args.task.now c.in-Some.at c.in-Some.ensures.index))
+returns c = c.is_over.ensures ∙ sym (ap (option_map (λ (k : Kin). k.over)) (kin_of_row c.args.self.now c.self.inside.names.keys c.self.inside.rows.items c.self.inside.tree.nodes c.self.inside.room c.self.view_is c.self.invariant.0 c.args.task.now c.in-Some.at c.in-Some.ensures.index))

@@ -2,7 +2,7 @@ use Rattle.std.proofs.Common.{ap, ◌∙◌, subst}
 use Rattle.tb_wait.specs.Numbers.{IsPut}
 use Rattle.tb_wait.specs.Tree.{node, is_live}
 use Rattle.tb_wait.proofs.TreeLemmas.{owner_within, number_from_one, number_within, children_live, live_step, links_live, linked_same}
-use Rattle.tb_wait.proofs.tree.tell_live.Goals as goal
+use Rattle.tb_wait.proofs.nodes.tell_live.Goals as goal
 
 pub shown-requires : goal.shown-requires
 shown-requires c =

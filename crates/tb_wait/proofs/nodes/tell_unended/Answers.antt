@@ -2,7 +2,7 @@ use Rattle.std.proofs.Common.{ap, ◌∙◌, subst, arith}
 use Rattle.tb_wait.specs.Numbers.{IsPut}
 use Rattle.tb_wait.specs.Tree.{node}
 use Rattle.tb_wait.proofs.TreeLemmas.{owner_within, number_from_one, number_within, children_unended, unended_step, links_unended, linked_same}
-use Rattle.tb_wait.proofs.tree.tell_unended.Goals as goal
+use Rattle.tb_wait.proofs.nodes.tell_unended.Goals as goal
 
 pub set_unended-requires-clause-within : goal.set_unended-requires-clause-within
 set_unended-requires-clause-within c =

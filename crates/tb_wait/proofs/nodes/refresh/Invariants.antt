@@ -1,6 +1,6 @@
 use Rattle.std.proofs.Common.{◌≡◌, ◌<◌, length, vec_capacity}
 use Rattle.tb_wait.specs.Tree.{IsLinked, AreChildren, KnowsLiveBut, SameButLive}
-use Rattle.tb_wait.proofs.tree.refresh.Given as goal
+use Rattle.tb_wait.proofs.nodes.refresh.Given as goal
 
 abbrev pub invariant-loop-at : goal.invariant-loop-at
 invariant-loop-at l = record {

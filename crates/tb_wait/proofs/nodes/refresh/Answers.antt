@@ -1,7 +1,7 @@
 use Rattle.std.proofs.Common.{ap, ◌∙◌, subst, sym, arith}
 use Rattle.tb_wait.specs.Tree.{KnowsLiveBut}
 use Rattle.tb_wait.proofs.TreeLemmas.{owner_before, live_along}
-use Rattle.tb_wait.proofs.tree.refresh.Goals as goal
+use Rattle.tb_wait.proofs.nodes.refresh.Goals as goal
 
 pub loop-at-smaller : goal.loop-at-smaller
 loop-at-smaller c =

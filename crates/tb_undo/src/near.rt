@@ -1,0 +1,46 @@
+//! Where the row of a task is.
+
+ghost use Rattle.std.specs.Prelude.{◌≡◌, Some, IsTrue, position};
+ghost use Rattle.std.specs.Map.{keys_of};
+ghost use Rattle.std.specs.Option.{option_copied};
+ghost use Rattle.tb_model.specs.Names.{same_name};
+ghost use Rattle.tb_undo.specs.Tasks.{row};
+
+use crate::row::Row;
+use indexmap::IndexMap;
+use tb_model::TaskName;
+
+/// The place of the task's row. The place `near`, and the one behind it, are tried before the name's
+/// hash is taken: mostly the task that took the last step is asked of again, or the one that was
+/// generated after it. A place counts only where the very name stands, so any place does.
+pub fn find(rows: &IndexMap<TaskName, Row>, near: usize, name: &TaskName) -> Option<usize>
+    ensures index { result ≡ position (same_name name.now) (keys_of rows.now.entries) }
+{
+    if stands_at(rows, near, name) {
+        return Some(near);
+    }
+    let next = near.saturating_add(1);
+    if stands_at(rows, next, name) {
+        return Some(next);
+    }
+    rows.get_index_of(name)
+}
+
+/// The task's row, which is looked for so.
+pub fn get<'a>(rows: &'a IndexMap<TaskName, Row>, near: usize, name: &TaskName) -> Option<&'a Row>
+    ensures value { option_copied result ≡ row rows.now.entries name.now }
+{
+    let at = find(rows, near, name)?;
+    let (_, row) = rows.get_index(at)?;
+    Some(row)
+}
+
+/// Whether the task's row is at the place.
+fn stands_at(rows: &IndexMap<TaskName, Row>, at: usize, name: &TaskName) -> bool
+    ensures { IsTrue result → position (same_name name.now) (keys_of rows.now.entries) ≡ Some at }
+{
+    match rows.as_slice().get_index(at) {
+        Some((key, _)) => key == name,
+        None => false,
+    }
+}

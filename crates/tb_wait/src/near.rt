@@ -1,0 +1,50 @@
+//! Where a name is looked for first.
+
+ghost use Rattle.std.specs.Prelude.{◌≡◌, ◌<◌, Some, IsTrue, IfSome, is_some, length, true};
+ghost use Rattle.std.specs.List.{position, list_any};
+ghost use Rattle.tb_model.specs.Names.{same_name};
+
+use indexmap::IndexSet;
+use tb_model::TaskName;
+
+/// The places of a task and of its parent. Mostly the task that took the last step is asked of
+/// again, or its parent, or the task that was generated after it; so their places are tried before
+/// the name's hash is taken. A place counts only where the very name stands, so any places do.
+#[derive(Clone, Copy)]
+pub struct Near {
+    pub own: usize,
+    pub above: usize,
+}
+
+impl Near {
+    /// The place of a name.
+    pub fn find(&self, names: &IndexSet<TaskName>, name: &TaskName) -> Option<usize>
+        ensures index { result ≡ position (same_name name.now) names.now.keys }
+        ensures found { is_some result ≡ list_any (same_name name.now) names.now.keys }
+        ensures within { IfSome result (λ i. i < length names.now.keys) }
+    {
+        if stands_at(names, self.own, name) {
+            return Some(self.own);
+        }
+        if stands_at(names, self.above, name) {
+            return Some(self.above);
+        }
+        let next = self.own.saturating_add(1);
+        if stands_at(names, next, name) {
+            return Some(next);
+        }
+        names.get_index_of(name)
+    }
+}
+
+/// Whether the name stands at the place.
+fn stands_at(names: &IndexSet<TaskName>, at: usize, name: &TaskName) -> bool
+    ensures index { IsTrue result → position (same_name name.now) names.now.keys ≡ Some at }
+    ensures found { IsTrue result → list_any (same_name name.now) names.now.keys ≡ true }
+    ensures within { IsTrue result → at < length names.now.keys }
+{
+    match names.as_slice().get(at) {
+        Some(key) => key == name,
+        None => false,
+    }
+}
