@@ -9,6 +9,8 @@ ghost use Rattle.tb_core.specs.Scans.{AreLegal, history_of};
 ghost use Rattle.tb_cause.specs.Indexes.{items_placed, items_told, placed_action};
 ghost use Rattle.tb_cause.specs.Keys.{held_by};
 
+use crate::cone::Cone;
+use crate::keys::Keys;
 use crate::spawns::spawns_of;
 use crate::standing::held_steps;
 use indexmap::IndexMap;
@@ -145,4 +147,29 @@ fn items_at(entries: &[Entry], at: usize) -> &[Item]
         Action::Spawn { items, .. } => items.as_slice(),
         _ => &[],
     }
+}
+
+/// The patterns name every field: what is found and what is looked up holds no program, and no copy of
+/// a state; the entries are lent. They are compiled with the crate, so that a further field is refused
+/// until it stands here.
+fn name_every_field(indexed: &Indexed<'_>, keys: &Keys, cone: &Cone) {
+    let Indexed {
+        entries: _,
+        held: _,
+        spawns: _,
+    } = indexed;
+    let Keys {
+        tasks: _,
+        ended: _,
+        parents: _,
+        within: _,
+        items: _,
+        stored: _,
+        touched: _,
+        printed: _,
+    } = keys;
+    let Cone {
+        places: _,
+        steps: _,
+    } = cone;
 }

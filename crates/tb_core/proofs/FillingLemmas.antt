@@ -12,7 +12,7 @@ use Rattle.tb_model.specs.Legal.{Cells, first_number, spawn_count}
 use Rattle.tb_model.specs.Lines.{Departure, events_of}
 use Rattle.tb_model.proofs.TestLemmas.{same_true, same_refl}
 use Rattle.tb_undo.specs.State.{Seen as Tables, IsState}
-use Rattle.tb_core.specs.Filling.{IsRunOf, IsNextChild, Fills, completed, child_in}
+use Rattle.tb_core.specs.Filling.{IsRunOf, IsNextChild, IsWhole, Fills, completed, child_in}
 
 pub same_spare : (spare name : Name) (b : Bool) → b ≡ same_name spare name → IsTrue b → spare ≡ name
 same_spare spare name b e t = same_true spare name (sym e ∙ t)
@@ -110,10 +110,13 @@ module _ (s : Tables) (t : Name) (a : Action) (u : Name) (line : ℕ) (args : Li
       use_it x (λ first root_line D k h. ap (λ o. unwrap_or o x) (sym named ∙ child_filled v f first root_line D k h)) (e ∙ named)
 
 -- any other action is as it was planned
-completed_other : (first : Cells) (H : History) (t : Name) (a : Action) → ((r c : ℕ) (x : ℤ) → a ≢ Load r c x) → ((u : Name) (line : ℕ) (args : List ℤ) (items : List Item) (deferred : Bool) → a ≢ Spawn u line args items deferred) → completed first H t a ≡ a
+pub completed_other : (first : Cells) (H : History) (t : Name) (a : Action) → ((r c : ℕ) (x : ℤ) → a ≢ Load r c x) → ((u : Name) (line : ℕ) (args : List ℤ) (items : List Item) (deferred : Bool) → a ≢ Spawn u line args items deferred) → completed first H t a ≡ a
 completed_other first H t (Load r c x) l s = absurd (l r c x refl)
 completed_other first H t (Spawn u line args items deferred) l s = absurd (s u line args items deferred refl)
 completed_other first H t _ l s = refl
+
+pub whole_named : (s : Tables) (t name : Name) (a : Action) → name ≡ t → IsWhole a → Fills s t a (record { task = name; action = a })
+whole_named s t name a same whole first root_line D k h = ap₂ (λ u b. event u b) same (sym (whole first (events_of D) t))
 
 pub other_filled : (s : Tables) (t : Name) (a b : Action) → ((r c : ℕ) (x : ℤ) → a ≢ Load r c x) → ((u : Name) (line : ℕ) (args : List ℤ) (items : List Item) (deferred : Bool) → a ≢ Spawn u line args items deferred) → b ≡ a → Fills s t a (record { task = t; action = b })
 other_filled s t a b l n same first root_line D k h =

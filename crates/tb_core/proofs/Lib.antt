@@ -12,3 +12,6 @@ pub mod TakenLemmas
 pub mod RefusedLemmas
 pub mod UndoneLemmas
 pub mod RolledLemmas
+pub mod RenumberLemmas
+pub mod IndexLemmas
+pub mod OwnLemmas

@@ -1,6 +1,7 @@
 -- What a core tells of a task, and why a plan is refused.
-use Rattle.std.proofs.Common.{◌≡◌, ◌≢◌, ◌↔◌, inl, inr, List, [], ◌∷◌, Bool, true, false, cond, length, refl, sym, ap, ◌∙◌, subst, arith, Option, Some, None, unwrap_or, nat_lt, nat_le}
+use Rattle.std.proofs.Common.{◌≡◌, ◌≢◌, ◌<◌, ◌+◌, ℕ, suc, ◌↔◌, ap₂, inl, inr, List, [], ◌∷◌, Bool, true, false, cond, length, refl, sym, ap, ◌∙◌, subst, arith, Option, Some, None, unwrap_or, nat_lt, nat_le}
 use Rattle.std.specs.List.{AllByRecursion, list_all}
+use Rattle.std.specs.Prelude.{IfSome, IfNone}
 use Rattle.std.specs.Option.{option_map}
 use Rattle.std.proofs.lemmas.Bool.{false≢true, true≢false, and_parts}
 use Rattle.std.proofs.lemmas.Bool.Decides.{nat_tests}
@@ -9,7 +10,11 @@ use Rattle.tb_model.specs.declared.place.Place.{Place}
 use Rattle.tb_model.specs.declared.place.Place.TheVariants.{Cell, All}
 use Rattle.tb_model.specs.declared.action.Action.{Action}
 use Rattle.tb_model.specs.declared.action.Action.TheVariants.{Start, Let, Load, Store, Print, Spawn, Wait, Open, Close, Test, End, Fault}
+use Rattle.tb_model.specs.declared.event.Event.{Event}
+use Rattle.tb_model.specs.declared.step_id.StepId.{StepId}
 use Rattle.tb_model.specs.Names.{Name}
+use Rattle.tb_model.specs.Needs.{step_of, without}
+use Rattle.tb_model.specs.Lines.{without_lines}
 use Rattle.tb_model.specs.Facts.{History, own, is_start, is_spawned, groups}
 use Rattle.tb_model.specs.Legal.{Cells, Legal, MayFollow, Continues, IsRunning, IsPlace}
 use Rattle.tb_model.specs.State.{status_of, is_over}
@@ -20,7 +25,7 @@ use Rattle.tb_model.proofs.HindranceLemmas.{nothing_in_the_way}
 use Rattle.tb_model.proofs.StateLemmas.{over_ended}
 use Rattle.tb_read.specs.declared.planned.Plan.{Plan}
 use Rattle.tb_read.specs.declared.config.Config.{Config}
-use Rattle.tb_read.specs.Plans.{names_allowed, is_placed, is_place}
+use Rattle.tb_read.specs.Plans.{names_allowed, line_behind, is_placed, is_place}
 use Rattle.tb_undo.specs.declared.standing.Standing.{Standing}
 use Rattle.tb_undo.specs.State.{known_task, task_of}
 use Rattle.tb_undo.specs.Readings.{standing_of}
@@ -31,7 +36,7 @@ use Rattle.tb_core.specs.Situation.{config_of}
 use Rattle.tb_core.specs.Filling.{completed}
 use Rattle.tb_core.specs.Refusals.{told_by}
 use Rattle.tb_core.specs.Naming.{config_with, IsStaleAnswer, IsNamed}
-use Rattle.tb_core.specs.Outcomes.{IsKept, IsTold, Fits, IsCurrent, IsOpen, IsStale, IsHindered, Refuses, hindrance_of, has_ended, event_of}
+use Rattle.tb_core.specs.Outcomes.{IsKept, IsKeptBy, IsTold, Fits, IsCurrent, IsOpen, IsStale, IsHindered, MayTake, Takes, Steps, Refuses, hindrance_of, has_ended, event_for, grown_by}
 
 -- ---- where a task stands
 
@@ -68,6 +73,15 @@ module _ (s : Seen) (t : Name) (o : Option Standing) (told : o ≡ option_map st
 
   pub none_told : o ≡ None → ◌≡◌ {A = Option Config} None (cond (is_spawned (history s) t) (Some (config_of s t)) None)
   none_told n = sym (ap (λ b. cond b (Some (config_of s t)) None) (not_there n))
+
+-- the same of the call's answer
+pub some_stands : (s : Seen) (t : Name) (o : Option Standing) → o ≡ option_map standing_of (task_of s.root_line s.steps t) → IfSome o (λ k. (is_spawned (history s) t ≡ true) × (config_of s t ≡ config_with t k))
+some_stands s t None told = tt
+some_stands s t (Some k) told = (is_there s t (Some k) told k refl, stands_as s t (Some k) told k refl)
+
+pub none_stands : (s : Seen) (t : Name) (o : Option Standing) → o ≡ option_map standing_of (task_of s.root_line s.steps t) → IfNone o (is_spawned (history s) t ≡ false)
+none_stands s t None told = not_there s t None told refl
+none_stands s t (Some k) told = tt
 
 -- ---- the plan's event may follow
 
@@ -144,14 +158,49 @@ reads cells H t (Test b) = refl
 reads cells H t End = refl
 reads cells H t Fault = refl
 
-pub may_step : (s : Seen) (p : Plan) → Legal s.cells (history s) → Fits s p → names_allowed p.instr.cells p.action ≡ true → IsOpen s p → MayFollow s.cells (history s) (event_of s p)
-may_step s p legal fits allowed ready =
+pub may_take : (s : Seen) (t : Name) (a : Action) → Legal s.cells (history s) → MayTake s t a → MayFollow s.cells (history s) (event_for s t a)
+may_take s t a legal may =
     let H = history s in
-    let t = p.config.task in
-    let current = ready.current in
-    let going : is_over (status_of (own t H)) ≡ false = sym (over_ended s.cells H t legal) ∙ current.going in
-    let k = continues s.cells H t p.action (ap (λ n. names_allowed n p.action) (sym fits.cells) ∙ allowed) going (fits.starts current.here) (fits.closes current.here) in
-    (nothing_in_the_way s.cells H t (completed s.cells H t p.action) current.spawned k (reads s.cells H t p.action)).0 (same_way s.cells H t p.action ∙ ready.clear)
+    let going : is_over (status_of (own t H)) ≡ false = sym (over_ended s.cells H t legal) ∙ may.going in
+    let k = continues s.cells H t a may.allowed going may.starts may.closes in
+    (nothing_in_the_way s.cells H t (completed s.cells H t a) may.spawned k (reads s.cells H t a)).0 (same_way s.cells H t a ∙ may.clear)
+
+-- an open plan's action may be taken
+pub open_takes : (s : Seen) (p : Plan) → Fits s p → IsOpen s p → MayTake s p.config.task p.action
+open_takes s p fits o =
+    let here = o.current.here in
+    record {
+      spawned = o.current.spawned;
+      going = o.current.going;
+      allowed = ap (λ n. names_allowed n p.action) (sym fits.cells) ∙ p.allowed;
+      starts = fits.starts here;
+      closes = fits.closes here;
+      clear = o.clear;
+      room = o.room;
+    }
+
+-- and where it's taken, so is the plan's step
+pub takes_steps : (s : Seen) (p : Plan) (to : ℕ) (new : Seen) (v : Event) (i : StepId) → IsCurrent s p → length s.steps < s.limit → Takes s p.config.task p.action to new v → line_behind p.instr p.config p.action ≡ to → i.task ≡ p.config.task → i.k ≡ p.config.steps + 1 → Steps s p new i
+takes_steps s p to new v i current room k line task number =
+    let counted : p.config.steps + 1 ≡ suc (length (own p.config.task (history s))) = omega (arith, ap (λ c. c.steps) current.here) in
+    let here : i ≡ step_of (history s) v =
+    named i ∙ ap₂ (λ (t : Name) (n : ℕ). id_of t n) task (number ∙ counted) ∙ ap (step_of (history s)) (sym k.event)
+    in
+    record {
+      current = current;
+      room = room;
+      may = subst (MayFollow s.cells (history s)) k.event k.may;
+      now = k.now ∙ ap₂ (λ (w : Event) (n : ℕ). grown_by w n s) k.event (sym line);
+      id = here ∙ ap (step_of (history s)) k.event;
+      back = subst (λ j. without j (history new) ≡ history s) (sym here) k.back;
+      lines = subst (λ j. without_lines j new.steps ≡ s.steps) (sym here) k.lines;
+    }
+  where
+    id_of : Name → ℕ → StepId
+    id_of t n = record { task = t; k = n }
+
+    named : (j : StepId) → j ≡ id_of j.task j.k
+    named j = refl
 
 -- ---- why a plan is refused
 
@@ -183,6 +232,9 @@ told_refuses s p _ k e w = subst (IsTold s p) (sym e) w
 pub hindered_refuses : (s : Seen) (p : Plan) (h : Hindrance) (r : StepRefusal) → IsCurrent s p → hindrance_of s p ≡ Some h → IsNamed h r → IsKept s p r
 hindered_refuses s p h Memory c e n = inr (h, record { current = c; hindrance = e })
 hindered_refuses s p h r c e n = told_refuses s p r (By h) n (record { current = c; hindrance = e })
+
+pub kept_by : (s : Seen) (p : Plan) (r : StepRefusal) → IsCurrent s p → IsKeptBy s p.config.task p.action r → IsKept s p r
+kept_by s p r c k = hindered_refuses s p k.hindrance r c k.found k.named
 
 -- what is kept is refused
 pub kept_refuses : (s : Seen) (p : Plan) (r : StepRefusal) → IsKept s p r → Refuses s p r

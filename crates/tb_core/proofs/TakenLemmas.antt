@@ -1,23 +1,21 @@
--- A step of a plan that isn't refused, and the room for it.
-use Rattle.std.proofs.Common.{◌≡◌, ◌<◌, ◌≤◌, ◌+◌, ℕ, suc, List, [], ◌∷◌, ◌++◌, Bool, true, false, length, map, reverse, refl, sym, ap, ap₂, ◌∙◌, subst, arith, Option, Some, None, IsTrue, unwrap_or, nat_lt, ◌||◌}
+-- An action that may be taken, its step, and the room for it.
+use Rattle.std.proofs.Common.{◌≡◌, ◌<◌, ◌≤◌, ℕ, suc, List, [], ◌∷◌, ◌++◌, Bool, true, false, length, map, reverse, refl, sym, ap, ◌∙◌, subst, arith, Option, Some, None, IsTrue, unwrap_or, nat_lt, ◌||◌}
 use Rattle.std.specs.List.{list_any}
 use Rattle.std.proofs.lemmas.Bool.{and_parts}
 use Rattle.std.proofs.lemmas.Bool.Decides.{nat_tests}
-use Rattle.std.proofs.lemmas.List.{length-map, reverse-append}
+use Rattle.std.proofs.lemmas.List.{length-map, length-reverse, reverse-append}
 use Rattle.tb_model.specs.declared.action.Action.{Action}
 use Rattle.tb_model.specs.declared.action.Action.TheVariants.{Start, Let, Load, Store, Print, Spawn, Wait, Open, Close, Test, End, Fault}
 use Rattle.tb_model.specs.declared.event.Event.{Event}
-use Rattle.tb_model.specs.declared.step_id.StepId.{StepId}
 use Rattle.tb_model.specs.Names.{Name, child}
-use Rattle.tb_model.specs.Facts.{History, own, last, IsSpawned, is_spawned, prepend_if}
-use Rattle.tb_model.specs.Legal.{Cells, Legal, first_number, spawn_count}
+use Rattle.tb_model.specs.Facts.{History, is_of, own, IsSpawned, prepend_if}
+use Rattle.tb_model.specs.Legal.{Cells, Legal, MayFollow}
 use Rattle.tb_model.specs.Lines.{Departure, events_of, without_lines}
-use Rattle.tb_model.specs.Needs.{step_of, needs, removed}
+use Rattle.tb_model.specs.Needs.{step_of, needs, removed, without}
 use Rattle.tb_model.specs.Reordering.{IsUnneeded}
 use Rattle.tb_model.proofs.RemovalLemmas.{without_newest, its_step, removed_none}
 use Rattle.tb_undo.proofs.MiddleLemmas.{lines_kept}
-use Rattle.tb_read.specs.declared.planned.Plan.{Plan}
-use Rattle.tb_read.specs.Plans.{names_allowed, line_behind}
+use Rattle.tb_read.specs.Plans.{names_allowed}
 use Rattle.tb_store.specs.declared.replaced.Replaced.{Replaced}
 use Rattle.tb_wait.specs.Histories.{kin_from}
 use Rattle.tb_wait.proofs.HistoryLemmas.{counted, kin_stands}
@@ -27,11 +25,14 @@ use Rattle.tb_undo.specs.Steps.{Follows, IsAhead, IsBehind, IsRecord}
 use Rattle.tb_undo.proofs.StateLemmas.{state_same}
 use Rattle.tb_core.specs.declared.entry.Entry.{Entry}
 use Rattle.tb_core.specs.Soundness.{departure}
-use Rattle.tb_core.specs.Seen.{Seen}
+use Rattle.tb_core.specs.Seen.{Seen, history}
 use Rattle.tb_core.specs.Filling.{completed, IsRunOf, Fills}
-use Rattle.tb_core.specs.Outcomes.{Fits, IsOpen, Steps, event_of}
+use Rattle.tb_core.specs.Outcomes.{MayTake, Takes, event_for, grown_by}
 use Rattle.tb_core.specs.Soundness.{seen, IsSound, HasReserved}
-use Rattle.tb_core.proofs.ShownLemmas.{may_step}
+use Rattle.tb_core.specs.Renumbering.{events_in}
+use Rattle.tb_places.specs.declared.places.Places.{Places}
+use Rattle.tb_places.specs.Places.{IsIndexOf, HasRoomFor as HasRoomForPlaces}
+use Rattle.tb_core.proofs.ShownLemmas.{may_take}
 
 -- ---- what is filled in is settled by the tables
 
@@ -63,143 +64,146 @@ newest_unneeded H v =
     ap (λ b. length (prepend_if (b || list_any (needs H v) (removed (step_of H v) H)) v (removed (step_of H v) H))) (its_step H v)
     ∙ ap (λ l. length (v ∷ l)) (removed_none (step_of H v) H (omega arith))
 
-pub none_reserved : (o : Option Event) (room : ℕ) (s : Tables) → o ≡ None → HasReserved o room s
-none_reserved o room s e = record { entry = λ v h. absurd (none v (sym e ∙ h)); tables = λ v h. absurd (none v (sym e ∙ h)) }
+pub none_reserved : (o : Option Event) (room : ℕ) (s : Tables) (p : Places) → o ≡ None → HasReserved o room s p
+none_reserved o room s p e = record {
+  entry = λ v h. absurd (none v (sym e ∙ h));
+  tables = λ v h. absurd (none v (sym e ∙ h));
+  places = λ v h. absurd (none v (sym e ∙ h));
+}
   where
     none : (v : Event) → ◌≡◌ {A = Option Event} None (Some v) → ⊥
     none v z = cc
 
 module _ (first : Cells) (root_line limit : ℕ) (es : List Entry) (tables : Tables) (sound : IsSound first root_line limit (reverse es) tables)
-    (s : Seen) (is : seen first root_line limit (reverse es) ≡ s) (p : Plan) (fits' : Fits s p) (ready' : IsOpen s p) (allowed : IsTrue (names_allowed p.instr.cells p.action)) where
+    (s : Seen) (is : seen first root_line limit (reverse es) ≡ s) (t : Name) (a : Action) (may' : MayTake s t a) where
   abbrev D : List Departure
   D = map departure (reverse es)
 
   abbrev S : Seen
   S = seen first root_line limit (reverse es)
 
-  fits : Fits S p
-  fits = subst (λ (x : Seen). Fits x p) (sym is) fits'
-
-  ready : IsOpen S p
-  ready = subst (λ (x : Seen). IsOpen x p) (sym is) ready'
+  may : MayTake S t a
+  may = subst (λ (x : Seen). MayTake x t a) (sym is) may'
 
   fewer : length D ≤ 1000000
   fewer = omega (arith, length-map (reverse es) departure, sound.within, sound.bound)
 
-  pub names : IsTrue (names_allowed (length tables.store.cells) p.action)
-  names = ap (λ n. names_allowed n p.action) (sound.state.cells.count ∙ sym fits.cells) ∙ allowed
+  pub names : IsTrue (names_allowed (length tables.store.cells) a)
+  names = ap (λ n. names_allowed n a) sound.state.cells.count ∙ may.allowed
 
-  pub run_of : IsRunOf tables p.config.task
-  run_of = record { first = first; root_line = root_line; steps = D; legal = sound.legal; state = sound.state; few = fewer; spawned = ready.current.spawned }
+  pub run_of : IsRunOf tables t
+  run_of = record { first = first; root_line = root_line; steps = D; legal = sound.legal; state = sound.state; few = fewer; spawned = may.spawned }
 
-  -- the event that is filled in is the plan's
-  pub filled : (v : Event) → Fills tables p.config.task p.action v → v ≡ event_of s p
-  filled v f = f first root_line D sound.state ready.current.spawned ∙ ap (λ (x : Seen). event_of x p) is
+  -- the event that is filled in is the action's
+  pub filled : (v : Event) → Fills tables t a v → v ≡ event_for s t a
+  filled v f = f first root_line D sound.state may.spawned ∙ ap (λ (x : Seen). event_for x t a) is
 
-  pub fills : (v : Event) → v ≡ event_of s p → Fills tables p.config.task p.action v
+  pub fills : (v : Event) → v ≡ event_for s t a → Fills tables t a v
   fills v e g n C k q =
-      e ∙ ap (λ (x : Seen). event_of x p) (sym is)
-      ∙ ap (λ a. made a) (settled tables p.config.task p.action first g root_line n D C names sound.state k ready.current.spawned q)
+      e ∙ ap (λ (x : Seen). event_for x t a) (sym is)
+      ∙ ap (λ b. made b) (settled tables t a first g root_line n D C names sound.state k may.spawned q)
     where
       made : Action → Event
-      made a = record { task = p.config.task; action = a }
+      made b = record { task = t; action = b }
 
-  follows : (v : Event) → v ≡ event_of s p → Follows first root_line D v tables
+  -- it may follow the others
+  pub follows : (v : Event) → v ≡ event_for s t a → MayFollow s.cells (history s) v
   follows v e =
-      let same : v ≡ event_of S p = e ∙ ap (λ (x : Seen). event_of x p) (sym is) in
-      record {
-        legal = (sound.legal, subst (λ (w : Event). Rattle.tb_model.specs.Legal.MayFollow first (events_of D) w) (sym same) (may_step S p sound.legal fits allowed ready));
-        state = sound.state;
-        few = omega (arith, fewer);
-      }
-
-  pub ahead : (v : Event) → v ≡ event_of s p → IsAhead tables v
-  ahead v e = (first, root_line, D, follows v e)
-
-  -- where the step fails, only room has changed
-  pub sound_same : (es' : List Entry) (tables' : Tables) → es' ≡ es → AreSame tables tables' → IsSound first root_line limit (reverse es') tables'
-  sound_same es' tables' e a =
-      subst (λ (x : List Entry). IsSound first root_line limit (reverse x) tables') (sym e)
-      (record { legal = sound.legal; records = sound.records; state = state_same first root_line D tables tables' a sound.state; within = sound.within; bound = sound.bound })
-
-  pub seen_same : (es' : List Entry) → es' ≡ es → seen first root_line limit (reverse es') ≡ s
-  seen_same es' e = ap (λ x. seen first root_line limit (reverse x)) e ∙ is
+      let legal : Legal s.cells (history s) = subst (λ (x : Seen). Legal x.cells (history x)) is sound.legal in
+      subst (MayFollow s.cells (history s)) (sym e) (may_take s t a legal may')
 
   -- the step number fits
-  pub few_steps : p.config.steps ≤ 1000000
+  pub few_steps : length (own t (history s)) ≤ 1000000
   few_steps =
-      let here = ap (λ c. c.steps) ready.current.here in
-      omega (arith, here, within p.config.task (events_of D), length-map D (λ (d : Departure). d.event), fewer)
+      let here : length (own t (history s)) ≡ length (own t (events_of D)) = ap (λ (x : Seen). length (own t (history x))) (sym is) in
+      omega (arith, here, within (events_of D), length-map D (λ (d : Departure). d.event), fewer)
     where
-      within : (t : Name) (H : History) → length (own t H) ≤ length H
-      within t [] = omega arith
-      within t (w ∷ H) = at (Rattle.tb_model.specs.Facts.is_of t w) (within t H)
+      within : (H : History) → length (own t H) ≤ length H
+      within [] = omega arith
+      within (w ∷ H) = at (is_of t w) (within H)
         where
-          at : (b : Bool) → length (own t H) ≤ length H → length (Rattle.tb_model.specs.Facts.prepend_if b w.action (own t H)) ≤ suc (length H)
+          at : (b : Bool) → length (own t H) ≤ length H → length (prepend_if b w.action (own t H)) ≤ suc (length H)
           at true h = omega arith
           at false h = omega arith
 
-  -- the step behind the others
-  pub record Taken (es' : List Entry) (new : Tables) (i : StepId) : Type 0 where
-    pub sound' : IsSound first root_line limit (reverse es') new
-    pub steps : Steps s p (seen first root_line limit (reverse es')) i
+-- where a step fails, only room has changed
+pub sound_same : (first : Cells) (root_line limit : ℕ) (es : List Entry) (tables : Tables) → IsSound first root_line limit (reverse es) tables → (es' : List Entry) (tables' : Tables) → es' ≡ es → AreSame tables tables' → IsSound first root_line limit (reverse es') tables'
+sound_same first root_line limit es tables sound es' tables' e same =
+    subst (λ (x : List Entry). IsSound first root_line limit (reverse x) tables') (sym e)
+    (record { legal = sound.legal; records = sound.records; state = state_same first root_line (map departure (reverse es)) tables tables' same sound.state; within = sound.within; bound = sound.bound })
 
-  pub taken : (v : Event) (to : ℕ) (r : Replaced) (mid es' : List Entry) (new : Tables) (i : StepId) → mid ≡ es → v ≡ event_of s p → to ≡ line_behind p.instr p.config p.action
-      → es' ≡ mid ++ record { event = v; to = to; replaced = r } ∷ [] → IsBehind tables v to new → IsRecord tables v r → i.task ≡ p.config.task → i.k ≡ p.config.steps + 1 → Taken es' new i
-  taken v to r mid es' new i kept e line more behind told name k =
+-- ---- an event that may follow the others
+
+module _ (first : Cells) (root_line limit : ℕ) (es : List Entry) (tables : Tables) (sound : IsSound first root_line limit (reverse es) tables)
+    (s : Seen) (is : seen first root_line limit (reverse es) ≡ s) (v : Event) (may' : MayFollow s.cells (history s) v) (room' : length s.steps < s.limit) where
+  abbrev front : List Departure
+  front = map departure (reverse es)
+
+  place : length front < limit
+  place = subst (λ (x : Seen). length x.steps < x.limit) (sym is) room'
+
+  behind_them : Follows first root_line front v tables
+  behind_them = record {
+    legal = (sound.legal, subst (λ (x : Seen). MayFollow x.cells (history x) v) (sym is) may');
+    state = sound.state;
+    few = omega (arith, length-map (reverse es) departure, sound.within, sound.bound);
+  }
+
+  pub ahead : IsAhead tables v
+  ahead = (first, root_line, front, behind_them)
+
+  -- the event behind the others
+  pub record Appended (to : ℕ) (es' : List Entry) (new : Tables) : Type 0 where
+    pub sound' : IsSound first root_line limit (reverse es') new
+    pub now : seen first root_line limit (reverse es') ≡ grown_by v to s
+
+  pub appended : (to : ℕ) (r : Replaced) (mid es' : List Entry) (new : Tables) → mid ≡ es → es' ≡ mid ++ record { event = v; to = to; replaced = r } ∷ [] → IsBehind tables v to new → IsRecord tables v r → Appended to es' new
+  appended to r mid es' new kept more behind told =
       let entry : Entry = record { event = v; to = to; replaced = r } in
       let all : reverse es' ≡ entry ∷ reverse es = ap reverse (more ∙ ap (λ xs. xs ++ entry ∷ []) kept) ∙ reverse-append es (entry ∷ []) in
-      let same : v ≡ event_of S p = e ∙ ap (λ (x : Seen). event_of x p) (sym is) in
-      let f = follows v e in
+      let f = behind_them in
       record {
         sound' = subst (λ (x : List Entry). IsSound first root_line limit x new) (sym all) (record {
           legal = f.legal;
-          records = (sound.records, told first root_line D f);
-          state = behind first root_line D f;
-          within = omega (arith, ready.room, length-map (reverse es) departure);
+          records = (sound.records, told first root_line front f);
+          state = behind first root_line front f;
+          within = omega (arith, place, length-map (reverse es) departure);
           bound = sound.bound;
         });
-        steps = subst (λ (x : Seen). Steps x p (seen first root_line limit (reverse es')) i) is (record {
-          current = ready.current;
-          room = ready.room;
-          may = may_step S p sound.legal fits allowed ready;
-          now = ap (λ x. seen first root_line limit x) all ∙ ap₂ (λ (w : Event) (n : ℕ). grown w n) same line;
-          id = named i ∙ ap₂ (λ (t : Name) (n : ℕ). id_of t n) name (k ∙ counted_steps);
-          back = ap (λ x. Rattle.tb_model.specs.Needs.without i (events_of (map departure x))) all ∙ removed_again;
-          lines = ap (λ x. without_lines i (map departure x)) all ∙ lines_again;
-        });
+        now = ap (λ x. seen first root_line limit x) all ∙ ap (grown_by v to) is;
       }
-    where
-      grown : Event → ℕ → Seen
-      grown w n = record { cells = first; root_line = root_line; limit = limit; steps = record { event = w; to = n } ∷ D }
 
-      id_of : Name → ℕ → StepId
-      id_of t n = record { task = t; k = n }
-
-      named : (j : StepId) → j ≡ id_of j.task j.k
-      named j = refl
-
-      counted_steps : p.config.steps + 1 ≡ suc (length (own p.config.task (events_of D)))
-      counted_steps = omega (arith, ap (λ c. c.steps) ready.current.here)
-
-      here : i ≡ step_of (events_of D) v
-      here =
-          named i ∙ ap₂ (λ (t : Name) (n : ℕ). id_of t n) name (k ∙ counted_steps)
-          ∙ ap (λ (w : Event). step_of (events_of D) w) (sym (e ∙ ap (λ (x : Seen). event_of x p) (sym is)))
-
-      removed_again : Rattle.tb_model.specs.Needs.without i (v ∷ events_of D) ≡ events_of D
-      removed_again = ap (λ j. Rattle.tb_model.specs.Needs.without j (v ∷ events_of D)) here ∙ without_newest (events_of D) v
-
-      lines_again : without_lines i (record { event = v; to = to } ∷ D) ≡ D
-      lines_again = ap (λ j. without_lines j (record { event = v; to = to } ∷ D)) here ∙ lines_kept [] D (record { event = v; to = to }) (newest_unneeded (events_of D) v)
-
-  -- the event of copies of the plan's task and action
-  pub filled_as : (t : Name) (a : Action) (v : Event) → t ≡ p.config.task → a ≡ p.action → Fills tables t a v → v ≡ event_of s p
-  filled_as t a v e q f = filled v (subst (λ (x : Name). Fills tables x p.action v) e (subst (λ (x : Action). Fills tables t x v) q f))
+-- its undo would leave the others as they were
+pub takes_so : (s : Seen) (t : Name) (a : Action) (to : ℕ) (new : Seen) (v : Event) → v ≡ event_for s t a → MayFollow s.cells (history s) v → new ≡ grown_by v to s → Takes s t a to new v
+takes_so s t a to new v e may now = record {
+  event = e;
+  may = may;
+  now = now;
+  back = ap (λ (x : Seen). without (step_of (history s) v) (history x)) now ∙ without_newest (history s) v;
+  lines = ap (λ (x : Seen). without_lines (step_of (history s) v) x.steps) now ∙ lines_kept [] s.steps (record { event = v; to = to }) (newest_unneeded (history s) v);
+}
 
 -- the room for a copy of the event is that for the event
-pub some_reserved : (copy v : Event) (room : ℕ) (s : Tables) → copy ≡ v → 0 < room → HasRoomFor s v → HasReserved (Some copy) room s
-some_reserved copy v room s e some has = record {
+pub some_reserved : (copy v : Event) (room : ℕ) (s : Tables) (p : Places) → copy ≡ v → 0 < room → HasRoomFor s v → HasRoomForPlaces p v → HasReserved (Some copy) room s p
+some_reserved copy v room s p e some has place = record {
   entry = λ w h. some;
   tables = λ w h. subst (λ (x : Event). HasRoomFor s x) (sym e ∙ ap (λ o. unwrap_or o copy) h) has;
+  places = λ w h. subst (λ (x : Event). HasRoomForPlaces p x) (sym e ∙ ap (λ o. unwrap_or o copy) h) place;
 }
+
+-- ---- the places
+
+-- the entries stay
+pub index_same : (es left : List Entry) (old new : Places) → left ≡ es → ((events : List Event) → IsIndexOf events old → IsIndexOf events new) → IsIndexOf (events_in es) old → IsIndexOf (events_in left) new
+index_same es left old new same kept index = subst (λ l. IsIndexOf (events_in l) new) (sym same) (kept (events_in es) index)
+
+-- one is added
+pub index_added : (es more : List Entry) (e : Entry) (at : ℕ) (run : List Departure) (old new : Places) → run ≡ map departure (reverse es) → at ≡ length run → more ≡ es ++ e ∷ []
+    → ((events : List Event) → IsIndexOf events old → at ≡ length events → IsIndexOf (events ++ e.event ∷ []) new) → IsIndexOf (events_in es) old → IsIndexOf (events_in more) new
+index_added es more e at run old new is count added pushed index =
+    let place : at ≡ length (events_in es) = omega (arith, count, ap length is, length-map (reverse es) departure, length-reverse es, length-map es (λ (x : Entry). x.event)) in
+    subst (λ l. IsIndexOf l new) (sym (ap events_in added ∙ events_append es)) (pushed (events_in es) index place)
+  where
+    events_append : (xs : List Entry) → events_in (xs ++ e ∷ []) ≡ events_in xs ++ e.event ∷ []
+    events_append [] = refl
+    events_append (x ∷ xs) = ap (λ l. x.event ∷ l) (events_append xs)

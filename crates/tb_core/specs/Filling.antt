@@ -15,6 +15,10 @@ completed cells H t (Load r c x) = Load r c (last (first_number cells c) c H)
 completed cells H t (Spawn u line args items deferred) = Spawn (child t (suc (spawn_count (own t H)))) line args items deferred
 completed cells H t a = a
 
+-- nothing is filled in
+abbrev pub IsWhole : Action → Type 0
+IsWhole a = (cells : Cells) (H : History) (t : Name) → completed cells H t a ≡ a
+
 -- the tables are those of a run in which the task is there
 pub record IsRunOf (s : Tables) (t : Name) : Type 0 where
   pub first : Cells

@@ -10,3 +10,4 @@ pub mod Listed
 pub mod Groups
 pub mod Rolled
 pub mod Unwinding
+pub mod Renumbering

@@ -1,6 +1,7 @@
 -- What a step and an undo answer, and what they leave.
 use Rattle.std.specs.Prelude.{◌≡◌, ◌≢◌, ◌<◌, ◌≤◌, ◌↔◌, ◌⊎◌, ◌++◌, ℕ, List, [], Option, ◌∷◌, length, Bool, Some, None, Result, Ok, Err, IsTrue, IsFalse}
 use Rattle.std.specs.List.{list_any}
+use Rattle.tb_model.specs.declared.action.Action.{Action}
 use Rattle.tb_model.specs.declared.action.Action.TheVariants.{Close}
 use Rattle.tb_model.specs.Hindrances.{Hindrance, Refusal, By, in_the_way}
 use Rattle.tb_model.specs.Hindrances.{NoSuchTask as TheTaskIsMissing, Ended as TheTaskIsOver}
@@ -15,7 +16,7 @@ use Rattle.tb_model.specs.Needs.{step_of, without}
 use Rattle.tb_model.specs.Needers.{first_needer}
 use Rattle.tb_model.specs.Equivalent.{Equivalent, stands}
 use Rattle.tb_read.specs.declared.planned.Plan.{Plan}
-use Rattle.tb_read.specs.Plans.{line_behind}
+use Rattle.tb_read.specs.Plans.{line_behind, names_allowed}
 use Rattle.tb_core.specs.declared.removed.Removed.{Removed}
 use Rattle.tb_core.specs.declared.step_refusal.StepRefusal.{StepRefusal}
 use Rattle.tb_core.specs.declared.step_refusal.StepRefusal.TheVariants.{Memory, Full, Stale}
@@ -26,10 +27,15 @@ use Rattle.tb_core.specs.Seen.{Seen, history}
 use Rattle.tb_core.specs.Situation.{config_of}
 use Rattle.tb_core.specs.Filling.{completed}
 use Rattle.tb_core.specs.Refusals.{told_by}
+use Rattle.tb_core.specs.Naming.{IsNamed}
+
+-- the event of an action of the task
+abbrev pub event_for : Seen → Name → Action → Event
+event_for s t a = record { task = t; action = completed s.cells (history s) t a }
 
 -- the event of a plan, and the same with the line at which it leaves its task
 abbrev pub event_of : Seen → Plan → Event
-event_of s p = record { task = p.config.task; action = completed s.cells (history s) p.config.task p.action }
+event_of s p = event_for s p.config.task p.action
 
 abbrev pub departure_of : Seen → Plan → Departure
 departure_of s p = record { event = event_of s p; to = line_behind p.instr p.config p.action }
@@ -69,6 +75,40 @@ pub record IsOpen (s : Seen) (p : Plan) : Type 0 where
   pub current : IsCurrent s p
   pub clear : hindrance_of s p ≡ None
   pub room : length s.steps < s.limit
+
+-- ---- an action of a task that stands at the line where it was evaluated
+
+-- nothing keeps the task, which is there and isn't over, from the action, and the history has a place; it is for this many
+-- cells, it starts exactly a pending task, and it closes a group only where one is open
+pub record MayTake (s : Seen) (t : Name) (a : Action) : Type 0 where
+  pub spawned : IsTrue (is_spawned (history s) t)
+  pub going : IsFalse (has_ended s t)
+  pub allowed : IsTrue (names_allowed (length s.cells) a)
+  pub starts : IsTrue (is_start a) ↔ (own t (history s) ≡ [])
+  pub closes : a ≡ Close → groups (own t (history s)) ≢ []
+  pub clear : in_the_way (history s) t a ≡ None
+  pub room : length s.steps < s.limit
+
+-- with the event behind the others, which leaves its task at this line
+abbrev pub grown_by : Event → ℕ → Seen → Seen
+grown_by v to s = record s { steps = record { event = v; to = to } ∷ s.steps }
+
+-- the event of the action stands after the others, which it may follow, and leaves its task at this line; its undo leaves them
+-- as they were, each with its line
+pub record Takes (s : Seen) (t : Name) (a : Action) (to : ℕ) (new : Seen) (v : Event) : Type 0 where
+  pub event : v ≡ event_for s t a
+  pub may : MayFollow s.cells (history s) v
+  pub now : new ≡ grown_by v to s
+  pub back : without (step_of (history s) v) (history new) ≡ history s
+  pub lines : without_lines (step_of (history s) v) new.steps ≡ s.steps
+
+-- the refusal names what keeps the task from the action, or tells that there was no memory for the name
+pub record IsKeptBy (s : Seen) (t : Name) (a : Action) (e : StepRefusal) : Type 0 where
+  pub hindrance : Hindrance
+  pub found : in_the_way (history s) t a ≡ Some hindrance
+  pub named : IsNamed hindrance e
+
+-- ---- why a plan isn't taken
 
 -- the task is there and going, but stands elsewhere than the plan takes it to stand, now so
 pub record IsStale (s : Seen) (p : Plan) (now : Config) : Type 0 where

@@ -6,6 +6,8 @@ use Rattle.tb_model.specs.Lines.{Departure, events_of}
 use Rattle.tb_undo.specs.State.{Seen as Tables, IsState}
 use Rattle.tb_undo.specs.Steps.{replaced_for}
 use Rattle.tb_undo.specs.Changes.{HasRoomFor}
+use Rattle.tb_places.specs.declared.places.Places.{Places}
+use Rattle.tb_places.specs.Places.{HasRoomFor as HasRoomForPlaces}
 use Rattle.tb_core.specs.declared.entry.Entry.{Entry}
 use Rattle.tb_core.specs.Seen.{Seen}
 
@@ -30,6 +32,7 @@ pub record IsSound (first : Cells) (root_line limit : ℕ) (entries : List Entry
   pub bound : limit ≤ 1000000
 
 -- the room for the event that is reserved is there
-pub record HasReserved (reserved : Option Event) (room : ℕ) (held : Tables) : Type 0 where
+pub record HasReserved (reserved : Option Event) (room : ℕ) (held : Tables) (stand : Places) : Type 0 where
   pub entry : (v : Event) → reserved ≡ Some v → 0 < room
   pub tables : (v : Event) → reserved ≡ Some v → HasRoomFor held v
+  pub places : (v : Event) → reserved ≡ Some v → HasRoomForPlaces stand v

@@ -4,7 +4,7 @@ ghost use Rattle.std.specs.Prelude.{◌≡◌, ◌<◌, ◌↔◌, ℕ, List, If
 ghost use Rattle.tb_model.specs.declared.event.Event.{Event as AnEvent};
 ghost use Rattle.tb_model.specs.Names.{Name, child};
 ghost use Rattle.tb_read.specs.Plans.{names_allowed};
-ghost use Rattle.tb_core.specs.Filling.{spare_task, spare_child, Fills, IsNextChild, IsRunOf};
+ghost use Rattle.tb_core.specs.Filling.{spare_task, spare_child, Fills, IsNextChild, IsRunOf, IsWhole};
 
 use std::alloc::AllocError;
 use tb_model::{Action, Event, TaskName};
@@ -48,9 +48,32 @@ pub fn planned(tables: &Tables, plan: &Plan) -> Result<Event, AllocError>
     requires run { IsRunOf tables.now plan.now.config.task }
     ensures { IfOk result (Fills tables.now plan.now.config.task plan.now.action) }
 {
-    let task = plan.config.task.clone()?;
     let action = plan.action.clone()?;
+    event_for(tables, &plan.config.task, action)
+}
+
+/// The event of an action of the task.
+pub fn event_for(tables: &Tables, task: &TaskName, action: Action) -> Result<Event, AllocError>
+    requires allowed { IsTrue (names_allowed (length tables.now.store.cells) action) }
+    requires run { IsRunOf tables.now task.now }
+    ensures { IfOk result (Fills tables.now task.now action) }
+{
+    let task = task.clone()?;
+    if is_whole(&action) {
+        return Ok(Event { task, action });
+    }
     fill_in(tables, task, action, None)
+}
+
+/// Whether nothing is filled in of the action.
+#[inline]
+fn is_whole(action: &Action) -> bool
+    ensures { IsTrue result → IsWhole action.now }
+{
+    match action {
+        Action::Load { .. } | Action::Spawn { .. } => false,
+        _ => true,
+    }
 }
 
 pub fn copy_event(event: &Event) -> Result<Event, AllocError>
@@ -61,7 +84,9 @@ pub fn copy_event(event: &Event) -> Result<Event, AllocError>
     Ok(Event { task, action })
 }
 
-/// The event of an action that was planned for the task.
+/// The event of an action that was planned for the task. It stands apart, so that a step of which nothing
+/// is filled in doesn't pay for its room.
+#[inline(never)]
 pub fn fill_in(
     tables: &Tables,
     task: TaskName,

@@ -8,6 +8,7 @@ mod groups;
 mod needing;
 mod places;
 mod removed;
+mod renumbering;
 mod rollback;
 mod run;
 mod scans;

@@ -1,16 +1,17 @@
 //! Where the steps of a history stand among its entries, which come from the oldest.
 
-ghost use Rattle.std.specs.Prelude.{◌≡◌, ◌<◌, ◌≤◌, ◌↔◌, IfOk, IfSome, IsSome, IsTrue, Some, length, reverse};
+ghost use Rattle.std.specs.Prelude.{◌≡◌, ◌<◌, ◌≤◌, ◌↔◌, IfOk, IfSome, IsSome, IsTrue, Some, length, slice_get};
 ghost use Rattle.tb_model.specs.declared.step_id.StepId.{StepId};
-ghost use Rattle.tb_model.specs.Facts.{History, own};
+ghost use Rattle.tb_core.specs.declared.entry.Entry.{Entry as AnEntry};
+ghost use Rattle.tb_model.specs.Facts.{History, own, is_of};
 ghost use Rattle.tb_model.specs.Equivalent.{stands};
 ghost use Rattle.tb_core.specs.Scans.{history_of, step_at};
-ghost use Rattle.tb_core.specs.Unwinding.{AreTied};
+ghost use Rattle.tb_places.specs.Where.{places_where};
+ghost use Rattle.tb_core.specs.Renumbering.{events_in};
 
 use crate::entry::Entry;
 use std::alloc::AllocError;
 use tb_model::{StepId, TaskName};
-use tb_undo::Tables;
 
 /// The place of a step: where the kth event of its task stands.
 #[tactic(auto, using(crate::proofs::ScanLemmas::found_stands, crate::proofs::ScanLemmas::found_step_at))]
@@ -31,18 +32,17 @@ pub fn place_of(entries: &[Entry], id: &StepId) -> Option<usize>
     None
 }
 
-/// The place of a step, looked for from the newest entry on. The tables are those of the entries,
-/// and tell how many steps the task has.
-pub fn place_from_newest(tables: &Tables, entries: &[Entry], id: &StepId) -> Option<usize>
-    requires tied { AreTied (reverse entries.now) tables.now }
+/// The place of a step, read off those of its task's steps.
+pub fn place_in(own: &[u32], entries: &[Entry], id: &StepId) -> Option<usize>
+    requires { own.now ≡ places_where (is_of id.now.task) (events_in entries.now) }
     ensures there { IsSome result ↔ IsTrue (stands id.now (history_of entries.now)) }
     ensures step { IfSome result (λ at. step_at entries.now at ≡ Some id.now) }
     ensures within { IfSome result (λ at. at < length entries.now) }
 {
-    match tables.standing(&id.task) {
-        Some(standing) => place_among(entries, id, standing.steps as usize),
-        None => None,
+    if !is_number_of(id, own.len()) {
+        return None;
     }
+    Some(own[id.k as usize - 1] as usize)
 }
 
 /// Whether a task with this many steps has the step.
@@ -58,32 +58,7 @@ pub fn is_number_of(id: &StepId, steps: usize) -> bool
     true
 }
 
-/// The place of a step whose task has this many steps.
-#[tactic(auto, using(crate::proofs::ScanLemmas::among_other, crate::proofs::ScanLemmas::among_some, crate::proofs::ScanLemmas::among_stands, crate::proofs::ScanLemmas::among_mine))]
-fn place_among(entries: &[Entry], id: &StepId, steps: usize) -> Option<usize>
-    requires counted { steps ≡ length (own id.now.task (history_of entries.now)) }
-    ensures there { IsSome result ↔ IsTrue (stands id.now (history_of entries.now)) }
-    ensures step { IfSome result (λ at. step_at entries.now at ≡ Some id.now) }
-    ensures within { IfSome result (λ at. at < length entries.now) }
-{
-    if !is_number_of(id, steps) {
-        return None;
-    }
-    let mut left = steps;
-    let mut at = entries.len();
-    'back: while 0 < at {
-        at -= 1;
-        if entries[at].event.task == id.task {
-            if left == id.k as usize {
-                return Some(at);
-            }
-            left -= 1;
-        }
-    }
-    None
-}
-
-/// The step at this place. It takes memory where its task's name does, beyond six numbers.
+/// The step at this place. It can be refused where a copy of its task's name can, beyond three numbers.
 pub fn step_at(entries: &[Entry], at: usize) -> Result<StepId, AllocError>
     requires within { at < length entries.now }
     requires bound { length entries.now ≤ 1000000 }
@@ -92,6 +67,34 @@ pub fn step_at(entries: &[Entry], at: usize) -> Result<StepId, AllocError>
     let task = entries[at].event.task.clone()?;
     let k = ordinal_of(entries, at);
     Ok(StepId { task, k })
+}
+
+/// The step at this place, where its task's places are these.
+pub fn step_among(own: &[u32], entries: &[Entry], at: usize) -> Result<StepId, AllocError>
+    requires within { at < length entries.now }
+    requires bound { length entries.now ≤ 1000000 }
+    requires own { (e : AnEntry) → slice_get entries.now at ≡ Some e →
+        own.now ≡ places_where (is_of e.event.task) (events_in entries.now) }
+    ensures { IfOk result (λ id. step_at entries.now at ≡ Some id) }
+{
+    let task = entries[at].event.task.clone()?;
+    let k = ordinal_among(own, entries, at);
+    Ok(StepId { task, k })
+}
+
+/// The number of the step at this place, found among its task's places. Where it isn't among them,
+/// the steps in front of it are counted.
+fn ordinal_among(own: &[u32], entries: &[Entry], at: usize) -> u32
+    requires within { at < length entries.now }
+    requires bound { length entries.now ≤ 1000000 }
+    requires own { (e : AnEntry) → slice_get entries.now at ≡ Some e →
+        own.now ≡ places_where (is_of e.event.task) (events_in entries.now) }
+    ensures { (id : StepId) → step_at entries.now at ≡ Some id → result ≡ id.k }
+{
+    match own.binary_search(&(at as u32)) {
+        Ok(before) => before as u32 + 1,
+        Err(_) => ordinal_of(entries, at),
+    }
 }
 
 /// The number of the step at this place among the steps of its task, from 1.

@@ -1,21 +1,19 @@
 //! The history, step by step.
 
+mod reading;
 mod state;
 
-ghost use Rattle.std.specs.Prelude.{◌≡◌, ◌≢◌, ◌<◌, ◌≤◌, ◌+◌, ◌↔◌, [], ◌∷◌, OnOk, IfOk, IfErr, OnErr, IfSome, IfNone, IsOk, IsSome, IsErrOf, IsTrue, length, reverse, slice_get, Some, None, if◌then◌else◌, map};
-ghost use Rattle.std.specs.Option.{option_copied, option_map};
-ghost use Rattle.tb_model.specs.Facts.{is_spawned, own, items_of, before, apart};
+ghost use Rattle.std.specs.Prelude.{◌≡◌, ◌≢◌, ◌<◌, ◌≤◌, ◌+◌, ◌↔◌, [], ◌∷◌, OnOk, IfOk, IfErr, OnErr, IfSome, IfNone, IsOk, IsSome, IsErrOf, IsTrue, IsFalse, length, reverse, slice_get, Some, None, if◌then◌else◌, map};
+ghost use Rattle.std.specs.Option.{option_copied};
+ghost use Rattle.tb_model.specs.Facts.{is_spawned};
 ghost use Rattle.tb_model.specs.Equivalent.{stands};
-ghost use Rattle.tb_model.specs.Legal.{Legal};
-ghost use Rattle.tb_model.specs.State.{printed, open_groups};
-ghost use Rattle.tb_model.specs.LeastNames.{IsLeastName};
+ghost use Rattle.tb_model.specs.Legal.{Legal, MayFollow};
+ghost use Rattle.tb_model.specs.Hindrances.{in_the_way};
 ghost use Rattle.tb_core.specs.Soundness.{departure};
-ghost use Rattle.tb_undo.specs.Obstacles.{sibling};
-ghost use Rattle.tb_undo.specs.Readings.{IsUnendedBehind};
-ghost use Rattle.tb_undo.specs.State.{AreLast};
+ghost use Rattle.tb_core.specs.Naming.{config_with};
 ghost use Rattle.tb_core.specs.Seen.{history};
 ghost use Rattle.tb_core.specs.Situation.{config_of};
-ghost use Rattle.tb_core.specs.Outcomes.{event_of, has_ended, hindrance_of, Fits, IsCurrent, IsOpen, IsKept, Refuses, Steps, Stepped, IsFree, IsPlaceOf, TakesBack, Keeps, Undone};
+ghost use Rattle.tb_core.specs.Outcomes.{event_of, has_ended, Fits, IsOpen, IsKept, IsKeptBy, MayTake, Takes, grown_by, Refuses, Steps, Stepped, IsFree, IsPlaceOf, TakesBack, Keeps, Undone};
 ghost use Rattle.tb_core.specs.Soundness.{AreRecords, seen};
 ghost use Rattle.tb_core.specs.declared.step_refusal.StepRefusal.TheVariants.{Memory};
 ghost use Rattle.tb_core.specs.Rolled.{IsOfHistory, RollsBack};
@@ -23,19 +21,21 @@ ghost use Rattle.tb_core.specs.Scans.{AreLegal};
 
 use crate::answers::{config, named, stale, stands_so};
 use crate::entry::Entry;
-use crate::filling::{copy_event, copy_of, fill_in, planned, spare_names};
+use crate::filling::{copy_event, copy_of, event_for, fill_in, planned, spare_names};
 use crate::needing::first_needer;
-use crate::places::{is_number_of, place_from_newest, step_at};
+use crate::places::{is_number_of, place_in, step_among};
 use crate::removed::Removed;
+use crate::renumbering::renumber;
 use crate::rollback::Rollback;
 use crate::step_refusal::StepRefusal;
 use crate::undo_refusal::UndoRefusal;
 use crate::unwinding::{put_back, unwind};
 use std::alloc::{AllocError, Global};
 use std::marker::Model;
-use tb_model::{Event, Item, StepId, TaskName};
+use tb_model::{Action, Event, StepId, TaskName};
+use tb_places::Places;
 use tb_read::{Config, Plan};
-use tb_undo::Tables;
+use tb_undo::{Standing, Tables};
 
 /// The history of a run, with what each step replaced, and the state that it leaves. It holds no
 /// program.
@@ -46,6 +46,7 @@ pub struct Core {
     root_line: u32,
     limit: u32,
     entries: Vec<Entry>,
+    places: Places,
     tables: Tables,
     // the event for which all room is made
     reserved: Option<Event>,
@@ -55,12 +56,14 @@ impl Model for Core {
     ghost use Rattle.std.specs.Prelude.{◌-◌, reverse, vec_len, vec_capacity};
     ghost use Rattle.tb_core.specs.Seen.{Held};
     ghost use Rattle.tb_core.specs.Soundness.{seen, IsSound, HasReserved};
+    ghost use Rattle.tb_core.specs.Renumbering.{events_in};
+    ghost use Rattle.tb_places.specs.Places.{IsIndexOf};
 
     ghost Value = { Held };
 
     ghost view = { λ c. record { run = seen c.first.items c.root_line c.limit (reverse c.entries.items); reserved = c.reserved } };
 
-    ghost invariant = { λ c. IsSound c.first.items c.root_line c.limit (reverse c.entries.items) c.tables × HasReserved c.reserved (vec_capacity c.entries - vec_len c.entries) c.tables };
+    ghost invariant = { λ c. IsSound c.first.items c.root_line c.limit (reverse c.entries.items) c.tables × HasReserved c.reserved (vec_capacity c.entries - vec_len c.entries) c.tables c.places × IsIndexOf (events_in c.entries.items) c.places };
 }
 
 impl Core {
@@ -80,6 +83,7 @@ impl Core {
             root_line,
             limit,
             entries: Vec::new(alloc),
+            places: Places::new(alloc),
             tables: Tables::open(alloc, cells, root_line)?,
             reserved: None,
         })
@@ -127,6 +131,15 @@ impl Core {
         }
     }
 
+    /// Where a task stands that is there.
+    #[inline]
+    pub fn standing(&self, task: &TaskName) -> Option<Standing>
+        ensures some { IfSome result (λ k. IsTrue (is_spawned (history self.now.run) task.now) × (config_of self.now.run task.now ≡ config_with task.now k)) }
+        ensures none { IfNone result (IsFalse (is_spawned (history self.now.run) task.now)) }
+    {
+        self.tables.standing(task)
+    }
+
     /// The situation of a task that is there.
     pub fn config(&self, task: &TaskName) -> Result<Option<Config>, AllocError>
         ensures { IfOk result (λ o. o ≡ (if is_spawned (history self.now.run) task.now then Some (config_of self.now.run task.now) else None)) }
@@ -135,55 +148,6 @@ impl Core {
             Some(standing) => Ok(Some(config(task.clone()?, standing))),
             None => Ok(None),
         }
-    }
-
-    /// The cells' numbers, in order.
-    pub fn cells(&self) -> &[i64]
-        ensures { AreLast self.now.run.cells (history self.now.run) result.now }
-    {
-        self.tables.cells()
-    }
-
-    /// The printed numbers, in order.
-    pub fn output(&self) -> &[i64]
-        ensures { result.now ≡ reverse (printed (history self.now.run)) }
-    {
-        self.tables.output()
-    }
-
-    /// The least unended task behind this one by the order of names, or of all.
-    pub fn next_unended(&self, after: Option<&TaskName>) -> Option<&TaskName>
-        ensures { IsLeastName (IsUnendedBehind (history self.now.run) (option_copied after.entry)) (option_copied result) }
-    {
-        self.tables.next_unended(after)
-    }
-
-    /// How many groups of the task are open.
-    pub fn groups(&self, task: &TaskName) -> usize
-        ensures { result ≡ length (open_groups (own task.now (history self.now.run))) }
-    {
-        self.tables.groups(task)
-    }
-
-    /// The depend items of the task.
-    pub fn items(&self, task: &TaskName) -> &[Item]
-        ensures { result.now ≡ items_of task.now (history self.now.run) }
-    {
-        self.tables.items(task)
-    }
-
-    /// Whether the task depends on its sibling with this number.
-    pub fn is_before(&self, number: u32, task: &TaskName) -> bool
-        ensures { result ≡ before (history self.now.run) (sibling task.now number) task.now }
-    {
-        self.tables.is_before(number, task)
-    }
-
-    /// Whether the task and its sibling with this number exclude each other.
-    pub fn is_apart(&self, number: u32, task: &TaskName) -> bool
-        ensures { result ≡ apart (history self.now.run) (sibling task.now number) task.now }
-    {
-        self.tables.is_apart(number, task)
     }
 
     /// The newest event.
@@ -196,13 +160,27 @@ impl Core {
         }
     }
 
-    /// Whether nothing keeps the task of a plan from its action. It takes no memory.
-    pub fn is_clear(&self, plan: &Plan) -> bool
-        requires fits { Fits self.now.run plan.now }
-        requires current { IsCurrent self.now.run plan.now }
-        ensures { IsTrue result ↔ (hindrance_of self.now.run plan.now ≡ None) }
+    /// Whether nothing keeps a task that goes on from the action. It takes no memory.
+    #[inline]
+    pub fn is_clear(&self, task: &TaskName, action: &Action) -> bool
+        requires there { IsTrue (is_spawned (history self.now.run) task.now) }
+        requires going { IsFalse (has_ended self.now.run task.now) }
+        ensures { IsTrue result ↔ (in_the_way (history self.now.run) task.now action.now ≡ None) }
     {
-        self.tables.is_clear(&plan.config.task, &plan.action)
+        self.tables.is_clear(task, action)
+    }
+
+    /// What keeps a task that goes on from the action.
+    pub fn hindrance(&self, name: &TaskName, action: &Action) -> Option<StepRefusal>
+        requires there { IsTrue (is_spawned (history self.now.run) name.now) }
+        requires going { IsFalse (has_ended self.now.run name.now) }
+        ensures some { IfSome result (IsKeptBy self.now.run name.now action.now) }
+        ensures none { IfNone result (in_the_way (history self.now.run) name.now action.now ≡ None) }
+    {
+        if let Some(obstacle) = self.tables.in_the_way(name, action) {
+            return Some(named(name, obstacle));
+        }
+        None
     }
 
     /// Why a step of this plan would be refused now.
@@ -221,8 +199,8 @@ impl Core {
         if !stands_so(&plan.config, &standing) {
             return Some(stale(name, standing));
         }
-        if let Some(obstacle) = self.tables.in_the_way(name, &plan.action) {
-            return Some(named(name, obstacle));
+        if let Some(hindrance) = self.hindrance(name, &plan.action) {
+            return Some(hindrance);
         }
         if self.limit <= self.count() {
             return Some(StepRefusal::Full);
@@ -279,19 +257,44 @@ impl Core {
         }
     }
 
-    /// Takes the step of a plan that isn't refused, and tells its event: nothing is asked again.
-    pub fn step_open(&mut self, plan: Plan) -> Result<(StepId, Event), AllocError>
-        requires fits { Fits self.old.run plan }
-        requires open { IsOpen self.old.run plan }
-        ensures steps { IfOk result (λ taken. Steps self.old.run plan self.new.run taken.0) }
-        ensures event { IfOk result (λ taken. taken.1 ≡ event_of self.old.run plan) }
+    /// Takes an action of a task from which nothing keeps it, and tells the event: nothing is asked
+    /// again. The action leaves the task at the line `to`.
+    pub fn step_clear(
+        &mut self,
+        task: &TaskName,
+        action: Action,
+        to: u32,
+    ) -> Result<Event, AllocError>
+        requires { MayTake self.old.run task.now action }
+        ensures taken { IfOk result (Takes self.old.run task.now action to self.new.run) }
         ensures err { OnErr result (self.new.run ≡ self.old.run) }
     {
-        let event = planned(&self.tables, &plan)?;
-        match self.take(plan) {
-            Ok(id) => Ok((id, event)),
-            Err(_) => Err(AllocError),
-        }
+        let event = event_for(&self.tables, task, action)?;
+        let copy = copy_event(&event)?;
+        self.append(event, to)?;
+        Ok(copy)
+    }
+
+    /// Takes an event that may follow the others.
+    #[inline]
+    fn append(&mut self, event: Event, to: u32) -> Result<(), AllocError>
+        requires may { MayFollow self.old.run.cells (history self.old.run) event }
+        requires room { length self.old.run.steps < self.old.run.limit }
+        ensures ok { OnOk result (self.new.run ≡ grown_by event to self.old.run) }
+        ensures err { OnErr result (self.new.run ≡ self.old.run) }
+    {
+        let at = self.count();
+        self.entries.reserve(1)?;
+        self.reserved = None;
+        self.places.reserve(&event)?;
+        let replaced = self.tables.apply(&event, to)?;
+        self.places.push_reserved(&event, at);
+        self.entries.push_reserved(Entry {
+            event,
+            to,
+            replaced,
+        });
+        Ok(())
     }
 
     /// The event of the plan, for which all room is made.
@@ -306,6 +309,7 @@ impl Core {
         let copy = copy_event(&event)?;
         self.entries.reserve(1)?;
         self.reserved = None;
+        self.places.reserve(&event)?;
         self.tables.reserve_apply(&event)?;
         self.reserved = Some(copy);
         Ok(event)
@@ -320,6 +324,7 @@ impl Core {
         ensures room { self.old.reserved ≡ Some (event_of self.old.run plan) → IsOk result }
     {
         let to = plan.to();
+        let at = self.count();
         let Plan {
             instr: _,
             config,
@@ -329,7 +334,9 @@ impl Core {
         let task = copy_of(&config.task, its_name)?;
         let event = fill_in(&self.tables, config.task, action, its_child)?;
         self.entries.reserve(1)?;
+        self.places.reserve(&event)?;
         let replaced = self.tables.apply(&event, to)?;
+        self.places.push_reserved(&event, at);
         self.entries.push_reserved(Entry {
             event,
             to,
@@ -348,6 +355,7 @@ impl Core {
         ensures { TakesBack self.old.run id.now self.new.run result }
     {
         self.reserved = None;
+        renumber(&mut self.places, self.entries.as_slice(), &[at as u32]);
         let Entry {
             event,
             to: _,
@@ -369,13 +377,14 @@ impl Core {
         ensures free { OnOk result (IsFree self.now.run id.now) }
         ensures kept { IfErr result (Keeps self.now.run id.now) }
     {
-        let Some(at) = place_from_newest(&self.tables, &self.entries, id) else {
+        let Some(at) = place_in(self.places.events_of(&id.task), &self.entries, id) else {
             return Err(UndoRefusal::NoSuchStep);
         };
         let Some(by) = first_needer(&self.entries, at) else {
             return Ok(at);
         };
-        match step_at(&self.entries, by) {
+        let own = self.places.events_of(&self.entries[by].event.task);
+        match step_among(own, &self.entries, by) {
             Ok(by) => Err(UndoRefusal::Needed { by }),
             Err(_) => Err(UndoRefusal::Memory),
         }
@@ -390,7 +399,7 @@ impl Core {
     }
 
     /// Takes a step back that nothing needs, wherever it stands. It takes no memory where that is
-    /// done. The step is looked for from the newest on, and so is cheap to find near the end.
+    /// done. Where it stands is known.
     pub fn undo(&mut self, id: &StepId) -> Result<Removed, UndoRefusal>
         ensures undone { Undone self.old.run id.now self.new.run result }
         ensures err { OnErr result (self.new ≡ self.old) }
@@ -409,6 +418,11 @@ impl Core {
         ensures { RollsBack self.old.run rollback.step self.new.run result.items }
     {
         self.reserved = None;
+        renumber(
+            &mut self.places,
+            self.entries.as_slice(),
+            rollback.places.as_slice(),
+        );
         let (kept, mut removed) = unwind(&mut self.entries, &mut self.tables, rollback);
         put_back(&mut self.entries, kept);
         removed.reverse();
@@ -436,6 +450,7 @@ fn name_every_field(core: &Core, entry: &Entry) {
         root_line: _,
         limit: _,
         entries: _,
+        places: _,
         tables: _,
         reserved: _,
     } = core;

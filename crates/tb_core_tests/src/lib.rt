@@ -7,4 +7,6 @@ mod needing;
 #[cfg(test)]
 mod opening;
 #[cfg(test)]
+mod places;
+#[cfg(test)]
 mod roll;

@@ -249,9 +249,6 @@ pub told_result : {A : Type 0} (P : Program) (run : Seen) (t : Name) (p : Plan) 
 told_result P run t p e (Ok o) f plan k told = told_so P run t p e o f plan k told
 told_result P run t p e (Err x) f plan k told = told
 
-pub clear_so : (P : Program) (run : Seen) (t : Name) (p : Plan) → Fits P run → IsPlanOf P run t p → IsOpen run p → refusal_of P (core.history run) t ≡ None
-clear_so P run t p f plan o = refusal_of_plan P run t p f plan ∙ ap (option_map By) o.clear
-
 -- ---- the answers of a Live
 
 abbrev pub as_commit : ℕ → Result StepId StepRefusal → Result ℕ CommitRefusal

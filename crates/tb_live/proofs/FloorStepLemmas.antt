@@ -26,11 +26,11 @@ use Rattle.tb_core.specs.Outcomes.{event_of, hindrance_of, Steps}
 use Rattle.tb_live.specs.declared.control.Control.{Control}
 use Rattle.tb_live.specs.Claims.{Claims, IsFreeBeside}
 use Rattle.tb_live.specs.Floor.{IsFloor, IsRaised, IsKeptBelow, IsLowered, IsCarried, IsPassed}
-use Rattle.tb_live.specs.Plans.{IsPlanOf, IsNative, IsReady, Enters, CanTake}
+use Rattle.tb_live.specs.Plans.{IsPlanOf, IsNative, Enters, CanTake}
 use Rattle.tb_live.specs.Soundness.{Fits}
 use Rattle.tb_live.proofs.CommitLemmas.{native_plan}
 use Rattle.tb_live.proofs.FloorLemmas.{floor_stays, floor_lowered}
-use Rattle.tb_live.proofs.PlanLemmas.{IsPlan, refusal_of_plan}
+use Rattle.tb_live.proofs.PlanLemmas.{IsPlan, IsReadyPlan, refusal_of_plan}
 use Rattle.tb_live.proofs.ReadyLemmas.{can_spawned}
 use Rattle.tb_live.proofs.RunLemmas.{next_event}
 
@@ -161,6 +161,6 @@ clear_by : (h : Option Hindrance) → is_none (option_map By h) ≡ true → h �
 clear_by None e = refl
 clear_by (Some h) e = absurd (false≢true e)
 
-pub plan_clear : (P : Program) (run : Seen) (p : Plan) → Fits P run → IsReady P run (Some p) → hindrance_of run p ≡ None
+pub plan_clear : (P : Program) (run : Seen) (p : Plan) → Fits P run → IsReadyPlan P run p → hindrance_of run p ≡ None
 plan_clear P run p fits ready =
     clear_by (hindrance_of run p) (sym (ap is_none (refusal_of_plan P run p.config.task p fits ready.0)) ∙ least_can P (core.history run) p.config.task ready.1)

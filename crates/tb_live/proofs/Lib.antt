@@ -1,5 +1,6 @@
 pub mod NewestLemmas
 pub mod PlanLemmas
+pub mod ComingLemmas
 pub mod ReadyLemmas
 pub mod FloorLemmas
 pub mod FloorStepLemmas

@@ -35,7 +35,7 @@ use Rattle.tb_model.specs.WellFormed.{WellFormed, Begins, is_begin}
 use Rattle.tb_read.specs.Meaning.{IsPosition}
 use Rattle.tb_read.specs.Followed.{IsFollowed, is_last}
 use Rattle.tb_live.specs.Soundness.{Fits}
-use Rattle.tb_live.specs.Plans.{IsPlanOf, IsReady}
+use Rattle.tb_live.specs.Plans.{IsPlanOf}
 use Rattle.std.specs.Prelude.{is_none}
 
 -- ---- a task stands where the program says
@@ -302,7 +302,10 @@ refusal_of_plan P run t p f plan =
     ∙ refusal_planned P run p f (record { here = plan.current.here; instr = plan.instr }) (plan.fits.cells ∙ ap length f.cells) plan.current.spawned plan.current.going
 
 -- the plan of the least task that can step
-pub plan_ready : (P : Program) (run : Seen) (t : Name) (p : Plan) → IsPlanOf P run t p → least_ready P (history run) ≡ Some t → IsReady P run (Some p)
+abbrev pub IsReadyPlan : Program → Seen → Plan → Type 0
+IsReadyPlan P run p = IsPlanOf P run p.config.task p × (least_ready P (history run) ≡ Some p.config.task)
+
+pub plan_ready : (P : Program) (run : Seen) (t : Name) (p : Plan) → IsPlanOf P run t p → least_ready P (history run) ≡ Some t → IsReadyPlan P run p
 plan_ready P run t p plan l = (record { of_task = refl; current = plan.current; instr = plan.instr; fits = plan.fits }, l ∙ ap Some (sym plan.of_task))
 
 -- so a task can step exactly where nothing is in the way of its plan

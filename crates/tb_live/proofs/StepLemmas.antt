@@ -33,8 +33,8 @@ use Rattle.tb_live.specs.Controls.{behind_step}
 use Rattle.tb_live.specs.Session.{Session, Held, is_full}
 use Rattle.tb_live.specs.Moves.{StepsFor, Refuses, StepsBy, LeastStepsFor, refusal_for, least_task}
 use Rattle.tb_live.specs.Soundness.{IsSound, IsLawful}
-use Rattle.tb_live.specs.Plans.{IsPlanOf, IsReady, HasNone, IsEntered, IsKeptFrom, Enters, has_no_place}
-use Rattle.tb_live.proofs.PlanLemmas.{IsPlan, refusal_of_plan, stands_at}
+use Rattle.tb_live.specs.Plans.{IsPlanOf, HasNone, IsEntered, IsKeptFrom, Enters, has_no_place}
+use Rattle.tb_live.proofs.PlanLemmas.{IsPlan, IsReadyPlan, refusal_of_plan, stands_at}
 use Rattle.tb_live.proofs.ControlLemmas.{lawful_step}
 use Rattle.tb_live.proofs.ReadyLemmas.{can_spawned}
 use Rattle.tb_live.proofs.RunLemmas.{shown, shorter, stepped}
@@ -239,7 +239,7 @@ pub least_so : (P : Program) (limit : ℕ) (entries : List Entry) (before : Cont
 least_so P limit entries before run s shows sound o l = ap least_task (sym shows) ∙ ap (least_ready P) (sym sound.leaves) ∙ l
 
 pub live_least : (seat : ℕ) (P : Program) (limit : ℕ) (entries : List Entry) (before : Control) (run : Seen) (s : Session) → shown P limit entries before ≡ s → IsSound P limit (reverse entries) run × IsLawful (reverse entries) before
-    → (p : Plan) → IsReady P run (Some p) → (pushed : List Entry) (after : Control) (new : Seen) (result : Result StepId StepRefusal)
+    → (p : Plan) → IsReadyPlan P run p → (pushed : List Entry) (after : Control) (new : Seen) (result : Result StepId StepRefusal)
     → Enters limit seat run p new entries pushed before after result → LeastAnswers seat P limit s pushed after new result
 live_least seat P limit entries before run s shows both p ready pushed after new (Ok i) e =
     let t = p.config.task in

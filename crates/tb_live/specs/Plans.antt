@@ -6,12 +6,12 @@ use Rattle.tb_model.specs.declared.step_id.StepId.{StepId}
 use Rattle.tb_model.specs.Names.{Name}
 use Rattle.tb_model.specs.Facts.{History, is_spawned}
 use Rattle.tb_model.specs.Program.{Program, instr_at}
-use Rattle.tb_model.specs.Hindrances.{can_step, least_ready, refusal_of}
+use Rattle.tb_model.specs.Hindrances.{can_step, in_the_way, least_ready, refusal_of}
 use Rattle.tb_model.specs.LeastNames.{IsLeastName}
 use Rattle.tb_read.specs.declared.instr.Instr.{Instr}
 use Rattle.tb_read.specs.declared.planned.Plan.{Plan}
 use Rattle.tb_read.specs.Meaning.{IsPosition}
-use Rattle.tb_read.specs.Plans.{instruction}
+use Rattle.tb_read.specs.Plans.{instruction, line_behind}
 use Rattle.tb_read.specs.Strips.{IsStripOf}
 use Rattle.tb_core.specs.declared.step_refusal.StepRefusal.{StepRefusal}
 use Rattle.tb_core.specs.declared.step_refusal.StepRefusal.TheVariants.{Memory, NoSuchTask, Ended, Full, Stale}
@@ -22,6 +22,7 @@ use Rattle.tb_live.specs.declared.control.Control.{Control}
 use Rattle.tb_live.specs.declared.claim.Claim.{Claim}
 use Rattle.tb_live.specs.declared.claim.Claim.TheVariants.{Work as Works, Later, Done, Stopped}
 use Rattle.tb_live.specs.declared.work.Work.{Work}
+use Rattle.tb_live.specs.declared.coming.Coming.{Coming}
 use Rattle.tb_live.specs.declared.claim_refusal.ClaimRefusal.{ClaimRefusal}
 use Rattle.tb_live.specs.declared.claim_refusal.ClaimRefusal.TheVariants.{Memory as NoMemory, NoSuchTask as NoTask, Ended as Over, Claimed}
 use Rattle.tb_live.specs.Claims.{Claims, IsHeldBeside, IsFreeBeside}
@@ -61,10 +62,36 @@ abbrev pub IsTold : StepRefusal → Option StepRefusal → Type 0
 IsTold e None = e ≡ Full
 IsTold e (Some told) = (told ≡ e) × (e ≢ Full) × (e ≢ Memory)
 
--- the plan of the least task that can step, and None where no task can
-abbrev pub IsReady : Program → Seen → Option Plan → Type 0
-IsReady P run None = least_ready P (history run) ≡ None
-IsReady P run (Some p) = IsPlanOf P run p.config.task p × (least_ready P (history run) ≡ Some p.config.task)
+-- it is the plan's action for this task, with the lines at which the task stands and at which it is left, and its steps
+pub record IsStepOf (t : Name) (m : Coming) (p : Plan) : Type 0 where
+  pub task : p.config.task ≡ t
+  pub action : p.action ≡ m.action
+  pub at : p.config.at ≡ m.at
+  pub to : line_behind p.instr p.config p.action ≡ m.to
+  pub steps : p.config.steps ≡ m.steps
+
+-- it is what the program's plan of the task's next step says
+pub record IsComing (P : Program) (run : Seen) (t : Name) (m : Coming) : Type 0 where
+  pub plan : Plan
+  pub of_task : IsPlanOf P run t plan
+  pub says : IsStepOf t m plan
+
+-- it is what a plan for the task's situation says
+pub record IsNext (run : Seen) (t : Name) (m : Coming) : Type 0 where
+  pub plan : Plan
+  pub says : IsStepOf t m plan
+  pub fits : Fits run plan
+  pub current : IsCurrent run plan
+
+-- and nothing keeps the task from it
+pub record IsClear (run : Seen) (t : Name) (m : Coming) : Type 0 where
+  pub next : IsNext run t m
+  pub clear : in_the_way (history run) t m.action ≡ None
+
+-- the least task that can step with what it does, and None where no task can
+abbrev pub IsLeastComing : Program → Seen → Option (Name × Coming) → Type 0
+IsLeastComing P run None = least_ready P (history run) ≡ None
+IsLeastComing P run (Some r) = IsComing P run r.0 r.1 × (least_ready P (history run) ≡ Some r.0)
 
 -- the journal is so long that it has no place
 abbrev pub has_no_place : ℕ → List Entry → Bool

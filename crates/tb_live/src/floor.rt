@@ -7,8 +7,7 @@ ghost use Rattle.tb_live.specs.Floor.{IsCarried, IsLowered, IsRaised, IsKeptBelo
 
 use std::marker::Model;
 use tb_core::Core;
-use tb_model::TaskName;
-use tb_read::Plan;
+use tb_model::{Action, TaskName};
 
 /// A task in front of which none can step, by the order of names, where one is known.
 #[derive(Drop)]
@@ -82,14 +81,14 @@ impl Floor {
         self.task = task;
     }
 
-    /// Takes the memory that the step of the plan wants here. Where it is refused, no task is known
-    /// after the step.
+    /// Takes the memory that a step of the task with this action wants here. Where it is refused, no
+    /// task is known after the step.
     #[inline]
-    pub fn ready(&mut self, plan: &Plan)
+    pub fn ready(&mut self, task: &TaskName, action: &Action)
         ensures { self.new ≡ self.old }
     {
-        if plan.action.is_end() {
-            self.parent = plan.config.task.parent().unwrap_or(None);
+        if action.is_end() {
+            self.parent = task.parent().unwrap_or(None);
         }
     }
 

@@ -9,6 +9,7 @@ mod breaks;
 mod claim;
 mod claim_refusal;
 mod claims;
+mod coming;
 mod commit_refusal;
 mod committing;
 mod control;

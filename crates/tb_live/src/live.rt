@@ -22,9 +22,9 @@ use crate::control::Control;
 use crate::floor::Floor;
 use crate::mode::Mode;
 use crate::newest::{newest_step, place_of_print, place_of_store};
-use crate::planning::plan_of;
+use crate::planning::coming_of;
 use crate::prepared::{Prepared, forget, take_name, take_roll};
-use crate::ready::{ready_plan, refusal_of};
+use crate::ready::{least_coming, refusal_of};
 use crate::rolling::{enter_roll, fresh_name};
 use crate::stepping::{enter_clear, enter_step};
 use std::alloc::{AllocError, Global};
@@ -150,8 +150,8 @@ impl Live {
         ensures stepped { StepsBy self.old.session task.now self.new.session result }
         ensures kept { IfErr result (λ e. e ≢ Memory → self.new ≡ self.old) }
     {
-        let plan = match plan_of(self.alloc, &self.program, &self.core, task) {
-            Ok(plan) => plan,
+        let coming = match coming_of(self.alloc, &self.program, &self.core, task) {
+            Ok(coming) => coming,
             Err(refusal) => return Err(refusal),
         };
         enter_step(
@@ -162,7 +162,8 @@ impl Live {
             &mut self.floor,
             self.limit,
             0,
-            plan,
+            task,
+            coming,
         )
     }
 
@@ -181,12 +182,12 @@ impl Live {
         ensures stepped { LeastStepsFor seat self.old.session self.new.session result }
         ensures kept { IfErr result (λ e. e ≢ Memory → self.new ≡ self.old) }
     {
-        let plan = match ready_plan(self.alloc, &self.program, &self.core, &self.floor) {
-            Ok(Some(plan)) => plan,
+        let found = match least_coming(self.alloc, &self.program, &self.core, &self.floor) {
+            Ok(Some(found)) => found,
             Ok(None) => return Ok(None),
             Err(_) => return Err(StepRefusal::Memory),
         };
-        self.floor.raise(&plan.config.task);
+        self.floor.raise(&found.0);
         match enter_clear(
             &mut self.core,
             &mut self.journal,
@@ -195,7 +196,8 @@ impl Live {
             &mut self.floor,
             self.limit,
             seat,
-            plan,
+            found.0,
+            found.1,
         ) {
             Ok(id) => Ok(Some(id)),
             Err(refusal) => Err(refusal),

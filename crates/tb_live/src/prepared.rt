@@ -121,7 +121,18 @@ pub fn keep(place: &mut Option<Prepared>, prepared: Prepared)
 }
 
 /// Nothing is prepared any longer.
+#[inline]
 pub fn forget(place: &mut Option<Prepared>)
+    ensures { place.new ≡ None }
+{
+    if place.is_some() {
+        drop_prepared(place);
+    }
+}
+
+/// The same where something is, apart, so that a step without it doesn't pay for its room.
+#[inline(never)]
+fn drop_prepared(place: &mut Option<Prepared>)
     ensures { place.new ≡ None }
 {
     *place = None;

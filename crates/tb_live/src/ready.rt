@@ -7,35 +7,39 @@ ghost use Rattle.tb_core.specs.Seen.{history};
 ghost use Rattle.tb_live.specs.Soundness.{Fits};
 ghost use Rattle.tb_live.specs.Claims.{IsFreeBeside};
 ghost use Rattle.tb_live.specs.Floor.{IsFloor, IsPassed};
-ghost use Rattle.tb_live.specs.Plans.{IsPlanOf, IsReady, CanTake, IsFound, IsClaimOn, IsRefusalOf, IsTold};
+ghost use Rattle.tb_live.specs.Plans.{IsComing, IsLeastComing, CanTake, IsFound, IsClaimOn, IsRefusalOf, IsTold};
 
 use crate::claim::Claim;
 use crate::claims::Claims;
+use crate::coming::Coming;
 use crate::floor::Floor;
-use crate::planning::{plan_of, work_of};
+use crate::planning::{coming_at, coming_of, work_of};
 use std::alloc::{AllocError, Global};
 use tb_core::{Core, StepRefusal};
 use tb_model::TaskName;
-use tb_read::{Plan, Program};
+use tb_read::Program;
 
-/// The plan of the task's next step, where it can take it.
-fn clear_plan(
+/// What the task does next, where it can.
+#[inline]
+fn clear_coming(
     alloc: Global,
     program: &Program,
     core: &Core,
     task: &TaskName,
-) -> Result<Option<Plan>, AllocError>
+) -> Result<Option<Coming>, AllocError>
     requires { Fits program.now core.now.run }
-    ensures plan { IfOk result (λ o. IfSome o (IsPlanOf program.now core.now.run task.now)) }
+    ensures coming { IfOk result (λ o. IfSome o (IsComing program.now core.now.run task.now)) }
     ensures can { IfOk result (λ o. can_step program.now (history core.now.run) task.now ≡ is_some o) }
 {
-    let plan = match plan_of(alloc, program, core, task) {
-        Ok(plan) => plan,
-        Err(StepRefusal::Memory) => return Err(AllocError),
-        Err(_) => return Ok(None),
+    let Some(standing) = core.standing(task) else {
+        return Ok(None);
     };
-    if core.is_clear(&plan) {
-        Ok(Some(plan))
+    if core.has_ended(task) {
+        return Ok(None);
+    }
+    let coming = coming_at(alloc, program, core, task, &standing)?;
+    if core.is_clear(task, &coming.action) {
+        Ok(Some(coming))
     } else {
         Ok(None)
     }
@@ -51,12 +55,12 @@ pub fn refusal_of(
     requires { Fits program.now core.now.run }
     ensures { IfOk result (IsRefusalOf program.now core.now.run task.now) }
 {
-    let plan = match plan_of(alloc, program, core, task) {
-        Ok(plan) => plan,
+    let coming = match coming_of(alloc, program, core, task) {
+        Ok(coming) => coming,
         Err(StepRefusal::Memory) => return Err(AllocError),
         Err(refusal) => return Ok(Some(refusal)),
     };
-    match core.refusal(&plan) {
+    match core.hindrance(task, &coming.action) {
         Some(refusal) => told(refusal),
         None => Ok(None),
     }
@@ -73,43 +77,52 @@ fn told(refusal: StepRefusal) -> Result<Option<StepRefusal>, AllocError>
     }
 }
 
-/// The plan of the least task that can step. The tasks that haven't ended are asked in the order of
-/// their names, from the floor on.
-pub fn ready_plan(
+/// The least task that can step, with what it does. The tasks that haven't ended are asked in the order
+/// of their names, from the floor on.
+pub fn least_coming(
     alloc: Global,
     program: &Program,
     core: &Core,
     floor: &Floor,
-) -> Result<Option<Plan>, AllocError>
+) -> Result<Option<(TaskName, Coming)>, AllocError>
     requires fits { Fits program.now core.now.run }
     requires floor { IsFloor program.now (history core.now.run) floor.now }
-    ensures { IfOk result (IsReady program.now core.now.run) }
+    ensures { IfOk result (IsLeastComing program.now core.now.run) }
 {
     let Some(task) = floor.task() else {
-        return plan_behind(alloc, program, core, None);
+        return coming_behind(alloc, program, core, None);
     };
-    match clear_plan(alloc, program, core, task) {
-        Ok(Some(plan)) => Ok(Some(plan)),
-        Ok(None) => plan_behind(alloc, program, core, Some(task)),
+    match clear_coming(alloc, program, core, task) {
+        Ok(Some(coming)) => named(task, coming),
+        Ok(None) => coming_behind(alloc, program, core, Some(task)),
         Err(_) => Err(AllocError),
     }
 }
 
+/// What the task does next, with a copy of its name.
+#[inline]
+fn named(task: &TaskName, coming: Coming) -> Result<Option<(TaskName, Coming)>, AllocError>
+    ensures { IfOk result (λ found. found ≡ Some (task.now, coming)) }
+{
+    let name = task.clone()?;
+    Ok(Some((name, coming)))
+}
+
 /// The same where none can step but those that come after this one.
-fn plan_behind(
+fn coming_behind(
     alloc: Global,
     program: &Program,
     core: &Core,
     task: Option<&TaskName>,
-) -> Result<Option<Plan>, AllocError>
+) -> Result<Option<(TaskName, Coming)>, AllocError>
     requires fits { Fits program.now core.now.run }
     requires passed { IsPassed program.now (history core.now.run) (option_copied task) }
-    ensures { IfOk result (IsReady program.now core.now.run) }
+    ensures { IfOk result (IsLeastComing program.now core.now.run) }
 {
     let mut after = task;
     'tasks: while let Some(task) = core.next_unended(after) {
-        match clear_plan(alloc, program, core, task) {
-            Ok(Some(plan)) => return Ok(Some(plan)),
+        match clear_coming(alloc, program, core, task) {
+            Ok(Some(coming)) => return named(task, coming),
             Ok(None) => after = Some(task),
             Err(_) => return Err(AllocError),
         }
@@ -132,12 +145,12 @@ pub fn free_work(
     ensures found { IfOk result (IsFound program.now core.now.run claims.now seat) }
     ensures floor { IsFloor program.now (history core.now.run) floor.new }
 {
-    let plan = match ready_plan(alloc, program, core, floor) {
-        Ok(Some(plan)) => plan,
+    let found = match least_coming(alloc, program, core, floor) {
+        Ok(Some(found)) => found,
         Ok(None) => return Ok(Claim::Done),
         Err(_) => return Err(AllocError),
     };
-    let task = &plan.config.task;
+    let task = &found.0;
     floor.raise(task);
     match claims.held_beside(seat, task) {
         Some(_) => work_behind(alloc, program, core, claims, seat, task),
@@ -157,7 +170,7 @@ fn can_take(
     requires { Fits program.now core.now.run }
     ensures { IfOk result (λ can. IsTrue can ↔ CanTake program.now (history core.now.run) claims.now seat task.now) }
 {
-    match clear_plan(alloc, program, core, task) {
+    match clear_coming(alloc, program, core, task) {
         Ok(Some(_)) => Ok(claims.held_beside(seat, task).is_none()),
         Ok(None) => Ok(false),
         Err(_) => Err(AllocError),

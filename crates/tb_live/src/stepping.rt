@@ -3,18 +3,19 @@
 ghost use Rattle.std.specs.Prelude.{◌≡◌, ◌≢◌, ◌<◌, ◌-◌, IfOk, IfErr, OnOk, OnErr, Some, None, length, vec_len, vec_capacity};
 ghost use Rattle.tb_model.specs.Program.{Program};
 ghost use Rattle.tb_core.specs.declared.step_refusal.StepRefusal.TheVariants.{Memory};
-ghost use Rattle.tb_core.specs.Outcomes.{Fits, IsCurrent, IsOpen, event_of, hindrance_of};
+ghost use Rattle.tb_core.specs.Outcomes.{Fits, IsCurrent, IsOpen, event_of};
 ghost use Rattle.tb_core.specs.Seen.{history};
 ghost use Rattle.tb_live.specs.Controls.{behind_step};
 ghost use Rattle.tb_live.specs.Floor.{IsCarried};
-ghost use Rattle.tb_live.specs.Plans.{Enters, IsEntered, IsKeptFrom, has_no_place};
+ghost use Rattle.tb_live.specs.Plans.{Enters, IsClear, IsEntered, IsKeptFrom, IsNext, IsStepOf, has_no_place};
 ghost use Rattle.tb_live.specs.Preparing.{HasRoom, IsReadied};
 
+use crate::coming::Coming;
 use crate::control::Control;
 use crate::floor::Floor;
 use crate::prepared::{Prepared, forget};
 use tb_core::{Core, StepRefusal};
-use tb_model::{Entry, Event, StepId};
+use tb_model::{Entry, Event, StepId, TaskName};
 use tb_read::Plan;
 
 /// Makes all room for the step of a plan and for its entry, and tells the event. The journal has more
@@ -61,7 +62,7 @@ pub fn ready_step(
     if journal.reserve(1).is_err() {
         return Err(StepRefusal::Memory);
     }
-    floor.ready(plan);
+    floor.ready(&plan.config.task, &plan.action);
     Ok(event)
 }
 
@@ -93,8 +94,8 @@ pub fn enter_readied(
     id
 }
 
-/// Takes the step of a plan from which nothing keeps its task, and enters it for the seat: nothing is asked again but
-/// whether the journal has a place. What was prepared is given up, but where it has none.
+/// Takes what a task does next, from which nothing keeps it, and enters it for the seat: nothing is asked
+/// again but whether the journal has a place. What was prepared is given up, but where it has none.
 pub fn enter_clear(
     core: &mut Core,
     journal: &mut Vec<Entry>,
@@ -103,14 +104,14 @@ pub fn enter_clear(
     floor: &mut Floor,
     limit: u32,
     seat: u32,
-    plan: Plan,
+    task: TaskName,
+    coming: Coming,
 ) -> Result<StepId, StepRefusal>
-    requires fits { Fits core.old.run plan }
-    requires current { IsCurrent core.old.run plan }
-    requires clear { hindrance_of core.old.run plan ≡ None }
+    requires clear { IsClear core.old.run task coming }
     requires limit { core.old.run.limit ≡ limit }
     requires shorter { length core.old.run.steps < length journal.old.items }
-    ensures entered { Enters limit seat core.old.run plan core.new.run journal.old.items journal.new.items control.old control.new result }
+    ensures entered { (p : Plan) → IsStepOf task coming p → IsCurrent core.old.run p
+        → Enters limit seat core.old.run p core.new.run journal.old.items journal.new.items control.old control.new result }
     ensures kept { IfErr result (λ e. e ≢ Memory → prepared.new ≡ prepared.old) }
     ensures serves { (P : Program)
         → HasRoom limit P core.old journal.old.items
@@ -127,21 +128,26 @@ pub fn enter_clear(
     if journal.reserve(1).is_err() {
         return Err(StepRefusal::Memory);
     }
-    floor.ready(&plan);
-    let line = plan.config.at;
-    match core.step_open(plan) {
-        Ok((id, event)) => {
+    floor.ready(&task, &coming.action);
+    let Coming {
+        action,
+        at,
+        to,
+        steps,
+    } = coming;
+    match core.step_clear(&task, action, to) {
+        Ok(event) => {
             floor.step_taken(core);
-            control.step_taken(line, &event);
+            control.step_taken(at, &event);
             journal.push_reserved(Entry::Stepped { seat, event });
-            Ok(id)
+            Ok(StepId { task, k: steps + 1 })
         }
         Err(_) => Err(StepRefusal::Memory),
     }
 }
 
-/// Takes the step of a plan, and enters it for the seat. What was prepared is kept where the step is
-/// refused for any reason but memory.
+/// Takes what a task does next, where nothing keeps it from that, and enters it for the seat. What was
+/// prepared is kept where the step is refused for any reason but memory.
 pub fn enter_step(
     core: &mut Core,
     journal: &mut Vec<Entry>,
@@ -150,12 +156,14 @@ pub fn enter_step(
     floor: &mut Floor,
     limit: u32,
     seat: u32,
-    plan: Plan,
+    task: &TaskName,
+    coming: Coming,
 ) -> Result<StepId, StepRefusal>
-    requires fits { Fits core.old.run plan }
+    requires next { IsNext core.old.run task.now coming }
     requires limit { core.old.run.limit ≡ limit }
     requires shorter { length core.old.run.steps < length journal.old.items }
-    ensures entered { Enters limit seat core.old.run plan core.new.run journal.old.items journal.new.items control.old control.new result }
+    ensures entered { (p : Plan) → IsStepOf task.now coming p → IsCurrent core.old.run p
+        → Enters limit seat core.old.run p core.new.run journal.old.items journal.new.items control.old control.new result }
     ensures kept { IfErr result (λ e. e ≢ Memory → prepared.new ≡ prepared.old) }
     ensures serves { (P : Program)
         → HasRoom limit P core.old journal.old.items
@@ -165,8 +173,16 @@ pub fn enter_step(
     ensures carried { OnOk result (IsCarried (history core.new.run) floor.old floor.new) }
     ensures stays { OnErr result (floor.new ≡ floor.old) }
 {
-    if let Some(refusal) = core.refusal(&plan) {
+    if let Some(refusal) = core.hindrance(task, &coming.action) {
         return Err(refusal);
     }
-    enter_clear(core, journal, control, prepared, floor, limit, seat, plan)
+    if limit as usize <= journal.as_slice().len() {
+        return Err(StepRefusal::Full);
+    }
+    match task.clone() {
+        Ok(name) => enter_clear(
+            core, journal, control, prepared, floor, limit, seat, name, coming,
+        ),
+        Err(_) => Err(StepRefusal::Memory),
+    }
 }

@@ -1,4 +1,4 @@
-use Rattle.std.proofs.Common.{◌≡◌, Bool, true, false, map, reverse, sym, ap, ◌∙◌, subst, refl}
+use Rattle.std.proofs.Common.{◌≡◌, false, map, reverse, subst}
 use Rattle.tb_model.specs.Equivalent.{stands}
 use Rattle.tb_core.specs.Seen.{Held, history}
 use Rattle.tb_core.specs.Soundness.{departure}

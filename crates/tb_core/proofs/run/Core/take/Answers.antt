@@ -1,9 +1,11 @@
-use Rattle.std.proofs.Common.{◌∙◌, ◌+◌, refl, sym, ap, subst, arith, Some}
+use Rattle.std.proofs.Common.{◌∙◌, refl, sym, ap, subst, arith, Some, map, reverse}
 use Rattle.std.specs.Result.{IsOk}
 use Rattle.std.proofs.lemmas.Bool.{false≢true}
+use Rattle.tb_core.specs.Soundness.{departure}
 use Rattle.tb_core.specs.Seen.{Held}
 use Rattle.tb_core.specs.Filling.{spare_child}
-use Rattle.tb_core.proofs.TakenLemmas.{none_reserved, ahead, filled, fills, sound_same, few_steps, taken}
+use Rattle.tb_core.proofs.ShownLemmas.{open_takes, takes_steps}
+use Rattle.tb_core.proofs.TakenLemmas.{none_reserved, ahead, filled, fills, follows, sound_same, few_steps, appended, takes_so, index_same, index_added}
 use Rattle.tb_core.proofs.run.Core.take.Goals as goal
 
 pub returns-in_err-event-clause-room : goal.returns-in_err-event-clause-room
@@ -13,22 +15,23 @@ returns-in_err-event-clause-room c reserved =
     let held = ap (λ (h : Held). h.reserved) c.self.view_is ∙ reserved in
     let spare = c.spare_names-its_name.ensures.child ∙ ap spare_child (c.take.ensures.value ∙ held) in
     absurd (false≢true (subst IsOk c.in_err-event.was (c.fill_in.ensures.room _
-    (fills i.first.items i.root_line i.limit i.entries.items i.tables c.self.invariant.0 c.args.self.now.run is c.args.plan c.requires.fits c.requires.ready c.args.plan.allowed _ refl) spare)))
+    (fills i.first.items i.root_line i.limit i.entries.items i.tables c.self.invariant.0 c.args.self.now.run is c.args.plan.config.task c.args.plan.action (open_takes c.args.self.now.run c.args.plan c.requires.fits c.requires.ready) _ refl) spare)))
 
 pub apply-requires : goal.apply-requires
 apply-requires c =
     let i = c.self.inside in
     let is = ap (λ (h : Held). h.run) c.self.view_is in
-    let event = filled i.first.items i.root_line i.limit i.entries.items i.tables c.self.invariant.0 c.args.self.now.run is c.args.plan c.requires.fits c.requires.ready c.args.plan.allowed c.in_ok-event.event c.in_ok-event.ensures.ok in
-    ahead i.first.items i.root_line i.limit i.entries.items i.tables c.self.invariant.0 c.args.self.now.run is c.args.plan c.requires.fits c.requires.ready c.args.plan.allowed c.in_ok-event.event event
+    let event = filled i.first.items i.root_line i.limit i.entries.items i.tables c.self.invariant.0 c.args.self.now.run is c.args.plan.config.task c.args.plan.action (open_takes c.args.self.now.run c.args.plan c.requires.fits c.requires.ready) c.in_ok-event.event c.in_ok-event.ensures.ok in
+    ahead i.first.items i.root_line i.limit i.entries.items i.tables c.self.invariant.0 c.args.self.now.run is c.in_ok-event.event (follows i.first.items i.root_line i.limit i.entries.items i.tables c.self.invariant.0 c.args.self.now.run is c.args.plan.config.task c.args.plan.action (open_takes c.args.self.now.run c.args.plan c.requires.fits c.requires.ready) c.in_ok-event.event event) c.requires.ready.room
 
 pub invariant_of-self-in_err-replaced : goal.invariant_of-self-in_err-replaced
 invariant_of-self-in_err-replaced c =
     let i = c.self.inside in
     let is = ap (λ (h : Held). h.run) c.self.view_is in (
-      sound_same i.first.items i.root_line i.limit i.entries.items i.tables c.self.invariant.0 c.args.self.now.run is c.args.plan c.requires.fits c.requires.ready c.args.plan.allowed
+      sound_same i.first.items i.root_line i.limit i.entries.items i.tables c.self.invariant.0
           c.reserve.new.self.items c.apply.new.self c.reserve.ensures.items c.in_err-replaced.ensures.err,
-      none_reserved _ _ _ c.take.ensures.after,
+      none_reserved _ _ _ _ c.take.ensures.after,
+      index_same i.entries.items c.reserve.new.self.items i.places c.reserve-2.new.self c.reserve.ensures.items c.reserve-2.ensures.same c.self.invariant.2,
     )
 
 pub returns-in_err-replaced-clause-room : goal.returns-in_err-replaced-clause-room
@@ -36,32 +39,50 @@ returns-in_err-replaced-clause-room c reserved =
     let i = c.self.inside in
     let is = ap (λ (h : Held). h.run) c.self.view_is in
     let held = ap (λ (h : Held). h.reserved) c.self.view_is ∙ reserved in
-    let event = filled i.first.items i.root_line i.limit i.entries.items i.tables c.self.invariant.0 c.args.self.now.run is c.args.plan c.requires.fits c.requires.ready c.args.plan.allowed c.in_ok-event.event c.in_ok-event.ensures.ok in
+    let event = filled i.first.items i.root_line i.limit i.entries.items i.tables c.self.invariant.0 c.args.self.now.run is c.args.plan.config.task c.args.plan.action (open_takes c.args.self.now.run c.args.plan c.requires.fits c.requires.ready) c.in_ok-event.event c.in_ok-event.ensures.ok in
     absurd (false≢true (subst IsOk c.in_err-replaced.was (c.apply.ensures.succeeds (c.self.invariant.1.tables c.in_ok-event.event (held ∙ ap Some (sym event))))))
+
+pub returns-in_err-reserve-2-clause-room : goal.returns-in_err-reserve-2-clause-room
+returns-in_err-reserve-2-clause-room c reserved =
+    let i = c.self.inside in
+    let is = ap (λ (h : Held). h.run) c.self.view_is in
+    let held = ap (λ (h : Held). h.reserved) c.self.view_is ∙ reserved in
+    let event = filled i.first.items i.root_line i.limit i.entries.items i.tables c.self.invariant.0 c.args.self.now.run is c.args.plan.config.task c.args.plan.action (open_takes c.args.self.now.run c.args.plan c.requires.fits c.requires.ready) c.in_ok-event.event c.in_ok-event.ensures.ok in
+    absurd (false≢true (subst IsOk c.in_err-reserve-2.was (c.reserve-2.ensures.succeeds (c.self.invariant.1.places c.in_ok-event.event (held ∙ ap Some (sym event))))))
 
 pub overflow_add-result : goal.overflow_add-result
 overflow_add-result c =
     let i = c.self.inside in
     let is = ap (λ (h : Held). h.run) c.self.view_is in
-    let bound = few_steps i.first.items i.root_line i.limit i.entries.items i.tables c.self.invariant.0 c.args.self.now.run is c.args.plan c.requires.fits c.requires.ready c.args.plan.allowed in
-    omega (arith, bound)
+    let counted = ap (λ k. k.steps) c.requires.ready.current.here in
+    let bound = few_steps i.first.items i.root_line i.limit i.entries.items i.tables c.self.invariant.0 c.args.self.now.run is c.args.plan.config.task c.args.plan.action (open_takes c.args.self.now.run c.args.plan c.requires.fits c.requires.ready) in
+    omega (arith, bound, counted)
 
 pub invariant_of-self-2 : goal.invariant_of-self-2
 invariant_of-self-2 c =
     let i = c.self.inside in
     let is = ap (λ (h : Held). h.run) c.self.view_is in
-    let event = filled i.first.items i.root_line i.limit i.entries.items i.tables c.self.invariant.0 c.args.self.now.run is c.args.plan c.requires.fits c.requires.ready c.args.plan.allowed c.in_ok-event.event c.in_ok-event.ensures.ok in (
-      (taken i.first.items i.root_line i.limit i.entries.items i.tables c.self.invariant.0 c.args.self.now.run is c.args.plan c.requires.fits c.requires.ready c.args.plan.allowed
-          c.in_ok-event.event c.to-to.result c.in_ok-replaced.replaced c.reserve.new.self.items c.push_reserved.new.self.items c.apply.new.self (record { task = c.args.plan.config.task; k = c.args.plan.config.steps + 1 }) c.reserve.ensures.items event c.to-to.ensures
-          c.push_reserved.ensures.items c.in_ok-replaced.ensures.applied c.in_ok-replaced.ensures.replaced refl refl).sound',
-      none_reserved _ _ _ c.take.ensures.after,
+    let may = open_takes c.args.self.now.run c.args.plan c.requires.fits c.requires.ready in
+    let event = filled i.first.items i.root_line i.limit i.entries.items i.tables c.self.invariant.0 c.args.self.now.run is c.args.plan.config.task c.args.plan.action may c.in_ok-event.event c.in_ok-event.ensures.ok in (
+      (appended i.first.items i.root_line i.limit i.entries.items i.tables c.self.invariant.0 c.args.self.now.run is c.in_ok-event.event (follows i.first.items i.root_line i.limit i.entries.items i.tables c.self.invariant.0 c.args.self.now.run is c.args.plan.config.task c.args.plan.action may c.in_ok-event.event event) c.requires.ready.room
+          c.to-to.result c.in_ok-replaced.replaced c.reserve.new.self.items c.push_reserved-2.new.self.items c.apply.new.self c.reserve.ensures.items
+          c.push_reserved-2.ensures.items c.in_ok-replaced.ensures.applied c.in_ok-replaced.ensures.replaced).sound',
+      none_reserved _ _ _ _ c.take.ensures.after,
+      index_added c.reserve.new.self.items c.push_reserved-2.new.self.items _ c.count-at.result c.args.self.now.run.steps c.reserve-2.new.self c.push_reserved.new.self
+          (sym (ap (λ (h : Held). h.run.steps) c.self.view_is) ∙ ap (λ l. map departure (reverse l)) (sym c.reserve.ensures.items)) c.count-at.ensures.count c.push_reserved-2.ensures.items c.push_reserved.ensures.pushed
+          (index_same i.entries.items c.reserve.new.self.items i.places c.reserve-2.new.self c.reserve.ensures.items c.reserve-2.ensures.same c.self.invariant.2),
     )
 
 pub returns-clause-ok : goal.returns-clause-ok
 returns-clause-ok c =
     let i = c.self.inside in
     let is = ap (λ (h : Held). h.run) c.self.view_is in
-    let event = filled i.first.items i.root_line i.limit i.entries.items i.tables c.self.invariant.0 c.args.self.now.run is c.args.plan c.requires.fits c.requires.ready c.args.plan.allowed c.in_ok-event.event c.in_ok-event.ensures.ok in
-    (taken i.first.items i.root_line i.limit i.entries.items i.tables c.self.invariant.0 c.args.self.now.run is c.args.plan c.requires.fits c.requires.ready c.args.plan.allowed
-    c.in_ok-event.event c.to-to.result c.in_ok-replaced.replaced c.reserve.new.self.items c.push_reserved.new.self.items c.apply.new.self _ c.reserve.ensures.items event c.to-to.ensures
-    c.push_reserved.ensures.items c.in_ok-replaced.ensures.applied c.in_ok-replaced.ensures.replaced c.in_ok-task.ensures.ok refl).steps
+    let may = open_takes c.args.self.now.run c.args.plan c.requires.fits c.requires.ready in
+    let event = filled i.first.items i.root_line i.limit i.entries.items i.tables c.self.invariant.0 c.args.self.now.run is c.args.plan.config.task c.args.plan.action may c.in_ok-event.event c.in_ok-event.ensures.ok in
+    let follow = follows i.first.items i.root_line i.limit i.entries.items i.tables c.self.invariant.0 c.args.self.now.run is c.args.plan.config.task c.args.plan.action may c.in_ok-event.event event in
+    let now = (appended i.first.items i.root_line i.limit i.entries.items i.tables c.self.invariant.0 c.args.self.now.run is c.in_ok-event.event follow c.requires.ready.room
+    c.to-to.result c.in_ok-replaced.replaced c.reserve.new.self.items c.push_reserved-2.new.self.items c.apply.new.self c.reserve.ensures.items
+    c.push_reserved-2.ensures.items c.in_ok-replaced.ensures.applied c.in_ok-replaced.ensures.replaced).now
+    in
+    takes_steps c.args.self.now.run c.args.plan c.to-to.result _ c.in_ok-event.event _ c.requires.ready.current c.requires.ready.room
+    (takes_so c.args.self.now.run c.args.plan.config.task c.args.plan.action c.to-to.result _ c.in_ok-event.event event follow now) (sym c.to-to.ensures) c.in_ok-task.ensures.ok refl

@@ -1,7 +1,8 @@
-use Rattle.std.proofs.Common.{◌≡◌, ◌<◌, length, ap, Some, None}
+use Rattle.std.proofs.Common.{◌≡◌, ◌<◌, length, ap, Some, None, rules}
 use Rattle.tb_model.specs.declared.event.Event.{Event}
 use Rattle.tb_core.specs.Seen.{Held}
 use Rattle.tb_core.proofs.UndoneLemmas.{place_within, stands_there, left_sound, takes_back}
+use Rattle.tb_core.proofs.IndexLemmas.{index_removed}
 use Rattle.tb_core.proofs.run.Core.take_out.Goals as goal
 
 pub revert-requires : goal.revert-requires
@@ -18,7 +19,8 @@ invariant_of-self c =
     let within : c.args.at < length i.entries.items = place_within i.first.items i.root_line i.limit i.entries.items c.args.id.now c.args.at _ view c.requires.here in (
       left_sound i.first.items i.root_line i.limit i.entries.items i.tables c.args.id.now c.args.at c.remove-event.result _ view within c.remove-event.ensures.value c.self.invariant.0 c.requires.free c.requires.here
           c.remove-event.new.self.items c.remove-event.ensures.items c.revert.new.self c.revert.ensures,
-      record { entry = λ v h. absurd (none v h); tables = λ v h. absurd (none v h) },
+      record { entry = λ v h. absurd (none v h); tables = λ v h. absurd (none v h); places = λ v h. absurd (none v h) },
+      index_removed i.entries.items c.as_slice.result.now c.remove-event.new.self.items c.args.at _ c.renumber.new.places c.as_slice.ensures.value (search rules) c.remove-event.ensures.items c.renumber.ensures,
     )
   where
     none : (v : Event) → None ≡ Some v → ⊥

@@ -1,7 +1,9 @@
 use Rattle.std.proofs.Common.{◌≡◌, subst, ap, sym, ◌∙◌, Option}
 use Rattle.std.specs.Prelude.{◌≢◌, IfErr}
-use Rattle.tb_read.specs.declared.planned.Plan.{Plan}
-use Rattle.tb_live.specs.Plans.{IsReady}
+use Rattle.tb_model.specs.Names.{Name}
+use Rattle.tb_live.specs.declared.coming.Coming.{Coming}
+use Rattle.tb_live.specs.Plans.{IsLeastComing}
+use Rattle.tb_live.proofs.ComingLemmas.{least_plan, next_of, way_so}
 use Rattle.tb_core.specs.declared.step_refusal.StepRefusal.TheVariants.{Memory}
 use Rattle.tb_core.specs.Seen.{history}
 use Rattle.tb_live.proofs.FloorStepLemmas.{floor_after, floor_raised, plan_clear}
@@ -20,29 +22,44 @@ enter_clear-requires-clause-shorter c =
 pub enter_clear-requires-clause-clear : goal.enter_clear-requires-clause-clear
 enter_clear-requires-clause-clear c =
     let i = c.self.inside in
-    plan_clear i.program i.core.run c.in-Ok-Some.plan c.self.invariant.0.fits (subst (λ (o : Option Plan). IsReady i.program i.core.run o) c.in-Ok-Some.field-0-is c.in-Ok-Some.ensures)
+    let r = c.in-Ok-Some.found in
+    let ready = subst (λ (o : Option (Name × Coming)). IsLeastComing i.program i.core.run o) c.in-Ok-Some.field-0-is c.in-Ok-Some.ensures in
+    let k = ready.0 in
+    let plan = least_plan i.program i.core.run r.0 r.1 k ready.1 in
+    record {
+      next = next_of i.program i.core.run r.0 r.1 k;
+      clear = sym (way_so i.core.run r.0 r.1 k.plan k.says) ∙ plan_clear i.program i.core.run k.plan c.self.invariant.0.fits plan;
+    }
 
 pub invariant_of-self : goal.invariant_of-self
 invariant_of-self c =
     let i = c.self.inside in
-    let ready = subst (λ (o : Option Plan). IsReady i.program i.core.run o) c.in-Ok-Some.field-0-is c.in-Ok-Some.ensures in
-    let l = live_least c.args.seat i.program i.limit i.journal.items i.control i.core.run c.args.self.now.session (ap (λ (h : Held). h.session) c.self.view_is) (c.self.invariant.0, c.self.invariant.1) c.in-Ok-Some.plan ready
-    c.enter_clear.new.journal.items c.enter_clear.new.control c.enter_clear.new.core.run c.enter_clear.result c.enter_clear.ensures.entered
+    let r = c.in-Ok-Some.found in
+    let ready = subst (λ (o : Option (Name × Coming)). IsLeastComing i.program i.core.run o) c.in-Ok-Some.field-0-is c.in-Ok-Some.ensures in
+    let k = ready.0 in
+    let plan = least_plan i.program i.core.run r.0 r.1 k ready.1 in
+    let entered = c.enter_clear.ensures.entered k.plan k.says k.of_task.current in
+    let l = live_least c.args.seat i.program i.limit i.journal.items i.control i.core.run c.args.self.now.session (ap (λ (h : Held). h.session) c.self.view_is) (c.self.invariant.0, c.self.invariant.1) k.plan plan
+    c.enter_clear.new.journal.items c.enter_clear.new.control c.enter_clear.new.core.run c.enter_clear.result entered
     in (
       l.keeps.sound,
       l.keeps.lawful,
       c.enter_clear.ensures.serves i.program c.self.invariant.2,
-      floor_after i.limit c.args.seat i.program i.core.run c.enter_clear.new.core.run c.in-Ok-Some.plan.config.task c.in-Ok-Some.plan i.journal.items c.enter_clear.new.journal.items i.control c.enter_clear.new.control c.enter_clear.result c.self.invariant.0.fits ready.0
-          c.enter_clear.ensures.entered c.raise.new.self c.enter_clear.new.floor c.enter_clear.ensures.carried c.enter_clear.ensures.stays
-          (floor_raised i.program (history i.core.run) c.in-Ok-Some.plan.config.task c.raise.new.self ready.1 c.raise.ensures),
+      floor_after i.limit c.args.seat i.program i.core.run c.enter_clear.new.core.run k.plan.config.task k.plan i.journal.items c.enter_clear.new.journal.items i.control c.enter_clear.new.control c.enter_clear.result c.self.invariant.0.fits plan.0
+          entered c.raise.new.self c.enter_clear.new.floor c.enter_clear.ensures.carried c.enter_clear.ensures.stays
+          (floor_raised i.program (history i.core.run) r.0 c.raise.new.self ready.1 c.raise.ensures),
     )
 
 pub returns-clause-stepped : goal.returns-clause-stepped
 returns-clause-stepped c =
     let i = c.self.inside in
-    let ready = subst (λ (o : Option Plan). IsReady i.program i.core.run o) c.in-Ok-Some.field-0-is c.in-Ok-Some.ensures in
-    let answer = (live_least c.args.seat i.program i.limit i.journal.items i.control i.core.run c.args.self.now.session (ap (λ (h : Held). h.session) c.self.view_is) (c.self.invariant.0, c.self.invariant.1) c.in-Ok-Some.plan ready
-    c.enter_clear.new.journal.items c.enter_clear.new.control c.enter_clear.new.core.run c.enter_clear.result c.enter_clear.ensures.entered).answer
+    let r = c.in-Ok-Some.found in
+    let ready = subst (λ (o : Option (Name × Coming)). IsLeastComing i.program i.core.run o) c.in-Ok-Some.field-0-is c.in-Ok-Some.ensures in
+    let k = ready.0 in
+    let plan = least_plan i.program i.core.run r.0 r.1 k ready.1 in
+    let entered = c.enter_clear.ensures.entered k.plan k.says k.of_task.current in
+    let answer = (live_least c.args.seat i.program i.limit i.journal.items i.control i.core.run c.args.self.now.session (ap (λ (h : Held). h.session) c.self.view_is) (c.self.invariant.0, c.self.invariant.1) k.plan plan
+    c.enter_clear.new.journal.items c.enter_clear.new.control c.enter_clear.new.core.run c.enter_clear.result entered).answer
     in
     elim c.match-enter_clear.branch [
       | in-Ok w ↦ subst (LeastStepsFor c.args.seat c.args.self.now.session (shown i.program i.limit c.enter_clear.new.journal.items c.enter_clear.new.control)) (ap for_least w.in-Ok.is ∙ sym w.result-is) answer
@@ -52,10 +69,14 @@ returns-clause-stepped c =
 pub returns-clause-kept : goal.returns-clause-kept
 returns-clause-kept c =
     let i = c.self.inside in
-    let k = for_least_held _ c.enter_clear.result
-    (enters_held i.program i.limit i.journal.items c.enter_clear.new.journal.items i.control c.enter_clear.new.control i.prepared c.enter_clear.new.prepared c.args.self.now c.self.view_is c.args.seat i.core.run c.enter_clear.new.core.run c.in-Ok-Some.plan c.enter_clear.result c.enter_clear.ensures.entered c.enter_clear.ensures.kept)
+    let r = c.in-Ok-Some.found in
+    let ready = subst (λ (o : Option (Name × Coming)). IsLeastComing i.program i.core.run o) c.in-Ok-Some.field-0-is c.in-Ok-Some.ensures in
+    let k = ready.0 in
+    let entered = c.enter_clear.ensures.entered k.plan k.says k.of_task.current in
+    let kept = for_least_held _ c.enter_clear.result
+    (enters_held i.program i.limit i.journal.items c.enter_clear.new.journal.items i.control c.enter_clear.new.control i.prepared c.enter_clear.new.prepared c.args.self.now c.self.view_is c.args.seat i.core.run c.enter_clear.new.core.run k.plan c.enter_clear.result entered c.enter_clear.ensures.kept)
     in
     elim c.match-enter_clear.branch [
-      | in-Ok w ↦ subst (λ r. IfErr r (λ e. e ≢ Memory → held i.program i.limit c.enter_clear.new.journal.items c.enter_clear.new.control c.enter_clear.new.prepared ≡ c.args.self.now)) (ap for_least w.in-Ok.is ∙ sym w.result-is) k
-      | in-Err-enter_clear w ↦ subst (λ r. IfErr r (λ e. e ≢ Memory → held i.program i.limit c.enter_clear.new.journal.items c.enter_clear.new.control c.enter_clear.new.prepared ≡ c.args.self.now)) (ap for_least w.in-Err-enter_clear.is ∙ sym w.result-is) k
+      | in-Ok w ↦ subst (λ r. IfErr r (λ e. e ≢ Memory → held i.program i.limit c.enter_clear.new.journal.items c.enter_clear.new.control c.enter_clear.new.prepared ≡ c.args.self.now)) (ap for_least w.in-Ok.is ∙ sym w.result-is) kept
+      | in-Err-enter_clear w ↦ subst (λ r. IfErr r (λ e. e ≢ Memory → held i.program i.limit c.enter_clear.new.journal.items c.enter_clear.new.control c.enter_clear.new.prepared ≡ c.args.self.now)) (ap for_least w.in-Err-enter_clear.is ∙ sym w.result-is) kept
     ]

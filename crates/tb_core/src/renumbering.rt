@@ -1,0 +1,77 @@
+//! The places of the entries, where some of these go. Those that come after the first that goes are
+//! taken off the indexes, and put back with their new numbers; the rest isn't looked at.
+
+ghost use Rattle.std.specs.Prelude.{◌≡◌, ◌≤◌, ◌<◌, ◌++◌, ℕ, IsTrue, false, length, take, drop};
+ghost use Rattle.tb_places.specs.Places.{IsIndexOf, HasRoomForAll};
+ghost use Rattle.tb_core.specs.Renumbering.{events_in, goes_at, left_from};
+
+use crate::entry::Entry;
+use tb_places::Places;
+
+/// Renumbers the entries that stay where those at these places, which rise, go.
+pub fn renumber(places: &mut Places, entries: &[Entry], going: &[u32])
+    requires index { IsIndexOf (events_in entries.now) places.old }
+    requires bound { length entries.now ≤ 1000000 }
+    ensures { IsIndexOf (left_from 0 going.now (events_in entries.now)) places.new }
+{
+    let first = first_of(going, entries.len());
+    cut(places, entries, first);
+    refill(places, entries, first, going);
+}
+
+/// The first place that goes, or the end.
+fn first_of(going: &[u32], end: usize) -> usize
+    ensures within { result ≤ end }
+    ensures first { (at : ℕ) → at < result → goes_at at going.now ≡ false }
+{
+    match going {
+        [first, ..] => end.min(*first as usize),
+        [] => end,
+    }
+}
+
+/// Takes the entries from this place on off the indexes.
+fn cut(places: &mut Places, entries: &[Entry], first: usize)
+    requires index { IsIndexOf (events_in entries.now) places.old }
+    requires within { first ≤ length entries.now }
+    ensures index { IsIndexOf (take first (events_in entries.now)) places.new }
+    ensures room { HasRoomForAll (events_in entries.now) places.new }
+{
+    let mut at = entries.len();
+    'back: while first < at {
+        at -= 1;
+        places.pop(&entries[at].event);
+    }
+}
+
+/// Puts those that stay back, each with its new place.
+fn refill(places: &mut Places, entries: &[Entry], first: usize, going: &[u32])
+    requires index { IsIndexOf (take first (events_in entries.now)) places.old }
+    requires room { HasRoomForAll (events_in entries.now) places.old }
+    requires within { first ≤ length entries.now }
+    requires bound { length entries.now ≤ 1000000 }
+    ensures { IsIndexOf (take first (events_in entries.now)
+        ++ left_from first going.now (drop first (events_in entries.now))) places.new }
+{
+    let mut next = 0;
+    let mut place = first as u32;
+    for at in first..entries.len() {
+        if goes(going, next, at) {
+            next += 1;
+        } else {
+            places.push_reserved(&entries[at].event, place);
+            place += 1;
+        }
+    }
+}
+
+/// Whether the next that goes is the one at this place.
+fn goes(going: &[u32], next: usize, at: usize) -> bool
+    ensures goes { result ≡ goes_at at (drop next going.now) }
+    ensures within { IsTrue result → next < length going.now }
+{
+    match going.get(next) {
+        Some(place) => *place as usize == at,
+        None => false,
+    }
+}

@@ -1,0 +1,87 @@
+//! What a core tells of its tasks, of the cells, of the output and of the places of steps.
+
+ghost use Rattle.std.specs.Prelude.{◌≡◌, length, reverse};
+ghost use Rattle.std.specs.Option.{option_copied};
+ghost use Rattle.tb_places.specs.Where.{places_where};
+ghost use Rattle.tb_model.specs.Facts.{is_of, is_print, touches, own, items_of, before, apart};
+ghost use Rattle.tb_model.specs.LeastNames.{IsLeastName};
+ghost use Rattle.tb_model.specs.State.{printed, open_groups};
+ghost use Rattle.tb_undo.specs.Obstacles.{sibling};
+ghost use Rattle.tb_undo.specs.Readings.{IsUnendedBehind};
+ghost use Rattle.tb_undo.specs.State.{AreLast};
+ghost use Rattle.tb_core.specs.Seen.{history};
+
+use super::Core;
+use tb_model::{Item, TaskName};
+
+impl Core {
+    /// The cells' numbers, in order.
+    pub fn cells(&self) -> &[i64]
+        ensures { AreLast self.now.run.cells (history self.now.run) result.now }
+    {
+        self.tables.cells()
+    }
+
+    /// The printed numbers, in order.
+    pub fn output(&self) -> &[i64]
+        ensures { result.now ≡ reverse (printed (history self.now.run)) }
+    {
+        self.tables.output()
+    }
+
+    /// The least unended task behind this one by the order of names, or of all.
+    pub fn next_unended(&self, after: Option<&TaskName>) -> Option<&TaskName>
+        ensures { IsLeastName (IsUnendedBehind (history self.now.run) (option_copied after.entry)) (option_copied result) }
+    {
+        self.tables.next_unended(after)
+    }
+
+    /// How many groups of the task are open.
+    pub fn groups(&self, task: &TaskName) -> usize
+        ensures { result ≡ length (open_groups (own task.now (history self.now.run))) }
+    {
+        self.tables.groups(task)
+    }
+
+    /// The depend items of the task.
+    pub fn items(&self, task: &TaskName) -> &[Item]
+        ensures { result.now ≡ items_of task.now (history self.now.run) }
+    {
+        self.tables.items(task)
+    }
+
+    /// Whether the task depends on its sibling with this number.
+    pub fn is_before(&self, number: u32, task: &TaskName) -> bool
+        ensures { result ≡ before (history self.now.run) (sibling task.now number) task.now }
+    {
+        self.tables.is_before(number, task)
+    }
+
+    /// Whether the task and its sibling with this number exclude each other.
+    pub fn is_apart(&self, number: u32, task: &TaskName) -> bool
+        ensures { result ≡ apart (history self.now.run) (sibling task.now number) task.now }
+    {
+        self.tables.is_apart(number, task)
+    }
+
+    /// The places of the task's steps, from 0 and rising.
+    pub fn events_of(&self, task: &TaskName) -> &[u32]
+        ensures { result.now ≡ places_where (is_of task.now) (reverse (history self.now.run)) }
+    {
+        self.places.events_of(task)
+    }
+
+    /// The places of the steps that load from the cell or store to it, rising.
+    pub fn touches(&self, cell: u32) -> &[u32]
+        ensures { result.now ≡ places_where (λ v. touches cell v.action) (reverse (history self.now.run)) }
+    {
+        self.places.touches(cell)
+    }
+
+    /// The places of the steps that print, rising.
+    pub fn prints(&self) -> &[u32]
+        ensures { result.now ≡ places_where (λ v. is_print v.action) (reverse (history self.now.run)) }
+    {
+        self.places.prints()
+    }
+}

@@ -1,0 +1,5 @@
+pub mod WhereLemmas
+pub mod RowLemmas
+pub mod NameLemmas
+pub mod PlacesLemmas
+pub mod RoomLemmas

@@ -1,0 +1,100 @@
+-- The room of the rows holds for all events that they have, and stays.
+use Rattle.std.proofs.Common.{◌≡◌, ◌+◌, ◌≤◌, ℕ, suc, List, [], ◌∷◌, ◌++◌, Bool, true, false, cond, filter, Option, Some, None, length, slice_get, refl, sym, ap, ◌∙◌, subst, arith, Vec, vec_capacity}
+use Rattle.std.specs.declared.alloc.Global.{Global}
+use Rattle.std.specs.List.{AllByRecursion}
+use Rattle.std.specs.Option.{option_map_or}
+use Rattle.std.proofs.lemmas.List.{length-append}
+use Rattle.std.proofs.lemmas.List.Elements.{filter-append}
+use Rattle.tb_model.specs.declared.event.Event.{Event}
+use Rattle.tb_places.specs.declared.places.Places.{Places}
+use Rattle.tb_places.specs.declared.rows.Rows.{Rows}
+use Rattle.tb_places.specs.Where.{places_from}
+use Rattle.tb_places.specs.Rows.{row_of, room_of, HasRoomAt, is_of_row, AreRows}
+use Rattle.tb_places.specs.Places.{event_mark, event_number, IsNamed, IsIndexOf, HasRoomFor, HasRoomForAll, KeepsRoom}
+use Rattle.tb_places.proofs.WhereLemmas.{places_cons}
+use Rattle.tb_places.proofs.RowLemmas.{its_row}
+use Rattle.tb_places.proofs.PlacesLemmas.{all_append, all_parts}
+
+-- ---- how many
+
+pub places_count : (n : ℕ) (p : Event → Bool) (es : List Event) → length (places_from n p es) ≡ length (filter p es)
+places_count n p [] = refl
+places_count n p (x ∷ es) = ap length (places_cons n p x es) ∙ by (p x) (places_count (n + 1) p es)
+  where
+    by : (b : Bool) → length (places_from (n + 1) p es) ≡ length (filter p es) → length (cond b (n ∷ places_from (n + 1) p es) (places_from (n + 1) p es)) ≡ length (cond b (x ∷ filter p es) (filter p es))
+    by true rest = ap suc rest
+    by false rest = rest
+
+count_append : (p : Event → Bool) (xs ys : List Event) → length (filter p (xs ++ ys)) ≡ length (filter p xs) + length (filter p ys)
+count_append p xs ys = ap length (filter-append p xs ys) ∙ length-append (filter p xs) (filter p ys)
+
+count_cons : (p : Event → Bool) (e : Event) (ys : List Event) → length (filter p ys) ≤ length (filter p (e ∷ ys))
+count_cons p e ys = by (p e)
+  where
+    by : (b : Bool) → length (filter p ys) ≤ length (cond b (e ∷ filter p ys) (filter p ys))
+    by true = omega arith
+    by false = omega arith
+
+count_here : (p : Event → Bool) (e : Event) (ys : List Event) → p e ≡ true → length (filter p (e ∷ ys)) ≡ suc (length (filter p ys))
+count_here p e ys h = ap (λ b. length (cond b (e ∷ filter p ys) (filter p ys))) h
+
+-- ---- the rows
+
+within_room : (r : Rows) (k : ℕ) → length (row_of r k) ≤ room_of r k
+within_room r k = by (slice_get r.rows.items k)
+  where
+    by : (o : Option (Vec ℕ Global)) → length (option_map_or (λ row. row.items) o []) ≤ option_map_or (λ row. vec_capacity row) o 0
+    by None = omega arith
+    by (Some v) = omega (arith, v.ok.0, v.ok.1)
+
+rows_within : (number : Event → Option ℕ) (es : List Event) (r : Rows) → AreRows number es r → (k : ℕ) → length (filter (is_of_row number k) es) ≤ room_of r k
+rows_within number es r rows k = omega (arith, places_count 0 (is_of_row number k) es, ap length (rows k), within_room r k)
+
+row_next : (number : Event → Option ℕ) (xs ys : List Event) (e : Event) (r : Rows) → AreRows number xs r → ((k : ℕ) → length (filter (is_of_row number k) (xs ++ e ∷ ys)) ≤ room_of r k) → HasRoomAt r (number e)
+row_next number xs ys e r rows room = by (number e) refl
+  where
+    by : (o : Option ℕ) → number e ≡ o → HasRoomAt r o
+    by None h = tt
+    by (Some n) h =
+        let p = is_of_row number n in
+        omega (arith, room n, count_append p xs (e ∷ ys), count_here p e ys (its_row number xs e n h), places_count 0 p xs, ap length (rows n))
+
+rows_without : (number : Event → Option ℕ) (xs ys : List Event) (e : Event) (r : Rows) → ((k : ℕ) → length (filter (is_of_row number k) (xs ++ e ∷ ys)) ≤ room_of r k) → (k : ℕ) → length (filter (is_of_row number k) (xs ++ ys)) ≤ room_of r k
+rows_without number xs ys e r room k =
+    let p = is_of_row number k in
+    omega (arith, room k, count_append p xs (e ∷ ys), count_append p xs ys, count_cons p e ys)
+
+-- ---- the places
+
+-- there is room for the events that are there
+pub room_of_index : (es : List Event) (p : Places) → IsIndexOf es p → HasRoomForAll es p
+room_of_index es p index = record {
+  named = index.named;
+  own = rows_within (event_number p.names.keys.keys) es p.own index.own;
+  marks = rows_within event_mark es p.marks index.marks;
+}
+
+-- for the next of them
+pub room_next : (xs ys : List Event) (e : Event) (p : Places) → IsIndexOf xs p → HasRoomForAll (xs ++ e ∷ ys) p → HasRoomFor p e
+room_next xs ys e p index room = record {
+  named = (all_parts (IsNamed p.names.keys.keys) xs (e ∷ ys) room.named).1.0;
+  own = row_next (event_number p.names.keys.keys) xs ys e p.own index.own room.own;
+  mark = row_next event_mark xs ys e p.marks index.marks room.marks;
+}
+
+-- and without one of them
+pub room_without : (xs ys : List Event) (e : Event) (p : Places) → HasRoomForAll (xs ++ e ∷ ys) p → HasRoomForAll (xs ++ ys) p
+room_without xs ys e p room = record {
+  named =
+      let parts = all_parts (IsNamed p.names.keys.keys) xs (e ∷ ys) room.named in
+      all_append (IsNamed p.names.keys.keys) xs ys parts.0 parts.1.1;
+  own = rows_without (event_number p.names.keys.keys) xs ys e p.own room.own;
+  marks = rows_without event_mark xs ys e p.marks room.marks;
+}
+
+pub room_kept : (es : List Event) (old new : Places) → KeepsRoom old new → HasRoomForAll es old → HasRoomForAll es new
+room_kept es old new keeps room = record {
+  named = subst (λ s. AllByRecursion (IsNamed s.keys) es) (sym keeps.names) room.named;
+  own = subst (λ s. (k : ℕ) → length (filter (is_of_row (event_number s.keys) k) es) ≤ room_of new.own k) (sym keeps.names) (λ k. omega (arith, room.own k, keeps.own k));
+  marks = λ k. omega (arith, room.marks k, keeps.marks k);
+}

@@ -1,0 +1,4 @@
+pub mod Where
+pub mod Rows
+pub mod Numbers
+pub mod Places

@@ -1,0 +1,54 @@
+-- What is kept of where events stand: for each task, for each cell, and for the output.
+use Rattle.std.specs.Prelude.{◌≡◌, ◌≤◌, ℕ, suc, List, true, Option, Some, None, is_some, length, filter}
+use Rattle.std.specs.List.{AllByRecursion}
+use Rattle.tb_model.specs.declared.action.Action.{Action}
+use Rattle.tb_model.specs.declared.action.Action.TheVariants.{Load, Store, Print}
+use Rattle.tb_model.specs.declared.event.Event.{Event}
+use Rattle.tb_model.specs.Names.{Name}
+use Rattle.tb_places.specs.declared.places.Places.{Places}
+use Rattle.tb_places.specs.Numbers.{number_of}
+use Rattle.tb_places.specs.Rows.{room_of, HasRoomAt, is_of_row, AreRows, KeepsRooms}
+
+-- the number of the action's row among the marks: the output's is the first, then comes each cell's
+abbrev pub mark_of : Action → Option ℕ
+mark_of (Load r c x) = Some (suc c)
+mark_of (Store c x) = Some (suc c)
+mark_of (Print x) = Some 0
+mark_of _ = None
+
+abbrev pub event_mark : Event → Option ℕ
+event_mark e = mark_of e.action
+
+abbrev pub event_number : List Name → Event → Option ℕ
+event_number names e = number_of names e.task
+
+-- the event's task has a row
+abbrev pub IsNamed : List Name → Event → Type 0
+IsNamed names e = is_some (event_number names e) ≡ true
+
+-- ---- the rows are those of these events, the oldest first
+
+pub record IsIndexOf (events : List Event) (p : Places) : Type 0 where
+  pub named : AllByRecursion (IsNamed p.names.keys.keys) events
+  pub own : AreRows (event_number p.names.keys.keys) events p.own
+  pub marks : AreRows event_mark events p.marks
+
+-- ---- room
+
+-- the event's places take no memory
+pub record HasRoomFor (p : Places) (e : Event) : Type 0 where
+  pub named : IsNamed p.names.keys.keys e
+  pub own : HasRoomAt p.own (event_number p.names.keys.keys e)
+  pub mark : HasRoomAt p.marks (event_mark e)
+
+-- nor do those of all of these
+pub record HasRoomForAll (events : List Event) (p : Places) : Type 0 where
+  pub named : AllByRecursion (IsNamed p.names.keys.keys) events
+  pub own : (k : ℕ) → length (filter (is_of_row (event_number p.names.keys.keys) k) events) ≤ room_of p.own k
+  pub marks : (k : ℕ) → length (filter (is_of_row event_mark k) events) ≤ room_of p.marks k
+
+-- the memory stays as it is
+pub record KeepsRoom (old new : Places) : Type 0 where
+  pub names : new.names.keys ≡ old.names.keys
+  pub own : KeepsRooms old.own new.own
+  pub marks : KeepsRooms old.marks new.marks

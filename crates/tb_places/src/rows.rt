@@ -1,0 +1,115 @@
+//! Rows of places. A row that isn't there is an empty one.
+
+ghost use Rattle.std.specs.Prelude.{◌≡◌, ◌≢◌, ◌<◌, ◌++◌, ◌∷◌, [], ℕ, List, Option, OnOk, IsOk, length};
+ghost use Rattle.tb_model.specs.declared.event.Event.{Event as AnEvent};
+ghost use Rattle.tb_places.specs.Rows.{row_of, room_of, HasRoom, HasRoomAt, AreRows, KeepsRooms};
+
+use std::alloc::{AllocError, Global};
+
+/// Rows by their numbers, from 0. Which events have which row isn't known here.
+#[derive(Drop)]
+pub struct Rows {
+    alloc: Global,
+    rows: Vec<Vec<u32>>,
+}
+
+impl Rows {
+    pub fn new(alloc: Global) -> Rows
+        ensures { (k : ℕ) → row_of result k ≡ [] }
+    {
+        Rows {
+            alloc,
+            rows: Vec::new(alloc),
+        }
+    }
+
+    pub fn row(&self, n: usize) -> &[u32]
+        ensures { result.now ≡ row_of self.now n }
+    {
+        match self.rows.as_slice().get(n) {
+            Some(row) => row.as_slice(),
+            None => &[],
+        }
+    }
+
+    /// Makes room for one more place in the row, where there is one.
+    pub fn reserve_at(&mut self, n: Option<usize>) -> Result<(), AllocError>
+        ensures same { (k : ℕ) → row_of self.new k ≡ row_of self.old k }
+        ensures ok { OnOk result (HasRoomAt self.new n) }
+        ensures succeeds { HasRoomAt self.old n → IsOk result }
+    {
+        match n {
+            Some(n) => self.reserve(n),
+            None => Ok(()),
+        }
+    }
+
+    /// Notes the place of an event that comes after all others.
+    pub fn push_at(&mut self, n: Option<usize>, place: u32)
+        requires { HasRoomAt self.old n }
+        ensures pushed { (number : AnEvent → Option ℕ) (events : List AnEvent) (e : AnEvent) →
+            AreRows number events self.old → number e ≡ n → place ≡ length events →
+            AreRows number (events ++ e ∷ []) self.new }
+        ensures room { KeepsRooms self.old self.new }
+    {
+        match n {
+            Some(n) => self.push_reserved(n, place),
+            None => {}
+        }
+    }
+
+    /// Forgets the place of the last event.
+    pub fn pop_at(&mut self, n: Option<usize>)
+        ensures popped { (number : AnEvent → Option ℕ) (events : List AnEvent) (e : AnEvent) →
+            AreRows number (events ++ e ∷ []) self.old → number e ≡ n →
+            AreRows number events self.new }
+        ensures room { KeepsRooms self.old self.new }
+    {
+        match n {
+            Some(n) => self.pop(n),
+            None => {}
+        }
+    }
+
+    fn reserve(&mut self, n: usize) -> Result<(), AllocError>
+        ensures same { (k : ℕ) → row_of self.new k ≡ row_of self.old k }
+        ensures ok { OnOk result (HasRoom self.new n) }
+        ensures succeeds { HasRoom self.old n → IsOk result }
+    {
+        self.grow(n)?;
+        self.rows[n].reserve(1)
+    }
+
+    fn push_reserved(&mut self, n: usize, place: u32)
+        requires { HasRoom self.old n }
+        ensures row { row_of self.new n ≡ row_of self.old n ++ place ∷ [] }
+        ensures others { (k : ℕ) → k ≢ n → row_of self.new k ≡ row_of self.old k }
+        ensures room { KeepsRooms self.old self.new }
+    {
+        self.rows[n].push_reserved(place);
+    }
+
+    /// Takes the last place of the row off.
+    fn pop(&mut self, n: usize)
+        ensures row { (ps : List ℕ) (p : ℕ) → row_of self.old n ≡ ps ++ p ∷ [] →
+            row_of self.new n ≡ ps }
+        ensures others { (k : ℕ) → k ≢ n → row_of self.new k ≡ row_of self.old k }
+        ensures room { KeepsRooms self.old self.new }
+    {
+        if n < self.rows.len() {
+            self.rows[n].pop();
+        }
+    }
+
+    /// Makes rows up to this one.
+    fn grow(&mut self, n: usize) -> Result<(), AllocError>
+        ensures same { (k : ℕ) → row_of self.new k ≡ row_of self.old k }
+        ensures within { OnOk result (n < length self.new.rows.items) }
+        ensures there { n < length self.old.rows.items → IsOk result × (self.new ≡ self.old) }
+    {
+        while self.rows.len() <= n {
+            self.rows.push(Vec::new(self.alloc))?;
+        }
+        Ok(())
+    }
+}
