@@ -3,8 +3,6 @@
 
 mod command_line;
 mod limits;
-#[cfg(test)]
-mod tests;
 
 pub use command_line::{is_memory, settings};
 pub use limits::{DEFAULT_LIMIT, DEFAULT_WORKERS, MOST_ENTRIES, MOST_WORKERS, Settings};

@@ -1,7 +1,7 @@
 //! The options as they are typed.
 
-use crate::settings;
 use std::test::Fail;
+use tb_options::settings;
 
 #[test]
 fn settings_of_words(rt: HostRuntime) -> Result<(), Fail> {
