@@ -42,3 +42,4 @@ pub mod OrderLemmas
 pub mod LeastNameLemmas
 pub mod HindranceLemmas
 pub mod NextStepLemmas
+pub mod NumberTextLemmas

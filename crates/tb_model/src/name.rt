@@ -67,7 +67,7 @@ impl PartialEq for TaskName {
     ghost laws = { same_name_partial };
 
     fn eq(&self, other: &TaskName) -> bool {
-        are_same(self.numbers.as_slice(), other.numbers.as_slice())
+        self.numbers.is_same(&other.numbers)
     }
 }
 

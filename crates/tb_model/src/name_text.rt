@@ -4,8 +4,8 @@ ghost use Rattle.std.specs.Prelude.{◌≡◌, ◌++◌, OnOk, string_bytes};
 ghost use Rattle.tb_model.specs.Spelling.{name_text, spells_name, is_zero, IsLastPart};
 ghost use Rattle.tb_model.specs.Texts.{Begins};
 
+use crate::number_text::append_number;
 use crate::ordinal::ordinal;
-use itoa::Buffer;
 use std::alloc::AllocError;
 
 /// Appends the name with these numbers, the task's own first. Some of it may stand where memory
@@ -14,12 +14,12 @@ pub(crate) fn append_name(text: &mut String, numbers: &[u32]) -> Result<(), Allo
     ensures ok { OnOk result (string_bytes text.new ≡ string_bytes text.old ++ name_text numbers.now) }
     ensures begins { Begins (string_bytes text.old) (string_bytes text.new) }
 {
-    text.push_str("0")?;
+    text.push('0')?;
     let mut at = numbers.len();
     'levels: while at > 0 {
         at -= 1;
-        text.push_str(".")?;
-        text.push_str(Buffer::new().format(numbers[at]))?;
+        text.push('.')?;
+        append_number(text, numbers[at])?;
     }
     Ok(())
 }

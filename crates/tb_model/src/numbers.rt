@@ -1,8 +1,10 @@
 //! The numbers of a name.
 
 ghost use Rattle.std.specs.Prelude.{◌≡◌, ◌≤◌, ◌<◌, [], ◌∷◌, ◌++◌, length, IfOk, IsOk, IfSome, IfNone};
+ghost use Rattle.tb_model.specs.Names.{same_name};
 ghost use Rattle.tb_model.specs.Stored.{numbers_in, IsShortest};
 
+use crate::in_common::are_same;
 use crate::stored::Stored;
 use smallvec::SmallVec;
 use std::alloc::{AllocError, Global};
@@ -107,6 +109,21 @@ impl Numbers {
             alloc: self.alloc,
             stored,
         })
+    }
+
+    /// Whether the numbers are the same.
+    pub fn is_same(&self, other: &Numbers) -> bool
+        ensures { result ≡ same_name self.now other.now }
+    {
+        match (&self.stored, &other.stored) {
+            (Stored::Zero, Stored::Zero) => true,
+            (Stored::One([a]), Stored::One([k])) => *a == *k,
+            (Stored::Two([a, b]), Stored::Two([k, l])) => *a == *k && *b == *l,
+            (Stored::Three([a, b, c]), Stored::Three([k, l, m])) => {
+                *a == *k && *b == *l && *c == *m
+            }
+            _ => are_same(self.as_slice(), other.as_slice()),
+        }
     }
 }
 

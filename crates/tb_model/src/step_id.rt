@@ -8,8 +8,8 @@ ghost use Rattle.tb_model.specs.Texts.{Begins};
 use crate::name::TaskName;
 use crate::name_refusal::NameRefusal;
 use crate::name_text::append_name;
+use crate::number_text::append_number;
 use crate::ordinal::ordinal;
-use itoa::Buffer;
 use std::alloc::{AllocError, Global};
 
 /// The kth step of a task, `k` from 1. Its first step is its start.
@@ -56,9 +56,8 @@ fn append_step_id(text: &mut String, task: &[u32], k: u32) -> Result<(), AllocEr
     ensures begins { Begins (string_bytes text.old) (string_bytes text.new) }
 {
     append_name(text, task)?;
-    text.push_str("#")?;
-    text.push_str(Buffer::new().format(k))?;
-    Ok(())
+    text.push('#')?;
+    append_number(text, k)
 }
 
 // How many bytes stand in front of the first `#`.

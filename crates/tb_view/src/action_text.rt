@@ -6,9 +6,8 @@ ghost use Rattle.tb_model.specs.Spelling.{name_text};
 ghost use Rattle.tb_model.specs.Texts.{Begins};
 ghost use Rattle.tb_view.specs.Step.{kind_text, place_text, item_text, items_text, args_text, deferred_text, answer_text, action_text};
 
-use itoa::Buffer;
 use std::alloc::AllocError;
-use tb_model::{Action, Args, Item, Items, Kind, Place, TaskName};
+use tb_model::{Action, Args, Item, Items, Kind, Place, TaskName, append_number, append_signed};
 
 /// Appends what was done; `body` is the name of the body that a spawn names.
 pub(crate) fn append_action(
@@ -46,9 +45,9 @@ fn append_let(text: &mut String, reg: u8, value: i64) -> Result<(), AllocError>
     ensures begins { Begins (string_bytes text.old) (string_bytes text.new) }
 {
     text.push_str("let r")?;
-    text.push_str(Buffer::new().format(reg))?;
-    text.push_str(" ")?;
-    text.push_str(Buffer::new().format(value))
+    append_number(text, u32::from(reg))?;
+    text.push(' ')?;
+    append_signed(text, value)
 }
 
 fn append_load(text: &mut String, reg: u8, cell: u32, value: i64) -> Result<(), AllocError>
@@ -56,11 +55,11 @@ fn append_load(text: &mut String, reg: u8, cell: u32, value: i64) -> Result<(), 
     ensures begins { Begins (string_bytes text.old) (string_bytes text.new) }
 {
     text.push_str("load r")?;
-    text.push_str(Buffer::new().format(reg))?;
-    text.push_str(" ")?;
-    text.push_str(Buffer::new().format(cell))?;
-    text.push_str(" ")?;
-    text.push_str(Buffer::new().format(value))
+    append_number(text, u32::from(reg))?;
+    text.push(' ')?;
+    append_number(text, cell)?;
+    text.push(' ')?;
+    append_signed(text, value)
 }
 
 fn append_store(text: &mut String, cell: u32, value: i64) -> Result<(), AllocError>
@@ -68,9 +67,9 @@ fn append_store(text: &mut String, cell: u32, value: i64) -> Result<(), AllocErr
     ensures begins { Begins (string_bytes text.old) (string_bytes text.new) }
 {
     text.push_str("store ")?;
-    text.push_str(Buffer::new().format(cell))?;
-    text.push_str(" ")?;
-    text.push_str(Buffer::new().format(value))
+    append_number(text, cell)?;
+    text.push(' ')?;
+    append_signed(text, value)
 }
 
 fn append_print(text: &mut String, value: i64) -> Result<(), AllocError>
@@ -78,7 +77,7 @@ fn append_print(text: &mut String, value: i64) -> Result<(), AllocError>
     ensures begins { Begins (string_bytes text.old) (string_bytes text.new) }
 {
     text.push_str("print ")?;
-    text.push_str(Buffer::new().format(value))
+    append_signed(text, value)
 }
 
 fn append_wait(text: &mut String, items: &Items) -> Result<(), AllocError>
@@ -102,7 +101,7 @@ fn append_spawn(
 {
     text.push_str("spawn ")?;
     child.print(text)?;
-    text.push_str(" ")?;
+    text.push(' ')?;
     text.push_str(body)?;
     append_args(text, args.as_slice())?;
     append_items(text, items.as_slice())?;
@@ -115,8 +114,8 @@ pub(crate) fn append_args(text: &mut String, args: &[i64]) -> Result<(), AllocEr
     ensures begins { Begins (string_bytes text.old) (string_bytes text.new) }
 {
     'each: for arg in args {
-        text.push_str(" ")?;
-        text.push_str(Buffer::new().format(*arg))?;
+        text.push(' ')?;
+        append_signed(text, *arg)?;
     }
     Ok(())
 }
@@ -137,7 +136,7 @@ fn append_item(text: &mut String, item: &Item) -> Result<(), AllocError>
 {
     text.push_str(" depend ")?;
     text.push_str(kind(item.kind))?;
-    text.push_str(" ")?;
+    text.push(' ')?;
     append_place(text, item.place)
 }
 
@@ -147,7 +146,7 @@ pub(crate) fn append_place(text: &mut String, place: Place) -> Result<(), AllocE
     ensures begins { Begins (string_bytes text.old) (string_bytes text.new) }
 {
     match place {
-        Place::Cell(cell) => text.push_str(Buffer::new().format(cell)),
+        Place::Cell(cell) => append_number(text, cell),
         Place::All => text.push_str("all"),
     }
 }

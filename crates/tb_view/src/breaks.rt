@@ -5,9 +5,9 @@ ghost use Rattle.tb_view.specs.Listing.{joined};
 ghost use Rattle.tb_view.specs.Breaks.{break_text, break_line, breaks_text};
 
 use crate::step_line::body_name;
-use itoa::Buffer;
 use std::alloc::{AllocError, Global};
 use tb_live::{Break, Breakpoint};
+use tb_model::append_number;
 use tb_read::Program;
 
 /// Appends what a breakpoint waits for.
@@ -22,7 +22,7 @@ fn append_break(text: &mut String, program: &Program, at: &Break) -> Result<(), 
         }
         Break::Cell(cell) => {
             text.push_str("cell ")?;
-            text.push_str(Buffer::new().format(*cell))
+            append_number(text, *cell)
         }
         Break::Body(begins) => {
             text.push_str("body ")?;
@@ -42,8 +42,8 @@ fn append_breakpoint(
     ensures { OnOk result (string_bytes text.new
         ≡ string_bytes text.old ++ joined (break_line program.now breakpoint.now)) }
 {
-    text.push_str(Buffer::new().format(breakpoint.number))?;
-    text.push_str(" ")?;
+    append_number(text, breakpoint.number)?;
+    text.push(' ')?;
     append_break(text, program, &breakpoint.at)?;
     text.push('\n')
 }

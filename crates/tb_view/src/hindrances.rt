@@ -23,7 +23,7 @@ fn append_kind(
     ensures count { IfOk result (λ n. n ≡ 1) }
 {
     task.print(text)?;
-    text.push_str(" ")?;
+    text.push(' ')?;
     text.push_str(kind)?;
     other.print(text)?;
     text.push('\n')?;

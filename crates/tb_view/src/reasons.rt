@@ -5,10 +5,9 @@ ghost use Rattle.tb_core.specs.Scans.{history_of};
 ghost use Rattle.tb_view.specs.Reasons;
 
 use crate::step_line::append_line;
-use itoa::Buffer;
 use std::alloc::{AllocError, Global};
 use tb_core::{Entry, place_of};
-use tb_model::StepId;
+use tb_model::{StepId, append_number};
 use tb_races::{Cause, Conflict, NeedKind, Race};
 use tb_read::Program;
 
@@ -20,7 +19,7 @@ fn append_conflict(text: &mut String, conflict: Conflict) -> Result<(), AllocErr
     match conflict {
         Conflict::Cell { cell } => {
             text.push_str("cell ")?;
-            text.push_str(Buffer::new().format(cell))
+            append_number(text, cell)
         }
         Conflict::Print => text.push_str("print"),
     }
@@ -114,9 +113,9 @@ fn append_race(text: &mut String, race: &Race) -> Result<(), AllocError>
         ≡ string_bytes text.old ++ Reasons.race_line race.now) }
 {
     race.earlier.print(text)?;
-    text.push_str(" ")?;
+    text.push(' ')?;
     race.later.print(text)?;
-    text.push_str(" ")?;
+    text.push(' ')?;
     append_conflict(text, race.conflict)?;
     append_apart(text, race.apart)?;
     text.push('\n')

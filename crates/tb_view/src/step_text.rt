@@ -6,9 +6,8 @@ ghost use Rattle.tb_model.specs.Texts.{Begins};
 ghost use Rattle.tb_view.specs.Step.{step_text};
 
 use crate::action_text::append_action;
-use itoa::Buffer;
 use std::alloc::AllocError;
-use tb_model::{Action, TaskName};
+use tb_model::{Action, TaskName, append_number};
 
 /// Appends the text of the kth step of a task, without a line feed. `body` is the name of the body
 /// that a spawn names; it is read for a spawn alone.
@@ -41,8 +40,8 @@ fn append_step(
     ensures begins { Begins (string_bytes text.old) (string_bytes text.new) }
 {
     task.print(text)?;
-    text.push_str("#")?;
-    text.push_str(Buffer::new().format(k))?;
-    text.push_str(" ")?;
+    text.push('#')?;
+    append_number(text, k)?;
+    text.push(' ')?;
     append_action(text, body, action)
 }

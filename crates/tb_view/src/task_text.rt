@@ -95,7 +95,7 @@ fn append_item(text: &mut String, item: &Item) -> Result<(), AllocError>
         ≡ string_bytes text.old ++ joined (item_line item.now)) }
 {
     text.push_str(kind(item.kind))?;
-    text.push_str(" ")?;
+    text.push(' ')?;
     append_place(text, item.place)?;
     text.push('\n')
 }

@@ -58,9 +58,9 @@ fn append_task(
         ++ joined (task_line program.now (history core.now.run) (task.now, body))) }
 {
     task.print(text)?;
-    text.push_str(" ")?;
+    text.push(' ')?;
     text.push_str(body_name(program, body))?;
-    text.push_str(" ")?;
+    text.push(' ')?;
     append_state(text, program, core, task)?;
     text.push('\n')
 }
