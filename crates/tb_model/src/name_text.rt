@@ -1,7 +1,7 @@
 //! Names as bytes: how they are written, and how bytes fall into numbers.
 
-ghost use Rattle.std.specs.Prelude.{◌≡◌, ◌++◌, OnOk, string_bytes};
-ghost use Rattle.tb_model.specs.Spelling.{name_text, spells_name, is_zero, IsLastPart};
+ghost use Rattle.std.specs.Prelude.{◌≡◌, ◌<◌, ◌++◌, OnOk, OnErr, string_bytes};
+ghost use Rattle.tb_model.specs.Spelling.{name_text, four_levels, spells_name, is_zero, IsLastPart};
 ghost use Rattle.tb_model.specs.Texts.{Begins};
 
 use crate::number_text::append_number;
@@ -15,13 +15,40 @@ pub(crate) fn append_name(text: &mut String, numbers: &[u32]) -> Result<(), Allo
     ensures begins { Begins (string_bytes text.old) (string_bytes text.new) }
 {
     text.push('0')?;
-    let mut at = numbers.len();
-    'levels: while at > 0 {
-        at -= 1;
+    let mut rest = numbers;
+    'fours: while let [front @ .., a, b, c, d] = rest {
+        if 9 < *a || 9 < *b || 9 < *c || 9 < *d {
+            break;
+        }
+        append_four(text, *a, *b, *c, *d)?;
+        rest = front;
+    }
+    'levels: while let [front @ .., n] = rest {
         text.push('.')?;
-        append_number(text, numbers[at])?;
+        append_number(text, *n)?;
+        rest = front;
     }
     Ok(())
+}
+
+/// Appends four levels of one digit each, the last of these first: deep names are mostly of such.
+fn append_four(text: &mut String, a: u32, b: u32, c: u32, d: u32) -> Result<(), AllocError>
+    requires { (a < 10) × (b < 10) × (c < 10) × (d < 10) }
+    ensures ok { OnOk result (string_bytes text.new ≡ string_bytes text.old ++ four_levels a b c d) }
+    ensures err { OnErr result (string_bytes text.new ≡ string_bytes text.old) }
+{
+    let levels = [
+        b'.',
+        b'0' + d as u8,
+        b'.',
+        b'0' + c as u8,
+        b'.',
+        b'0' + b as u8,
+        b'.',
+        b'0' + a as u8,
+    ];
+    // each byte is a point or a digit
+    text.push_str(unsafe { str::from_utf8_unchecked(&levels) })
 }
 
 /// Where the part behind the last dot begins.

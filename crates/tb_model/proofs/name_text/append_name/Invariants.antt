@@ -1,13 +1,22 @@
-use Rattle.std.proofs.Common.{◌≡◌, ◌≤◌, ◌++◌, length, drop, string_bytes}
-use Rattle.tb_model.specs.Spelling.{name_text}
+use Rattle.std.proofs.Common.{length, string_bytes}
+use Rattle.tb_model.proofs.NumberTextLemmas.{IsNamed}
+use Rattle.tb_model.specs.Texts.{Begins}
 use Rattle.tb_model.proofs.name_text.append_name.Given as goal
 
--- the name without the numbers that are still to come stands behind the old text
+abbrev pub invariant-fours : goal.invariant-fours
+invariant-fours l = record {
+  named : IsNamed (string_bytes l.fn.text) l.numbers l.rest (string_bytes l.text);
+  begins : Begins (string_bytes l.fn.text) (string_bytes l.text);
+}
+
+abbrev pub decreases-fours : goal.decreases-fours
+decreases-fours l = length l.rest
+
 abbrev pub invariant-levels : goal.invariant-levels
 invariant-levels l = record {
-  within : l.at ≤ length l.numbers;
-  text : string_bytes l.text ≡ string_bytes l.fn.text ++ name_text (drop l.at l.numbers);
+  named : IsNamed (string_bytes l.fn.text) l.numbers l.rest (string_bytes l.text);
+  begins : Begins (string_bytes l.fn.text) (string_bytes l.text);
 }
 
 abbrev pub decreases-levels : goal.decreases-levels
-decreases-levels l = l.at
+decreases-levels l = length l.rest
