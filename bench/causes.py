@@ -3,7 +3,7 @@
 
     bench/causes.py PROGRAM [SIZES [WORD]]
 
-For each kind of history and each size, its steps, and the processor time of `causes` for each of them behind the run;
+For each kind of history and each size, its steps, and the processor time of `causes` for each of them after the run;
 the time of the run alone is taken off.
 """
 import os

@@ -3,7 +3,7 @@
 
     bench/needs.py PROGRAM [SIZES [WORD]]
 
-For each kind of history and each size N, the processor time of one command behind the whole run; the
+For each kind of history and each size N, the processor time of one command after the whole run; the
 time of the session without the command is taken off, and the better of two runs counts.
 """
 import os

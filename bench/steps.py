@@ -7,7 +7,7 @@ Two kinds of session, of 100,000 and of 1,000,000 steps and undos each: `step 0`
 turn, and one `run` of a loop that counts. Each is read from a file and written into a file, with a
 journal of 1,000,000 entries, and run three times; the best time counts. The journal's first entry
 is none of a step, so a run that fills it has 999,999. Then the newest step is undone and taken again
-50,000 times behind a long history; the time of the history alone is taken off.
+50,000 times after a long history; the time of the history alone is taken off.
 """
 import os
 import sys

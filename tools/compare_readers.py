@@ -3,7 +3,7 @@
 
     tools/compare_readers.py --other 'COMMAND' [--program P] [--count N] [--batch B] [--seed S] [--keep DIR]
 
-Both get texts on standard input, each behind a line with the number of its bytes, and have to write
+Both get texts on standard input, each after a line with the number of its bytes, and have to write
 for each its first fault, or its program: cells, bodies, and each instruction with the lines that
 follow (as crates/tb_read_rows does). The texts use the whole notation; two of three have faults, often
 several a line and several faulty lines. Texts on which the two differ are kept in DIR.

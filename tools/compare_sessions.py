@@ -4,7 +4,7 @@
     tools/compare_sessions.py --other 'COMMAND' [--program P] [--count N] [--seed S] [--keep DIR]
     tools/compare_sessions.py --judge 'COMMAND' [--workers W] ..
 
-The COMMAND of `--other` gets a session on standard input, with `--limit L` behind its words, and has
+The COMMAND of `--other` gets a session on standard input, with `--limit L` after its words, and has
 to write what the program has to write: output, standard error and exit status are compared. The
 COMMAND of `--judge` gets the names of files with the session and with the program's output, and then
 `--err FILE --status N --workers W --limit L`, and exits with 0 where that is a right answer: so `go`
