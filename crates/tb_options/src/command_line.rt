@@ -43,7 +43,7 @@ Commands:
                                             show what stands
   why ID, causes ID, who ID, races          show what needs what, and what races
   break task T, break cell C, break body B, break print, break fault, clear K
-                                            stop `go` behind such a step
+                                            stop `go` after such a step
 
 docs/NOTATION.md has the programs, docs/COMMANDS.md the commands.";
 
