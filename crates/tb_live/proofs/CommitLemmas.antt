@@ -36,7 +36,7 @@ use Rattle.tb_live.specs.Plans.{IsPlanOf, IsOfProgram, IsNative, IsForeign, IsKe
 use Rattle.tb_live.specs.Preparing.{IsReadied, HasStepRoom}
 use Rattle.tb_live.specs.Soundness.{Fits, IsSound, IsLawful}
 use Rattle.tb_live.specs.Working.{configuration}
-use Rattle.tb_live.proofs.PlanLemmas.{IsPlan, plan_fits, plan_next, refusal_of_plan}
+use Rattle.tb_live.proofs.PlanLemmas.{IsPlan, nothing_by, plan_fits, plan_next, refusal_of_plan}
 use Rattle.tb_live.proofs.RunLemmas.{shown, has_place}
 use Rattle.tb_live.proofs.StepLemmas.{Keeps, entered, refused, stays, no_plan}
 use Rattle.tb_live.proofs.WorkLemmas.{config_so}
@@ -151,8 +151,8 @@ module _ (P : Program) (limit : ℕ) (entries : List Entry) (before : Control) (
   }
 
   pub foreign_refused : (e : StepRefusal) → IsForeign P run p e → RefusesPlan s p e
-  foreign_refused NoSuchTask k = no_plan P limit entries before run s shows sound t NoSuchTask k
-  foreign_refused Ended k = no_plan P limit entries before run s shows sound t Ended k
+  foreign_refused NoSuchTask k = no_plan P limit entries before run s shows sound t NoSuchTask (λ z. cc) k
+  foreign_refused Ended k = no_plan P limit entries before run s shows sound t Ended (λ z. cc) k
   foreign_refused (Stale now) k = (spawned_so true k.0, ended_so false k.1, k.2 ∙ configuration_so, (λ u. k.3 (program_back u.program)))
   foreign_refused Memory k = (spawned_so true k.0, ended_so false k.1, (λ u n. absurd (k.2 (program_back u.program))))
   foreign_refused _ k = absurd k
@@ -180,12 +180,8 @@ module _ (P : Program) (limit : ℕ) (entries : List Entry) (before : Control) (
 
     clear_at : IsUpToDate s p → refusal_for s t ≡ None → hindrance_of run p ≡ None
     clear_at u n =
-        none_of (hindrance_of run p)
+        nothing_by (hindrance_of run p)
         (sym (refusal_of_plan P run t p sound.fits (plan_so (current_at u))) ∙ ap (λ H. refusal_of P H t) sound.leaves ∙ ap (λ (z : Session). refusal_for z t) shows ∙ n)
-      where
-        none_of : (o : Option Hindrance) → option_map By o ≡ None → o ≡ None
-        none_of None e = refl
-        none_of (Some h) e = cc
 
     pub native_refused : (e : StepRefusal) → IsKeptFrom run p (has_no_place limit entries) e → RefusesPlan s p e
     native_refused NoSuchTask k = absurd (both_ways (is_spawned (core.history run) t) k native.spawned)

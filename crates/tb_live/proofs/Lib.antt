@@ -15,3 +15,4 @@ pub mod BreakLemmas
 pub mod CommitLemmas
 pub mod PreparedLemmas
 pub mod GoingLemmas
+pub mod UnevaluatedLemmas

@@ -282,7 +282,7 @@ plan_fits P run p f i going n =
 
 -- ---- what keeps the task from the action that was planned
 
-known_refusal : (b c : Bool) (o : Option Hindrance) → b ≡ true → c ≡ false → ◌≡◌ {A = Option Refusal} (cond (not b) (Some NoSuchTask) (cond c (Some Ended) (option_map By o))) (option_map By o)
+pub known_refusal : (b c : Bool) (o : Option Hindrance) → b ≡ true → c ≡ false → ◌≡◌ {A = Option Refusal} (cond (not b) (Some NoSuchTask) (cond c (Some Ended) (option_map By o))) (option_map By o)
 known_refusal true false o e f = refl
 known_refusal true true o e f = absurd (false≢true (sym f))
 known_refusal false c o e f = absurd (false≢true e)
@@ -308,15 +308,20 @@ IsReadyPlan P run p = IsPlanOf P run p.config.task p × (least_ready P (history 
 pub plan_ready : (P : Program) (run : Seen) (t : Name) (p : Plan) → IsPlanOf P run t p → least_ready P (history run) ≡ Some t → IsReadyPlan P run p
 plan_ready P run t p plan l = (record { of_task = refl; current = plan.current; instr = plan.instr; fits = plan.fits }, l ∙ ap Some (sym plan.of_task))
 
+pub nothing_by : (o : Option Hindrance) → option_map By o ≡ None → o ≡ None
+nothing_by None e = refl
+nothing_by (Some h) e = cc
+
+-- a test of nothing being in the way
+pub none_in_way : (b : Bool) (o : Option Hindrance) → (b ≡ true) ↔ (o ≡ None) → is_none (option_map By o) ≡ b
+none_in_way true None c = refl
+none_in_way true (Some h) c = cc (c.0 refl)
+none_in_way false None c = absurd (false≢true (c.1 refl))
+none_in_way false (Some h) c = refl
+
 -- so a task can step exactly where nothing is in the way of its plan
 pub can_by_plan : (P : Program) (run : Seen) (t : Name) (p : Plan) (b : Bool) → Fits P run → IsPlanOf P run t p → (b ≡ true) ↔ (hindrance_of run p ≡ None) → can_step P (history run) t ≡ b
-can_by_plan P run t p b f plan clear = ap is_none (refusal_of_plan P run t p f plan) ∙ at b (hindrance_of run p) clear
-  where
-    at : (x : Bool) (o : Option Hindrance) → (x ≡ true) ↔ (o ≡ None) → is_none (option_map By o) ≡ x
-    at true None c = refl
-    at true (Some h) c = cc (c.0 refl)
-    at false None c = absurd (false≢true (c.1 refl))
-    at false (Some h) c = refl
+can_by_plan P run t p b f plan clear = ap is_none (refusal_of_plan P run t p f plan) ∙ none_in_way b (hindrance_of run p) clear
 
 -- ---- a task that isn't over stands at a statement
 

@@ -1,6 +1,6 @@
 -- What a Live answers to a step, and what it leaves.
 use Rattle.std.proofs.Common.{◌≡◌, ◌<◌, arith, ap₂, ℕ, List, [], ◌∷◌, Bool, true, false, nat_le, length, reverse, refl, sym, ap, ◌∙◌, subst, Option, Some, None, option_map, not, cond}
-use Rattle.std.specs.Prelude.{◌≢◌, is_none, Result, Ok, Err, IfErr}
+use Rattle.std.specs.Prelude.{◌≢◌, is_none, is_some, Result, Ok, Err, IfErr}
 use Rattle.std.specs.List.{list_any}
 use Rattle.std.proofs.lemmas.List.{reverse-append, length-reverse, length-map}
 use Rattle.std.proofs.lemmas.Bool.{false≢true, both_ways}
@@ -34,7 +34,8 @@ use Rattle.tb_live.specs.Session.{Session, Held, is_full}
 use Rattle.tb_live.specs.Moves.{StepsFor, Refuses, StepsBy, LeastStepsFor, refusal_for, least_task}
 use Rattle.tb_live.specs.Soundness.{IsSound, IsLawful}
 use Rattle.tb_live.specs.Plans.{IsPlanOf, HasNone, IsEntered, IsKeptFrom, Enters, has_no_place}
-use Rattle.tb_live.proofs.PlanLemmas.{IsPlan, IsReadyPlan, refusal_of_plan, stands_at}
+use Rattle.tb_live.specs.Unevaluated.{IsWanting, IsLeastWanting}
+use Rattle.tb_live.proofs.PlanLemmas.{IsPlan, IsReadyPlan, nothing_by, refusal_of_plan, stands_at}
 use Rattle.tb_live.proofs.ControlLemmas.{lawful_step}
 use Rattle.tb_live.proofs.ReadyLemmas.{can_spawned}
 use Rattle.tb_live.proofs.RunLemmas.{shown, shorter, stepped}
@@ -45,6 +46,10 @@ pub longer : (P : Program) (limit : ℕ) (entries : List Entry) (run : Seen) →
 longer P limit entries run sound =
     let front : length (hist (reverse entries)) < length (reverse entries) = shorter P (reverse entries) sound.sound in
     omega (arith, front, ap length sound.leaves, length-map run.steps (λ (d : Departure). d.event), length-reverse entries)
+
+unrefused : (o : Option Refusal) → is_none o ≡ true → o ≡ None
+unrefused None h = refl
+unrefused (Some r) h = absurd (false≢true h)
 
 -- ---- a planned step
 
@@ -125,6 +130,7 @@ module _ (P : Program) (limit : ℕ) (entries : List Entry) (before : Control) (
         (subst (λ H. is_spawned H t ≡ true) sound.leaves (subst (λ u. is_spawned (core.history run) u ≡ true) plan.of_task plan.current.spawned)),
     subst (λ (z : Session). list_any (ends t) (hist z.journal) ≡ false) shows
         (subst (λ H. list_any (ends t) H ≡ false) sound.leaves (subst (λ u. list_any (ends u) (core.history run) ≡ false) plan.of_task plan.current.going)),
+    λ n. sym full_so ∙ k plan.current (nothing_by (hindrance_of run p) (sym refusal_so ∙ n)),
   )
   refused _ k = refusal_so ∙ ap (option_map By) k.hindrance
 
@@ -134,11 +140,7 @@ module _ (P : Program) (limit : ℕ) (entries : List Entry) (before : Control) (
       let least = least_found (core.history run) (can_step P (core.history run)) (can_spawned P (core.history run)) in
       ap (λ (z : Session). refusal_for z t) (sym shows)
       ∙ ap (λ H. refusal_of P H t) (sym sound.leaves)
-      ∙ only (refusal_of P (core.history run) t) (least.found t l)
-    where
-      only : (o : Option Refusal) → is_none o ≡ true → o ≡ None
-      only None h = refl
-      only (Some r) h = absurd (false≢true h)
+      ∙ unrefused (refusal_of P (core.history run) t) (least.found t l)
 
 -- ---- the answers
 
@@ -205,14 +207,42 @@ over_so P H t k m = at (is_spawned H t) (list_any (ends t) H) k m
     at true false e f = absurd (false≢true f)
     at false c e f = absurd (false≢true e)
 
-pub no_plan : (P : Program) (limit : ℕ) (entries : List Entry) (before : Control) (run : Seen) (s : Session) → shown P limit entries before ≡ s → IsSound P limit (reverse entries) run → (t : Name) (e : StepRefusal) → HasNone run t e → Refuses s t e
-no_plan P limit entries before run s shows sound t NoSuchTask k = ap (λ (z : Session). refusal_for z t) (sym shows) ∙ ap (λ H. refusal_of P H t) (sym sound.leaves) ∙ missing_so P (core.history run) t k
-no_plan P limit entries before run s shows sound t Ended k = ap (λ (z : Session). refusal_for z t) (sym shows) ∙ ap (λ H. refusal_of P H t) (sym sound.leaves) ∙ over_so P (core.history run) t k.0 k.1
-no_plan P limit entries before run s shows sound t Memory k = (
-  ap (λ (z : Session). is_spawned (hist z.journal) t) (sym shows) ∙ ap (λ H. is_spawned H t) (sym sound.leaves) ∙ k.0,
-  ap (λ (z : Session). list_any (ends t) (hist z.journal)) (sym shows) ∙ ap (λ H. list_any (ends t) H) (sym sound.leaves) ∙ k.1,
-)
-no_plan P limit entries before run s shows sound t _ k = absurd k
+module _ (P : Program) (limit : ℕ) (entries : List Entry) (before : Control) (run : Seen) (s : Session) (shows : shown P limit entries before ≡ s) (sound : IsSound P limit (reverse entries) run) where
+  refusal_at : (t : Name) → refusal_for s t ≡ refusal_of P (core.history run) t
+  refusal_at t = ap (λ (z : Session). refusal_for z t) (sym shows) ∙ ap (λ H. refusal_of P H t) (sym sound.leaves)
+
+  pub no_plan : (t : Name) (e : StepRefusal) → e ≢ Memory → HasNone run t e → Refuses s t e
+  no_plan t NoSuchTask n k = refusal_at t ∙ missing_so P (core.history run) t k
+  no_plan t Ended n k = refusal_at t ∙ over_so P (core.history run) t k.0 k.1
+  no_plan t Memory n k = absurd (n refl)
+  no_plan t _ n k = absurd k
+
+  -- memory was refused for the statement
+  pub wanting_so : (t : Name) (full : Bool) (e : StepRefusal) → full ≡ is_full s → HasNone run t Memory → IsWanting P run full t e → Refuses s t e
+  wanting_so t full Full f k w = (refusal_at t ∙ unrefused (refusal_of P (core.history run) t) w.1, sym f ∙ w.0)
+  wanting_so t full Memory f k w = (
+    ap (λ (z : Session). is_spawned (hist z.journal) t) (sym shows) ∙ ap (λ H. is_spawned H t) (sym sound.leaves) ∙ k.0,
+    ap (λ (z : Session). list_any (ends t) (hist z.journal)) (sym shows) ∙ ap (λ H. list_any (ends t) H) (sym sound.leaves) ∙ k.1,
+    λ n. sym f ∙ w (ap is_none (sym (refusal_at t) ∙ n)),
+  )
+  wanting_so t full _ f k w = absurd w
+
+  least_at : least_task s ≡ least_ready P (core.history run)
+  least_at = ap least_task (sym shows) ∙ ap (least_ready P) (sym sound.leaves)
+
+  -- or in the look for the least task that can step
+  pub least_wanting_so : (seat : ℕ) (full : Bool) (e : StepRefusal) → full ≡ is_full s → IsLeastWanting P run full e → LeastStepsFor seat s s (Err e)
+  least_wanting_so seat full Full f w = (refl, named (least_ready P (core.history run)) least_at w.1, sym f ∙ w.0)
+    where
+      named : (o : Option Name) → least_task s ≡ o → is_some o ≡ true → (t : Name) × (least_task s ≡ Some t)
+      named None l h = absurd (false≢true h)
+      named (Some t) l h = (t, l)
+  least_wanting_so seat full Memory f w = (refl, λ n. sym f ∙ w (there (least_ready P (core.history run)) (λ z. n (least_at ∙ z))))
+    where
+      there : (o : Option Name) → o ≢ None → is_some o ≡ true
+      there None h = absurd (h refl)
+      there (Some t) h = refl
+  least_wanting_so seat full _ f w = absurd w
 
 -- ---- the step of the least task
 
@@ -226,7 +256,7 @@ for_least_held A (Err r) k = k
 
 least_refused : (seat : ℕ) (s new : Session) (t : Name) (e : StepRefusal) → new ≡ s → least_task s ≡ Some t → refusal_for s t ≡ None → Refuses s t e → LeastStepsFor seat s new (Err e)
 least_refused seat s new t Full same l clear r = (same, (t, l), r.1)
-least_refused seat s new t Memory same l clear r = same
+least_refused seat s new t Memory same l clear r = (same, λ n. r.2 clear)
 least_refused seat s new t (Stale now) same l clear r = absurd r
 least_refused seat s new t _ same l clear r = cc (clear, r)
 
@@ -236,7 +266,7 @@ pub record LeastAnswers (seat : ℕ) (P : Program) (limit : ℕ) (s : Session) (
 
 -- the least task of the run is that of the session
 pub least_so : (P : Program) (limit : ℕ) (entries : List Entry) (before : Control) (run : Seen) (s : Session) → shown P limit entries before ≡ s → IsSound P limit (reverse entries) run → (o : Option Name) → least_ready P (core.history run) ≡ o → least_task s ≡ o
-least_so P limit entries before run s shows sound o l = ap least_task (sym shows) ∙ ap (least_ready P) (sym sound.leaves) ∙ l
+least_so P limit entries before run s shows sound o l = least_at P limit entries before run s shows sound ∙ l
 
 pub live_least : (seat : ℕ) (P : Program) (limit : ℕ) (entries : List Entry) (before : Control) (run : Seen) (s : Session) → shown P limit entries before ≡ s → IsSound P limit (reverse entries) run × IsLawful (reverse entries) before
     → (p : Plan) → IsReadyPlan P run p → (pushed : List Entry) (after : Control) (new : Seen) (result : Result StepId StepRefusal)

@@ -15,4 +15,5 @@ pub mod Commits
 pub mod Numbers
 pub mod Floor
 pub mod Statements
+pub mod Unevaluated
 pub use Rattle.tb_core.specs.Refusals

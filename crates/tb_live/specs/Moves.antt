@@ -1,5 +1,5 @@
 -- What a step, an undo and a rollback answer, and what they leave.
-use Rattle.std.specs.Prelude.{◌≡◌, ℕ, List, ◌∷◌, reverse, Bool, Option, Some, None, Result, Ok, Err, IsSomeAnd, IsTrue, IsFalse}
+use Rattle.std.specs.Prelude.{◌≡◌, ◌≢◌, ℕ, List, ◌∷◌, reverse, Bool, Option, Some, None, Result, Ok, Err, IsSomeAnd, IsTrue, IsFalse}
 use Rattle.std.specs.List.{list_any}
 use Rattle.tb_model.specs.declared.entry.Entry.{Entry}
 use Rattle.tb_model.specs.declared.entry.Entry.TheVariants.{Stepped, Rolled}
@@ -59,11 +59,10 @@ Steps = StepsFor 0
 abbrev pub Hinders : Session → Name → StepRefusal → Type 0
 Hinders s t e = IsSomeAnd (told_by e) (λ told. refusal_for s t ≡ Some told)
 
--- when a task takes no step; memory may be wanted where the task is there and goes on, at a full journal too: what is in the
--- way, which comes before a full journal, is known only once the statement is evaluated, and that takes memory
+-- when a task takes no step; want of memory comes last: at a full journal it takes the place of a name alone
 abbrev pub Refuses : Session → Name → StepRefusal → Type 0
 Refuses s t Full = (refusal_for s t ≡ None) × IsTrue (is_full s)
-Refuses s t Memory = IsTrue (is_spawned (history s) t) × IsFalse (has_ended s t)
+Refuses s t Memory = IsTrue (is_spawned (history s) t) × IsFalse (has_ended s t) × (refusal_for s t ≡ None → IsFalse (is_full s))
 Refuses s t e = Hinders s t e
 
 -- a step by its answer: the first refusal that holds; a refusal changes nothing
@@ -76,7 +75,7 @@ abbrev pub LeastStepsFor : ℕ → Session → Session → Result (Option StepId
 LeastStepsFor seat s new (Ok None) = (new ≡ s) × (least_task s ≡ None)
 LeastStepsFor seat s new (Ok (Some i)) = (t : Name) × (least_task s ≡ Some t) × StepsFor seat s t new i
 LeastStepsFor seat s new (Err Full) = (new ≡ s) × ((t : Name) × (least_task s ≡ Some t)) × IsTrue (is_full s)
-LeastStepsFor seat s new (Err Memory) = new ≡ s
+LeastStepsFor seat s new (Err Memory) = (new ≡ s) × (least_task s ≢ None → IsFalse (is_full s))
 LeastStepsFor seat s new (Err _) = ⊥
 
 abbrev pub LeastStepsBy : Session → Session → Result (Option StepId) StepRefusal → Type 0

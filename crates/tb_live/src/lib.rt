@@ -26,6 +26,7 @@ mod ready;
 mod rolling;
 mod same_instr;
 mod stepping;
+mod unevaluated;
 mod work;
 
 pub use answer::Answer;

@@ -27,6 +27,7 @@ use crate::prepared::{Prepared, forget, take_name, take_roll};
 use crate::ready::{least_coming, refusal_of};
 use crate::rolling::{enter_roll, fresh_name};
 use crate::stepping::{enter_clear, enter_step};
+use crate::unevaluated::{least_wanting, wanting};
 use std::alloc::{AllocError, Global};
 use std::marker::Model;
 use tb_core::{Core, Removed, StepRefusal, UndoRefusal};
@@ -144,14 +145,18 @@ impl Live {
         self.control.claims.let_go(seat);
     }
 
-    /// Takes the next step of a task, for seat 0. Want of memory comes only where a growth was
-    /// refused; any other refusal keeps what is prepared.
+    /// Takes the next step of a task, for seat 0. Want of memory comes last; any other refusal keeps
+    /// what is prepared.
     pub fn step(&mut self, task: &TaskName) -> Result<StepId, StepRefusal>
         ensures stepped { StepsBy self.old.session task.now self.new.session result }
         ensures kept { IfErr result (λ e. e ≢ Memory → self.new ≡ self.old) }
     {
         let coming = match coming_of(self.alloc, &self.program, &self.core, task) {
             Ok(coming) => coming,
+            Err(StepRefusal::Memory) => {
+                let full = self.is_full();
+                return Err(wanting(&self.program, &self.core, full, task));
+            }
             Err(refusal) => return Err(refusal),
         };
         enter_step(
@@ -185,7 +190,10 @@ impl Live {
         let found = match least_coming(self.alloc, &self.program, &self.core, &self.floor) {
             Ok(Some(found)) => found,
             Ok(None) => return Ok(None),
-            Err(_) => return Err(StepRefusal::Memory),
+            Err(_) => {
+                let full = self.is_full();
+                return Err(least_wanting(&self.program, &self.core, full));
+            }
         };
         self.floor.raise(&found.0);
         match enter_clear(

@@ -19,6 +19,8 @@ macro_rules! again {
 }
 
 #[cfg(test)]
+mod full;
+#[cfg(test)]
 mod needs;
 #[cfg(test)]
 mod run;

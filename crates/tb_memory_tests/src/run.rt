@@ -26,25 +26,34 @@ pub fn step(rt: &(impl Abort + AllocGlobal), text: &str) -> StepId {
     StepId::parse(rt.alloc(), text.as_bytes()).expect(rt, text)
 }
 
-fn opened_once(alloc: Global, seats: u32) -> Option<Live>
-    requires { seats ≤ 65 }
+fn opened_once(alloc: Global, text: &[u8], limit: u32) -> Option<Live>
+    requires some { 1 ≤ limit }
+    requires bound { limit ≤ 1000000 }
 {
-    let program = match read(alloc, TEXT) {
+    let program = match read(alloc, text) {
         Ok(program) => program,
         Err(_) => return None,
     };
-    match Live::open(alloc, program, 200, seats) {
+    match Live::open(alloc, program, limit, 3) {
         Ok(live) => Some(live),
         Err(_) => None,
     }
 }
 
+/// A run of the program without steps, whose journal may have so many entries.
+pub fn opened_for(rt: &(impl Abort + AllocGlobal), text: &[u8], limit: u32) -> Live
+    requires some { 1 ≤ limit }
+    requires bound { limit ≤ 1000000 }
+{
+    match opened_once(rt.alloc(), text, limit) {
+        Some(live) => live,
+        None => opened_once(rt.alloc(), text, limit).expect(rt, "memory is there again"),
+    }
+}
+
 /// A run without steps.
 pub fn opened(rt: &(impl Abort + AllocGlobal)) -> Live {
-    match opened_once(rt.alloc(), 3) {
-        Some(live) => live,
-        None => opened_once(rt.alloc(), 3).expect(rt, "memory is there again"),
-    }
+    opened_for(rt, TEXT, 200)
 }
 
 /// A step of the task for seat 0.

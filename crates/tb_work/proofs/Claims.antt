@@ -8,7 +8,7 @@ use Rattle.tb_live.specs.declared.claim.Claim.{Claim}
 use Rattle.tb_live.specs.declared.claim.Claim.TheVariants.{Work as Works, Later, Done, Stopped}
 use Rattle.tb_live.specs.declared.claim_refusal.ClaimRefusal.{ClaimRefusal}
 use Rattle.tb_live.specs.declared.mode.Mode.{Mode}
-use Rattle.tb_live.specs.Session.{Session, with_seat}
+use Rattle.tb_live.specs.Session.{Session, Held, with_seat}
 use Rattle.tb_live.specs.Pauses.{with_mode}
 use Rattle.tb_live.specs.Working.{ClaimsTask, ClaimsWork}
 use Rattle.tb_work.specs.Claiming.{IsWorkFor, IsClaim, Keeps}
@@ -45,6 +45,11 @@ keeps_work s new seat (Works w) h = keeps_seat s new seat _ h.2
 keeps_work s new seat Later h = keeps_seat s new seat _ h.3
 keeps_work s new seat Done h = keeps_seat s new seat _ h.2
 keeps_work s new seat Stopped h = keeps_seat s new seat _ h.1
+
+-- a refusal that keeps all keeps the session
+pub session_kept : (old new : Held) (r : Result Claim AllocError) → OnErr r (new ≡ old) → OnErr r (new.session ≡ old.session)
+session_kept old new (Ok c) e = tt
+session_kept old new (Err x) e = ap (λ (h : Held). h.session) e
 
 pub keeps_claim : (s new : Session) (seat : ℕ) (r : Result Claim AllocError) → IfOk r (ClaimsWork s seat new) → OnErr r (new ≡ s) → Keeps s new
 keeps_claim s new seat (Ok c) h err = keeps_work s new seat c h

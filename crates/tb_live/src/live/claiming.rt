@@ -1,13 +1,13 @@
 //! Claims of seats on tasks.
 
-ghost use Rattle.std.specs.Prelude.{◌≡◌, ◌<◌, IfSome, IfNone, IfOk, OnErr, IsTrue, IsFalse, length};
+ghost use Rattle.std.specs.Prelude.{◌≡◌, ◌<◌, IfSome, IfNone, IfOk, IsOk, OnErr, IsTrue, IsFalse, length};
 ghost use Rattle.tb_model.specs.Facts.{is_spawned};
 ghost use Rattle.tb_core.specs.Seen.{history};
 ghost use Rattle.tb_core.specs.Outcomes.{has_ended};
 ghost use Rattle.tb_live.specs.Floor.{IsFloor};
 ghost use Rattle.tb_live.specs.Plans.{IsFound, IsWorkOf, IsBarred, IsUnbarred};
 ghost use Rattle.tb_live.specs.Soundness.{Fits};
-ghost use Rattle.tb_live.specs.Working.{ClaimsTask, ClaimsWork, claimed};
+ghost use Rattle.tb_live.specs.Working.{ClaimsTask, ClaimsWork, claimed, is_stopped};
 
 use super::Live;
 use crate::claim::Claim;
@@ -31,10 +31,12 @@ impl Live {
     }
 
     /// Gives the seat a claim on the task in place of its former one, whatever the mode and the
-    /// journal.
+    /// journal. It keeps what is prepared, as a refusal does.
     pub fn claim_task(&mut self, seat: u32, task: &TaskName) -> Result<Work, ClaimRefusal>
         requires { seat < length self.old.session.control.claims }
-        ensures { ClaimsTask self.old.session seat task.now self.new.session result }
+        ensures claimed { ClaimsTask self.old.session seat task.now self.new.session result }
+        ensures kept { OnErr result (self.new ≡ self.old) }
+        ensures prepared { self.new.prepared ≡ self.old.prepared }
     {
         if let Some(refusal) = barred(&self.core, &self.control.claims, seat, task) {
             return Err(refusal);
@@ -49,11 +51,14 @@ impl Live {
     }
 
     /// Gives up the seat's former claim, and gives it one on the least task that can step and that no
-    /// other seat claims.
+    /// other seat claims. A run that is paused, or whose journal is full, takes no memory for that. What
+    /// is prepared is kept.
     pub fn claim(&mut self, seat: u32) -> Result<Claim, AllocError>
         requires { seat < length self.old.session.control.claims }
         ensures ok { IfOk result (ClaimsWork self.old.session seat self.new.session) }
-        ensures err { OnErr result (self.new.session ≡ self.old.session) }
+        ensures err { OnErr result (self.new ≡ self.old) }
+        ensures stopped { IsTrue (is_stopped self.old.session) → IsOk result }
+        ensures prepared { self.new.prepared ≡ self.old.prepared }
     {
         if self.control.mode.is_paused() || self.is_full() {
             self.control.claims.let_go(seat);

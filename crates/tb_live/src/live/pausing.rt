@@ -1,6 +1,6 @@
 //! Pauses of a run, and its breakpoints.
 
-ghost use Rattle.std.specs.Prelude.{◌≡◌};
+ghost use Rattle.std.specs.Prelude.{◌≡◌, OnErr};
 ghost use Rattle.tb_live.specs.declared.mode.Mode.TheVariants.{Resumed};
 ghost use Rattle.tb_live.specs.Breaks.{AreNumbered};
 ghost use Rattle.tb_live.specs.Modes as modes;
@@ -50,9 +50,12 @@ impl Live {
         self.control.breakpoints.as_slice()
     }
 
-    /// Makes a breakpoint, and answers its number. A body is named by its line.
+    /// Makes a breakpoint, and answers its number. A body is named by its line. What is prepared is
+    /// kept.
     pub fn add_break(&mut self, at: Break) -> Result<u32, BreakRefusal>
-        ensures { AddsBreak self.old.session at self.new.session result }
+        ensures added { AddsBreak self.old.session at self.new.session result }
+        ensures kept { OnErr result (self.new ≡ self.old) }
+        ensures prepared { self.new.prepared ≡ self.old.prepared }
     {
         if let Some(refusal) = misplaced(&self.program, &at) {
             return Err(refusal);
@@ -60,9 +63,11 @@ impl Live {
         self.control.breakpoints.add(at)
     }
 
-    /// Takes a breakpoint away. Takes no memory.
+    /// Takes a breakpoint away. Takes no memory, and keeps what is prepared.
     pub fn clear_break(&mut self, number: u32) -> Result<(), BreakRefusal>
-        ensures { ClearsBreak self.old.session number self.new.session result }
+        ensures cleared { ClearsBreak self.old.session number self.new.session result }
+        ensures kept { OnErr result (self.new ≡ self.old) }
+        ensures prepared { self.new.prepared ≡ self.old.prepared }
     {
         if !self.control.breakpoints.stands(number) {
             return Err(BreakRefusal::NoSuchBreak);

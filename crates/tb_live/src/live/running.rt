@@ -12,10 +12,11 @@ use tb_model::TaskName;
 
 impl Live {
     /// Makes the moves for seat 0, in order. All claims are withdrawn, and the run is resumed in front
-    /// of each move. Room for the answers is taken first; what is refused later is an answer.
+    /// of each move. Room for the answers is taken first, and where it is refused nothing changes, what
+    /// is prepared included; what is refused later is an answer.
     pub fn run(&mut self, moves: &[Move]) -> Result<Vec<Answer>, AllocError>
         ensures ok { IfOk result (λ answers. Runs moves.now (unclaimed self.old.session) answers.items self.new.session) }
-        ensures err { OnErr result (self.new.session ≡ self.old.session) }
+        ensures err { OnErr result (self.new ≡ self.old) }
     {
         let mut answers = Vec::with_capacity(self.alloc, moves.len())?;
         self.withdraw_all();

@@ -7,7 +7,7 @@ use Rattle.tb_live.proofs.ComingLemmas.{least_plan, next_of, way_so}
 use Rattle.tb_core.specs.declared.step_refusal.StepRefusal.TheVariants.{Memory}
 use Rattle.tb_core.specs.Seen.{history}
 use Rattle.tb_live.proofs.FloorStepLemmas.{floor_after, floor_raised, plan_clear}
-use Rattle.tb_live.proofs.StepLemmas.{longer, held, for_least, for_least_held, enters_held, live_least}
+use Rattle.tb_live.proofs.StepLemmas.{longer, held, for_least, for_least_held, enters_held, least_wanting_so, live_least}
 use Rattle.tb_live.proofs.RunLemmas.{shown}
 use Rattle.tb_live.specs.Moves.{LeastStepsFor}
 use Rattle.tb_live.proofs.live.Live.step_least_for.Goals as goal
@@ -49,6 +49,11 @@ invariant_of-self c =
           entered c.raise.new.self c.enter_clear.new.floor c.enter_clear.ensures.carried c.enter_clear.ensures.stays
           (floor_raised i.program (history i.core.run) r.0 c.raise.new.self ready.1 c.raise.ensures),
     )
+
+pub returns-in-Err-clause-stepped : goal.returns-in-Err-clause-stepped
+returns-in-Err-clause-stepped c =
+    let i = c.self.inside in
+    least_wanting_so i.program i.limit i.journal.items i.control i.core.run c.args.self.now.session (ap (λ (h : Held). h.session) c.self.view_is) c.self.invariant.0 c.args.seat c.is_full-full.result c.least_wanting.result c.is_full-full.ensures c.least_wanting.ensures
 
 pub returns-clause-stepped : goal.returns-clause-stepped
 returns-clause-stepped c =
