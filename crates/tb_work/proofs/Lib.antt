@@ -10,5 +10,7 @@ pub mod Distinct
 pub mod Whole
 pub mod Bursting
 pub mod Refusals
+pub mod Answered
+pub mod Endings
 pub mod Over
 pub mod Whys

@@ -7,4 +7,5 @@ pub mod Refusing
 pub mod Answering
 pub mod Bursts
 pub mod Going
+pub mod Ending
 pub mod Numbers

@@ -8,7 +8,7 @@ ghost use Rattle.tb_live.specs.Moves.{RollsFor, UndoesFor};
 ghost use Rattle.tb_live.specs.Pauses.{with_mode};
 ghost use Rattle.tb_live.specs.Session.{with_seat};
 ghost use Rattle.tb_live.specs.Working.{ClaimsTask, ClaimsWork};
-ghost use Rattle.tb_work.specs.Answering.{CommitsBy, IsAnswer};
+ghost use Rattle.tb_work.specs.Answering.{ClaimsBy, ClaimsOneBy, CommitsBy, IsAnswer, IsOfTeam, RollsBy, Tells, UndoesBy};
 ghost use Rattle.tb_work.specs.Bursts.{CommitsBurst, TakesBurst, TakesEach, stepped_on};
 ghost use Rattle.tb_work.specs.Going.{IsWhy};
 ghost use Rattle.tb_work.specs.Refusing.{RefusesPlan, RefusesRoll, RefusesUndo};
@@ -60,6 +60,13 @@ pub struct Desk<N: Team> {
 }
 
 impl<N: Team> Desk<N> {
+    /// What always holds of the run, for a caller to cite.
+    fn is_of_team(&self)
+        ensures { IsOfTeam N.program N.limit N.breakpoints N.seats N.begun self.now.live.session }
+    {
+        self.live.journal_is_sound();
+    }
+
     /// Prepares, writes the entry to the place's cell, and commits. The claim ends.
     pub fn commit(
         &mut self,
@@ -75,7 +82,7 @@ impl<N: Team> Desk<N> {
         ensures run { CommitsBy seat.old.number plan result self.old.live.session self.new.live.session }
         ensures answer { IsAnswer N.program N.limit N.breakpoints N.seats N.begun (CommitsBy seat.old.number plan result) }
     {
-        self.live.journal_is_sound();
+        self.is_of_team();
         self.commit_now(places, seat, plan)
     }
 
@@ -125,7 +132,7 @@ impl<N: Team> Desk<N> {
         ensures run { TakesBurst seat.old.number plans.items result self.old.live.session self.new.live.session }
         ensures answer { IsAnswer N.program N.limit N.breakpoints N.seats N.begun (TakesBurst seat.old.number plans.items result) }
     {
-        self.live.journal_is_sound();
+        self.is_of_team();
         let burst = self.commit_each(places, seat, plans);
         self.let_go(seat);
         burst
@@ -209,6 +216,24 @@ impl<N: Team> Desk<N> {
         requires enough { N.limit ≤ length N.cells }
         ensures ok { OnOk result (RollsBack id.now seat.old seat.new) }
         ensures err { OnErr result (seat.new ≡ seat.old) }
+
+        ensures run { RollsBy seat.old.number id.now result self.old.live.session self.new.live.session }
+        ensures answer { IsAnswer N.program N.limit N.breakpoints N.seats N.begun (RollsBy seat.old.number id.now result) }
+    {
+        self.is_of_team();
+        self.roll_now(places, seat, id)
+    }
+
+    fn roll_now(
+        &mut self,
+        places: &Places,
+        seat: &mut Seat<N>,
+        id: &StepId,
+    ) -> Result<Vec<Removed>, Refused<RollRefusal>>
+        requires places { places.now ≡ N.cells }
+        requires enough { N.limit ≤ length N.cells }
+        ensures ok { OnOk result (RollsBack id.now seat.old seat.new) }
+        ensures err { OnErr result (seat.new ≡ seat.old) }
         ensures rolled { IfOk result (λ removed. RollsFor seat.old.number self.old.live.session id.now self.new.live.session removed.items) }
         ensures stays { OnErr result (self.new.live.session ≡ self.old.live.session) }
         ensures refused { IfErr result (RefusesRoll self.old.live.session id.now) }
@@ -241,6 +266,24 @@ impl<N: Team> Desk<N> {
 
     /// Prepares, writes the entry to the place's cell, and takes the step back, where nothing needs it.
     pub fn undo(
+        &mut self,
+        places: &Places,
+        seat: &mut Seat<N>,
+        id: &StepId,
+    ) -> Result<Removed, Refused<UndoRefusal>>
+        requires places { places.now ≡ N.cells }
+        requires enough { N.limit ≤ length N.cells }
+        ensures ok { OnOk result (RollsBack id.now seat.old seat.new) }
+        ensures err { OnErr result (seat.new ≡ seat.old) }
+
+        ensures run { UndoesBy seat.old.number id.now result self.old.live.session self.new.live.session }
+        ensures answer { IsAnswer N.program N.limit N.breakpoints N.seats N.begun (UndoesBy seat.old.number id.now result) }
+    {
+        self.is_of_team();
+        self.undo_now(places, seat, id)
+    }
+
+    fn undo_now(
         &mut self,
         places: &Places,
         seat: &mut Seat<N>,
@@ -285,7 +328,9 @@ impl<N: Team> Desk<N> {
         ensures work { IfOk result (IsClaim N.program) }
         ensures claimed { IfOk result (ClaimsWork self.old.live.session seat.now.number self.new.live.session) }
         ensures err { OnErr result (self.new.live.session ≡ self.old.live.session) }
+        ensures answer { IsAnswer N.program N.limit N.breakpoints N.seats N.begun (ClaimsBy seat.now.number result) }
     {
+        self.is_of_team();
         claim_work(&mut self.live, seat.number())
     }
 
@@ -293,7 +338,9 @@ impl<N: Team> Desk<N> {
     pub fn claim_task(&mut self, seat: &Seat<N>, task: &TaskName) -> Result<Work, ClaimRefusal>
         ensures work { IfOk result (IsWorkFor N.program task.now) }
         ensures claimed { ClaimsTask self.old.live.session seat.now.number task.now self.new.live.session result }
+        ensures answer { IsAnswer N.program N.limit N.breakpoints N.seats N.begun (ClaimsOneBy seat.now.number task.now result) }
     {
+        self.is_of_team();
         claim_one(&mut self.live, seat.number(), task)
     }
 
@@ -327,8 +374,10 @@ impl<N: Team> Desk<N> {
 
     /// Why no step is taken now.
     pub fn why(&self) -> Why
-        ensures { IsWhy self.now.live.session result }
+        ensures why { IsWhy self.now.live.session result }
+        ensures answer { IsAnswer N.program N.limit N.breakpoints N.seats N.begun (Tells result) }
     {
+        self.is_of_team();
         why_of(&self.live)
     }
 }

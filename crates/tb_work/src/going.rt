@@ -1,10 +1,13 @@
 //! What any thread of a team asks of the run, and the workers.
 
-ghost use Rattle.std.specs.Prelude.{◌≡◌, ◌+◌, ◌<◌, ◌≤◌, length, IfOk, OnOk, OnErr};
-ghost use Rattle.tb_work.specs.Answering.{CommitsBy, IsAnswer};
+ghost use Rattle.std.specs.Prelude.{◌≡◌, ◌+◌, ◌<◌, ◌≤◌, All, Any, Err, length, IfOk, IsTrue, OnOk, OnErr};
+ghost use Rattle.tb_work.specs.declared.ended.Ended.TheVariants.{Well, CellTaken};
+ghost use Rattle.tb_work.specs.declared.go_refusal.GoRefusal.TheVariants.{CellTaken as MetTakenCell};
+ghost use Rattle.tb_work.specs.Answering.{ClaimsBy, ClaimsOneBy, CommitsBy, IsAnswer, RollsBy, Tells, UndoesBy};
 ghost use Rattle.tb_work.specs.Bursts.{CommitsBurst, TakesBurst};
 ghost use Rattle.tb_work.specs.Changes.{Commits, RollsBack};
 ghost use Rattle.tb_work.specs.Claiming.{IsClaim, IsWorkFor};
+ghost use Rattle.tb_work.specs.Ending.{IsEnding, IsTurn};
 ghost use Rattle.tb_work.specs.Growing.{GrewBySteps, AllGrew};
 ghost use Rattle.tb_work.specs.Receipts.{receipts_in};
 
@@ -30,7 +33,8 @@ impl<N: Team> Shared<N> {
     /// Gives up the seat's former claim, and gives it one on the least task that can step and that no
     /// other seat claims.
     pub fn claim<R: Wait>(&self, rt: &R, seat: &Seat<N>) -> Result<Claim, AllocError>
-        ensures { IfOk result (IsClaim N.program) }
+        ensures work { IfOk result (IsClaim N.program) }
+        ensures answer { IsAnswer N.program N.limit N.breakpoints N.seats N.begun (ClaimsBy seat.now.number result) }
     {
         self.desk.lock(rt).claim(seat)
     }
@@ -42,7 +46,8 @@ impl<N: Team> Shared<N> {
         seat: &Seat<N>,
         task: &TaskName,
     ) -> Result<Work, ClaimRefusal>
-        ensures { IfOk result (IsWorkFor N.program task.now) }
+        ensures work { IfOk result (IsWorkFor N.program task.now) }
+        ensures answer { IsAnswer N.program N.limit N.breakpoints N.seats N.begun (ClaimsOneBy seat.now.number task.now result) }
     {
         self.desk.lock(rt).claim_task(seat, task)
     }
@@ -85,6 +90,7 @@ impl<N: Team> Shared<N> {
     ) -> Result<Vec<Removed>, Refused<RollRefusal>>
         ensures ok { OnOk result (RollsBack id.now seat.old seat.new) }
         ensures err { OnErr result (seat.new ≡ seat.old) }
+        ensures answer { IsAnswer N.program N.limit N.breakpoints N.seats N.begun (RollsBy seat.old.number id.now result) }
     {
         self.desk.lock(rt).roll(&self.places, seat, id)
     }
@@ -98,6 +104,7 @@ impl<N: Team> Shared<N> {
     ) -> Result<Removed, Refused<UndoRefusal>>
         ensures ok { OnOk result (RollsBack id.now seat.old seat.new) }
         ensures err { OnErr result (seat.new ≡ seat.old) }
+        ensures answer { IsAnswer N.program N.limit N.breakpoints N.seats N.begun (UndoesBy seat.old.number id.now result) }
     {
         self.desk.lock(rt).undo(&self.places, seat, id)
     }
@@ -115,12 +122,13 @@ impl<N: Team> Shared<N> {
     #[tactic(auto, using(crate::proofs::Growing::grew_none, crate::proofs::Growing::grew_same))]
     /// Claims once, and commits a burst of what was claimed.
     fn turn<R: Wait, G: Gate>(&self, rt: &R, seat: &mut Seat<N>, gate: &G, nth: &mut u64) -> Turn
-        ensures { GrewBySteps seat.old seat.new }
+        ensures grew { GrewBySteps seat.old seat.new }
+        ensures told { IsTurn N.program N.limit N.breakpoints N.seats N.begun seat.old.number result }
     {
         let work = match self.claim(rt, seat) {
             Ok(Claim::Work(work)) => work,
             Ok(Claim::Later) => return Turn::Later,
-            Ok(_) => return Turn::Over { ended: Ended::Well },
+            Ok(Claim::Done) | Ok(Claim::Stopped) => return Turn::Over { ended: Ended::Well },
             Err(_) => return Turn::Over {
                 ended: Ended::Memory,
             },
@@ -151,7 +159,7 @@ impl<N: Team> Shared<N> {
                 Turn::Later => thread::yield_now(),
                 Turn::Over { ended } => {
                     self.let_go(rt, seat);
-                    seat.end(ended);
+                    seat.ended = Some(ended);
                     break;
                 }
             }
@@ -194,14 +202,17 @@ impl<N: Team> Shared<N> {
         N: Send + Sync,
         requires { (0 < length seats.old) × (length seats.old ≤ 65) }
         ensures steps { IfOk result (λ r. r.steps + receipts_in seats.old ≡ receipts_in seats.new) }
+        ensures why { IfOk result (λ r. IsAnswer N.program N.limit N.breakpoints N.seats N.begun (Tells r.why)) }
+        ensures well { OnOk result (All (λ s. IsAnswer N.program N.limit N.breakpoints N.seats N.begun (IsEnding s.number Well)) seats.new) }
+        ensures taken { result ≡ Err MetTakenCell → Any (λ s. IsAnswer N.program N.limit N.breakpoints N.seats N.begun (IsEnding s.number CellTaken)) seats.new }
         ensures grew { AllGrew seats.old seats.new }
     {
         self.desk.lock(rt).resume_for(most);
         let steps = self.all_work(rt, seats, gate);
-        if some_ended(seats, Ended::CellTaken) {
+        if some_met_a_taken_cell(seats) {
             return Err(GoRefusal::CellTaken);
         }
-        if some_ended(seats, Ended::Memory) {
+        if !all_ended_well(seats) {
             return Err(GoRefusal::Memory);
         }
         let why = self.desk.lock(rt).why();
@@ -209,9 +220,28 @@ impl<N: Team> Shared<N> {
     }
 }
 
-/// Whether some worker ended so.
-fn some_ended<N: Team>(seats: &[Seat<N>], ended: Ended) -> bool {
-    seats.iter().any(|seat| seat.ended == ended)
+/// Whether some worker met a cell that was taken.
+fn some_met_a_taken_cell<N: Team>(seats: &[Seat<N>]) -> bool
+    ensures { IsTrue result → Any (λ s. IsAnswer N.program N.limit N.breakpoints N.seats N.begun (IsEnding s.number CellTaken)) seats.now }
+{
+    for seat in seats {
+        if seat.has_met_a_taken_cell() {
+            return true;
+        }
+    }
+    false
+}
+
+/// Whether all workers ended well.
+fn all_ended_well<N: Team>(seats: &[Seat<N>]) -> bool
+    ensures { IsTrue result → All (λ s. IsAnswer N.program N.limit N.breakpoints N.seats N.begun (IsEnding s.number Well)) seats.now }
+{
+    for seat in seats {
+        if !seat.has_ended_well() {
+            return false;
+        }
+    }
+    true
 }
 
 /// How many receipts there are.

@@ -1,6 +1,9 @@
 //! A seat: who takes part, and what it has done.
 
-ghost use Rattle.std.specs.Prelude.{◌≡◌, ◌<◌, ℕ, List, [], true, vec_len, length, map};
+ghost use Rattle.std.specs.Prelude.{◌≡◌, ◌<◌, ℕ, List, [], IsTrue, true, vec_len, length, map};
+ghost use Rattle.tb_work.specs.declared.ended.Ended.TheVariants.{Well, CellTaken};
+ghost use Rattle.tb_work.specs.Answering.{IsAnswer};
+ghost use Rattle.tb_work.specs.Ending.{IsEnding};
 ghost use Rattle.tb_work.specs.Receipts.{IsRow};
 
 use crate::ended::Ended;
@@ -18,11 +21,14 @@ pub struct Seat<N: Team> {
     pub(crate) last: u32,
     pub(crate) kept: Vec<Kept<N>>,
     pub(crate) share: Share<N>,
-    pub(crate) ended: Ended,
+    // how its worker ended in the last `go`
+    pub(crate) ended: Option<Ended>,
 }
 
 impl<N: Team> Model for Seat<N> {
-    ghost use Rattle.std.specs.Prelude.{◌≡◌, ◌<◌, ◌≤◌, map, true, vec_len};
+    ghost use Rattle.std.specs.Prelude.{◌≡◌, ◌<◌, ◌≤◌, IfSome, map, true, vec_len};
+    ghost use Rattle.tb_work.specs.Answering.{IsAnswer};
+    ghost use Rattle.tb_work.specs.Ending.{IsEnding};
     ghost use Rattle.tb_work.specs.Receipts.{Seated, last_from, rises_from, all_of};
 
     ghost Value = { Seated };
@@ -36,7 +42,8 @@ impl<N: Team> Model for Seat<N> {
         × (rises_from 0 (map (λ k. k.receipt) s.kept.items) ≡ true)
         × (all_of s.number (map (λ k. k.receipt) s.kept.items) ≡ true)
         × (s.number < N.seats)
-        × (vec_len s.kept ≤ s.last) };
+        × (vec_len s.kept ≤ s.last)
+        × IfSome s.ended (λ e. IsAnswer N.program N.limit N.breakpoints N.seats N.begun (IsEnding s.number e)) };
 }
 
 impl<N: Team> Seat<N> {
@@ -52,7 +59,7 @@ impl<N: Team> Seat<N> {
             last: 0,
             kept: Vec::new(alloc),
             share,
-            ended: Ended::Well,
+            ended: None,
         }
     }
 
@@ -72,11 +79,18 @@ impl<N: Team> Seat<N> {
         self.kept.as_slice().len() as u32
     }
 
-    /// Notes how the seat's worker ended.
-    pub(crate) fn end(&mut self, ended: Ended)
-        ensures { self.new ≡ self.old }
+    /// Whether the seat's worker ended well in the last `go`.
+    pub(crate) fn has_ended_well(&self) -> bool
+        ensures { IsTrue result → IsAnswer N.program N.limit N.breakpoints N.seats N.begun (IsEnding self.now.number Well) }
     {
-        self.ended = ended;
+        matches!(self.ended, Some(Ended::Well))
+    }
+
+    /// Whether it met a cell that was taken.
+    pub(crate) fn has_met_a_taken_cell(&self) -> bool
+        ensures { IsTrue result → IsAnswer N.program N.limit N.breakpoints N.seats N.begun (IsEnding self.now.number CellTaken) }
+    {
+        matches!(self.ended, Some(Ended::CellTaken))
     }
 
     /// Takes the seat apart.

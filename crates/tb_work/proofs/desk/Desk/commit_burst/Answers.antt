@@ -15,17 +15,4 @@ returns-clause-run g c =
 
 pub returns-clause-answer : goal.returns-clause-answer
 returns-clause-answer g c =
-    let d = c.args.self.now in
-    record {
-      old = d.live.session;
-      new = c.let_go.new.self.live.session;
-      team = record {
-        program = d.program;
-        limited = d.limit;
-        breakpoints = d.breakpoints;
-        seated = d.seats;
-        begins = d.begins;
-        legal = c.journal_is_sound.ensures.legal;
-      };
-      right = returns-clause-run g c;
-    }
+    record { old = c.args.self.now.live.session; new = c.let_go.new.self.live.session; team = c.is_of_team.ensures; right = returns-clause-run g c }

@@ -1,0 +1,44 @@
+use Rattle.std.proofs.Common.{rules, ◌≡◌, ◌<◌, ◌≤◌, length, arith, refl, ap, sym, ◌∙◌}
+use Rattle.std.specs.Vec.{vec_len, vec_capacity}
+use Rattle.tb_work.specs.declared.refused.Refused.TheVariants.{Run, CellTaken}
+use Rattle.tb_roll.specs.declared.roll_refusal.RollRefusal.TheVariants.{Memory}
+use Rattle.tb_work.proofs.Desks.{agrees_more}
+use Rattle.tb_work.proofs.Refusals.{roll_kept, rolled_now}
+use Rattle.tb_work.proofs.desk.Desk.roll_now.Goals as goal
+
+pub invariant_of-self-2 : goal.invariant_of-self-2
+invariant_of-self-2 g c =
+    let d = c.args.self.now in
+    let e = c.in-Ok-enter.ensures in
+    let prepared = c.in-Ok.ensures.prepared in
+    let a = agrees_more g.N.Team.program g.N.Team.limit g.N.Team.breakpoints g.N.Team.seats g.N.Team.cells g.N.Team.begun d.live.session c.prepare_roll.new.self.session c.take_back_all.new.live.session c.in-Ok.entry
+    d.book.total c.enter.new.book.total _ _ _ _ c.next_place-place.result
+    (record { program = d.program; limited = d.limit; breakpoints = d.breakpoints; seated = d.seats; begins = d.begins; counted = d.counted; named = d.cells; noted = d.known })
+    c.in-Ok.ensures.session (search rules) (search rules) (search rules) e.total (search rules) (search rules) in
+    record {
+      program = a.program;
+      limit = a.limited;
+      breakpoints = a.breakpoints;
+      seats = a.seated;
+      begins = a.begins;
+      none_spare = d.none_spare;
+      room_for_all = (d.room_for_all.0, search rules, d.room_for_all.2);
+      counted = a.counted;
+      cells = a.named;
+      known = a.noted;
+    }
+
+pub returns-in-Err-CellTaken-clause-refused : goal.returns-in-Err-CellTaken-clause-refused
+returns-in-Err-CellTaken-clause-refused g c =
+    let p = c.in-Ok.ensures.prepared in
+    roll_kept c.args.self.now.live.session c.prepare_roll.new.self.session c.args.id.now CellTaken c.in-Ok.ensures.session (p.stands, p.room)
+
+pub returns-in-Err-Memory-clause-refused : goal.returns-in-Err-Memory-clause-refused
+returns-in-Err-Memory-clause-refused g c =
+    let p = c.in-Ok.ensures.prepared in
+    roll_kept c.args.self.now.live.session c.prepare_roll.new.self.session c.args.id.now (Run Memory) c.in-Ok.ensures.session (p.stands, p.room)
+
+pub returns-clause-rolled : goal.returns-clause-rolled
+returns-clause-rolled g c =
+    rolled_now c.args.self.now.live.session c.prepare_roll.new.self.session c.take_back_all.new.live.session c.number-2.result c.args.seat.now.number c.args.id.now c.take_back_all.result.items
+    c.in-Ok.ensures.session (search rules) c.take_back_all.ensures.rolled
