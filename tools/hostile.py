@@ -90,7 +90,7 @@ def short(program, count, _):
 
 
 def memory(program, count, stride):
-    """Each allocation refused in turn: the whole output, or whole replies and then status 3."""
+    """Each allocation refused in turn: the whole output, or whole lines of it and then status 3."""
     text = every_command()
     whole = program.run(text)[1]
     calls = int(program.run(text, REFUSE=0, REFUSE_COUNT=1)[2].split()[-1])

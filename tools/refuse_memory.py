@@ -8,7 +8,7 @@ by one worker and by four. The tests are those that stand in the crates' out/; w
 has failed where there are none.
 A test has to pass whichever allocation fails: it makes a refused call again, and asks that nothing
 had changed. A session has to give its whole output, or a beginning of it that ends with a whole
-reply, and then `taskback: memory` and status 3; of four workers the steps have to be those that one
+line, and then `taskback: memory` and status 3; of four workers the steps have to be those that one
 worker can take in this order. The last line counts tests and sessions.
 """
 import argparse

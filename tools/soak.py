@@ -4,7 +4,7 @@
     tools/soak.py --other 'COMMAND' [--minutes M] [--program P] [--seed S] [--jobs J]
 
 Each session is answered by both, and once more by the program with one allocation refused, picked at
-random: it gives the whole output then, or whole replies and status 3. A session that fails, or that takes
+random: it gives the whole output then, or whole lines of it and status 3. A session that fails, or that takes
 too long, is told by its seed, with which `tools/compare_sessions.py --seed S --count 1` makes it again.
 """
 import argparse
@@ -38,7 +38,7 @@ class Soak:
         return (done.stdout, said, done.returncode), counted[0] if counted else 0
 
     def check_memory(self, seed, text, limit, whole):
-        """Whether the session with one allocation refused gave all, or whole replies and status 3."""
+        """Whether the session with one allocation refused gave all, or whole lines of it and status 3."""
         _, calls = self.refused(text, limit, 0)
         number = random.Random(seed).randrange(1, calls + 1)
         said, _ = self.refused(text, limit, number)

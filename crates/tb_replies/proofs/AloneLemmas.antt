@@ -1,9 +1,9 @@
 -- One worker, turn by turn.
-use Rattle.std.proofs.Common.{◌≡◌, ◌≢◌, ◌<◌, ◌≤◌, ◌-◌, ◌+◌, ◌==◌, ℕ, zero, suc, List, [], ◌∷◌, ◌++◌, length, Bool, true, false, cond, Option, Some, None, Result, Ok, Err, refl, sym, ap, ap₂, ◌∙◌, subst, arith}
+use Rattle.std.proofs.Common.{◌≡◌, ◌≢◌, ◌<◌, ◌≤◌, ◌-◌, ◌+◌, ◌==◌, ℕ, zero, suc, List, [], ◌∷◌, ◌++◌, length, Bool, true, false, cond, Option, Some, None, Ok, Err, refl, sym, ap, ap₂, ◌∙◌, subst, arith}
 use Rattle.std.proofs.lemmas.Bool.{eqb-true}
 use Rattle.std.proofs.lemmas.List.{length-map, length-set}
 use Rattle.std.specs.Option.{option_or}
-use Rattle.std.specs.Prelude.{⊤, IfOk}
+use Rattle.std.specs.Prelude.{⊤}
 use Rattle.tb_model.specs.declared.step_id.StepId.{StepId}
 use Rattle.tb_model.specs.Names.{Name, same_name}
 use Rattle.tb_model.proofs.TestLemmas.{same_refl}
@@ -28,7 +28,7 @@ use Rattle.tb_replies.specs.Turns.{Goes}
 use Rattle.tb_team.specs.Gone.{HasSeats}
 use Rattle.tb_team.specs.Turns.{IsTurn, stepped_by, why_paused, why_idle, stop_of, turned, started, settled}
 use Rattle.tb_replies.specs.declared.running.Taken.{Taken}
-use Rattle.tb_replies.proofs.CourseLemmas.{behind_both, behind_stopped}
+use Rattle.tb_replies.proofs.CourseLemmas.{behind_both, behind_nothing, behind_stopped}
 
 -- ---- how many turns may follow
 
@@ -160,11 +160,8 @@ Going first text count s = (turns : List (ℕ × Name)) (rest : Course) → Goes
 
 pub going_starts : (first s : Session) (text : List ℕ) → text ≡ [] → s ≡ first → Going first text 0 s
 going_starts first s text none same turns rest g =
-    let e : behind text 0 rest ≡ rest = ap (λ l. behind l 0 rest) none ∙ nothing rest in
+    let e : behind text 0 rest ≡ rest = ap (λ l. behind l 0 rest) none ∙ behind_nothing rest in
     (turns, subst (λ z. Goes 1 turns z (behind text 0 rest)) same (subst (Goes 1 turns s) (sym e) g))
-  where
-    nothing : (c : Course) → behind [] 0 c ≡ c
-    nothing c = ap (λ n. record { lines = c.lines; count = n; stop = c.stop; session = c.session }) (omega arith)
 
 pub going_on : (first s new : Session) (before after : List ℕ) (count : ℕ) → Going first before count s → TakesTurn s before after new true → Going first after (count + 1) new
 going_on first s new before after count going h turns rest g =
@@ -231,7 +228,3 @@ pub none_more : (first s : Session) (most count : ℕ) (text : List ℕ) → Und
 none_more first s most count text u over =
     let none : most - count ≡ 0 = omega (arith, over, u.within) in
     all_stop s (subst (λ n. MayFollow n s.control.mode) none u.left)
-
-pub when_ok : {A E : Type 0} (P Q : A → Type 0) (r : Result A E) → ((x : A) → P x → Q x) → IfOk r P → IfOk r Q
-when_ok P Q (Ok x) f h = f x h
-when_ok P Q (Err e) f h = tt

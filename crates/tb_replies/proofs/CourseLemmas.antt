@@ -1,11 +1,13 @@
 -- One course of steps, taken from its front.
-use Rattle.std.proofs.Common.{◌≡◌, ◌<◌, ◌-◌, ◌+◌, ℕ, suc, List, ◌++◌, refl, sym, ap, ap₂, ◌∙◌, append_assoc, append-nil, arith, Some, Ok, subst}
+use Rattle.std.proofs.Common.{◌≡◌, ◌<◌, ◌-◌, ◌+◌, ℕ, suc, List, [], ◌++◌, true, refl, sym, ap, ap₂, ◌∙◌, append_assoc, append-nil, arith, Some, Ok, Err, subst}
 use Rattle.tb_model.specs.declared.step_id.StepId.{StepId}
 use Rattle.tb_model.specs.Names.{Name}
+use Rattle.tb_core.specs.declared.step_refusal.StepRefusal.TheVariants.{Full as NoPlace}
 use Rattle.tb_live.specs.Runs.{resumed}
-use Rattle.tb_live.specs.Session.{Session}
+use Rattle.tb_live.specs.Session.{Session, is_full}
 use Rattle.tb_live.specs.Moves.{StepsFor, LeastStepsFor, least_task}
 use Rattle.tb_team.specs.declared.stop.Stop.{Stop}
+use Rattle.tb_team.specs.declared.stop.Stop.TheVariants.{Full}
 use Rattle.tb_replies.specs.Texts.{newest_line, told_step}
 use Rattle.tb_replies.specs.Course.{Course, stopped, behind, course}
 
@@ -20,6 +22,10 @@ behind_both text more n m c =
     let count : n + (m + c.count) ≡ (n + m) + c.count = omega arith in
     rw (lines, count) refl
 
+-- a course after none
+pub behind_nothing : (c : Course) → behind [] 0 c ≡ c
+behind_nothing c = ap (λ n. record { lines = c.lines; count = n; stop = c.stop; session = c.session }) (omega arith)
+
 -- after some steps, no more are taken
 pub behind_stopped : (text : List ℕ) (n : ℕ) (why : Stop) (s : Session) → behind text n (stopped why s) ≡ record { lines = text; count = n; stop = why; session = s }
 behind_stopped text n why s =
@@ -31,6 +37,10 @@ course_steps : (most left : ℕ) (s new : Session) (t : Name) (i : StepId) → m
     → course most s ≡ behind (newest_line new i) 1 (course left new)
 course_steps most left s new t i e least h =
     rw (e, least, h.may.room, step_told 0 (resumed s) new t i h, h.now) refl
+
+-- in a full journal it is over
+course_full : (most left : ℕ) (s : Session) (t : Name) → most ≡ suc left → least_task s ≡ Some t → is_full (resumed s) ≡ true → course most s ≡ stopped Full (resumed s)
+course_full most left s t e least full = rw (e, least, full) refl
 
 -- ---- a course that goes on
 
@@ -53,3 +63,11 @@ course_goes_on all most count s new text more i within going h e =
     let rest : Course = course (most - (count + 1)) new in
     going ∙ (ap (behind text count) (course_steps (most - count) (most - (count + 1)) s new h.0 i left h.1 h.2)
     ∙ (behind_both text (newest_line new i) count 1 rest ∙ ap (λ l. behind l (count + 1) rest) (sym e)))
+
+pub course_ends_full : (all : Course) (most count : ℕ) (s r new : Session) (text : List ℕ) → count < most → r ≡ resumed s → LeastStepsFor 0 r new (Err NoPlace) → Going all text count (most - count) s
+    → all ≡ record { lines = text; count = count; stop = Full; session = new }
+course_ends_full all most count s r new text within e h going =
+    let left : most - count ≡ suc (most - (count + 1)) = omega (arith, within) in
+    let over = subst (λ z. LeastStepsFor 0 z new (Err NoPlace)) e h in
+    going ∙ (ap (behind text count) (course_full (most - count) (most - (count + 1)) s over.1.0 left over.1.1 over.2)
+    ∙ (behind_stopped text count Full (resumed s) ∙ ap (λ z. record { lines = text; count = count; stop = Full; session = z }) (sym over.0)))

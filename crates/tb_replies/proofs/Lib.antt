@@ -7,3 +7,5 @@ pub mod SeatLemmas
 pub mod RolledLemmas
 pub mod BodyLemmas
 pub mod TeamLemmas
+pub mod ToldLemmas
+pub mod AnswerLemmas

@@ -120,7 +120,7 @@ open_turn s n o = record {
   alone = λ one. o.least;
 }
 
-abbrev HasCourse : Session → Type 0
+abbrev pub HasCourse : Session → Type 0
 HasCourse s = (turns : List (ℕ × Name)) × ((c : Course) × Goes 1 turns s c)
 
 one_turn : (n : ℕ) (s : Session) → MayFollow n s.control.mode → ((k : ℕ) → n ≡ suc k → (u : Session) → MayFollow k u.control.mode → HasCourse u) → HasCourse s
@@ -134,7 +134,7 @@ one_turn n s h further = at (stop_of s) refl
         let rest = further (n - 1) left (turned 1 s o.task) (after_turn s n o h) in
         ((1, o.task) ∷ rest.0, (behind (told_step s o.task) 1 rest.1.0, (e, open_turn s n o, (rest.1.0, rest.1.1, refl))))
 
-some_goes : (n : ℕ) (s : Session) → MayFollow n s.control.mode → HasCourse s
+pub some_goes : (n : ℕ) (s : Session) → MayFollow n s.control.mode → HasCourse s
 some_goes zero s h = one_turn zero s h (λ j e u f. absurd (omega (arith, e)))
 some_goes (suc k) s h =
     one_turn (suc k) s h (λ j e u f. let same : j ≡ k = omega (arith, e) in some_goes k u (subst (λ i. MayFollow i u.control.mode) same f))

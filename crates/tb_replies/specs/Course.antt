@@ -31,9 +31,9 @@ behind lines count c = record { lines = lines ++ c.lines; count = count + c.coun
 abbrev pub course_text : Course → List ℕ
 course_text c = c.lines ++ line (codes "ran " ++ decimal c.count ++ codes " " ++ stop_word c.stop)
 
--- the course's lines stand after the text that was there, and this is the rest of it
-abbrev pub IsCourse : Course → List ℕ → List ℕ → Taken → Session → Type 0
-IsCourse c before after taken new = behind before 0 c ≡ record { lines = after; count = taken.count; stop = taken.stop; session = new }
+-- the course's lines were told, and this is the rest of it
+abbrev pub IsCourse : Course → List ℕ → Taken → Session → Type 0
+IsCourse c told taken new = c ≡ record { lines = told; count = taken.count; stop = taken.stop; session = new }
 
 -- ---- `run`
 

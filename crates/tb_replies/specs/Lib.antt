@@ -6,5 +6,6 @@ pub mod Course
 pub mod Turns
 pub mod Alone
 pub mod Replies
+pub mod Told
 pub mod Reading
 pub mod Laws

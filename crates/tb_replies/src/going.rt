@@ -1,14 +1,18 @@
 //! Turns of a worker alone.
 
-ghost use Rattle.std.specs.Prelude.{◌≡◌, ◌≢◌, IfOk, None, Some, [], string_bytes};
+ghost use Rattle.std.specs.Prelude.{◌≡◌, ◌≢◌, ◌+◌, ◌-◌, ◌<◌, ◌^◌, IfErr, IfOk, OnErr, OnOk, None, Some, [], string_bytes};
 ghost use Rattle.tb_replies.specs.Alone.{HasNoClaims, IsIdle, IsIdleStop, IsUnderWay, IsWhole, Stops, TakesTurn};
 ghost use Rattle.tb_replies.specs.Replies.{GoReply};
+ghost use Rattle.tb_replies.specs.Told.{Begins, Told, failed_at};
 ghost use Rattle.tb_team.specs.Turns.{stop_of};
 ghost use Rattle.tb_team.specs.Gone.{HasSeats};
 
 use crate::newest::append_newest;
+use crate::passing::pass_on;
 use crate::running::{Taken, append_end};
+use crate::unwritten::Unwritten;
 use std::alloc::{AllocError, Global};
+use tb_lines::Sink;
 use tb_live::{Live, Mode, PausedBy, StepRefusal};
 use tb_team::Stop;
 
@@ -77,31 +81,55 @@ fn settle(live: &mut Live, count: u32) -> Result<Taken, AllocError>
     Ok(Taken { count, stop })
 }
 
-/// Takes up to so many turns, and appends the line of each as soon as it is taken.
-fn take_turns(text: &mut String, live: &mut Live, most: u32) -> Result<Taken, AllocError>
+/// Takes up to so many turns, and tells each as soon as it is taken.
+fn take_turns<K: Sink>(
+    sink: &mut K,
+    text: &mut String,
+    live: &mut Live,
+    most: u32,
+) -> Result<Taken, Unwritten>
     requires seats { HasSeats live.old.session }
     requires empty { string_bytes text.old ≡ [] }
-    ensures { IfOk result (IsWhole most live.old.session (string_bytes text.new) live.new.session) }
+    requires failures { K.failures sink.old < 2 ^ 64 - 1 }
+    ensures told { IfOk result (λ taken. Told (K.taken sink.old) (K.taken sink.new) (string_bytes text.new)
+        (λ told. IsWhole most live.old.session told live.new.session taken)) }
+    ensures err { OnErr result (Begins (GoReply 1 most live.old.session)
+        (K.taken sink.old) (K.taken sink.new)) }
+    ensures ok { OnOk result (K.failures sink.new ≡ K.failures sink.old) }
+    ensures failed { IfErr result (λ why. K.failures sink.new ≡ K.failures sink.old + failed_at why) }
 {
     live.withdraw_all();
     live.resume_for(most);
     let mut count = 0;
     'turns: while count < most {
         if !take_turn(text, live)? {
-            return settle(live, count);
+            return Ok(settle(live, count)?);
         }
+        pass_on(sink, text)?;
         count += 1;
     }
-    settle(live, count)
+    Ok(settle(live, count)?)
 }
 
-/// Lets one worker go on for up to so many steps, and tells them. It stops at a breakpoint.
-pub fn go_reply(alloc: Global, live: &mut Live, most: u32) -> Result<String, AllocError>
-    requires { HasSeats live.old.session }
-    ensures { IfOk result (λ text. GoReply 1 most live.old.session (string_bytes text) live.new.session) }
+/// Lets one worker go on for up to so many steps, and tells them. It stops at a breakpoint. What is
+/// handed out is the end of the reply, and still to be written.
+pub fn go_reply<K: Sink>(
+    alloc: Global,
+    sink: &mut K,
+    live: &mut Live,
+    most: u32,
+) -> Result<String, Unwritten>
+    requires seats { HasSeats live.old.session }
+    requires failures { K.failures sink.old < 2 ^ 64 - 1 }
+    ensures told { IfOk result (λ text. Told (K.taken sink.old) (K.taken sink.new) (string_bytes text)
+        (λ out. GoReply 1 most live.old.session out live.new.session)) }
+    ensures err { OnErr result (Begins (GoReply 1 most live.old.session)
+        (K.taken sink.old) (K.taken sink.new)) }
+    ensures ok { OnOk result (K.failures sink.new ≡ K.failures sink.old) }
+    ensures failed { IfErr result (λ why. K.failures sink.new ≡ K.failures sink.old + failed_at why) }
 {
     let mut text = String::new(alloc);
-    let taken = take_turns(&mut text, live, most)?;
+    let taken = take_turns(sink, &mut text, live, most)?;
     append_end(&mut text, taken)?;
     Ok(text)
 }

@@ -5,11 +5,15 @@ mod breaking;
 mod going;
 pub mod laws;
 mod newest;
+mod passing;
 mod refusing;
 mod replies;
 mod rolling;
 mod running;
 mod showing;
 mod teaming;
+mod unanswered;
+mod unwritten;
 
 pub use replies::answer;
+pub use unanswered::Unanswered;

@@ -1,11 +1,11 @@
 //! The reply to a line of a session.
 
-ghost use Rattle.std.specs.Prelude.{◌≡◌, ◌<◌, ◌++◌, IfOk, IfErr, IsErrOf, codes, string_bytes};
+ghost use Rattle.std.specs.Prelude.{◌≡◌, ◌<◌, ◌+◌, ◌++◌, ◌-◌, ◌^◌, IfOk, IfErr, OnOk, ⊤, codes, string_bytes};
 ghost use Rattle.tb_view.specs.Lines.{line};
 ghost use Rattle.tb_replies.specs.Texts.{fault_word, newest_line};
 ghost use Rattle.tb_replies.specs.Refusals.{step_refusal, undo_refusal};
 ghost use Rattle.tb_replies.specs.Replies.{Answers, GoReply, Reply, StepReply, UndoReply};
-ghost use Rattle.tb_commands.specs.Commands.{AsksSeveral};
+ghost use Rattle.tb_replies.specs.Told.{Fails, FailsAt, TellsSteps, Told, failures_at};
 ghost use Rattle.tb_team.specs.Gone.{HasSeats};
 ghost use Rattle.tb_live.specs.Runs.{resumed};
 ghost use Rattle.tb_model.specs.Spelling.{step_id_text};
@@ -18,13 +18,14 @@ use crate::rolling::roll_reply;
 use crate::running::run_reply;
 use crate::showing::view_reply;
 use crate::teaming::team_reply;
+use crate::unanswered::Unanswered;
 use std::alloc::{AllocError, Global};
 use std::sync::Wait;
 use std::thread::Threads;
 use tb_commands::{Asked, Command, CommandFault, Workers, read_line};
+use tb_lines::Sink;
 use tb_live::{Live, StepRefusal, UndoRefusal, end};
 use tb_model::{StepId, TaskName};
-use tb_team::Lost;
 
 fn fault_word(fault: CommandFault) -> &'static str
     ensures { result.now ≡ fault_word fault }
@@ -97,113 +98,152 @@ fn undo_reply(alloc: Global, live: &mut Live, id: &StepId) -> Result<String, All
     }
 }
 
-/// Does what a command asks for, and tells it.
-fn reply(alloc: Global, live: &mut Live, command: Command) -> Result<Vec<u8>, AllocError>
-    requires { HasSeats live.old.session }
-    ensures { IfOk result (λ text. Reply live.old.session command text.items live.new.session) }
+/// Does what a command asks for, and tells it. What is handed out is the end of the reply.
+fn reply<K: Sink>(
+    alloc: Global,
+    sink: &mut K,
+    live: &mut Live,
+    command: Command,
+) -> Result<Vec<u8>, Unanswered>
+    requires failures { K.failures sink.old < 2 ^ 64 - 1 }
+    ensures told { IfOk result (λ text. Told (K.taken sink.old) (K.taken sink.new) text.items
+        (λ out. Reply live.old.session command out live.new.session)) }
+    ensures err { IfErr result (Fails (TellsSteps command) ⊥ (Reply live.old.session command)
+        (K.taken sink.old) (K.taken sink.new)) }
+    ensures ok { OnOk result (K.failures sink.new ≡ K.failures sink.old) }
+    ensures failed { IfErr result (λ why. K.failures sink.new ≡ K.failures sink.old + failures_at why) }
 {
     match command {
         Command::Step { task } => Ok(step_reply(alloc, live, &task)?.into_bytes()),
         Command::Undo { id } => Ok(undo_reply(alloc, live, &id)?.into_bytes()),
         Command::Roll { target } => Ok(roll_reply(alloc, live, &target)?.into_bytes()),
-        Command::Run { most } => Ok(run_reply(alloc, live, most)?.into_bytes()),
+        Command::Run { most } => Ok(run_reply(alloc, sink, live, most)?.into_bytes()),
         Command::Break { at } => Ok(break_reply(alloc, live, at)?.into_bytes()),
         Command::BreakBody { name } => Ok(body_reply(alloc, live, name.as_slice())?.into_bytes()),
         Command::Clear { number } => Ok(clear_reply(alloc, live, number)?.into_bytes()),
-        Command::Show { view } => view_reply(alloc, live, &view),
+        Command::Show { view } => Ok(view_reply(alloc, live, &view)?),
     }
 }
 
 /// Does what a command asks for, and tells it.
-fn command_told(alloc: Global, mut live: Live, command: Command) -> Result<(Live, Vec<u8>), Lost>
-    requires { HasSeats live.session }
-    ensures told { IfOk result (λ r. Reply live.session command r.1.items r.0.session) }
-    ensures memory { IfErr result (λ lost. lost ≡ Lost.Memory) }
+fn command_told<K: Sink>(
+    alloc: Global,
+    sink: &mut K,
+    mut live: Live,
+    command: Command,
+) -> Result<(Live, Vec<u8>), Unanswered>
+    requires failures { K.failures sink.old < 2 ^ 64 - 1 }
+    ensures told { IfOk result (λ r. Told (K.taken sink.old) (K.taken sink.new) r.1.items
+        (λ out. Reply live.session command out r.0.session)) }
+    ensures err { IfErr result (Fails (TellsSteps command) ⊥ (Reply live.session command)
+        (K.taken sink.old) (K.taken sink.new)) }
+    ensures ok { OnOk result (K.failures sink.new ≡ K.failures sink.old) }
+    ensures failed { IfErr result (λ why. K.failures sink.new ≡ K.failures sink.old + failures_at why) }
 {
-    match reply(alloc, &mut live, command) {
+    match reply(alloc, sink, &mut live, command) {
         Ok(text) => Ok((live, text)),
-        Err(_) => {
+        Err(why) => {
             end(live);
-            Err(Lost::Memory)
+            Err(why)
         }
     }
 }
 
 /// Tells why a line is no command.
-fn fault_told(alloc: Global, live: Live, fault: CommandFault) -> Result<(Live, Vec<u8>), Lost>
+fn fault_told(alloc: Global, live: Live, fault: CommandFault) -> Result<(Live, Vec<u8>), Unanswered>
     ensures told { IfOk result (λ r. (r.1.items ≡ line (codes "error " ++ fault_word fault))
         × (r.0.session ≡ live.session)) }
-    ensures memory { IfErr result (λ lost. lost ≡ Lost.Memory) }
+    ensures memory { IfErr result (λ why. why ≡ Unanswered.Memory) }
 {
     match fault_reply(alloc, fault) {
         Ok(text) => Ok((live, text.into_bytes())),
         Err(_) => {
             end(live);
-            Err(Lost::Memory)
+            Err(Unanswered::Memory)
         }
     }
 }
 
 /// Lets one worker go on for up to so many steps, and tells them.
-fn alone_told(alloc: Global, mut live: Live, most: u32) -> Result<(Live, Vec<u8>), Lost>
-    requires { HasSeats live.session }
-    ensures told { IfOk result (λ r. GoReply 1 most live.session r.1.items r.0.session) }
-    ensures memory { IfErr result (λ lost. lost ≡ Lost.Memory) }
+fn alone_told<K: Sink>(
+    alloc: Global,
+    sink: &mut K,
+    mut live: Live,
+    most: u32,
+) -> Result<(Live, Vec<u8>), Unanswered>
+    requires seats { HasSeats live.session }
+    requires failures { K.failures sink.old < 2 ^ 64 - 1 }
+    ensures told { IfOk result (λ r. Told (K.taken sink.old) (K.taken sink.new) r.1.items
+        (λ out. GoReply 1 most live.session out r.0.session)) }
+    ensures err { IfErr result (Fails ⊤ ⊥ (GoReply 1 most live.session)
+        (K.taken sink.old) (K.taken sink.new)) }
+    ensures ok { OnOk result (K.failures sink.new ≡ K.failures sink.old) }
+    ensures failed { IfErr result (λ why. K.failures sink.new ≡ K.failures sink.old + failures_at why) }
 {
-    match go_reply(alloc, &mut live, most) {
+    match go_reply(alloc, sink, &mut live, most) {
         Ok(text) => Ok((live, text.into_bytes())),
-        Err(_) => {
+        Err(why) => {
             end(live);
-            Err(Lost::Memory)
+            Err(Unanswered::from(why))
         }
     }
 }
 
 /// Lets workers go on for up to so many steps, and tells them.
-fn go_told<R: Threads + Wait + Sync>(
+fn go_told<R: Threads + Wait + Sync, K: Sink>(
     rt: &R,
     alloc: Global,
+    sink: &mut K,
     live: Live,
     workers: Workers,
     most: u32,
-) -> Result<(Live, Vec<u8>), Lost>
-    requires { HasSeats live.session }
-    ensures told { IfOk result (λ r. GoReply workers most live.session r.1.items r.0.session) }
-    ensures several { IsErrOf result Lost.Journal → 1 < workers }
+) -> Result<(Live, Vec<u8>), Unanswered>
+    requires seats { HasSeats live.session }
+    requires failures { K.failures sink.old < 2 ^ 64 - 1 }
+    ensures told { IfOk result (λ r. Told (K.taken sink.old) (K.taken sink.new) r.1.items
+        (λ out. GoReply workers most live.session out r.0.session)) }
+    ensures err { IfErr result (Fails (workers ≡ 1) (1 < workers) (GoReply workers most live.session)
+        (K.taken sink.old) (K.taken sink.new)) }
+    ensures ok { OnOk result (K.failures sink.new ≡ K.failures sink.old) }
+    ensures failed { IfErr result (λ why. K.failures sink.new ≡ K.failures sink.old + failures_at why) }
 {
     if workers.count() == 1 {
-        return alone_told(alloc, live, most);
+        return alone_told(alloc, sink, live, most);
     }
-    match team_reply(rt, alloc, live, workers.count(), most) {
-        Ok((live, text)) => Ok((live, text.into_bytes())),
-        Err(lost) => Err(lost),
-    }
+    let (live, text) = team_reply(rt, alloc, live, workers.count(), most)?;
+    Ok((live, text.into_bytes()))
 }
 
-/// Does what a line asks for, and tells it, where `go` may name so many workers. An `Err` may come when
-/// it is done and can't be told.
-pub fn answer<R: Threads + Wait + Sync>(
+/// Does what a line asks for, and tells it, where `go` may name so many workers. A long reply is
+/// written as it comes; what is handed out is the end of the reply, and still to be written. An `Err`
+/// may come when it is done and can't be told.
+pub fn answer<R: Threads + Wait + Sync, K: Sink>(
     rt: &R,
     alloc: Global,
     limit: Workers,
+    sink: &mut K,
     live: Live,
     line: &[u8],
-) -> Result<(Live, Vec<u8>), Lost>
-    requires { HasSeats live.session }
-    ensures told { IfOk result (λ r. Answers limit live.session line.now r.1.items r.0.session) }
-    ensures several { IsErrOf result Lost.Journal → AsksSeveral limit line.now }
+) -> Result<(Live, Vec<u8>), Unanswered>
+    requires seats { HasSeats live.session }
+    requires failures { K.failures sink.old < 2 ^ 64 - 1 }
+    ensures told { IfOk result (λ r. Told (K.taken sink.old) (K.taken sink.new) r.1.items
+        (λ out. Answers limit live.session line.now out r.0.session)) }
+    ensures err { IfErr result (FailsAt limit live.session line.now (K.taken sink.old) (K.taken sink.new)) }
+    ensures ok { OnOk result (K.failures sink.new ≡ K.failures sink.old) }
+    ensures failed { IfErr result (λ why. K.failures sink.new ≡ K.failures sink.old + failures_at why) }
 {
     let asked = match read_line(alloc, limit, line) {
         Ok(asked) => asked,
         Err(_) => {
             end(live);
-            return Err(Lost::Memory);
+            return Err(Unanswered::Memory);
         }
     };
     match asked {
         Asked::Nothing => Ok((live, Vec::new(alloc))),
-        Asked::Command(command) => command_told(alloc, live, command),
-        Asked::Go { workers, most } => go_told(rt, alloc, live, workers, most),
+        Asked::Command(command) => command_told(alloc, sink, live, command),
+        Asked::Go { workers, most } => go_told(rt, alloc, sink, live, workers, most),
         Asked::Fault(fault) => fault_told(alloc, live, fault),
     }
 }

@@ -1,5 +1,5 @@
 -- What a session's stages come to, at each way to end.
-use Rattle.std.proofs.Common.{◌≡◌, ℕ, List, [], ◌∷◌, ◌++◌, refl, sym, ap, ◌∙◌, subst, append_assoc, append-nil, inl, inr, Option, Some, None, Result, Ok, Err}
+use Rattle.std.proofs.Common.{◌≡◌, ℕ, true, List, [], ◌∷◌, ◌++◌, refl, sym, ap, ◌∙◌, subst, append_assoc, append-nil, inl, inr, Option, Some, None, Result, Ok, Err}
 use Rattle.std.specs.Prelude.{IsErrOf}
 use Rattle.std.specs.Io.KnownBytes.{Consumes, IsAtEnd, prepend_known}
 use Rattle.tb_read.specs.declared.fault.ReadFault.{ReadFault}
@@ -7,7 +7,8 @@ use Rattle.tb_read.specs.Text.{lines_of}
 use Rattle.tb_lines.specs.Lines.{AreUnbroken, spelled}
 use Rattle.tb_live.specs.Session.{Session, opened}
 use Rattle.tb_replies.specs.Reading.{IsProgram}
-use Rattle.tb_session.specs.Answer.{command_lines, program_text, Replies, AnswerTo, Ran, Refuses}
+use Rattle.tb_session.specs.Divider.{is_divider}
+use Rattle.tb_session.specs.Answer.{command_lines, program_text, AreUndivided, Replies, RepliesWith, AnswerTo, AnswersWith, Ran, Refuses}
 use Rattle.tb_session.specs.Stages.{Divides, Ends, Begun, Served}
 use Rattle.tb_session.specs.declared.halt.Halt.{Halt}
 use Rattle.tb_session.specs.declared.halt.Halt.TheVariants.{Refused, Read, Write, Memory, Journal}
@@ -58,7 +59,7 @@ not_begun workers limit left rest before held Write b emptied = absurd b
 not_begun workers limit left rest before held Journal b emptied = absurd b
 not_begun workers limit left rest before held Memory b emptied =
     let P : List ℕ → Type 0 = λ l. Consumes left rest l in
-    (b.0, b.1 ++ held, [], subst P (append_assoc (spelled b.0) b.1 held) (from_unread left rest held _ b.2), b.3, inl (b.4, refl), appends_nil before)
+    inl (b.0, b.1 ++ held, [], subst P (append_assoc (spelled b.0) b.1 held) (from_unread left rest held _ b.2), b.3, inl (b.4, refl), appends_nil before)
 
 -- the reader holds nothing at first
 pub ran_not_begun : (workers limit : ℕ) (left rest before : Option (List ℕ)) (first held : List ℕ) (halt : Halt) → first ≡ [] → Begun limit (prepend_known first left) (prepend_known held rest) (Err halt) → (halt ≡ Read → held ≡ []) → Ran workers limit left rest before before (Err halt)
@@ -67,6 +68,10 @@ ran_not_begun workers limit left rest before first held halt none b emptied =
     not_begun workers limit left rest before held halt (subst P none b) emptied
 
 -- ---- a session with commands
+
+divided : (program : List (List ℕ)) (divider : List ℕ) (lines : List (List ℕ)) → is_divider divider ≡ true → AreUndivided (program ++ divider ∷ lines) → ⊥
+divided [] divider lines e h = cc h.0
+divided (line ∷ program) divider lines e h = divided program divider lines e h.1
 
 unbroken_append : (xs ys : List (List ℕ)) → AreUnbroken xs → AreUnbroken ys → AreUnbroken (xs ++ ys)
 unbroken_append [] ys h k = k
@@ -82,17 +87,31 @@ module _ (workers limit : ℕ) (left mid : Option (List ℕ)) (s : Session) (d :
   unfolding head
   joined lines = append_assoc d.divided.program (d.divided.divider ∷ []) lines
 
+  -- the program and the commands, with the commands' lines behind the head
+  says : (lines : List (List ℕ)) → IsProgram (program_text (head ++ lines)) d.program
+  says lines =
+      let program : program_text (head ++ lines) ≡ d.text =
+      ap program_text (joined lines) ∙ (ap spelled (program_of_divided d.divided.program d.divided.divider lines d.divided.undivided d.divided.divides) ∙ sym d.divided.is_text) in
+      let P : List ℕ → Type 0 = λ l. IsProgram l d.program in
+      subst P (sym program) d.says
+
+  commands : (lines : List (List ℕ)) → command_lines (head ++ lines) ≡ lines
+  commands lines = ap command_lines (joined lines) ∙ commands_of_divided d.divided.program d.divided.divider lines d.divided.undivided d.divided.divides
+
   -- replies to the commands are an answer to all
   answers : (lines : List (List ℕ)) (out : List ℕ) → Replies workers s lines out → AnswerTo workers limit (head ++ lines) out
   answers lines out r =
-      let program : program_text (head ++ lines) ≡ d.text =
-      ap program_text (joined lines) ∙ (ap spelled (program_of_divided d.divided.program d.divided.divider lines d.divided.undivided d.divided.divides) ∙ sym d.divided.is_text) in
-      let commands : command_lines (head ++ lines) ≡ lines =
-      ap command_lines (joined lines) ∙ commands_of_divided d.divided.program d.divided.divider lines d.divided.undivided d.divided.divides in
-      let P : List ℕ → Type 0 = λ l. IsProgram l d.program in
       let R : List (List ℕ) → Type 0 = λ ls. Replies workers (opened d.program limit 65) ls out in
       let S : Session → Type 0 = λ t. Replies workers t lines out in
-      (d.program, subst P (sym program) d.says, subst R (sym commands) (subst S d.opens r))
+      (d.program, says lines, subst R (sym (commands lines)) (subst S d.opens r))
+
+  -- the same with a line more
+  answers_with : (lines : List (List ℕ)) (out line reply : List ℕ) → RepliesWith workers s lines out line reply → AnswersWith workers limit (head ++ lines) out line reply
+  answers_with lines out line reply r =
+      let R : List (List ℕ) → Type 0 = λ ls. RepliesWith workers (opened d.program limit 65) ls out line reply in
+      let S : Session → Type 0 = λ t. RepliesWith workers t lines out line reply in
+      let found : AreUndivided (head ++ lines) → ⊥ = λ none. divided d.divided.program d.divided.divider lines d.divided.divides (subst AreUndivided (joined lines) none) in
+      (found, (d.program, says lines, subst R (sym (commands lines)) (subst S d.opens r)))
 
   taken : (new : Option (List ℕ)) (bytes : List ℕ) → Consumes mid new bytes → Consumes (prepend_known [] left) new (spelled head ++ bytes)
   unfolding head
@@ -137,6 +156,23 @@ module _ (workers limit : ℕ) (left mid : Option (List ℕ)) (s : Session) (d :
       (head ++ r.0, r.1, r.2, from_unread_all left rest held _ (taken_lines (prepend_known held rest) r.0 r.1 r.3) (emptied refl), unbroken r.0 r.4, r.5, inr (answers r.0 r.2 r.6), r.7)
   ran_commands rest before after held (Err Write) r emptied =
       (spelled head ++ r.0, held, r.1, r.2, from_unread left rest held _ (taken (prepend_known held rest) r.0 r.3), answers_all r.0 r.1 r.4, r.5)
-  ran_commands rest before after held (Err Memory) r emptied =
+  ran_commands rest before after held (Err Memory) (inl r) emptied =
       let P : List ℕ → Type 0 = λ l. Consumes left rest l in
-      (head ++ r.0, r.1 ++ held, r.2, subst P (append_assoc (spelled (head ++ r.0)) r.1 held) (from_unread left rest held _ (taken_lines (prepend_known held rest) r.0 r.1 r.3)), unbroken r.0 r.4, inr (answers r.0 r.2 r.5), r.6)
+      inl (head ++ r.0, r.1 ++ held, r.2, subst P (append_assoc (spelled (head ++ r.0)) r.1 held) (from_unread left rest held _ (taken_lines (prepend_known held rest) r.0 r.1 r.3)), unbroken r.0 r.4, inr (answers r.0 r.2 r.5), r.6)
+  ran_commands rest before after held (Err Memory) (inr r) emptied =
+      let P : List ℕ → Type 0 = λ l. Consumes left rest l in
+      let taken' = from_unread left rest held _ (taken_lines (prepend_known held rest) r.lines (r.line ++ r.more) r.read) in
+      inr (record {
+        lines = head ++ r.lines;
+        line = r.line;
+        more = r.more ++ held;
+        out = r.out;
+        reply = r.reply;
+        n = r.n;
+        read = subst P (append_assoc (spelled (head ++ r.lines)) (r.line ++ r.more) held ∙ ap (λ l. spelled (head ++ r.lines) ++ l) (append_assoc r.line r.more held)) taken';
+        unbroken = unbroken r.lines r.unbroken;
+        next = r.next;
+        asks = r.asks;
+        replies = answers_with r.lines r.out r.line r.reply r.replies;
+        wrote = r.wrote;
+      })

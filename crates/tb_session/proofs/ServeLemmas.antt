@@ -1,5 +1,5 @@
 -- Commands, answered line by line.
-use Rattle.std.proofs.Common.{◌≡◌, ℕ, ◌+◌, List, [], ◌∷◌, ◌++◌, refl, sym, ap, ◌∙◌, subst, append-nil, take, length, Option, Ok, Err}
+use Rattle.std.proofs.Common.{◌≡◌, ◌⊎◌, inl, inr, ℕ, ◌+◌, List, [], ◌∷◌, ◌++◌, refl, sym, ap, ◌∙◌, subst, append-nil, take, length, Option, Ok, Err}
 use Rattle.std.proofs.Math.Seq.{take-append-add}
 use Rattle.std.specs.Io.KnownBytes.{Consumes, Appends}
 use Rattle.tb_read.specs.Text.{lines_of}
@@ -7,6 +7,7 @@ use Rattle.tb_lines.specs.Lines.{IsUnbroken, AreUnbroken, spelled, GaveLine}
 use Rattle.tb_live.specs.Session.{Session, Held}
 use Rattle.tb_commands.specs.Commands.{AsksSeveral}
 use Rattle.tb_replies.specs.Replies.{Answers}
+use Rattle.tb_replies.specs.Told.{AsksSteps, Begins, Told, WroteFront}
 use Rattle.tb_session.specs.Answer.{RunOf}
 use Rattle.tb_session.specs.Stages.{Answered, Served, line_at}
 use Rattle.tb_session.specs.declared.halt.Halt.{Halt}
@@ -15,10 +16,20 @@ use Rattle.tb_lines.specs.declared.line_reader.LineEnd.{LineEnd}
 use Rattle.tb_lines.specs.declared.line_reader.LineEnd.TheVariants.{Feed, Input}
 use Rattle.tb_lines.specs.declared.line_reader.LineFault.{LineFault}
 use Rattle.tb_lines.proofs.KnownLemmas.{consumes_nil, consumes_trans, appends_nil, appends_trans}
+use Rattle.tb_replies.proofs.ToldLemmas.{begins_cut, reply_extends}
 use Rattle.tb_session.proofs.LineLemmas.{lines_of_spelled, lines_of_whole, lines_of_last, spelled_append, all_more}
 use Rattle.tb_session.proofs.RunLemmas.{run_append, run_one}
 
 module _ (workers : ℕ) where
+  -- what waits of a reply was written
+  pub answer_whole : (s new : Session) (line rest seen : List ℕ) (a b c : Option (List ℕ)) → Told a b rest (λ out. Answers workers s line out new) → seen ≡ rest → Appends b c seen → (reply : List ℕ) × Answers workers s line reply new × Appends a c reply
+  answer_whole s new line rest seen a b c t same w = (t.front ++ rest, t.whole, appends_trans a b c t.front rest t.wrote (subst (λ l. Appends b c l) same w))
+
+  -- of what waits of a reply, a front was written
+  pub answer_cut : (s new : Session) (line rest seen : List ℕ) (a b c : Option (List ℕ)) → Told a b rest (λ out. Answers workers s line out new) → seen ≡ rest → WroteFront b c seen → Begins (Answers workers s line) a c
+  answer_cut s new line rest seen a b c t same w =
+      begins_cut a b c rest _ _ t (subst (λ l. WroteFront b c l) same w) (reply_extends (Answers workers s line) new)
+
   -- whole lines were taken and answered
   pub record Serving (s : Session) (start now before after : Option (List ℕ)) (new : Session) : Type 0 where
     pub lines : List (List ℕ)
@@ -37,7 +48,7 @@ module _ (workers : ℕ) where
 
   pub serve_memory : (s new : Session) (start now next before after : Option (List ℕ)) (line : List ℕ) (fault : LineFault) → Serving s start now before after new → GaveLine now next line (Err fault) → Served workers s start next before after (Err Memory)
   serve_memory s new start now next before after line fault g t =
-      (g.lines, line, g.out, consumes_trans start now next _ line g.bytes t.0, g.unbroken, (new, g.ran), g.wrote)
+      inl (g.lines, line, g.out, consumes_trans start now next _ line g.bytes t.0, g.unbroken, (new, g.ran), g.wrote)
 
   -- the bytes of a line, with its line feed where it has one
   bytes_at : LineEnd → List ℕ → List ℕ
@@ -78,6 +89,31 @@ module _ (workers : ℕ) where
       let R : List (List ℕ) → Type 0 = λ ls. RunOf (Answers workers) s ls (g.out ++ reply) new in
       subst R (sym (lines_at now next g.lines line end g.unbroken t)) (run_append (Answers workers) s mid new g.lines (line_at end line) g.out reply g.ran (run_at mid new line reply end a))
 
+  -- where memory fails, nothing of a reply was written, or a beginning
+  breaks_off : (s mid : Session) (start now next before after last : Option (List ℕ)) (line seen : List ℕ) (end : LineEnd) → Serving s start now before after mid → GaveLine now next line (Ok end) → seen ≡ line
+      → Appends after last [] ⊎ (AsksSteps workers seen × Begins (Answers workers mid seen) after last) → Served workers s start next before last (Err Memory)
+  breaks_off s mid start now next before after last line seen end g t same (inl a) =
+      let W : List ℕ → Type 0 = λ l. Appends before last l in
+      inl (g.lines, bytes_at end line, g.out, consumes_trans start now next _ _ g.bytes (taken_at now next line end t), g.unbroken, (mid, g.ran), subst W (append-nil g.out) (appends_trans before after last g.out [] g.wrote a))
+  breaks_off s mid start now next before after last line seen end g t same (inr a) =
+      let A : List ℕ → Type 0 = λ l. Answers workers mid l a.1.0 a.1.1 in
+      let B : List ℕ → Type 0 = λ l. Consumes start next (spelled g.lines ++ l) in
+      let split = split_at now next line end t in
+      inr (record {
+        lines = g.lines;
+        line = line;
+        more = split.0;
+        out = g.out;
+        reply = a.1.0;
+        n = a.1.2;
+        read = subst B split.1 (consumes_trans start now next _ _ g.bytes (taken_at now next line end t));
+        unbroken = g.unbroken;
+        next = unbroken_at now next line end t;
+        asks = subst (AsksSteps workers) same a.0;
+        replies = (mid, a.1.1, g.ran, subst A same a.1.3);
+        wrote = appends_trans before after last g.out (take a.1.2 a.1.0) g.wrote a.1.4;
+      })
+
   pub serve_halts : (s mid : Session) (start now next before after last : Option (List ℕ)) (line seen : List ℕ) (end : LineEnd) (halt : Halt) → Serving s start now before after mid → GaveLine now next line (Ok end) → seen ≡ line
       → Answered workers mid seen after last (Err halt) → Served workers s start next before last (Err halt)
   serve_halts s mid start now next before after last line seen end (Refused fault) g t same a = absurd a
@@ -97,9 +133,7 @@ module _ (workers : ℕ) where
         (mid, g.ran),
         subst W (append-nil g.out) (appends_trans before after last g.out [] g.wrote a.1),
       )
-  serve_halts s mid start now next before after last line seen end Memory g t same a =
-      let W : List ℕ → Type 0 = λ l. Appends before last l in
-      (g.lines, bytes_at end line, g.out, consumes_trans start now next _ _ g.bytes (taken_at now next line end t), g.unbroken, (mid, g.ran), subst W (append-nil g.out) (appends_trans before after last g.out [] g.wrote a))
+  serve_halts s mid start now next before after last line seen end Memory g t same a = breaks_off s mid start now next before after last line seen end g t same a
   serve_halts s mid start now next before after last line seen end Write g t same a =
       let A : List ℕ → Type 0 = λ l. Answers workers mid l a.0 a.1 in
       let W : List ℕ → Type 0 = λ l. Appends before last l in (

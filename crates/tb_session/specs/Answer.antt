@@ -11,6 +11,7 @@ use Rattle.tb_replies.specs.Reading.{IsProgram, IsRefused}
 use Rattle.tb_live.specs.Session.{Session, opened}
 use Rattle.tb_commands.specs.Commands.{AsksSeveral}
 use Rattle.tb_replies.specs.Replies.{Answers}
+use Rattle.tb_replies.specs.Told.{AsksSteps}
 use Rattle.tb_session.specs.declared.halt.Halt.{Halt}
 use Rattle.tb_session.specs.declared.halt.Halt.TheVariants.{Refused, Read, Write, Memory, Journal}
 
@@ -53,6 +54,33 @@ IsAnswer workers limit bytes out = AnswerTo workers limit (lines_of bytes) out
 abbrev pub Replied : (workers limit : ℕ) → List (List ℕ) → List ℕ → Type 0
 Replied workers limit lines out = (AreUndivided lines × (out ≡ [])) ⊎ AnswerTo workers limit lines out
 
+-- ---- a reply that breaks off
+
+-- these may be the replies to these lines, and this one to the line behind them
+abbrev pub RepliesWith : ℕ → Session → List (List ℕ) → List ℕ → List ℕ → List ℕ → Type 0
+RepliesWith workers s lines out line reply = (mid : Session) × (new : Session) × RunOf (Answers workers) s lines out mid × Answers workers mid line reply new
+
+-- the same where the program is accepted, and its divider is among the lines
+abbrev pub AnswersWith : (workers limit : ℕ) → List (List ℕ) → List ℕ → List ℕ → List ℕ → Type 0
+AnswersWith workers limit lines out line reply =
+    (AreUndivided lines → ⊥) × ((P : Program) × IsProgram (program_text lines) P × RepliesWith workers (opened P limit 65) (command_lines lines) out line reply)
+
+-- the replies to whole lines were written, and a beginning of a reply to the next one, which asks for steps that are told as
+-- they are taken
+pub record BrokeOff (workers : ℕ) (AreReplies : List (List ℕ) → List ℕ → List ℕ → List ℕ → Type 0) (left rest before after : Option (List ℕ)) : Type 0 where
+  pub lines : List (List ℕ)
+  pub line : List ℕ
+  pub more : List ℕ
+  pub out : List ℕ
+  pub reply : List ℕ
+  pub n : ℕ
+  pub read : Consumes left rest (spelled lines ++ (line ++ more))
+  pub unbroken : AreUnbroken lines
+  pub next : IsUnbroken line
+  pub asks : AsksSteps workers line
+  pub replies : AreReplies lines out line reply
+  pub wrote : Appends before after (out ++ take n reply)
+
 -- the program of all that was to come is refused, where that is known
 abbrev pub Refuses : ReadFault → Option (List ℕ) → Type 0
 Refuses fault None = ⊤
@@ -72,10 +100,11 @@ Ran workers limit left rest before after (Err Read) =
 Ran workers limit left rest before after (Err Write) =
     (bytes : List ℕ) × (more : List ℕ) × (out : List ℕ) × (n : ℕ) × Consumes left rest (bytes ++ more)
     × IsAnswer workers limit bytes out × Appends before after (take n out)
--- the replies to the whole lines that were worked on
+-- the replies to the whole lines that were worked on, or these and a beginning of the next one
 Ran workers limit left rest before after (Err Memory) =
-    (lines : List (List ℕ)) × (more : List ℕ) × (out : List ℕ) × Consumes left rest (spelled lines ++ more)
-    × AreUnbroken lines × Replied workers limit lines out × Appends before after out
+    ((lines : List (List ℕ)) × (more : List ℕ) × (out : List ℕ) × Consumes left rest (spelled lines ++ more)
+    × AreUnbroken lines × Replied workers limit lines out × Appends before after out)
+    ⊎ BrokeOff workers (AnswersWith workers limit) left rest before after
 -- the same in front of a line that asks for a go of two or more workers
 Ran workers limit left rest before after (Err Journal) =
     (lines : List (List ℕ)) × (line : List ℕ) × (more : List ℕ) × (out : List ℕ) × Consumes left rest (spelled lines ++ (line ++ more))

@@ -1,5 +1,5 @@
 -- What the stages of a session come to, by what was to come before and what is to come after.
-use Rattle.std.specs.Prelude.{◌≡◌, ℕ, List, [], ◌∷◌, ◌++◌, take, Option, Result, Ok, Err, Bool, true, false, ⊤}
+use Rattle.std.specs.Prelude.{◌≡◌, ◌⊎◌, ℕ, List, [], ◌∷◌, ◌++◌, take, Option, Result, Ok, Err, Bool, true, false, ⊤}
 use Rattle.std.specs.Io.KnownBytes.{Consumes, IsAtEnd, Appends}
 use Rattle.tb_model.specs.Program.{Program}
 use Rattle.tb_read.specs.Text.{lines_of}
@@ -9,7 +9,8 @@ use Rattle.tb_replies.specs.Reading.{IsProgram, IsRefused}
 use Rattle.tb_live.specs.Session.{Session, Held, opened}
 use Rattle.tb_commands.specs.Commands.{AsksSeveral}
 use Rattle.tb_replies.specs.Replies.{Answers}
-use Rattle.tb_session.specs.Answer.{Replies, AreUndivided, program_text, command_lines, Refuses}
+use Rattle.tb_replies.specs.Told.{AsksSteps, Begins}
+use Rattle.tb_session.specs.Answer.{BrokeOff, Replies, RepliesWith, AreUndivided, program_text, command_lines, Refuses}
 use Rattle.tb_session.specs.declared.halt.Halt.{Halt}
 use Rattle.tb_session.specs.declared.halt.Halt.TheVariants.{Refused, Read, Write, Memory, Journal}
 use Rattle.tb_lines.specs.declared.line_reader.LineEnd.{LineEnd}
@@ -58,8 +59,9 @@ Served workers s old new before after (Err Read) =
     × AreUnbroken lines × IsUnbroken part × Replies workers s lines out × Appends before after out
 Served workers s old new before after (Err Write) = (bytes : List ℕ) × (out : List ℕ) × (n : ℕ) × Consumes old new bytes × Replies workers s (lines_of bytes) out × Appends before after (take n out)
 Served workers s old new before after (Err Memory) =
-    (lines : List (List ℕ)) × (more : List ℕ) × (out : List ℕ) × Consumes old new (spelled lines ++ more)
-    × AreUnbroken lines × Replies workers s lines out × Appends before after out
+    ((lines : List (List ℕ)) × (more : List ℕ) × (out : List ℕ) × Consumes old new (spelled lines ++ more)
+    × AreUnbroken lines × Replies workers s lines out × Appends before after out)
+    ⊎ BrokeOff workers (RepliesWith workers s) old new before after
 Served workers s old new before after (Err Journal) =
     (lines : List (List ℕ)) × (line : List ℕ) × (more : List ℕ) × (out : List ℕ) × Consumes old new (spelled lines ++ (line ++ more))
     × AreUnbroken lines × IsUnbroken line × AsksSeveral workers line × Replies workers s lines out × Appends before after out
@@ -69,7 +71,8 @@ Served workers s old new before after (Err _) = ⊥
 abbrev pub Answered : ℕ → Session → List ℕ → Option (List ℕ) → Option (List ℕ) → Result Held Halt → Type 0
 Answered workers old line before after (Ok new) = (reply : List ℕ) × Answers workers old line reply new.session × Appends before after reply
 Answered workers old line before after (Err Write) = (reply : List ℕ) × (new : Session) × (n : ℕ) × Answers workers old line reply new × Appends before after (take n reply)
-Answered workers old line before after (Err Memory) = Appends before after []
+-- of a reply a part only where the line asks for steps that are told as they are taken
+Answered workers old line before after (Err Memory) = Appends before after [] ⊎ (AsksSteps workers line × Begins (Answers workers old line) before after)
 -- only where the line asks for a go of two or more workers
 Answered workers old line before after (Err Journal) = AsksSeveral workers line × Appends before after []
 Answered workers old line before after (Err _) = ⊥

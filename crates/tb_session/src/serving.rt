@@ -12,8 +12,7 @@ use std::thread::Threads;
 use tb_commands::Workers;
 use tb_lines::{LineEnd, LineFault, LineReader, Sink, Source, write_whole};
 use tb_live::{Live, end};
-use tb_replies::answer;
-use tb_team::Lost;
+use tb_replies::{Unanswered, answer};
 
 /// Works on a line, and writes its reply.
 pub fn answer_line<R: Threads + Wait + Sync, K: Sink>(
@@ -33,12 +32,13 @@ pub fn answer_line<R: Threads + Wait + Sync, K: Sink>(
     ensures journal { IsErrOf result Halt.Journal → K.failures sink.new ≡ K.failures sink.old }
     ensures ok { OnOk result (K.failures sink.new ≡ K.failures sink.old) }
 {
-    let (live, reply) = match answer(rt, alloc, limit, live, line) {
+    let (live, rest) = match answer(rt, alloc, limit, sink, live, line) {
         Ok(answered) => answered,
-        Err(Lost::Memory) => return Err(Halt::Memory),
-        Err(Lost::Journal) => return Err(Halt::Journal),
+        Err(Unanswered::Memory) => return Err(Halt::Memory),
+        Err(Unanswered::Write) => return Err(Halt::Write),
+        Err(Unanswered::Journal) => return Err(Halt::Journal),
     };
-    match write_whole(sink, &reply) {
+    match write_whole(sink, &rest) {
         Ok(()) => Ok(live),
         Err(_) => {
             end(live);

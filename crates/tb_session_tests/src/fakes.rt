@@ -85,16 +85,14 @@ pub fn whole(bytes: &[u8]) -> FailsAt<'_>
     }
 }
 
-/// Whether a session of this source, over a sink with this room, writes this and ends so.
-pub fn is_session<R: Threads + Wait + Sync>(
+/// What a session of this source writes over a sink with this room, in how many calls, and how it ends.
+pub fn written<R: Threads + Wait + Sync>(
     rt: &R,
     alloc: Global,
     mut source: FailsAt<'_>,
     room: usize,
     limit: u32,
-    want: &str,
-    halt: Option<Halt>,
-) -> bool
+) -> (Vec<u8>, u64, Option<Halt>)
     requires failed { source.failed < 2 ^ 64 - 1 }
     requires some { 1 ≤ limit }
     requires few { limit ≤ 1000000 }
@@ -107,7 +105,25 @@ pub fn is_session<R: Threads + Wait + Sync>(
     };
     let settings = Settings { workers: 4, limit };
     let got = run(rt, alloc, &mut source, &mut sink, settings);
-    got.err() == halt && sink.bytes.as_slice() == want.as_bytes()
+    (sink.bytes, sink.calls, got.err())
+}
+
+/// Whether a session of this source, over a sink with this room, writes this and ends so.
+pub fn is_session<R: Threads + Wait + Sync>(
+    rt: &R,
+    alloc: Global,
+    source: FailsAt<'_>,
+    room: usize,
+    limit: u32,
+    want: &str,
+    halt: Option<Halt>,
+) -> bool
+    requires failed { source.failed < 2 ^ 64 - 1 }
+    requires some { 1 ≤ limit }
+    requires few { limit ≤ 1000000 }
+{
+    let (bytes, _, end) = written(rt, alloc, source, room, limit);
+    end == halt && bytes.as_slice() == want.as_bytes()
 }
 
 pub const ROOT_ALONE: &[u8] = b"cells 1\nbody main 0\nstore 0 7\nprint 7\nend\n";
