@@ -113,9 +113,9 @@ fn append_race(text: &mut String, race: &Race) -> Result<(), AllocError>
         ≡ string_bytes text.old ++ Reasons.race_line race.now) }
 {
     race.earlier.print(text)?;
-    text.push(' ')?;
+    text.push_str(" ")?;
     race.later.print(text)?;
-    text.push(' ')?;
+    text.push_str(" ")?;
     append_conflict(text, race.conflict)?;
     append_apart(text, race.apart)?;
     text.push('\n')
