@@ -56,7 +56,7 @@ Replied workers limit lines out = (AreUndivided lines × (out ≡ [])) ⊎ Answe
 
 -- ---- a reply that breaks off
 
--- these may be the replies to these lines, and this one to the line behind them
+-- these may be the replies to these lines, and this one to the line after them
 abbrev pub RepliesWith : ℕ → Session → List (List ℕ) → List ℕ → List ℕ → List ℕ → Type 0
 RepliesWith workers s lines out line reply = (mid : Session) × (new : Session) × RunOf (Answers workers) s lines out mid × Answers workers mid line reply new
 

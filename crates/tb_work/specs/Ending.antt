@@ -18,7 +18,7 @@ use Rattle.tb_work.specs.Answering.{IsAnswer}
 use Rattle.tb_work.specs.Bursts.{TakesBurst}
 use Rattle.tb_work.specs.Going.{turn_behind}
 
--- a burst of the seat meets a refusal behind which its worker ends so
+-- a burst of the seat meets a refusal after which its worker ends so
 pub record EndsBurst (seat : ℕ) (ended : Ended) (s new : Session) : Type 0 where
   pub plans : List Plan
   pub burst : Burst
@@ -27,14 +27,14 @@ pub record EndsBurst (seat : ℕ) (ended : Ended) (s new : Session) : Type 0 whe
   pub behind : turn_behind refusal ≡ Over ended
   pub takes : TakesBurst seat plans burst s new
 
--- a worker ends well where no task can step, where the run is paused or its journal is full, or behind such a refusal; where it
+-- a worker ends well where no task can step, where the run is paused or its journal is full, or after such a refusal; where it
 -- wants memory, the run tells nothing
 abbrev pub IsEnding : ℕ → Ended → Session → Session → Type 0
 IsEnding seat Well s new = ClaimsWork s seat new Done ⊎ ClaimsWork s seat new Stopped ⊎ EndsBurst seat Well s new
 IsEnding seat CellTaken s new = EndsBurst seat CellTaken s new
 IsEnding seat Memory s new = ⊤
 
--- a turn behind which the worker ends is one by what the run told it
+-- a turn after which the worker ends is one by what the run told it
 abbrev pub IsTurn : Program → ℕ → Points → ℕ → List Entry → ℕ → Turn → Type 0
 IsTurn P limit points seats begun seat On = ⊤
 IsTurn P limit points seats begun seat Later = ⊤
