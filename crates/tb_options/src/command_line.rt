@@ -36,12 +36,12 @@ Commands:
   step T, run N, go W N                     take steps: of task T, of the least
                                             that can, and by W workers, up to a
                                             breakpoint
-  undo ID                                   take a step back that nothing needs
-  roll ID, rolltask T, rollcell C, rollprint
+  undo T#K                                  take a step back that nothing needs
+  roll T#K, rolltask T, rollcell C, rollprint
                                             take a step back with all that need it
   cells, out, hist, tasks, task T, ready, waits, deps T, breaks
                                             show what stands
-  why ID, causes ID, who ID, races          show what needs what, and what races
+  why T#K, causes T#K, who T#K, races       show what needs what, and what races
   break task T, break cell C, break body B, break print, break fault, clear K
                                             stop `go` after such a step
 

@@ -54,7 +54,7 @@ fn the_help_has_examples(rt: HostRuntime) -> Result<(), Fail> {
         Err(error) => {
             let text = format!(in rt.alloc(); "{error}")?;
             assert!(rt; text.as_str().contains("taskback < examples/race.session"));
-            assert!(rt; text.as_str().contains("roll ID"));
+            assert!(rt; text.as_str().contains("roll T#K"));
         }
     }
     Ok(())
