@@ -21,7 +21,7 @@ use crate::claims::Claims;
 use crate::control::Control;
 use crate::floor::Floor;
 use crate::mode::Mode;
-use crate::newest::{newest_step, place_of_print, place_of_store};
+use crate::newest::{newest_print, newest_store};
 use crate::planning::coming_of;
 use crate::prepared::{Prepared, forget, take_name, take_roll};
 use crate::ready::{least_coming, refusal_of};
@@ -74,11 +74,13 @@ impl Live {
         requires seats { seats ≤ 65 }
         ensures { IfOk result (λ live. live.session ≡ opened program limit seats) }
     {
-        let core = Core::open(alloc, program.cells(), program.root_line(), limit)?;
+        let claims = Claims::none(alloc, seats)?;
         let mut journal = Vec::with_capacity(alloc, 1)?;
         journal.push(Entry::Opened)?;
+        // last, so that no error drops a core with its tables
+        let core = Core::open(alloc, program.cells(), program.root_line(), limit)?;
         let control = Control {
-            claims: Claims::none(alloc, seats)?,
+            claims,
             breakpoints: Breakpoints::new(alloc),
             mode: Mode::Resumed,
         };
@@ -279,15 +281,13 @@ impl Live {
     pub fn last_store(&self, cell: u32) -> Result<Option<StepId>, AllocError>
         ensures { IfOk result (λ id. id ≡ last_store cell (history self.now.session)) }
     {
-        let entries = self.core.legal_entries();
-        newest_step(entries, place_of_store(entries, cell))
+        newest_store(self.core.touches(cell), self.core.legal_entries(), cell)
     }
 
     /// The last print.
     pub fn last_print(&self) -> Result<Option<StepId>, AllocError>
         ensures { IfOk result (λ id. id ≡ last_print (history self.now.session)) }
     {
-        let entries = self.core.legal_entries();
-        newest_step(entries, place_of_print(entries))
+        newest_print(self.core.prints(), self.core.legal_entries())
     }
 }

@@ -1,7 +1,8 @@
-//! The newest step of a kind, found by a scan of the entries from the newest.
+//! The newest step of a kind, read off the places of the steps that may be of it.
 
-ghost use Rattle.std.specs.Prelude.{◌≡◌, ◌<◌, ◌≤◌, IfOk, IfSome, length};
-ghost use Rattle.tb_model.specs.Facts.{is_store_to};
+ghost use Rattle.std.specs.Prelude.{◌≡◌, ◌<◌, ◌≤◌, IfOk, IfSome, length, reverse};
+ghost use Rattle.tb_model.specs.Facts.{is_print, is_store_to, touches};
+ghost use Rattle.tb_places.specs.Where.{places_where};
 ghost use Rattle.tb_core.specs.Scans.{found_step, history_of};
 ghost use Rattle.tb_live.specs.Session.{last_store, last_print};
 
@@ -18,14 +19,35 @@ fn is_store_to(action: &Action, cell: u32) -> bool
     }
 }
 
-/// The place of the last store to the cell.
-pub fn place_of_store(entries: &[Entry], cell: u32) -> Option<usize>
+/// The last store to the cell, where the steps that load from it or store to it stand at these
+/// places.
+pub fn newest_store(
+    places: &[u32],
+    entries: &[Entry],
+    cell: u32,
+) -> Result<Option<StepId>, AllocError>
+    requires places { places.now ≡
+        places_where (λ v. touches cell v.action) (reverse (history_of entries.now)) }
+    requires bound { length entries.now ≤ 1000000 }
+    ensures { IfOk result (λ id. id ≡ last_store cell (history_of entries.now)) }
+{
+    match place_of_store(places, entries, cell) {
+        Some(at) => Ok(Some(step_at(entries, at)?)),
+        None => Ok(None),
+    }
+}
+
+/// The place of the last store among these: the loads after it are passed over.
+fn place_of_store(places: &[u32], entries: &[Entry], cell: u32) -> Option<usize>
+    requires { places.now ≡
+        places_where (λ v. touches cell v.action) (reverse (history_of entries.now)) }
     ensures step { found_step entries.now result ≡ last_store cell (history_of entries.now) }
     ensures within { IfSome result (λ at. at < length entries.now) }
 {
-    let mut at = entries.len();
-    'back: while 0 < at {
-        at -= 1;
+    let mut left = places.len();
+    'back: while 0 < left {
+        left -= 1;
+        let at = places[left] as usize;
         if is_store_to(&entries[at].event.action, cell) {
             return Some(at);
         }
@@ -33,29 +55,15 @@ pub fn place_of_store(entries: &[Entry], cell: u32) -> Option<usize>
     None
 }
 
-/// The place of the last print.
-pub fn place_of_print(entries: &[Entry]) -> Option<usize>
-    ensures step { found_step entries.now result ≡ last_print (history_of entries.now) }
-    ensures within { IfSome result (λ at. at < length entries.now) }
-{
-    let mut at = entries.len();
-    'back: while 0 < at {
-        at -= 1;
-        if entries[at].event.action.is_print() {
-            return Some(at);
-        }
-    }
-    None
-}
-
-/// The step at the place, where there is one.
-pub fn newest_step(entries: &[Entry], at: Option<usize>) -> Result<Option<StepId>, AllocError>
-    requires within { IfSome at (λ place. place < length entries.now) }
+/// The last print, where the prints stand at these places.
+pub fn newest_print(places: &[u32], entries: &[Entry]) -> Result<Option<StepId>, AllocError>
+    requires places { places.now ≡
+        places_where (λ v. is_print v.action) (reverse (history_of entries.now)) }
     requires bound { length entries.now ≤ 1000000 }
-    ensures { IfOk result (λ id. id ≡ found_step entries.now at) }
+    ensures { IfOk result (λ id. id ≡ last_print (history_of entries.now)) }
 {
-    match at {
-        Some(at) => Ok(Some(step_at(entries, at)?)),
+    match places.last() {
+        Some(at) => Ok(Some(step_at(entries, *at as usize)?)),
         None => Ok(None),
     }
 }
