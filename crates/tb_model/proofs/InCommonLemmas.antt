@@ -16,10 +16,10 @@ front_cmp : (s x y : Name) → slice_cmp nat_cmp (s ++ x) (s ++ y) ≡ slice_cmp
 front_cmp [] x y = refl
 front_cmp (n ∷ s) x y = rw (nat_cmp_same n) (front_cmp s x y)
 
-name_cmp-append : (x y s : Name) → name_cmp (x ++ s) (y ++ s) ≡ name_cmp x y
+pub name_cmp-append : (x y s : Name) → name_cmp (x ++ s) (y ++ s) ≡ name_cmp x y
 name_cmp-append x y s = ap₂ (slice_cmp nat_cmp) (reverse-append x s) (reverse-append y s) ∙ front_cmp (reverse s) (reverse x) (reverse y)
 
-same_is : (a b : Name) → same_name a b ≡ true → a ≡ b
+pub same_is : (a b : Name) → same_name a b ≡ true → a ≡ b
 same_is a b h = (bytes_eq-Decides a b).0 (pointwise_same a b ∙ h)
 
 -- a front, and what stands behind it up to m

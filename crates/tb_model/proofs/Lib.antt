@@ -6,6 +6,10 @@ pub mod ReadLemmas
 pub mod StepIdLemmas
 pub mod WithinLemmas
 pub mod InCommonLemmas
+pub mod BlockLemmas
+pub mod BlockOrderLemmas
+pub mod BlockEndLemmas
+pub mod BlockHashLemmas
 pub mod PartsLemmas
 pub mod RemovalLemmas
 pub mod AlikeLemmas

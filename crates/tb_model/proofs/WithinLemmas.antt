@@ -25,7 +25,7 @@ or_false : (a : Bool) → (a || false) ≡ a
 or_false true = refl
 or_false false = refl
 
-ends_with : (k : ℕ) (c m : Name) → length m ≡ k + length c → is_within c m ≡ same_name c (drop k m)
+pub ends_with : (k : ℕ) (c m : Name) → length m ≡ k + length c → is_within c m ≡ same_name c (drop k m)
 ends_with zero c [] e = refl
 ends_with zero c (n ∷ m) e = ap (λ t. same_name c (n ∷ m) || t) (short_without c m (omega arith)) ∙ or_false (same_name c (n ∷ m))
 ends_with (suc k) c [] e = absurd (omega arith)

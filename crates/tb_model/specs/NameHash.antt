@@ -8,8 +8,10 @@ mixed digest [] = digest
 mixed digest (n ∷ ns) = mixed (((digest * 2654435769) % 2 ^ 32 + n) % 2 ^ 32) ns
 
 -- of a deep name the sixteen numbers nearest to the task, and the eight nearest to the root
-abbrev pub digest : Name → ℕ
-digest t =
-    let depth = length t % 2 ^ 32 in
+abbrev pub digest_of : ℕ → Name → ℕ
+digest_of depth t =
     if nat_le (length t) 24 then mixed depth t
     else mixed (mixed depth (take 16 t)) (drop (length t - 8) t)
+
+abbrev pub digest : Name → ℕ
+digest t = digest_of (length t % 2 ^ 32) t

@@ -15,6 +15,11 @@ abbrev pub name_text : Name → List ℕ
 name_text [] = 48 ∷ []
 name_text (n ∷ t) = name_text t ++ 46 ∷ decimal n
 
+-- the levels of these numbers, the last one first
+abbrev pub levels_text : List ℕ → List ℕ
+levels_text [] = []
+levels_text (n ∷ t) = levels_text t ++ 46 ∷ decimal n
+
 -- four levels of one digit each, the last of these numbers first
 abbrev pub four_levels : (a b c d : ℕ) → List ℕ
 four_levels a b c d = 46 ∷ (48 + d) ∷ 46 ∷ (48 + c) ∷ 46 ∷ (48 + b) ∷ 46 ∷ (48 + a) ∷ []

@@ -1,6 +1,6 @@
 //! Names of tasks.
 
-ghost use Rattle.std.specs.Prelude.{◌≡◌, ◌<◌, ◌≤◌, IfOk, IsOk, IsErrOf, OnOk, OnErr, IsFalse, ◌↔◌, [], ◌++◌, length, string_bytes};
+ghost use Rattle.std.specs.Prelude.{◌≡◌, ◌<◌, ◌≤◌, IfOk, IsOk, IsErrOf, OnOk, OnErr, IsFalse, ◌↔◌, [], ◌++◌, length, slice_get, string_bytes};
 ghost use Rattle.std.specs.Cmp.Rules.{comparing};
 ghost use Rattle.std.specs.Hash as fed;
 ghost use Rattle.std.specs.Ordering.{as_partial_cmp};
@@ -9,12 +9,14 @@ ghost use Rattle.tb_model.specs.NameHash.{digest};
 ghost use Rattle.tb_model.specs.Spelling.{name_text, spells_name, spelled_name};
 ghost use Rattle.tb_model.specs.NameLaws.{same_name_equivalence, same_name_partial, name_cmp_total, name_cmp_ties, same_name_feeds, name_cmp_partial};
 
-use crate::in_common::{are_same, without_common};
 use crate::name_hash::digest;
+use crate::name_order::compared;
 use crate::name_refusal::NameRefusal;
 use crate::name_text::{append_name, last_part, spells_name};
 use crate::numbers::Numbers;
+use crate::within::ends_with;
 use crate::ordinal::ordinal;
+use crate::parts::Parts;
 use smallvec::SmallVec;
 use std::alloc::{AllocError, Global};
 use std::cmp::Ordering;
@@ -85,8 +87,7 @@ impl Ord for TaskName {
     ghost matches_eq = { name_cmp_ties };
 
     fn cmp(&self, other: &TaskName) -> Ordering {
-        let (own, others) = without_common(self.numbers.as_slice(), other.numbers.as_slice());
-        own.iter().rev().cmp(others.iter().rev())
+        compared(&self.numbers.parts(), &other.numbers.parts())
     }
 }
 
@@ -106,7 +107,7 @@ impl Hash for TaskName {
     ghost respects_eq = { same_name_feeds };
 
     fn hash<H: Hasher>(&self, state: &mut H) {
-        digest(self.numbers.as_slice()).hash(state);
+        digest(&self.numbers.parts()).hash(state);
     }
 }
 
@@ -127,7 +128,7 @@ impl TaskName {
         ensures short { length self.now < 3 → IsOk result }
     {
         let alloc = self.numbers.allocator();
-        let numbers = Numbers::with_first(alloc, n, self.numbers.as_slice())?;
+        let numbers = Numbers::with_first(alloc, n, &self.numbers.parts())?;
         Ok(TaskName { numbers })
     }
 
@@ -137,10 +138,10 @@ impl TaskName {
         ensures parent { IfOk result (λ p. p ≡ parent self.now) }
         ensures short { length self.now ≤ 4 → IsOk result }
     {
-        match self.numbers.as_slice() {
-            [] => Ok(None),
-            [_, parent @ ..] => {
-                let numbers = Numbers::from_slice(self.numbers.allocator(), parent)?;
+        match self.numbers.parts().split_first() {
+            None => Ok(None),
+            Some((_, parent)) => {
+                let numbers = Numbers::from_parts(self.numbers.allocator(), &parent)?;
                 Ok(Some(TaskName { numbers }))
             }
         }
@@ -152,7 +153,7 @@ impl TaskName {
         ensures err { OnErr result (string_bytes text.new ≡ string_bytes text.old) }
     {
         let len = text.len();
-        let printed = append_name(text, self.numbers.as_slice());
+        let printed = append_name(text, &self.numbers.parts());
         if printed.is_err() {
             text.truncate(len);
         }
@@ -184,39 +185,46 @@ impl TaskName {
         Ok(TaskName { numbers })
     }
 
-    /// The numbers, the task's own first and the one below the root last. The root has none.
-    pub fn numbers(&self) -> &[u32]
-        ensures { result.now ≡ self.now }
+    /// Which of its parent's children the task is, from 1, in the order of spawning. The root is none.
+    pub fn ordinal(&self) -> Option<u32>
+        ensures { result ≡ slice_get self.now 0 }
     {
-        self.numbers.as_slice()
+        self.numbers.parts().first()
+    }
+
+    /// The numbers as they stand in memory.
+    pub(crate) fn parts(&self) -> Parts<'_>
+        ensures { result ≡ self.now }
+    {
+        self.numbers.parts()
     }
 
     /// Whether the other is a child of this.
     pub fn is_parent_of(&self, other: &TaskName) -> bool
         ensures { result ≡ is_child self.now other.now }
     {
-        match other.numbers.as_slice() {
-            [] => false,
-            [_, parent @ ..] => are_same(parent, self.numbers.as_slice()),
+        match other.numbers.parts().split_first() {
+            None => false,
+            Some((_, parent)) => parent.is_same(&self.numbers.parts()),
         }
     }
 
     /// Whether this is the other or a descendant of it.
-    #[tactic(auto, using(crate::proofs::WithinLemmas::short_without))]
     pub fn is_within(&self, ancestor: &TaskName) -> bool
         ensures { result ≡ is_within ancestor.now self.now }
     {
-        let numbers = self.numbers.as_slice();
-        let front = ancestor.numbers.as_slice();
-        numbers.len() >= front.len() && front == &numbers[numbers.len() - front.len()..]
+        ends_with(&self.numbers.parts(), &ancestor.numbers.parts())
     }
 
     /// Whether the two are children of one task, and this one was generated first.
     pub fn is_elder_of(&self, other: &TaskName) -> bool
         ensures { result ≡ is_elder self.now other.now }
     {
-        match (self.numbers.as_slice(), other.numbers.as_slice()) {
-            ([m, parent @ ..], [n, others @ ..]) => *m < *n && are_same(parent, others),
+        match (
+            self.numbers.parts().split_first(),
+            other.numbers.parts().split_first(),
+        ) {
+            (Some((m, parent)), Some((n, others))) => m < n && parent.is_same(&others),
             _ => false,
         }
     }

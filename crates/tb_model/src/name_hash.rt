@@ -1,7 +1,10 @@
 //! The number by which a table looks a name up.
 
-ghost use Rattle.std.specs.Prelude.{◌≡◌};
-ghost use Rattle.tb_model.specs.NameHash.{digest, mixed};
+ghost use Rattle.std.specs.Prelude.{◌≡◌, ◌++◌, length, take, drop};
+ghost use Rattle.tb_model.specs.NameHash.{digest, digest_of, mixed};
+
+use crate::block::BLOCK;
+use crate::parts::Parts;
 
 // So many numbers of a deep name are mixed: those nearest to the task, and those nearest to the root.
 const NEAR: usize = 16;
@@ -10,15 +13,48 @@ const FAR: usize = 8;
 
 /// A number made of the name's depth and numbers. It costs no more for a deep name than for one of 24 numbers: names that
 /// differ in the middle alone have one digest.
-pub(crate) fn digest(numbers: &[u32]) -> u32
+pub(crate) fn digest(numbers: &Parts<'_>) -> u32
     ensures { result ≡ digest numbers.now }
 {
-    let depth = (numbers.len() % 4_294_967_296) as u32;
+    let length = numbers.near.len() as u128 + numbers.far.len() as u128 * 128;
+    let depth = (length % 4_294_967_296) as u32;
+    match numbers.far {
+        [] => of_numbers(depth, numbers.near),
+        [root, ..] => {
+            let last = &numbers.far[numbers.far.len() - 1];
+            of_blocks(depth, numbers.near, last.as_slice(), root.as_slice())
+        }
+    }
+}
+
+fn of_numbers(depth: u32, numbers: &[u32]) -> u32
+    ensures { result ≡ digest_of depth numbers.now }
+{
     if numbers.len() <= NEAR + FAR {
         return mixed(depth, numbers);
     }
-    let near = mixed(depth, &numbers[..NEAR]);
-    mixed(near, &numbers[numbers.len() - FAR..])
+    let digest = mixed(depth, &numbers[..NEAR]);
+    mixed(digest, &numbers[numbers.len() - FAR..])
+}
+
+/// The same of a deep name, of which these are the numbers nearest to the task, those after them, and those at the
+/// root.
+fn of_blocks(depth: u32, near: &[u32], next: &[u32], root: &[u32]) -> u32
+    requires { (length next.now ≡ 128) × (length root.now ≡ 128) }
+    ensures { result ≡ mixed (mixed depth (take 16 (near.now ++ next.now))) (drop 120 root.now) }
+{
+    let digest = nearest(depth, near, next);
+    mixed(digest, &root[BLOCK - FAR..])
+}
+
+fn nearest(depth: u32, near: &[u32], next: &[u32]) -> u32
+    requires { length next.now ≡ 128 }
+    ensures { result ≡ mixed depth (take 16 (near.now ++ next.now)) }
+{
+    if NEAR <= near.len() {
+        return mixed(depth, &near[..NEAR]);
+    }
+    mixed(mixed(depth, near), &next[..NEAR - near.len()])
 }
 
 fn mixed(digest: u32, numbers: &[u32]) -> u32

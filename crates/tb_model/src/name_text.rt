@@ -1,20 +1,35 @@
 //! Names as bytes: how they are written, and how bytes fall into numbers.
 
 ghost use Rattle.std.specs.Prelude.{◌≡◌, ◌<◌, ◌++◌, OnOk, OnErr, string_bytes};
-ghost use Rattle.tb_model.specs.Spelling.{name_text, four_levels, spells_name, is_zero, IsLastPart};
+ghost use Rattle.tb_model.specs.Spelling.{name_text, levels_text, four_levels, spells_name, is_zero, IsLastPart};
 ghost use Rattle.tb_model.specs.Texts.{Begins};
 
 use crate::number_text::append_number;
 use crate::ordinal::ordinal;
+use crate::parts::Parts;
 use std::alloc::AllocError;
 
 /// Appends the name with these numbers, the task's own first. Some of it may stand where memory
 /// runs out.
-pub(crate) fn append_name(text: &mut String, numbers: &[u32]) -> Result<(), AllocError>
+pub(crate) fn append_name(text: &mut String, numbers: &Parts<'_>) -> Result<(), AllocError>
     ensures ok { OnOk result (string_bytes text.new ≡ string_bytes text.old ++ name_text numbers.now) }
     ensures begins { Begins (string_bytes text.old) (string_bytes text.new) }
 {
     text.push('0')?;
+    let mut rest = numbers.far;
+    'blocks: while let [block, more @ ..] = rest {
+        append_levels(text, block.as_slice())?;
+        rest = more;
+    }
+    append_levels(text, numbers.near)
+}
+
+/// Appends the levels of these numbers, after the name of the task that the last of them is a child of. Some of
+/// them may stand where memory runs out.
+fn append_levels(text: &mut String, numbers: &[u32]) -> Result<(), AllocError>
+    ensures ok { OnOk result (string_bytes text.new ≡ string_bytes text.old ++ levels_text numbers.now) }
+    ensures begins { Begins (string_bytes text.old) (string_bytes text.new) }
+{
     let mut rest = numbers;
     'fours: while let [front @ .., a, b, c, d] = rest {
         if 9 < *a || 9 < *b || 9 < *c || 9 < *d {

@@ -4,7 +4,9 @@ ghost use Rattle.std.specs.Prelude.{◌≡◌, ◌≤◌, ◌<◌, [], ◌∷◌
 ghost use Rattle.tb_model.specs.Names.{same_name};
 ghost use Rattle.tb_model.specs.Stored.{numbers_in, IsShortest};
 
-use crate::in_common::are_same;
+use crate::block::BLOCK;
+use crate::making::{cut, grown, shared};
+use crate::parts::Parts;
 use crate::stored::Stored;
 use smallvec::SmallVec;
 use std::alloc::{AllocError, Global};
@@ -50,26 +52,35 @@ impl Numbers {
     {
         let stored = match in_place(numbers) {
             Some(stored) => stored,
-            None => Stored::Shared(Arc::new(alloc, SmallVec::from_slice(alloc, numbers)?)?),
+            None if numbers.len() <= BLOCK => {
+                Stored::Shared(Arc::new(alloc, SmallVec::from_slice(alloc, numbers)?)?)
+            }
+            None => Stored::Deep(Arc::new(alloc, cut(alloc, numbers)?)?),
         };
         Ok(Numbers { alloc, stored })
     }
 
-    /// This number, and those behind it. Takes memory only for more than three.
-    pub fn with_first(alloc: Global, first: u32, rest: &[u32]) -> Result<Numbers, AllocError>
+    /// The numbers of these parts. Takes memory only for more than three.
+    pub fn from_parts(alloc: Global, parts: &Parts<'_>) -> Result<Numbers, AllocError>
+        ensures ok { IfOk result (λ n. n ≡ parts.now) }
+        ensures short { length parts.now ≤ 3 → IsOk result }
+    {
+        if parts.far.is_empty() {
+            return Numbers::from_slice(alloc, parts.near);
+        }
+        let stored = Stored::Deep(Arc::new(alloc, shared(alloc, parts)?)?);
+        Ok(Numbers { alloc, stored })
+    }
+
+    /// This number, and those of the parts behind it. Takes memory only for more than three.
+    pub fn with_first(alloc: Global, first: u32, rest: &Parts<'_>) -> Result<Numbers, AllocError>
         ensures ok { IfOk result (λ n. n ≡ first ∷ rest.now) }
         ensures short { length rest.now < 3 → IsOk result }
     {
-        let stored = match rest {
-            [] => Stored::One([first]),
-            [a] => Stored::Two([first, *a]),
-            [a, b] => Stored::Three([first, *a, *b]),
-            _ => {
-                let mut list = SmallVec::with_capacity(alloc, rest.len() + 1)?;
-                list.push_reserved(first);
-                list.extend_from_slice(rest)?;
-                Stored::Shared(Arc::new(alloc, list)?)
-            }
+        let stored = if rest.far.is_empty() && rest.near.len() < BLOCK {
+            with_few(alloc, first, rest.near)?
+        } else {
+            Stored::Deep(Arc::new(alloc, grown(alloc, first, rest)?)?)
         };
         Ok(Numbers { alloc, stored })
     }
@@ -79,17 +90,25 @@ impl Numbers {
         self.alloc
     }
 
-    /// The numbers, in order.
-    pub fn as_slice(&self) -> &[u32]
-        ensures { result.now ≡ self.now }
+    /// The numbers, as they stand in memory.
+    #[inline]
+    pub fn parts(&self) -> Parts<'_>
+        ensures { result ≡ self.now }
     {
-        match &self.stored {
+        let near: &[u32] = match &self.stored {
             Stored::Zero => &[],
             Stored::One(numbers) => numbers,
             Stored::Two(numbers) => numbers,
             Stored::Three(numbers) => numbers,
             Stored::Shared(list) => list.as_slice(),
-        }
+            Stored::Deep(deep) => {
+                return Parts {
+                    near: deep.near.as_slice(),
+                    far: deep.far.as_slice(),
+                };
+            }
+        };
+        Parts { near, far: &[] }
     }
 
     /// A copy, which takes no memory. That of a list of more than three is refused where it has
@@ -104,6 +123,7 @@ impl Numbers {
             Stored::Two(numbers) => Stored::Two(*numbers),
             Stored::Three(numbers) => Stored::Three(*numbers),
             Stored::Shared(list) => Stored::Shared(Arc::try_clone(list)?),
+            Stored::Deep(deep) => Stored::Deep(Arc::try_clone(deep)?),
         };
         Ok(Numbers {
             alloc: self.alloc,
@@ -122,7 +142,7 @@ impl Numbers {
             (Stored::Three([a, b, c]), Stored::Three([k, l, m])) => {
                 *a == *k && *b == *l && *c == *m
             }
-            _ => are_same(self.as_slice(), other.as_slice()),
+            _ => self.parts().is_same(&other.parts()),
         }
     }
 }
@@ -140,8 +160,34 @@ fn in_place(numbers: &[u32]) -> Option<Stored>
     }
 }
 
+/// A number, and fewer than 128 behind it.
+fn with_few(alloc: Global, first: u32, rest: &[u32]) -> Result<Stored, AllocError>
+    requires { length rest.now < 128 }
+    ensures ok { IfOk result (λ s. (numbers_in s ≡ first ∷ rest.now) × IsShortest s) }
+    ensures short { length rest.now < 3 → IsOk result }
+{
+    let stored = match rest {
+        [] => Stored::One([first]),
+        [a] => Stored::Two([first, *a]),
+        [a, b] => Stored::Three([first, *a, *b]),
+        _ => {
+            let mut list = SmallVec::with_capacity(alloc, rest.len() + 1)?;
+            list.push_reserved(first);
+            list.extend_from_slice(rest)?;
+            Stored::Shared(Arc::new(alloc, list)?)
+        }
+    };
+    Ok(stored)
+}
+
 impl fmt::Debug for Numbers {
     fn fmt<W: fmt::Write>(&self, f: &mut fmt::Formatter<W>) -> fmt::Result {
-        f.debug_list().entries(self.as_slice()).finish()
+        let Parts { near, far } = self.parts();
+        let mut list = f.debug_list();
+        list.entries(near);
+        for block in far.iter().rev() {
+            list.entries(block.as_slice());
+        }
+        list.finish()
     }
 }

@@ -10,6 +10,7 @@ use crate::name_refusal::NameRefusal;
 use crate::name_text::append_name;
 use crate::number_text::append_number;
 use crate::ordinal::ordinal;
+use crate::parts::Parts;
 use std::alloc::{AllocError, Global};
 
 /// The kth step of a task, `k` from 1. Its first step is its start.
@@ -26,7 +27,7 @@ impl StepId {
         ensures err { OnErr result (string_bytes text.new ≡ string_bytes text.old) }
     {
         let len = text.len();
-        let printed = append_step_id(text, self.task.numbers(), self.k);
+        let printed = append_step_id(text, &self.task.parts(), self.k);
         if printed.is_err() {
             text.truncate(len);
         }
@@ -51,7 +52,7 @@ impl StepId {
     }
 }
 
-fn append_step_id(text: &mut String, task: &[u32], k: u32) -> Result<(), AllocError>
+fn append_step_id(text: &mut String, task: &Parts<'_>, k: u32) -> Result<(), AllocError>
     ensures ok { OnOk result (string_bytes text.new ≡ string_bytes text.old ++ step_id_text (record { task = task.now; k = k })) }
     ensures begins { Begins (string_bytes text.old) (string_bytes text.new) }
 {

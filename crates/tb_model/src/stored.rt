@@ -1,10 +1,11 @@
 //! Where the numbers of a name stand.
 
+use crate::deep::Deep;
 use smallvec::SmallVec;
 use std::sync::Arc;
 
 /// Up to three numbers stand in the value itself. More stand on the heap, where all copies share
-/// them.
+/// them; the names of a deep task and of its descendants share blocks of them.
 #[derive(Drop)]
 pub(crate) enum Stored {
     Zero,
@@ -12,4 +13,5 @@ pub(crate) enum Stored {
     Two([u32; 2]),
     Three([u32; 3]),
     Shared(Arc<SmallVec<u32, 8>>),
+    Deep(Arc<Deep>),
 }

@@ -1,22 +1,14 @@
 use Rattle.std.proofs.Common.{length, string_bytes}
-use Rattle.tb_model.proofs.NumberTextLemmas.{IsNamed}
 use Rattle.tb_model.specs.Texts.{Begins}
+use Rattle.tb_model.proofs.NumberTextLemmas.{AreNamed}
 use Rattle.tb_model.proofs.name_text.append_name.Given as goal
 
-abbrev pub invariant-fours : goal.invariant-fours
-invariant-fours l = record {
-  named : IsNamed (string_bytes l.fn.text) l.numbers l.rest (string_bytes l.text);
+-- the blocks so far are named
+abbrev pub invariant-blocks-2 : goal.invariant-blocks-2
+invariant-blocks-2 l = record {
+  named : AreNamed (string_bytes l.fn.text) l.initial.rest l.rest (string_bytes l.text);
   begins : Begins (string_bytes l.fn.text) (string_bytes l.text);
 }
 
-abbrev pub decreases-fours : goal.decreases-fours
-decreases-fours l = length l.rest
-
-abbrev pub invariant-levels : goal.invariant-levels
-invariant-levels l = record {
-  named : IsNamed (string_bytes l.fn.text) l.numbers l.rest (string_bytes l.text);
-  begins : Begins (string_bytes l.fn.text) (string_bytes l.text);
-}
-
-abbrev pub decreases-levels : goal.decreases-levels
-decreases-levels l = length l.rest
+abbrev pub decreases-blocks-2 : goal.decreases-blocks-2
+decreases-blocks-2 l = length l.rest

@@ -1,13 +1,12 @@
 -- a run of `rev` gives the reverse of the slice, and `cmp` compares the two runs
 use Rattle.std.specs.declared.iter.Rev.{Rev}
-use Rattle.std.proofs.Common.{◌≡◌, ℕ, Iter, Bor, Option, refl, ap, ap₂, ◌∙◌}
+use Rattle.std.proofs.Common.{◌≡◌, ℕ, Iter, Bor, Option, refl, ap, ◌∙◌}
 use Rattle.std.specs.Ordering.{nat_cmp}
 use Rattle.std.specs.Iterator.Adapters.{rev_source, rev_steps}
 use Rattle.std.specs.Slice.Iter.{iter_rest, iter_steps_back}
 use Rattle.std.proofs.lemmas.Iterator.Adapters.{YieldsList-from_rev_slice}
 use Rattle.std.proofs.lemmas.Iterator.Search.{cmp_from_yields_List}
-use Rattle.tb_model.specs.Names.{name_cmp}
-use Rattle.tb_model.proofs.name.TaskNameOrd.cmp.Goals as goal
+use Rattle.tb_model.proofs.name_order.by_numbers.Goals as goal
 
 pub returns : goal.returns
 returns c =
@@ -20,4 +19,3 @@ returns c =
     (λ it h. YieldsList-from_rev_slice _ (ap (λ (r : Rev (Iter ℕ)). iter_rest (rev_source r)) h ∙ others))
     (λ x y. refl)
     ∙ c.without_common.ensures
-    ∙ ap₂ name_cmp (c.as_slice.ensures ∙ c.self.view_is) (c.as_slice-2.ensures ∙ c.other.view_is)

@@ -1,0 +1,9 @@
+use Rattle.std.proofs.Common.{◌≡◌, ◌∙◌, ◌++◌, ◌∷◌, [], ap, ap₂, sym, length, arith}
+use Rattle.tb_model.specs.Blocks.{far_numbers}
+use Rattle.tb_model.proofs.BlockLemmas.{grown_full}
+use Rattle.tb_model.proofs.making.grown.Goals as goal
+
+pub returns : goal.returns
+returns c =
+    grown_full c.args.first c.rest.inside.near.now c.rest.inside.far.now c.in_ok-from_slice.field-0 c.push.new.self.items c.in_ok-from_slice-2.field-0.items c.args.rest.now
+    c.rest.invariant c.rest.view_is c.if-rest-lt-BLOCK.false c.in_ok-from_slice.ensures (c.in_ok-push.ensures.items ∙ ap (λ x. x ++ c.in_ok-from_slice.field-0 ∷ []) c.in_ok-far.ensures) c.in_ok-from_slice-2.ensures.ok

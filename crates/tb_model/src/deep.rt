@@ -1,0 +1,13 @@
+//! The numbers of a deep name.
+
+use crate::block::Block;
+use smallvec::SmallVec;
+
+/// More numbers than a block has.
+#[derive(Drop)]
+pub(crate) struct Deep {
+    /// Those nearest to the task, 1 to 128.
+    pub near: SmallVec<u32, 8>,
+    /// The others, the block at the root first.
+    pub far: Vec<Block>,
+}
