@@ -152,8 +152,8 @@ fn next_child(
 fn is_nth_child(name: &TaskName, parent: &TaskName, n: u32) -> bool
     ensures { IsTrue result ↔ (name.now ≡ child parent.now n) }
 {
-    match name.numbers() {
-        [] => false,
-        [m, ..] => *m == n && parent.is_parent_of(name),
+    match name.ordinal() {
+        None => false,
+        Some(m) => m == n && parent.is_parent_of(name),
     }
 }

@@ -1,5 +1,5 @@
 -- How the numbers of a name fall into blocks.
-use Rattle.std.proofs.Common.{true≢false, eqb-true, ◌≡◌, ◌⊎◌, inl, inr, ℕ, zero, suc, ◌+◌, ◌-◌, ◌*◌, ◌<◌, ◌≤◌, List, [], ◌∷◌, ◌++◌, Bool, true, false, ◌&&◌, ◌==◌, length, take, drop, take_all, length-drop, refl, sym, ap, ap₂, ◌∙◌, arith, append_assoc, append-nil, length-append, length-take, take-append-drop, subst}
+use Rattle.std.proofs.Common.{true≢false, eqb-true, ◌≡◌, ◌⊎◌, inl, inr, ℕ, zero, suc, ◌+◌, ◌-◌, ◌*◌, ◌<◌, ◌≤◌, List, [], ◌∷◌, ◌++◌, Bool, true, false, ◌&&◌, ◌==◌, min, length, take, drop, take_all, length-drop, refl, sym, ap, ap₂, ◌∙◌, arith, append_assoc, append-nil, length-append, length-take, take-append-drop, subst}
 use Rattle.std.specs.Prelude.{slice_index_or}
 use Rattle.tb_model.specs.Names.{same_name}
 use Rattle.tb_model.specs.Blocks.{far_numbers, AreFull, IsSplit, IsDeep}
@@ -198,3 +198,25 @@ no_blocks near (b ∷ far) none = absurd (omega (arith, none))
 pub fewer_others : (far : List (List ℕ)) → 0 < length (others far) → 0 < length far
 fewer_others [] some = some
 fewer_others (b ∷ far) some = omega arith
+
+pub rest_is : {T : Type 0} → (k : ℕ) (xs : List T) → take (length xs - k) (drop k xs) ≡ drop k xs
+rest_is k xs = take_all (length xs - k) (drop k xs) (omega (arith, length-drop k xs))
+
+same_split : (k : ℕ) (a b : List ℕ) → length a ≡ length b
+    → same_name a b ≡ (same_name (take k a) (take k b) && same_name (take (length a - k) (drop k a)) (take (length b - k) (drop k b)))
+same_split k a b long =
+    ap₂ same_name (sym (take-append-drop k a)) (sym (take-append-drop k b))
+    ∙ same_append (take k a) (take k b) (drop k a) (drop k b) (length-take k a ∙ ap (min k) long ∙ sym (length-take k b))
+    ∙ ap₂ (λ x y. same_name (take k a) (take k b) && same_name x y) (sym (rest_is k a)) (sym (rest_is k b))
+
+-- numbers that both begin with tell nothing
+pub same_front : (k : ℕ) (a b : List ℕ) → length a ≡ length b → same_name (take k a) (take k b) ≡ true
+    → same_name a b ≡ same_name (take (length a - k) (drop k a)) (take (length b - k) (drop k b))
+same_front k a b long same = same_split k a b long ∙ ap (λ t. t && same_name (take (length a - k) (drop k a)) (take (length b - k) (drop k b))) same
+
+pub other_front : (k : ℕ) (a b : List ℕ) → length a ≡ length b → same_name (take k a) (take k b) ≡ false → same_name a b ≡ false
+other_front k a b long other = same_split k a b long ∙ ap (λ t. t && same_name (take (length a - k) (drop k a)) (take (length b - k) (drop k b))) other
+
+pub rests_long : (k : ℕ) (a b : List ℕ) → length a ≡ length b → length (take (length a - k) (drop k a)) ≡ length (take (length b - k) (drop k b))
+rests_long k a b long =
+    ap length (rest_is k a) ∙ length-drop k a ∙ ap (λ n. n - k) long ∙ sym (length-drop k b) ∙ sym (ap length (rest_is k b))

@@ -1,18 +1,21 @@
 -- The texts of numbers and of levels that are pushed as digits.
-use Rattle.std.proofs.Common.{◌≡◌, ℕ, ◌+◌, ◌<◌, ◌≤◌, length, take, drop, slice_index, List, [], ◌∷◌, ◌++◌, ap, ap₂, sym, ◌∙◌, subst, arith, append_assoc, append-nil, if◌then◌else◌, Result, Ok, Err, OnOk, decimal}
+use Rattle.std.proofs.Common.{◌≡◌, ℕ, zero, suc, ◌+◌, ◌-◌, ◌*◌, ◌<◌, ◌≤◌, Bool, true, set, take-append-drop, take-suc-set, length-set, take_all, length, take, drop, slice_index, List, [], ◌∷◌, ◌++◌, ap, ap₂, sym, ◌∙◌, subst, arith, append_assoc, append-nil, if◌then◌else◌, Result, Ok, Err, OnOk, decimal}
 use Rattle.std.proofs.lemmas.Fmt.{decimal_digit}
 use Rattle.std.proofs.lemmas.List.{drop_all, drop_more, take-append-drop}
 use Rattle.std.proofs.lemmas.Str.{IsUtf8-from_ascii}
-use Rattle.std.proofs.lemmas.Str.Ascii.{IsAscii-cons, IsAscii-nil}
+use Rattle.std.proofs.lemmas.Str.Ascii.{IsAscii-push, IsAscii-nil}
 use Rattle.std.specs.Char.{encode_utf8}
 use Rattle.std.specs.Result.{is_ok}
 use Rattle.std.specs.Str.{IsAscii, IsUtf8}
 use Rattle.std.proofs.Math.Seq.{take-append_seam}
+use Rattle.std.specs.List.{list_all}
+use Rattle.std.specs.Cmp.{first_so, second_so}
+use borrow.Author.Tests.{ltb-true}
 use Rattle.std.specs.Prelude.{slice_index_or}
 use Rattle.tb_model.specs.Blocks.{far_numbers}
-use Rattle.tb_model.specs.Spelling.{name_text, levels_text, four_levels}
+use Rattle.tb_model.specs.Spelling.{name_text, levels_text, is_digit}
 use Rattle.tb_model.specs.Texts.{Begins}
-use Rattle.tb_model.proofs.BlockLemmas.{others, others_are}
+use Rattle.tb_model.proofs.BlockLemmas.{others, others_are, rest_is}
 
 -- a number of one digit is that digit
 pub one_digit : {T : Type 0} → {E : Type 0} → (old : List ℕ) (n b : ℕ) (new : List ℕ) (r : Result T E) → n < 10 → b ≡ 48 + n
@@ -21,17 +24,19 @@ one_digit old n b new (Ok u) small is pushed ascii =
     pushed ∙ ap (λ x. old ++ x) (ascii (omega (arith, is)) ∙ ap (λ x. x ∷ []) is ∙ sym (decimal_digit n small))
 one_digit old n b new (Err e) small is pushed ascii = tt
 
--- a level of one digit
-level_is_ascii : (n : ℕ) (bs : List ℕ) → n < 10 → IsAscii bs → IsAscii (46 ∷ (48 + n) ∷ bs)
-level_is_ascii n bs small h = IsAscii-cons 46 ((48 + n) ∷ bs) (omega arith) (IsAscii-cons (48 + n) bs (omega (arith, small)) h)
+-- levels of one digit each are text
+level_is_ascii : (bs : List ℕ) (n : ℕ) → n < 10 → IsAscii bs → IsAscii (bs ++ 46 ∷ decimal n)
+level_is_ascii bs n small h =
+    rw (decimal_digit n small) (subst IsAscii (append_assoc bs (46 ∷ []) ((48 + n) ∷ []))
+    (IsAscii-push (bs ++ 46 ∷ []) (48 + n) (IsAscii-push bs 46 h (omega arith)) (omega (arith, small))))
 
-pub levels_are_text : (a b c d : ℕ) → a < 10 → b < 10 → c < 10 → d < 10 → IsUtf8 (four_levels a b c d)
-levels_are_text a b c d at bt ct dt =
-    let last = 46 ∷ (48 + a) ∷ [] in
-    let two = 46 ∷ (48 + b) ∷ last in
-    let three = 46 ∷ (48 + c) ∷ two in
-    IsUtf8-from_ascii (four_levels a b c d)
-    (level_is_ascii d three dt (level_is_ascii c two ct (level_is_ascii b last bt (level_is_ascii a [] at IsAscii-nil))))
+pub levels_are_text : (ns : List ℕ) → list_all is_digit ns ≡ true → IsUtf8 (levels_text ns)
+levels_are_text ns digits = IsUtf8-from_ascii (levels_text ns) (levels_are_ascii ns digits)
+  where
+    levels_are_ascii : (ns : List ℕ) → list_all is_digit ns ≡ true → IsAscii (levels_text ns)
+    levels_are_ascii [] digits = IsAscii-nil
+    levels_are_ascii (n ∷ ns) digits =
+        level_is_ascii (levels_text ns) n (ltb-true n 10 (first_so (is_digit n) _ digits)) (levels_are_ascii ns (second_so (is_digit n) _ digits))
 
 -- what is appended to the old text are the levels of all numbers but those that are still to come
 abbrev pub IsNamed : (old numbers rest text : List ℕ) → Type 0
@@ -94,53 +99,52 @@ pub on_ok : {T E : Type 0} {A B : Type 0} → (r : Result T E) → (A → B) →
 on_ok (Ok x) f a = f a
 on_ok (Err e) f a = tt
 
-levels_of_four : (a b c d : ℕ) (t : List ℕ) → a < 10 → b < 10 → c < 10 → d < 10
-    → levels_text (a ∷ b ∷ c ∷ d ∷ t) ≡ levels_text t ++ four_levels a b c d
-levels_of_four a b c d t at bt ct dt =
-    rw (decimal_digit a at, decimal_digit b bt, decimal_digit c ct, decimal_digit d dt, append_assoc, append_assoc, append_assoc)
+levels_both : (m t : List ℕ) → levels_text (m ++ t) ≡ levels_text t ++ levels_text m
+levels_both [] t = sym (append-nil (levels_text t))
+levels_both (n ∷ m) t = ap (λ x. x ++ 46 ∷ decimal n) (levels_both m t) ∙ append_assoc (levels_text t) (levels_text m) (46 ∷ decimal n)
 
-four_named : (old numbers front text new : List ℕ) (a b c d : ℕ) → a < 10 → b < 10 → c < 10 → d < 10
-    → IsNamed old numbers (front ++ a ∷ b ∷ c ∷ d ∷ []) text → new ≡ text ++ four_levels a b c d → IsNamed old numbers front new
-four_named old numbers front text new a b c d at bt ct dt named is = (
-  a ∷ b ∷ c ∷ d ∷ named.0,
-  named.1 ∙ append_assoc front (a ∷ b ∷ c ∷ d ∷ []) named.0,
-  is ∙ ap (λ x. x ++ four_levels a b c d) named.2 ∙ append_assoc old (levels_text named.0) (four_levels a b c d)
-      ∙ ap (λ x. old ++ x) (sym (levels_of_four a b c d named.0 at bt ct dt)),
-)
+-- the levels of the last numbers of those that are left
+pub levels_more : (old numbers rest text new : List ℕ) (at : ℕ) → IsNamed old numbers rest text
+    → new ≡ text ++ levels_text (take (length rest - at) (drop at rest)) → IsNamed old numbers (take at rest) new
+levels_more old numbers rest text new at named told =
+    let last = drop at rest in
+    let is : take (length rest - at) last ≡ last = rest_is at rest in
+    (
+      last ++ named.0,
+      named.1 ∙ ap (λ x. x ++ named.0) (sym (take-append-drop at rest)) ∙ append_assoc (take at rest) last named.0,
+      told ∙ ap₂ (λ x y. x ++ levels_text y) named.2 is ∙ append_assoc old (levels_text named.0) (levels_text last)
+        ∙ ap (λ x. old ++ x) (sym (levels_both last named.0)),
+    )
 
--- the last four numbers, after those in front of them
-last_four : (rest : List ℕ) (n : ℕ) → n + 4 ≡ length rest
-    → rest ≡ take n rest ++ slice_index rest n ∷ slice_index rest (n + 1) ∷ slice_index rest (n + 2) ∷ slice_index rest (n + 3) ∷ []
-last_four rest n is =
-    let one : n + 1 + 1 ≡ n + 2 = omega arith in
-    let two : n + 2 + 1 ≡ n + 3 = omega arith in
-    let left : drop n rest ≡ slice_index rest n ∷ slice_index rest (n + 1) ∷ slice_index rest (n + 2) ∷ slice_index rest (n + 3) ∷ [] =
-    drop_more rest n 0 (omega (arith, is))
-    ∙ ap (λ x. slice_index rest n ∷ x) (drop_more rest (n + 1) 0 (omega (arith, is))
-    ∙ ap (λ x. slice_index rest (n + 1) ∷ x) (ap (λ k. drop k rest) one ∙ drop_more rest (n + 2) 0 (omega (arith, is))
-    ∙ ap (λ x. slice_index rest (n + 2) ∷ x) (ap (λ k. drop k rest) two ∙ drop_more rest (n + 3) 0 (omega (arith, is))
-    ∙ ap (λ x. slice_index rest (n + 3) ∷ x) (drop_all (n + 3 + 1) rest (omega (arith, is))))))
-    in
-    sym (take-append-drop n rest) ∙ ap (λ x. take n rest ++ x) left
+-- each of them has one digit
+pub one_of_digits : (ns : List ℕ) (i d : ℕ) → list_all is_digit ns ≡ true → i < length ns → slice_index_or ns i d < 10
+one_of_digits [] i d digits lt = absurd (omega (arith, lt))
+one_of_digits (n ∷ ns) zero d digits lt = ltb-true n 10 (first_so (is_digit n) _ digits)
+one_of_digits (n ∷ ns) (suc i) d digits lt = one_of_digits ns i d (second_so (is_digit n) _ digits) (omega (arith, lt))
 
-four_more_at : (old numbers rest text new : List ℕ) (n : ℕ) → n + 4 ≡ length rest
-    → slice_index rest n < 10 → slice_index rest (n + 1) < 10 → slice_index rest (n + 2) < 10 → slice_index rest (n + 3) < 10
-    → IsNamed old numbers rest text
-    → new ≡ text ++ four_levels (slice_index rest n) (slice_index rest (n + 1)) (slice_index rest (n + 2)) (slice_index rest (n + 3))
-    → IsNamed old numbers (take n rest) new
-four_more_at old numbers rest text new n is a b c d named told =
-    four_named old numbers (take n rest) text new _ _ _ _ a b c d
-    (subst (λ x. IsNamed old numbers x text) (last_four rest n is) named) told
+-- one level more of the sixteen
+pub level_set : (levels numbers : List ℕ) (i n d : ℕ) → i < 16 → length numbers ≡ 16 → length levels ≡ 32 → n ≡ slice_index_or numbers (15 - i) d → n < 10
+    → take (2 * i) levels ≡ levels_text (drop (16 - i) numbers)
+    → take (2 * (i + 1)) (set (set levels (2 * i) 46) (2 * i + 1) (48 + n)) ≡ levels_text (drop (16 - (i + 1)) numbers)
+level_set levels numbers i n d lt sixteen long is small named =
+    let once = set levels (2 * i) 46 in
+    let whole : 2 * (i + 1) ≡ suc (2 * i + 1) = omega arith in
+    let half : 2 * i + 1 ≡ suc (2 * i) = omega arith in
+    let next : 16 - (i + 1) ≡ 15 - i = omega (arith, lt) in
+    let after : (15 - i) + 1 ≡ 16 - i = omega (arith, lt) in
+    let left : drop (16 - (i + 1)) numbers ≡ n ∷ drop (16 - i) numbers =
+      ap (λ k. drop k numbers) next ∙ drop_more numbers (15 - i) d (omega (arith, lt, sixteen)) ∙ ap₂ (λ x k. x ∷ drop k numbers) (sym is) after in
+    ap (λ k. take k (set once (2 * i + 1) (48 + n))) whole
+    ∙ take-suc-set once (2 * i + 1) (48 + n) (omega (arith, lt, long, length-set levels (2 * i) 46))
+    ∙ ap (λ k. take k once ++ (48 + n) ∷ []) half
+    ∙ ap (λ x. x ++ (48 + n) ∷ []) (take-suc-set levels (2 * i) 46 (omega (arith, lt, long)) ∙ ap (λ x. x ++ 46 ∷ []) named)
+    ∙ append_assoc (levels_text (drop (16 - i) numbers)) (46 ∷ []) ((48 + n) ∷ [])
+    ∙ ap (λ x. levels_text (drop (16 - i) numbers) ++ 46 ∷ x) (sym (decimal_digit n small))
+    ∙ sym (ap levels_text left)
 
--- four levels more, where the last four numbers have one digit each
-pub four_more : (old numbers rest text new : List ℕ) (n m l k : ℕ) → n + 4 ≡ length rest → m ≡ n + 1 → l ≡ n + 2 → k ≡ n + 3
-    → slice_index rest n ≤ 9 → slice_index rest m ≤ 9 → slice_index rest l ≤ 9 → slice_index rest k ≤ 9
-    → IsNamed old numbers rest text
-    → new ≡ text ++ four_levels (slice_index rest n) (slice_index rest m) (slice_index rest l) (slice_index rest k)
-    → IsNamed old numbers (take n rest) new
-four_more old numbers rest text new n m l k is to-m to-l to-k a b c d named told =
-    four_more_at old numbers rest text new n is (omega (arith, a))
-    (subst (λ i. slice_index rest i < 10) to-m (omega (arith, b)))
-    (subst (λ i. slice_index rest i < 10) to-l (omega (arith, c)))
-    (subst (λ i. slice_index rest i < 10) to-k (omega (arith, d)))
-    named (rw (← to-m, ← to-l, ← to-k) told)
+-- all sixteen
+pub levels_done : (levels numbers : List ℕ) (i : ℕ) → 16 ≤ i → length numbers ≡ 16 → length levels ≡ 32 → take (2 * i) levels ≡ levels_text (drop (16 - i) numbers)
+    → levels ≡ levels_text numbers
+levels_done levels numbers i all sixteen long named =
+    let none : 16 - i ≡ 0 = omega (arith, all) in
+    sym (take_all (2 * i) levels (omega (arith, all, long))) ∙ named ∙ ap (λ k. levels_text (drop k numbers)) none

@@ -1,5 +1,5 @@
 -- How names of tasks and numbers of steps are spelled.
-use Rattle.std.specs.Prelude.{◌≡◌, ◌≤◌, ◌<◌, ◌+◌, ◌-◌, ℕ, suc, length, take, slice_index, List, [], ◌∷◌, ◌++◌, Bool, false, ◌&&◌, ◌==◌, not, nat_le, if◌then◌else◌, map, drop, reverse, decimal, Option, Some, None}
+use Rattle.std.specs.Prelude.{◌≡◌, ◌≤◌, ◌<◌, ◌+◌, ◌-◌, ℕ, suc, length, take, slice_index, List, [], ◌∷◌, ◌++◌, Bool, false, ◌&&◌, ◌==◌, not, nat_le, nat_lt, if◌then◌else◌, map, drop, reverse, decimal, Option, Some, None}
 use Rattle.std.specs.List.{list_all, list_any, position_or_len}
 use Rattle.std.specs.Char.{is_ascii_digit}
 use Rattle.std.specs.Str.Parse.{digits_value}
@@ -20,9 +20,9 @@ abbrev pub levels_text : List ℕ → List ℕ
 levels_text [] = []
 levels_text (n ∷ t) = levels_text t ++ 46 ∷ decimal n
 
--- four levels of one digit each, the last of these numbers first
-abbrev pub four_levels : (a b c d : ℕ) → List ℕ
-four_levels a b c d = 46 ∷ (48 + d) ∷ 46 ∷ (48 + c) ∷ 46 ∷ (48 + b) ∷ 46 ∷ (48 + a) ∷ []
+-- a number of one digit
+abbrev pub is_digit : ℕ → Bool
+is_digit n = nat_lt n 10
 
 -- the task, `#` and the number of the step
 abbrev pub step_id_text : StepId → List ℕ

@@ -1,12 +1,12 @@
 //! What the numbers of two names have in common.
 
-ghost use Rattle.std.specs.Prelude.{◌≡◌};
+ghost use Rattle.std.specs.Prelude.{◌≡◌, length};
 ghost use Rattle.tb_model.specs.Names.{same_name, name_cmp};
 
 // So many numbers are looked for at once.
 const BLOCK: usize = 16;
 
-/// Whether the numbers are the same. Four are compared at once.
+/// Whether the numbers are the same. Sixteen are compared at once.
 #[inline]
 #[tactic(auto, using(crate::proofs::WithinLemmas::different))]
 pub(crate) fn are_same(a: &[u32], b: &[u32]) -> bool
@@ -17,12 +17,12 @@ pub(crate) fn are_same(a: &[u32], b: &[u32]) -> bool
     }
     let mut left = a;
     let mut right = b;
-    'fours: while let ([k, l, m, n, more @ ..], [p, q, r, s, others @ ..]) = (left, right) {
-        if !((*k == *p) & (*l == *q) & (*m == *r) & (*n == *s)) {
+    'blocks: while left.len() >= BLOCK && right.len() >= BLOCK {
+        if !are_same_sixteen(&left[..BLOCK], &right[..BLOCK]) {
             return false;
         }
-        left = more;
-        right = others;
+        left = &left[BLOCK..];
+        right = &right[BLOCK..];
     }
     'numbers: while let ([n, more @ ..], [s, others @ ..]) = (left, right) {
         if *n != *s {
@@ -32,6 +32,19 @@ pub(crate) fn are_same(a: &[u32], b: &[u32]) -> bool
         right = others;
     }
     true
+}
+
+/// The same of sixteen, without a branch after each.
+#[inline]
+fn are_same_sixteen(a: &[u32], b: &[u32]) -> bool
+    requires { (length a.now ≡ 16) × (length b.now ≡ 16) }
+    ensures { result ≡ same_name a.now b.now }
+{
+    let mut same = true;
+    for i in 0..BLOCK {
+        same &= a[i] == b[i];
+    }
+    same
 }
 
 /// The numbers without most of the last ones that both have, which don't decide the order: deep

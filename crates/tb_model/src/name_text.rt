@@ -1,13 +1,17 @@
 //! Names as bytes: how they are written, and how bytes fall into numbers.
 
-ghost use Rattle.std.specs.Prelude.{◌≡◌, ◌<◌, ◌++◌, OnOk, OnErr, string_bytes};
-ghost use Rattle.tb_model.specs.Spelling.{name_text, levels_text, four_levels, spells_name, is_zero, IsLastPart};
+ghost use Rattle.std.specs.Prelude.{◌≡◌, ◌<◌, ◌++◌, ◌+◌, true, OnOk, OnErr, IfSome, drop, length, string_bytes};
+ghost use Rattle.std.specs.List.{list_all};
+ghost use Rattle.tb_model.specs.Spelling.{name_text, levels_text, is_digit, spells_name, is_zero, IsLastPart};
 ghost use Rattle.tb_model.specs.Texts.{Begins};
 
 use crate::number_text::append_number;
 use crate::ordinal::ordinal;
 use crate::parts::Parts;
 use std::alloc::AllocError;
+
+/// So many levels of one digit each are appended at once.
+const LEVELS: usize = 16;
 
 /// Appends the name with these numbers, the task's own first. Some of it may stand where memory
 /// runs out.
@@ -31,37 +35,58 @@ fn append_levels(text: &mut String, numbers: &[u32]) -> Result<(), AllocError>
     ensures begins { Begins (string_bytes text.old) (string_bytes text.new) }
 {
     let mut rest = numbers;
-    'fours: while let [front @ .., a, b, c, d] = rest {
-        if 9 < *a || 9 < *b || 9 < *c || 9 < *d {
-            break;
-        }
-        append_four(text, *a, *b, *c, *d)?;
-        rest = front;
-    }
     'levels: while let [front @ .., n] = rest {
-        text.push('.')?;
-        append_number(text, *n)?;
-        rest = front;
+        match digits_at(rest) {
+            Some(at) => {
+                append_digits(text, &rest[at..])?;
+                rest = &rest[..at];
+            }
+            None => {
+                text.push('.')?;
+                append_number(text, *n)?;
+                rest = front;
+            }
+        }
     }
     Ok(())
 }
 
-/// Appends four levels of one digit each, the last of these first: deep names are mostly of such.
-fn append_four(text: &mut String, a: u32, b: u32, c: u32, d: u32) -> Result<(), AllocError>
-    requires { (a < 10) × (b < 10) × (c < 10) × (d < 10) }
-    ensures ok { OnOk result (string_bytes text.new ≡ string_bytes text.old ++ four_levels a b c d) }
+/// Where the last sixteen numbers begin, if each has one digit: deep names are mostly of such.
+fn digits_at(numbers: &[u32]) -> Option<usize>
+    ensures { IfSome result (λ at. (at + 16 ≡ length numbers.now) × (list_all is_digit (drop at numbers.now) ≡ true)) }
+{
+    if numbers.len() < LEVELS {
+        return None;
+    }
+    let at = numbers.len() - LEVELS;
+    if are_digits(&numbers[at..]) { Some(at) } else { None }
+}
+
+/// Whether each of sixteen numbers has one digit, without a branch after each.
+#[inline]
+fn are_digits(numbers: &[u32]) -> bool
+    requires { length numbers.now ≡ 16 }
+    ensures { result ≡ list_all is_digit numbers.now }
+{
+    let mut all = true;
+    for i in 0..LEVELS {
+        all &= numbers[i] < 10;
+    }
+    all
+}
+
+/// Appends sixteen levels of one digit each, the last of these first.
+fn append_digits(text: &mut String, numbers: &[u32]) -> Result<(), AllocError>
+    requires sixteen { length numbers.now ≡ 16 }
+    requires digits { list_all is_digit numbers.now ≡ true }
+    ensures ok { OnOk result (string_bytes text.new ≡ string_bytes text.old ++ levels_text numbers.now) }
     ensures err { OnErr result (string_bytes text.new ≡ string_bytes text.old) }
 {
-    let levels = [
-        b'.',
-        b'0' + d as u8,
-        b'.',
-        b'0' + c as u8,
-        b'.',
-        b'0' + b as u8,
-        b'.',
-        b'0' + a as u8,
-    ];
+    let mut levels = [b'.'; 32];
+    for i in 0..LEVELS {
+        levels[2 * i] = b'.';
+        levels[2 * i + 1] = b'0' + numbers[LEVELS - 1 - i] as u8;
+    }
     // each byte is a point or a digit
     text.push_str(unsafe { str::from_utf8_unchecked(&levels) })
 }

@@ -50,7 +50,7 @@ fn is_generated(history: &[Event], t: &TaskName) -> bool
 pub fn is_spawned(history: &[Event], t: &TaskName) -> bool
     ensures { result ≡ Facts.is_spawned history.now t.now }
 {
-    t.numbers().is_empty() || is_generated(history, t)
+    t.ordinal().is_none() || is_generated(history, t)
 }
 
 /// The actions of the task, the newest first.

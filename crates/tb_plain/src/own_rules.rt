@@ -37,9 +37,9 @@ fn are_places(cells: &[i64], items: &[Item]) -> bool
 fn is_behind(u: &TaskName, k: usize) -> bool
     ensures { result ≡ Decided.is_behind u.now k }
 {
-    match u.numbers() {
-        [] => false,
-        [n, ..] => *n > 0 && *n as usize - 1 == k,
+    match u.ordinal() {
+        None => false,
+        Some(n) => n > 0 && n as usize - 1 == k,
     }
 }
 

@@ -143,7 +143,7 @@ fn spawn(rt: &(impl Abort + AllocGlobal), statement: &str) -> Result<String, Fai
             items,
             deferred,
         } => {
-            assert!(rt; child.numbers() == [1].as_slice(), "the first child");
+            assert!(rt; child.ordinal() == Some(1), "the first child");
             let (args, items) = (args.as_slice(), items.as_slice());
             Ok(format!(in rt.alloc(); "{body} {args:?} {items:?} {deferred}")?)
         }

@@ -13,23 +13,17 @@ struct Row {
     marked: bool,
 }
 
-/// Whether a stands before b: number by number from the root, a parent before its children.
-fn stands_before(a: &TaskName, b: &TaskName) -> bool {
-    let depth = a.numbers().len();
-    let other = b.numbers().len();
-    for level in 1..=depth {
-        let own = a.numbers().get(depth.wrapping_sub(level));
-        let its = b.numbers().get(other.wrapping_sub(level));
-        match (own, its) {
-            (Some(m), Some(n)) => {
-                if m != n {
-                    return m < n;
-                }
-            }
-            _ => return false,
-        }
+/// Where the name stands among those of up to two levels whose numbers are below four: number by number from the
+/// root, a parent before its children.
+fn rank(name: &TaskName) -> u32 {
+    let own = name.ordinal().unwrap_or(0);
+    match name.parent() {
+        Ok(Some(parent)) => match parent.ordinal() {
+            Some(first) => first.wrapping_mul(4).wrapping_add(own),
+            None => own.wrapping_mul(4),
+        },
+        _ => 0,
     }
-    depth < other
 }
 
 /// The least marked name that isn't to be skipped, by a look at all.
@@ -38,7 +32,7 @@ fn least<'a>(rows: &'a [Row], skip: &[TaskName]) -> Option<&'a TaskName> {
     for row in rows {
         if row.marked && !skip.contains(&row.name) {
             best = match best {
-                Some(other) if stands_before(other, &row.name) => Some(other),
+                Some(other) if rank(other) < rank(&row.name) => Some(other),
                 _ => Some(&row.name),
             };
         }

@@ -200,10 +200,7 @@ fn take_act(
 
 // The child stands, and its parent has generated it.
 fn enter(tasks: &mut Vec<Task>, which: usize, child: TaskName) -> Result<(), AllocError> {
-    let n = match child.numbers() {
-        [n, ..] => *n,
-        [] => 0,
-    };
+    let n = child.ordinal().unwrap_or(0);
     if let Some(task) = tasks.get_mut(which) {
         let acts = Vec::new(*task.acts.allocator());
         task.acts.push(Act::Spawn(n))?;

@@ -62,7 +62,7 @@ impl Tables {
         let Some(own) = get(&self.rows, self.near, name) else {
             return false;
         };
-        let Some(n) = name.numbers().first() else {
+        let Some(n) = name.ordinal() else {
             return false;
         };
         let Some(parent) = get(&self.rows, own.above, &own.parent) else {
@@ -71,7 +71,7 @@ impl Tables {
         own.steps == 0
             && parent
                 .holders
-                .busy_number(parent.children.items(*n as usize))
+                .busy_number(parent.children.items(n as usize))
                 .is_some()
     }
 
@@ -81,7 +81,7 @@ impl Tables {
         requires { row self.now.rows name.now ≡ Some own.now }
         ensures { ForUnended self.now name.now (λ H. IsFree H name.now → in_the_way H name.now Start ≡ option_map (hindrance_by name.now) result) }
     {
-        let n = *name.numbers().first()?;
+        let n = name.ordinal()?;
         let parent = get(&self.rows, own.above, &own.parent)?;
         if let Some(sibling) = next_before(&self.waits, &parent.children, &own.parent, n) {
             return Some(Obstacle::Waiting { sibling });

@@ -135,7 +135,7 @@ impl Tables {
         ensures some { IfSome result (λ r. ForHistory self.now (λ H. IsNthOf H name.now r.0 r.1.now.children.siblings)) }
         ensures none { result ≡ None → ForHistory self.now (λ H. items_of name.now H ≡ []) }
     {
-        let n = *name.numbers().first()?;
+        let n = name.ordinal()?;
         let row = get(&self.rows, self.near, name)?;
         let parent = get(&self.rows, row.above, &row.parent)?;
         Some((n, parent))

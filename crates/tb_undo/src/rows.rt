@@ -178,8 +178,8 @@ fn place_of(rows: &IndexMap<TaskName, Row>, near: usize, name: &TaskName) -> Opt
     ensures place { result ≡ place_in rows.now.entries name.now }
     ensures from_one { IfSome result (λ r. 0 < r.1) }
 {
-    let n = name.numbers().first()?;
+    let n = name.ordinal()?;
     let row = get(rows, near, name)?;
     let at = find(rows, row.above, &row.parent)?;
-    Some((at, *n))
+    Some((at, n))
 }

@@ -48,7 +48,7 @@ fn sibling_number(other: &TaskName, task: &TaskName) -> Option<u32>
     if !are_siblings(other, task) {
         return None;
     }
-    other.numbers().first().copied()
+    other.ordinal()
 }
 
 /// Appends whether the other is before the task and whether the two are apart, and tells how many

@@ -417,10 +417,7 @@ fn make_place(
 fn number_of(task: &TaskName) -> u32
     ensures { (n : ℕ) (t : List ℕ) → task.now ≡ n ∷ t → result ≡ n }
 {
-    match task.numbers() {
-        [] => 0,
-        [n, ..] => *n,
-    }
+    task.ordinal().unwrap_or(0)
 }
 
 fn root_names(alloc: Global) -> Result<IndexSet<TaskName>, AllocError>

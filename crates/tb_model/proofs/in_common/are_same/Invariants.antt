@@ -3,14 +3,14 @@ use Rattle.tb_model.specs.Names.{same_name}
 use Rattle.tb_model.proofs.in_common.are_same.Given as goal
 
 -- what is left of both tells whether they are the same
-abbrev pub invariant-fours : goal.invariant-fours
-invariant-fours l = record {
+abbrev pub invariant-blocks-2 : goal.invariant-blocks-2
+invariant-blocks-2 l = record {
   long : length l.left ≡ length l.right;
   rest : same_name l.a l.b ≡ same_name l.left l.right;
 }
 
-abbrev pub decreases-fours : goal.decreases-fours
-decreases-fours l = length l.left
+abbrev pub decreases-blocks-2 : goal.decreases-blocks-2
+decreases-blocks-2 l = length l.left
 
 abbrev pub invariant-numbers : goal.invariant-numbers
 invariant-numbers l = record {

@@ -5,5 +5,5 @@ use Rattle.tb_undo.proofs.rows.place_of.Goals as goal
 
 pub returns-clause-from_one : goal.returns-clause-from_one
 returns-clause-from_one c =
-    let first = ap (λ xs. slice_get xs 0) (sym c.numbers.ensures) ∙ sym c.first.ensures.value ∙ ap option_copied c.in_ok-n.was in
-    from_one c.args.rows.now.entries c.args.name.now c.in_ok-n.n.now c.requires first
+    let first = sym c.ordinal.ensures ∙ c.in_ok-n.was in
+    from_one c.args.rows.now.entries c.args.name.now c.in_ok-n.n c.requires first

@@ -9,28 +9,28 @@ use Rattle.tb_undo.proofs.tables.Tables.before_start.Goals as goal
 
 pub returns-in_err-n : goal.returns-in_err-n
 returns-in_err-n c first root_line D legal state unended free =
-    let none = ap (λ xs. slice_get xs 0) (sym c.numbers.ensures) ∙ sym c.first.ensures.value ∙ ap option_copied c.in_err-n.was in
+    let none = sym c.ordinal.ensures ∙ c.in_err-n.was in
     root_starts first root_line D c.args.self.now legal state c.args.name.now none free ∙ sym (ap (option_map (hindrance_by c.args.name.now)) c.from_residual.ensures)
 
 pub returns-in_err-parent : goal.returns-in_err-parent
 returns-in_err-parent c first root_line D legal state unended free =
     let st = subst (IsState first root_line D) (sym c.self.view_is) state in
     let mine = ap (λ s. row s.rows c.args.name.now) c.self.view_is ∙ c.requires in
-    absurd (parent_kept first root_line D _ legal st c.args.name.now c.in_ok-n.field-0.now c.args.own.now unended mine (ap (λ xs. slice_get xs 0) (sym c.numbers.ensures) ∙ sym c.first.ensures.value ∙ ap option_copied c.in_ok-n.was) (sym c.get.ensures.value ∙ ap option_copied c.in_err-parent.was))
+    absurd (parent_kept first root_line D _ legal st c.args.name.now c.in_ok-n.n c.args.own.now unended mine (sym c.ordinal.ensures ∙ c.in_ok-n.was) (sym c.get.ensures.value ∙ ap option_copied c.in_err-parent.was))
 
 pub returns-in-Some : goal.returns-in-Some
 returns-in-Some c =
-    by_waiting _ c.args.self.now c.self.view_is c.args.name.now c.in_ok-n.field-0.now c.args.own.now c.in_ok-parent.parent.now c.requires (ap (λ xs. slice_get xs 0) (sym c.numbers.ensures) ∙ sym c.first.ensures.value ∙ ap option_copied c.in_ok-n.was) (sym c.get.ensures.value ∙ ap option_copied c.in_ok-parent.was) c.next_before.result c.next_before.ensures c.in-Some.sibling c.in-Some.is
+    by_waiting _ c.args.self.now c.self.view_is c.args.name.now c.in_ok-n.n c.args.own.now c.in_ok-parent.parent.now c.requires (sym c.ordinal.ensures ∙ c.in_ok-n.was) (sym c.get.ensures.value ∙ ap option_copied c.in_ok-parent.was) c.next_before.result c.next_before.ensures c.in-Some.sibling c.in-Some.is
 
 pub returns-then-own-gt0 : goal.returns-then-own-gt0
 returns-then-own-gt0 c =
-    by_started _ c.args.self.now c.self.view_is c.args.name.now c.in_ok-n.field-0.now c.args.own.now c.in_ok-parent.parent.now c.requires (ap (λ xs. slice_get xs 0) (sym c.numbers.ensures) ∙ sym c.first.ensures.value ∙ ap option_copied c.in_ok-n.was) (sym c.get.ensures.value ∙ ap option_copied c.in_ok-parent.was) c.next_before.result c.next_before.ensures c.in_default.is c.if-own-gt0.true
+    by_started _ c.args.self.now c.self.view_is c.args.name.now c.in_ok-n.n c.args.own.now c.in_ok-parent.parent.now c.requires (sym c.ordinal.ensures ∙ c.in_ok-n.was) (sym c.get.ensures.value ∙ ap option_copied c.in_ok-parent.was) c.next_before.result c.next_before.ensures c.in_default.is c.if-own-gt0.true
 
 pub returns-in_err-sibling : goal.returns-in_err-sibling
 returns-in_err-sibling c =
-    let told = by_nobody _ c.args.self.now c.self.view_is c.args.name.now c.in_ok-n.field-0.now c.args.own.now c.in_ok-parent.parent.now c.requires (ap (λ xs. slice_get xs 0) (sym c.numbers.ensures) ∙ sym c.first.ensures.value ∙ ap option_copied c.in_ok-n.was) (sym c.get.ensures.value ∙ ap option_copied c.in_ok-parent.was) c.next_before.result c.next_before.ensures c.in_default.is c.if-own-gt0.false _ c.items.ensures c.busy_number.result c.busy_number.ensures c.in_err-sibling.was in
+    let told = by_nobody _ c.args.self.now c.self.view_is c.args.name.now c.in_ok-n.n c.args.own.now c.in_ok-parent.parent.now c.requires (sym c.ordinal.ensures ∙ c.in_ok-n.was) (sym c.get.ensures.value ∙ ap option_copied c.in_ok-parent.was) c.next_before.result c.next_before.ensures c.in_default.is c.if-own-gt0.false _ c.items.ensures c.busy_number.result c.busy_number.ensures c.in_err-sibling.was in
     λ first root_line D legal state unended free. told first root_line D legal state unended free ∙ sym (ap (option_map (hindrance_by c.args.name.now)) c.from_residual-in_err-sibling.ensures)
 
 pub returns : goal.returns
 returns c =
-    by_excluded _ c.args.self.now c.self.view_is c.args.name.now c.in_ok-n.field-0.now c.args.own.now c.in_ok-parent.parent.now c.requires (ap (λ xs. slice_get xs 0) (sym c.numbers.ensures) ∙ sym c.first.ensures.value ∙ ap option_copied c.in_ok-n.was) (sym c.get.ensures.value ∙ ap option_copied c.in_ok-parent.was) c.next_before.result c.next_before.ensures c.in_default.is c.if-own-gt0.false _ c.items.ensures c.busy_number.result c.busy_number.ensures c.in_ok-sibling.sibling c.in_ok-sibling.was
+    by_excluded _ c.args.self.now c.self.view_is c.args.name.now c.in_ok-n.n c.args.own.now c.in_ok-parent.parent.now c.requires (sym c.ordinal.ensures ∙ c.in_ok-n.was) (sym c.get.ensures.value ∙ ap option_copied c.in_ok-parent.was) c.next_before.result c.next_before.ensures c.in_default.is c.if-own-gt0.false _ c.items.ensures c.busy_number.result c.busy_number.ensures c.in_ok-sibling.sibling c.in_ok-sibling.was

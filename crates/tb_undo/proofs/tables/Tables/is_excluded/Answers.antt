@@ -11,9 +11,9 @@ pub returns-then-own-eq0 : goal.returns-then-own-eq0
 returns-then-own-eq0 c first root_line D legal state unended some none =
     let st = subst (IsState first root_line D) (sym c.self.view_is) state in
     let mine = sym c.get.ensures.value ∙ ap option_copied c.in-Some.is in
-    let number = ap (λ xs. slice_get xs 0) (sym c.numbers.ensures) ∙ sym c.first.ensures.value ∙ ap option_copied c.in-Some-first.is in
+    let number = sym c.ordinal.ensures ∙ c.in-Some-ordinal.is in
     let found = sym c.get-2.ensures.value ∙ ap option_copied c.in-Some-get.is in
-    keeps_excluded first root_line D _ legal st c.args.name.now c.in-Some-first.n.now c.in-Some.own.now c.in-Some-get.parent.now unended mine number found c.busy_number.result
+    keeps_excluded first root_line D _ legal st c.args.name.now c.in-Some-ordinal.n c.in-Some.own.now c.in-Some-get.parent.now unended mine number found c.busy_number.result
     (subst IsTrue c.is_some.ensures some) c.if-own-eq0.true
     (subst (λ items. IsLeastNumber (Excludes c.in-Some-get.parent.now.holders items) c.busy_number.result) c.items.ensures c.busy_number.ensures)
     (subst (λ a. in_the_way (events_of D) c.args.name.now a ≡ None) c.in-Start.is none)
