@@ -1,8 +1,8 @@
 -- Where names that fall into blocks end.
-use Rattle.std.proofs.Common.{◌≡◌, ◌⊎◌, ℕ, zero, suc, ◌+◌, ◌-◌, ◌*◌, ◌<◌, ◌≤◌, List, [], ◌∷◌, ◌++◌, false, min, length, take, drop, take_all, refl, sym, ap, ap₂, ◌∙◌, subst, arith, append_assoc, append-nil, length-append, length-take, length-drop, take-append-drop}
+use Rattle.std.proofs.Common.{◌≡◌, ℕ, ◌+◌, ◌-◌, ◌*◌, ◌<◌, ◌≤◌, List, [], ◌∷◌, ◌++◌, false, min, length, take, drop, take_all, refl, sym, ap, ap₂, ◌∙◌, subst, arith, append_assoc, append-nil, length-append, length-take, length-drop, take-append-drop}
 use Rattle.std.specs.Prelude.{slice_index_or}
 use Rattle.tb_model.specs.Names.{Name, same_name, is_within}
-use Rattle.tb_model.specs.Blocks.{far_numbers, AreFull, IsSplit}
+use Rattle.tb_model.specs.Blocks.{far_numbers, IsSplit}
 use Rattle.tb_model.proofs.BlockLemmas.{far_length, full_take, has_near}
 use Rattle.tb_model.proofs.WithinLemmas.{short_without, ends_with}
 
@@ -40,8 +40,8 @@ of_block : (near : Name) (far : List (List ℕ)) (k : ℕ) (b : List ℕ) (rest 
 of_block near far k b rest is = record {
   before = near ++ far_numbers rest;
   is = ap (λ f. near ++ far_numbers f) (sym (take-append-drop k far)) ∙ ap (λ x. near ++ x) (far_both (take k far) (drop k far) ∙ ap (λ x. far_numbers x ++ far_numbers (take k far)) is)
-    ∙ ap (λ x. near ++ x) (append_assoc (far_numbers rest) b (far_numbers (take k far)))
-    ∙ sym (append_assoc near (far_numbers rest) (b ++ far_numbers (take k far)));
+      ∙ ap (λ x. near ++ x) (append_assoc (far_numbers rest) b (far_numbers (take k far)))
+      ∙ sym (append_assoc near (far_numbers rest) (b ++ far_numbers (take k far)));
 }
 
 of_first : (near : Name) (far : List (List ℕ)) (k : ℕ) (b : List ℕ) (rest : List (List ℕ)) → drop k far ≡ rest → 1 ≤ length rest → b ≡ slice_index_or rest 0 b
@@ -80,14 +80,14 @@ module _ (m : Name) (mf : List (List ℕ)) (c : Name) (cf : List (List ℕ)) (ow
       let whole : near ≡ drop k front = is ∙ take_all (length front - k) (drop k front) (omega (arith, length-drop k front)) in
       let kept = far_numbers (take (length cf) mf) in
       let split : m ++ far_numbers mf ≡ (stands.before ++ take k front) ++ (near ++ kept) =
-        stands.is ∙ ap (λ x. stands.before ++ (x ++ kept)) (sym (take-append-drop k front) ∙ ap (λ x. take k front ++ x) (sym whole))
-        ∙ ap (λ x. stands.before ++ x) (append_assoc (take k front) near kept) ∙ sym (append_assoc stands.before (take k front) (near ++ kept)) in
+      stands.is ∙ ap (λ x. stands.before ++ (x ++ kept)) (sym (take-append-drop k front) ∙ ap (λ x. take k front ++ x) (sym whole))
+      ∙ ap (λ x. stands.before ++ x) (append_assoc (take k front) near kept) ∙ sym (append_assoc stands.before (take k front) (near ++ kept)) in
       let near_long : length near ≡ length c = ap length whole ∙ length-drop k front ∙ omega (arith, le) in
       let kept_long : length kept ≡ length (far_numbers cf) =
-        far_length (take (length cf) mf) (full_take (length cf) mf own.full) ∙ ap (λ n. 128 * n) (length-take (length cf) mf ∙ least some) ∙ sym (far_length cf end.full) in
+      far_length (take (length cf) mf) (full_take (length cf) mf own.full) ∙ ap (λ n. 128 * n) (length-take (length cf) mf ∙ least some) ∙ sym (far_length cf end.full) in
       ap (is_within (c ++ far_numbers cf)) split
       ∙ within_end (c ++ far_numbers cf) (stands.before ++ take k front) (near ++ kept)
-        (length-append near kept ∙ ap₂ (λ x y. x + y) near_long kept_long ∙ sym (length-append c (far_numbers cf)))
+      (length-append near kept ∙ ap₂ (λ x y. x + y) near_long kept_long ∙ sym (length-append c (far_numbers cf)))
 
   -- so it falls into parts too
   pub end_split : (front : Name) → length c ≤ length front

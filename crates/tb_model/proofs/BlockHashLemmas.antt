@@ -1,10 +1,10 @@
 -- Which numbers of a name that falls into blocks are mixed.
 use borrow.Author.Tests.{lt-leb}
-use Rattle.std.proofs.Common.{◌≡◌, ℕ, zero, suc, ◌+◌, ◌-◌, ◌*◌, ◌<◌, ◌≤◌, List, [], ◌∷◌, ◌++◌, length, take, drop, take_all, refl, sym, ap, ap₂, ◌∙◌, arith, append_assoc, append-nil, length-append, length-drop, length-take, true, false}
-use Rattle.std.specs.Prelude.{◌%◌, ◌^◌, slice_index_or, nat_le, if◌then◌else◌}
-use Rattle.tb_model.specs.NameHash.{digest, digest_of, mixed}
-use Rattle.tb_model.specs.Blocks.{far_numbers, AreFull, IsSplit}
-use Rattle.tb_model.proofs.BlockLemmas.{far_length, far_last, others, others_are, deep_length}
+use Rattle.std.proofs.Common.{◌≡◌, ℕ, zero, suc, ◌+◌, ◌-◌, ◌*◌, ◌<◌, ◌≤◌, List, [], ◌∷◌, ◌++◌, length, take, drop, take_all, refl, sym, ap, ap₂, ◌∙◌, arith, append_assoc, length-append, length-drop}
+use Rattle.std.specs.Prelude.{◌%◌, ◌^◌, slice_index_or}
+use Rattle.tb_model.specs.NameHash.{digest_of, mixed}
+use Rattle.tb_model.specs.Blocks.{far_numbers, IsSplit}
+use Rattle.tb_model.proofs.BlockLemmas.{far_last, others, others_are, deep_length}
 
 pub mixed_both : (d : ℕ) (a b : List ℕ) → mixed d (a ++ b) ≡ mixed (mixed d a) b
 mixed_both d [] b = refl
@@ -46,19 +46,19 @@ pub deep_digest : (near : List ℕ) (far : List (List ℕ)) (last root next end 
 deep_digest near far last root next end d depth numbers split named some last-is root-is next-is last-full end-is root-full =
     let long : 24 < length numbers = omega (arith, deep_length near far split some, ap length named) in
     let front : numbers ≡ (near ++ next) ++ far_numbers (take (length far - 1) far) =
-      sym named ∙ ap (λ x. near ++ x) (far_last far d some ∙ ap (λ x. x ++ far_numbers (take (length far - 1) far)) (sym last-is ∙ sym next-is))
-      ∙ sym (append_assoc near next (far_numbers (take (length far - 1) far))) in
+    sym named ∙ ap (λ x. near ++ x) (far_last far d some ∙ ap (λ x. x ++ far_numbers (take (length far - 1) far)) (sym last-is ∙ sym next-is))
+    ∙ sym (append_assoc near next (far_numbers (take (length far - 1) far))) in
     let back : numbers ≡ (near ++ far_numbers (others far)) ++ end =
-      sym named ∙ ap (λ x. near ++ x) (far_first far root some ∙ ap (λ x. far_numbers (others far) ++ x) (sym root-is ∙ sym end-is))
-      ∙ sym (append_assoc near (far_numbers (others far)) end) in
+    sym named ∙ ap (λ x. near ++ x) (far_first far root some ∙ ap (λ x. far_numbers (others far) ++ x) (sym root-is ∙ sym end-is))
+    ∙ sym (append_assoc near (far_numbers (others far)) end) in
     let before = near ++ far_numbers (others far) in
     let size : length end ≡ 128 = ap length end-is ∙ root-full in
     let next-size : length next ≡ 128 = ap length next-is ∙ last-full in
     let nearest : take 16 numbers ≡ take 16 (near ++ next) =
-      ap (take 16) front ∙ take_front 16 (near ++ next) _ (omega (arith, length-append near next, next-size)) in
+    ap (take 16) front ∙ take_front 16 (near ++ next) _ (omega (arith, length-append near next, next-size)) in
     let at : length numbers - 8 ≡ length before + 120 = omega (arith, ap length back, length-append before end, size) in
     let farthest : drop (length numbers - 8) numbers ≡ drop 120 end =
-      ap (λ n. drop n numbers) at ∙ ap (drop (length before + 120)) back ∙ drop_past 120 before end in
+    ap (λ n. drop n numbers) at ∙ ap (drop (length before + 120)) back ∙ drop_past 120 before end in
     sym (long_digest depth numbers long ∙ ap₂ (λ x y. mixed (mixed depth x) y) nearest farthest)
 
 -- the last eight of a block

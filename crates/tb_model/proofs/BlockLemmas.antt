@@ -134,10 +134,11 @@ pub more_blocks : (near : List ℕ) (far : List (List ℕ)) (b : List ℕ) (new 
 more_blocks near far b new numbers is pushed long named full =
     let k = length near - 128 in
     let whole : b ≡ drop k near = is ∙ take_all (length near - k) (drop k near) (omega (arith, length-drop k near, long)) in
-    let size : length b ≡ 128 = ap length whole ∙ length-drop k near ∙ omega (arith, long) in
-    (ap (λ x. take k near ++ far_numbers x) pushed ∙ ap (λ x. take k near ++ x) (far_more far b) ∙ sym (append_assoc (take k near) b (far_numbers far))
-      ∙ ap (λ x. (take k near ++ x) ++ far_numbers far) whole ∙ ap (λ x. x ++ far_numbers far) (take-append-drop k near) ∙ named,
-      subst AreFull (sym pushed) (full_more far b full size))
+    let size : length b ≡ 128 = ap length whole ∙ length-drop k near ∙ omega (arith, long) in (
+      ap (λ x. take k near ++ far_numbers x) pushed ∙ ap (λ x. take k near ++ x) (far_more far b) ∙ sym (append_assoc (take k near) b (far_numbers far))
+          ∙ ap (λ x. (take k near ++ x) ++ far_numbers far) whole ∙ ap (λ x. x ++ far_numbers far) (take-append-drop k near) ∙ named,
+      subst AreFull (sym pushed) (full_more far b full size),
+    )
 
 -- a number before 128 others, which become a block
 pub grown_full : (n : ℕ) (near : List ℕ) (far : List (List ℕ)) (b : List ℕ) (new : List (List ℕ)) (one numbers : List ℕ)

@@ -1,14 +1,14 @@
 -- The order of names that fall into blocks.
-use Rattle.std.proofs.Common.{◌≡◌, ℕ, ◌≤◌, ◌<◌, List, [], ◌∷◌, ◌++◌, Bool, true, false, ◌&&◌, ◌==◌, length, reverse, refl, sym, ap, ap₂, ◌∙◌, arith, append_assoc, length-append, true≢false}
+use Rattle.std.proofs.Common.{◌≡◌, ℕ, ◌≤◌, ◌<◌, List, [], ◌∷◌, ◌++◌, true, false, length, reverse, refl, sym, ap, ap₂, ◌∙◌, arith, append_assoc, length-append, true≢false}
 use Rattle.std.specs.declared.cmp.Ordering.{Ordering}
 use Rattle.std.specs.declared.cmp.Ordering.TheVariants.{Less, Equal, Greater}
 use Rattle.std.specs.Cmp.Lexicographic.{slice_cmp}
 use Rattle.std.specs.Ordering.{nat_cmp, ordering_then, is_eq}
-use Rattle.std.proofs.lemmas.List.{reverse-append, length-reverse, reverse-reverse}
+use Rattle.std.proofs.lemmas.List.{reverse-append, length-reverse}
 use Rattle.std.specs.Prelude.{slice_index_or}
 use Rattle.tb_model.specs.Names.{Name, name_cmp, same_name}
 use Rattle.tb_model.specs.NameLaws.{name_cmp_ties}
-use Rattle.tb_model.specs.Blocks.{far_numbers, AreFull}
+use Rattle.tb_model.specs.Blocks.{far_numbers}
 use Rattle.tb_model.proofs.BlockLemmas.{others, others_are, no_blocks}
 use Rattle.tb_model.proofs.InCommonLemmas.{name_cmp-append, same_is}
 

@@ -1,7 +1,7 @@
 -- The texts of numbers and of levels that are pushed as digits.
-use Rattle.std.proofs.Common.{◌≡◌, ℕ, zero, suc, ◌+◌, ◌-◌, ◌*◌, ◌<◌, ◌≤◌, Bool, true, set, take-append-drop, take-suc-set, length-set, take_all, length, take, drop, slice_index, List, [], ◌∷◌, ◌++◌, ap, ap₂, sym, ◌∙◌, subst, arith, append_assoc, append-nil, if◌then◌else◌, Result, Ok, Err, OnOk, decimal}
+use Rattle.std.proofs.Common.{◌≡◌, ℕ, zero, suc, ◌+◌, ◌-◌, ◌*◌, ◌<◌, ◌≤◌, true, set, take-append-drop, take-suc-set, length-set, take_all, length, take, drop, List, [], ◌∷◌, ◌++◌, ap, ap₂, sym, ◌∙◌, subst, arith, append_assoc, append-nil, if◌then◌else◌, Result, Ok, Err, OnOk, decimal}
 use Rattle.std.proofs.lemmas.Fmt.{decimal_digit}
-use Rattle.std.proofs.lemmas.List.{drop_all, drop_more, take-append-drop}
+use Rattle.std.proofs.lemmas.List.{drop_more, take-append-drop}
 use Rattle.std.proofs.lemmas.Str.{IsUtf8-from_ascii}
 use Rattle.std.proofs.lemmas.Str.Ascii.{IsAscii-push, IsAscii-nil}
 use Rattle.std.specs.Char.{encode_utf8}
@@ -108,12 +108,11 @@ pub levels_more : (old numbers rest text new : List ℕ) (at : ℕ) → IsNamed 
     → new ≡ text ++ levels_text (take (length rest - at) (drop at rest)) → IsNamed old numbers (take at rest) new
 levels_more old numbers rest text new at named told =
     let last = drop at rest in
-    let is : take (length rest - at) last ≡ last = rest_is at rest in
-    (
+    let is : take (length rest - at) last ≡ last = rest_is at rest in (
       last ++ named.0,
       named.1 ∙ ap (λ x. x ++ named.0) (sym (take-append-drop at rest)) ∙ append_assoc (take at rest) last named.0,
       told ∙ ap₂ (λ x y. x ++ levels_text y) named.2 is ∙ append_assoc old (levels_text named.0) (levels_text last)
-        ∙ ap (λ x. old ++ x) (sym (levels_both last named.0)),
+          ∙ ap (λ x. old ++ x) (sym (levels_both last named.0)),
     )
 
 -- each of them has one digit
@@ -133,7 +132,7 @@ level_set levels numbers i n d lt sixteen long is small named =
     let next : 16 - (i + 1) ≡ 15 - i = omega (arith, lt) in
     let after : (15 - i) + 1 ≡ 16 - i = omega (arith, lt) in
     let left : drop (16 - (i + 1)) numbers ≡ n ∷ drop (16 - i) numbers =
-      ap (λ k. drop k numbers) next ∙ drop_more numbers (15 - i) d (omega (arith, lt, sixteen)) ∙ ap₂ (λ x k. x ∷ drop k numbers) (sym is) after in
+    ap (λ k. drop k numbers) next ∙ drop_more numbers (15 - i) d (omega (arith, lt, sixteen)) ∙ ap₂ (λ x k. x ∷ drop k numbers) (sym is) after in
     ap (λ k. take k (set once (2 * i + 1) (48 + n))) whole
     ∙ take-suc-set once (2 * i + 1) (48 + n) (omega (arith, lt, long, length-set levels (2 * i) 46))
     ∙ ap (λ k. take k once ++ (48 + n) ∷ []) half

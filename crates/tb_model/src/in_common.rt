@@ -4,7 +4,7 @@ ghost use Rattle.std.specs.Prelude.{◌≡◌, length};
 ghost use Rattle.tb_model.specs.Names.{same_name, name_cmp};
 
 // So many numbers are looked for at once.
-const BLOCK: usize = 16;
+const AT_ONCE: usize = 16;
 
 /// Whether the numbers are the same. Sixteen are compared at once.
 #[inline]
@@ -17,12 +17,12 @@ pub(crate) fn are_same(a: &[u32], b: &[u32]) -> bool
     }
     let mut left = a;
     let mut right = b;
-    'blocks: while left.len() >= BLOCK && right.len() >= BLOCK {
-        if !are_same_sixteen(&left[..BLOCK], &right[..BLOCK]) {
+    'blocks: while left.len() >= AT_ONCE && right.len() >= AT_ONCE {
+        if !are_same_sixteen(&left[..AT_ONCE], &right[..AT_ONCE]) {
             return false;
         }
-        left = &left[BLOCK..];
-        right = &right[BLOCK..];
+        left = &left[AT_ONCE..];
+        right = &right[AT_ONCE..];
     }
     'numbers: while let ([n, more @ ..], [s, others @ ..]) = (left, right) {
         if *n != *s {
@@ -41,7 +41,7 @@ fn are_same_sixteen(a: &[u32], b: &[u32]) -> bool
     ensures { result ≡ same_name a.now b.now }
 {
     let mut same = true;
-    for i in 0..BLOCK {
+    for i in 0..AT_ONCE {
         same &= a[i] == b[i];
     }
     same
@@ -54,9 +54,9 @@ pub(crate) fn without_common<'a>(a: &'a [u32], b: &'a [u32]) -> (&'a [u32], &'a 
 {
     let mut m = a.len();
     let mut n = b.len();
-    'common: while m > BLOCK && n > BLOCK {
-        let i = m - BLOCK;
-        let j = n - BLOCK;
+    'common: while m > AT_ONCE && n > AT_ONCE {
+        let i = m - AT_ONCE;
+        let j = n - AT_ONCE;
         if !are_same(&a[i..m], &b[j..n]) {
             return (&a[..m], &b[..n]);
         }

@@ -59,7 +59,11 @@ fn digits_at(numbers: &[u32]) -> Option<usize>
         return None;
     }
     let at = numbers.len() - LEVELS;
-    if are_digits(&numbers[at..]) { Some(at) } else { None }
+    if are_digits(&numbers[at..]) {
+        Some(at)
+    } else {
+        None
+    }
 }
 
 /// Whether each of sixteen numbers has one digit, without a branch after each.

@@ -4,6 +4,8 @@
 #![tactic(auto)]
 
 #[cfg(test)]
+mod deep_names;
+#[cfg(test)]
 mod steps;
 #[cfg(test)]
 mod tasks;

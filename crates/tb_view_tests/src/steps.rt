@@ -147,7 +147,9 @@ fn hash_of(name: &TaskName) -> u64 {
 }
 
 fn compare_copy(rt: &impl Abort, deep: &TaskName) {
-    assert_eq!(rt; deep.numbers().len(), 11);
+    let text = printed(rt, deep);
+    assert_eq!(rt; text.as_str(), "0.1.2.3.4.5.6.7.8.9.10.11");
+    mem::forget(text);
     let again = deep.clone().expect(rt, "memory is there");
     assert_eq!(rt; hash_of(&again), hash_of(deep));
     mem::forget(again);

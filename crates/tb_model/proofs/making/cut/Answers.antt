@@ -1,5 +1,4 @@
-use Rattle.std.proofs.Common.{◌≡◌, ◌∙◌, ap, sym, subst, length, ◌++◌, ◌∷◌, [], ◌-◌, take, drop, inr, arith, length-append, length-take, length-drop, take-append-drop, append_assoc}
-use Rattle.tb_model.specs.Blocks.{far_numbers, AreFull}
+use Rattle.std.proofs.Common.{ap, length, ◌∷◌, [], ◌-◌, inr, arith, length-append, length-take}
 use Rattle.tb_model.proofs.BlockLemmas.{more_blocks}
 use Rattle.tb_model.proofs.making.cut.Goals as goal
 

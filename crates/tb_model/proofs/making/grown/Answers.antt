@@ -1,5 +1,4 @@
-use Rattle.std.proofs.Common.{◌≡◌, ◌∙◌, ◌++◌, ◌∷◌, [], ap, ap₂, sym, length, arith}
-use Rattle.tb_model.specs.Blocks.{far_numbers}
+use Rattle.std.proofs.Common.{◌∙◌, ◌++◌, ◌∷◌, [], ap}
 use Rattle.tb_model.proofs.BlockLemmas.{grown_full}
 use Rattle.tb_model.proofs.making.grown.Goals as goal
 

@@ -1,4 +1,4 @@
-use Rattle.std.proofs.Common.{◌≡◌, ◌∙◌, ◌-◌, ap, take, length}
+use Rattle.std.proofs.Common.{◌∙◌, ◌-◌, ap, take, length}
 use Rattle.tb_model.specs.NameHash.{mixed}
 use Rattle.tb_model.proofs.BlockHashLemmas.{near_only, near_and_next}
 use Rattle.tb_model.proofs.name_hash.nearest.Goals as goal

@@ -1,4 +1,4 @@
-use Rattle.std.proofs.Common.{◌≡◌, ◌∙◌, ap₂}
+use Rattle.std.proofs.Common.{◌∙◌, ap₂}
 use Rattle.tb_model.specs.NameHash.{mixed}
 use Rattle.tb_model.proofs.BlockHashLemmas.{end_of_block}
 use Rattle.tb_model.proofs.name_hash.of_blocks.Goals as goal

@@ -1,8 +1,8 @@
-use Rattle.std.proofs.Common.{◌≡◌, ◌∙◌, ◌<◌, ◌≤◌, ap, ap₂, sym, length, arith}
+use Rattle.std.proofs.Common.{◌≡◌, ◌∙◌, ap, ap₂, sym, length, arith}
 use Rattle.std.specs.Ordering.{ordering_then}
 use Rattle.std.specs.declared.cmp.Ordering.TheVariants.{Less, Greater}
 use Rattle.tb_model.specs.Names.{name_cmp, same_name}
-use Rattle.tb_model.proofs.BlockLemmas.{others, fewer_others}
+use Rattle.tb_model.proofs.BlockLemmas.{fewer_others}
 use Rattle.tb_model.proofs.BlockOrderLemmas.{same_blocks, more_is_greater, common_block, block_decides, fewer_is_less}
 use Rattle.tb_model.proofs.name_order.compared.Goals as goal
 
@@ -19,9 +19,9 @@ blocks-2-preserved c =
     let alike = ap₂ same_name (sym (c.as_slice-in-len1-up.ensures.is ∙ c.x-item.is)) (sym (c.as_slice-in-len1-up-2.ensures.is ∙ c.y-item.is)) in
     record {
       order = common_block c.args.a.now c.args.b.now c.a.inside.near.now c.b.inside.near.now c.blocks-2.left.now c.blocks-2.right.now i.order
-        c.as_slice-in-len1-up.result.now c.x-item.result c.in-len1-up.len_at_least c.x-item.is c.as_slice-in-len1-up.ensures.is
-        c.as_slice-in-len1-up-2.result.now c.y-item.result c.in-len1-up-right.len_at_least c.y-item.is c.as_slice-in-len1-up-2.ensures.is
-        (sym c.are_same.ensures ∙ c.if-not-are_same.false);
+          c.as_slice-in-len1-up.result.now c.x-item.result c.in-len1-up.len_at_least c.x-item.is c.as_slice-in-len1-up.ensures.is
+          c.as_slice-in-len1-up-2.result.now c.y-item.result c.in-len1-up-right.len_at_least c.y-item.is c.as_slice-in-len1-up-2.ensures.is
+          (sym c.are_same.ensures ∙ c.if-not-are_same.false);
       own = λ some. i.own (fewer_others c.blocks-2.left.now some);
       others = λ some. i.others (fewer_others c.blocks-2.right.now some);
     }

@@ -1,4 +1,4 @@
-use Rattle.std.proofs.Common.{◌≡◌, ◌∙◌, ◌-◌, ◌<◌, ◌*◌, ap, sym, subst, refl, take, drop, take_all, length, length-set, arith}
+use Rattle.std.proofs.Common.{◌∙◌, ◌-◌, ◌<◌, ◌*◌, ap, sym, subst, refl, length-set, arith}
 use Rattle.std.proofs.lemmas.List.{drop_all}
 use Rattle.std.specs.Str.{IsUtf8}
 use Rattle.std.specs.Prelude.{slice_index_or, slice_set, ◌+◌}

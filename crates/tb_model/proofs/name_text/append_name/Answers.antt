@@ -6,7 +6,7 @@ use Rattle.tb_model.proofs.name_text.append_name.Goals as goal
 pub blocks-2-preserved : goal.blocks-2-preserved
 blocks-2-preserved c =
     let named = block_more (string_bytes c.args.text.now) c.numbers.inside.far.now c.blocks-2.rest.now (string_bytes c.blocks-2.text) (string_bytes c.append_levels.new.text) c.as_slice.result.now c.block-item.result
-      c.in-len1-up.len_at_least c.block-item.is c.as_slice.ensures.is c.blocks-2.invariant.named c.in_ok-append_levels.ensures.ok
+    c.in-len1-up.len_at_least c.block-item.is c.as_slice.ensures.is c.blocks-2.invariant.named c.in_ok-append_levels.ensures.ok
     in record {
       named = named;
       begins = blocks_begin (string_bytes c.args.text.now) c.numbers.inside.far.now (others c.blocks-2.rest.now) (string_bytes c.append_levels.new.text) named;

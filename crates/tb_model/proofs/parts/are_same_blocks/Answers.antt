@@ -1,4 +1,4 @@
-use Rattle.std.proofs.Common.{◌≡◌, ◌∙◌, ap₂, sym}
+use Rattle.std.proofs.Common.{◌∙◌, ap₂, sym}
 use Rattle.tb_model.specs.Names.{same_name}
 use Rattle.tb_model.proofs.BlockLemmas.{same_block, other_block, full_others, length_others}
 use Rattle.tb_model.proofs.parts.are_same_blocks.Goals as goal
@@ -18,5 +18,5 @@ blocks-2-preserved c =
       long = length_others c.blocks-2.left.now c.blocks-2.right.now i.long;
       full = (full_others c.blocks-2.left.now i.full.0, full_others c.blocks-2.right.now i.full.1);
       rest = i.rest ∙ same_block c.blocks-2.left.now c.blocks-2.right.now _ _ c.in-len1-up.len_at_least i.long i.full.0 i.full.1
-        (tested ∙ sym c.are_same.ensures ∙ c.if-not-are_same.false);
+          (tested ∙ sym c.are_same.ensures ∙ c.if-not-are_same.false);
     }

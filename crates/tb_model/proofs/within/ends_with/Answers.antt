@@ -1,4 +1,4 @@
-use Rattle.std.proofs.Common.{◌≡◌, ◌∙◌, ◌-◌, ◌++◌, take, drop, ◌≤◌, ◌<◌, false, ap, ap₂, sym, refl, length, arith, subst}
+use Rattle.std.proofs.Common.{◌∙◌, ◌-◌, ◌++◌, take, drop, ◌<◌, ap, ap₂, sym, refl, length, arith, subst}
 use Rattle.tb_model.specs.Names.{is_within, same_name}
 use Rattle.tb_model.specs.Blocks.{far_numbers}
 use Rattle.tb_model.proofs.BlockEndLemmas.{IsFront, front_near, front_block, fewer_blocks, fewer_near, fewer_left, by_end, end_split}
@@ -12,13 +12,14 @@ returns-then-numbers-shared c =
 
 pub returns-then-front-end : goal.returns-then-front-end
 returns-then-front-end c =
-    sym (elim c.if-numbers-shared-lt1.branch
-    [ in-empty w ↦
-        fewer_near c.numbers.inside.near.now c.numbers.inside.far.now c.end.inside.near.now c.end.inside.far.now c.numbers.invariant c.end.invariant
-        (fewer_left c.numbers.inside.far.now (length c.end.inside.far.now) c.if-numbers-shared.false w.in-empty.len_below)
-        (subst (λ r. length r.now < length c.end.inside.near.now) w.front-is c.if-front-end.true)
+    sym (elim c.if-numbers-shared-lt1.branch [
+      | in-empty w ↦
+          fewer_near c.numbers.inside.near.now c.numbers.inside.far.now c.end.inside.near.now c.end.inside.far.now c.numbers.invariant c.end.invariant
+          (fewer_left c.numbers.inside.far.now (length c.end.inside.far.now) c.if-numbers-shared.false w.in-empty.len_below)
+          (subst (λ r. length r.now < length c.end.inside.near.now) w.front-is c.if-front-end.true)
       | in-len1-up w ↦
-        absurd (omega (arith, c.if-front-end.true, c.end.invariant.short, ap (λ r. length r.now) w.front-is, ap length w.as_slice-front.ensures.is, w.as_slice-front.ensures.full)) ])
+          absurd (omega (arith, c.if-front-end.true, c.end.invariant.short, ap (λ r. length r.now) w.front-is, ap length w.as_slice-front.ensures.is, w.as_slice-front.ensures.full))
+    ])
     ∙ ap₂ is_within c.end.view_is c.numbers.view_is
 
 pub invariant_of-is_same : goal.invariant_of-is_same
@@ -28,17 +29,18 @@ invariant_of-is_same c =
 pub returns : goal.returns
 returns c =
     let stands : IsFront c.numbers.inside.near.now c.numbers.inside.far.now (length c.end.inside.far.now) c.if-numbers-shared-lt1.front.now =
-      elim c.if-numbers-shared-lt1.branch
-      [ in-empty w ↦
+    elim c.if-numbers-shared-lt1.branch [
+      | in-empty w ↦
           subst (λ r. IsFront c.numbers.inside.near.now c.numbers.inside.far.now (length c.end.inside.far.now) r.now) (sym w.front-is)
           (front_near c.numbers.inside.near.now c.numbers.inside.far.now (length c.end.inside.far.now) w.in-empty.len_below)
-        | in-len1-up w ↦
+      | in-len1-up w ↦
           front_block c.numbers.inside.near.now c.numbers.inside.far.now (length c.end.inside.far.now) w.block-item.result c.if-numbers-shared-lt1.front.now
-          w.in-len1-up.len_at_least w.block-item.is (ap (λ r. r.now) w.front-is ∙ w.as_slice-front.ensures.is) ] in
+          w.in-len1-up.len_at_least w.block-item.is (ap (λ r. r.now) w.front-is ∙ w.as_slice-front.ensures.is)
+    ] in
     let front = c.if-numbers-shared-lt1.front.now in
     let near = take (length front - (length front - length c.end.inside.near.now)) (drop (length front - length c.end.inside.near.now) front) in
     c.is_same.ensures
     ∙ ap (λ x. same_name x (near ++ far_numbers (take (length c.end.inside.far.now) c.numbers.inside.far.now))) (sym c.end.view_is)
     ∙ sym (by_end c.numbers.inside.near.now c.numbers.inside.far.now c.end.inside.near.now c.end.inside.far.now c.numbers.invariant c.end.invariant
-      front near stands c.if-numbers-shared.false c.if-front-end.false refl)
+    front near stands c.if-numbers-shared.false c.if-front-end.false refl)
     ∙ ap₂ is_within c.end.view_is c.numbers.view_is

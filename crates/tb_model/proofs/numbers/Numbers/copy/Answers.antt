@@ -1,4 +1,4 @@
-use Rattle.std.proofs.Common.{◌≡◌, ◌∙◌, ap, length, arith, subst}
+use Rattle.std.proofs.Common.{ap, length, arith, subst}
 use Rattle.tb_model.specs.Stored.{numbers_in, IsShortest}
 use Rattle.tb_model.proofs.BlockLemmas.{deep_length}
 use Rattle.tb_model.proofs.numbers.Numbers.copy.Goals as goal

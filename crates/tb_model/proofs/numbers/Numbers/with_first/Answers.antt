@@ -1,4 +1,4 @@
-use Rattle.std.proofs.Common.{◌≡◌, ◌<◌, ◌≤◌, ◌⊎◌, inl, inr, subst, length, arith}
+use Rattle.std.proofs.Common.{inl, inr, arith}
 use Rattle.tb_model.proofs.BlockLemmas.{not_zero, at_least_full}
 use Rattle.tb_model.proofs.numbers.Numbers.with_first.Goals.{else-is_empty-via-then-is_empty+else-rest-lt-BLOCK, else-is_empty-via-else-is_empty}
 use Rattle.tb_model.proofs.numbers.Numbers.with_first.Goals as goal
@@ -6,19 +6,31 @@ use Rattle.tb_model.proofs.numbers.Numbers.with_first.Goals as goal
 pub grown-requires : goal.grown-requires
 grown-requires c =
     at_least_full c.rest.inside.near.now c.rest.inside.far.now c.args.rest.now c.rest.invariant c.rest.view_is
-    (elim c.else-is_empty.branch [ else-is_empty-via-then-is_empty+else-rest-lt-BLOCK w ↦ inl w.if-rest-lt-BLOCK.false
-      | else-is_empty-via-else-is_empty w ↦ inr (not_zero _ w.if-is_empty.ensures) ])
+    (elim c.else-is_empty.branch [
+      | else-is_empty-via-then-is_empty+else-rest-lt-BLOCK w ↦ inl w.if-rest-lt-BLOCK.false
+      | else-is_empty-via-else-is_empty w ↦ inr (not_zero _ w.if-is_empty.ensures)
+    ])
 
 pub returns-in_err-grown-clause-short : goal.returns-in_err-grown-clause-short
 returns-in_err-grown-clause-short c few =
-    absurd (omega (arith, few,
-    at_least_full c.rest.inside.near.now c.rest.inside.far.now c.args.rest.now c.rest.invariant c.rest.view_is
-    (elim c.else-is_empty.branch [ else-is_empty-via-then-is_empty+else-rest-lt-BLOCK w ↦ inl w.if-rest-lt-BLOCK.false
-      | else-is_empty-via-else-is_empty w ↦ inr (not_zero _ w.if-is_empty.ensures) ])))
+    absurd (omega (
+      arith,
+      few,
+      at_least_full c.rest.inside.near.now c.rest.inside.far.now c.args.rest.now c.rest.invariant c.rest.view_is
+          (elim c.else-is_empty.branch [
+            | else-is_empty-via-then-is_empty+else-rest-lt-BLOCK w ↦ inl w.if-rest-lt-BLOCK.false
+            | else-is_empty-via-else-is_empty w ↦ inr (not_zero _ w.if-is_empty.ensures)
+          ]),
+    ))
 
 pub returns-in_err-new-clause-short : goal.returns-in_err-new-clause-short
 returns-in_err-new-clause-short c few =
-    absurd (omega (arith, few,
-    at_least_full c.rest.inside.near.now c.rest.inside.far.now c.args.rest.now c.rest.invariant c.rest.view_is
-    (elim c.else-is_empty.branch [ else-is_empty-via-then-is_empty+else-rest-lt-BLOCK w ↦ inl w.if-rest-lt-BLOCK.false
-      | else-is_empty-via-else-is_empty w ↦ inr (not_zero _ w.if-is_empty.ensures) ])))
+    absurd (omega (
+      arith,
+      few,
+      at_least_full c.rest.inside.near.now c.rest.inside.far.now c.args.rest.now c.rest.invariant c.rest.view_is
+          (elim c.else-is_empty.branch [
+            | else-is_empty-via-then-is_empty+else-rest-lt-BLOCK w ↦ inl w.if-rest-lt-BLOCK.false
+            | else-is_empty-via-else-is_empty w ↦ inr (not_zero _ w.if-is_empty.ensures)
+          ]),
+    ))

@@ -1,4 +1,4 @@
-use Rattle.std.proofs.Common.{◌≡◌, ◌∙◌, ap, ap₂, sym, length, false, true, arith, ◌&&◌, refl}
+use Rattle.std.proofs.Common.{◌∙◌, ap, ap₂, sym, ◌&&◌}
 use Rattle.tb_model.specs.Names.{same_name}
 use Rattle.tb_model.specs.Blocks.{far_numbers}
 use Rattle.tb_model.proofs.BlockLemmas.{other_parts, same_parts}
@@ -8,8 +8,10 @@ use Rattle.tb_model.proofs.parts.Parts.is_same.Goals as goal
 pub returns-then-self-other : goal.returns-then-self-other
 returns-then-self-other c =
     sym (other_parts c.self.invariant c.other.invariant
-    (elim c.then-self-other.branch [ then-self-other-via-then-self-other w ↦ (λ near far. w.if-self-other.true near)
-      | then-self-other-via-else-self-other+then-self-other-2 w ↦ (λ near far. w.if-self-other-2.true far) ]))
+    (elim c.then-self-other.branch [
+      | then-self-other-via-then-self-other w ↦ (λ near far. w.if-self-other.true near)
+      | then-self-other-via-else-self-other+then-self-other-2 w ↦ (λ near far. w.if-self-other-2.true far)
+    ]))
     ∙ ap₂ same_name c.self.view_is c.other.view_is
 
 pub returns-then-are_same : goal.returns-then-are_same
