@@ -193,11 +193,11 @@ def levels(program, count, depth):
             (b'why ' + named + b'#1', spawner + spawned), (b'causes ' + named + b'#1', spawner + spawned), (b'who ' + spawner, last + b'#3 end\n'),
             (b'rolltask ' + named, last + b'#3 end\n'), (b'rolltask 0.1\nhist', left)):
         accepted(program, count, 'tasks %d levels deep' % depth, begin + view + b'\n', lines, seconds=600, megabytes=1024, stack=SMALL_STACK)
-    # The names alone want too much: what is written is a beginning of the run, line by line.
-    status, output, error = program.run(nested % 100_000, ('--limit', '1000000'), functools.partial(bounded, 96, SMALL_STACK))
+    # Their names want more than 16 MB: what is written is a beginning of the run, line by line.
+    status, output, error = program.run(nested % 100_000, ('--limit', '1000000'), functools.partial(bounded, 16, SMALL_STACK))
     last_line = output[output.rfind(b'\n', 0, -1) + 1:]
     is_beginning = output.startswith(b'0#1 start\n') and output.endswith(b'\n') and last_line.startswith(b'0.1.1.1')
-    count.check('tasks 100,000 levels deep want too much memory', is_beginning and (status, error) == (3, b'taskback: memory\n'),
+    count.check('tasks 100,000 levels deep want more than 16 MB', is_beginning and (status, error) == (3, b'taskback: memory\n'),
                 (status, error, len(output), last_line[-40:]))
 
 

@@ -1,5 +1,6 @@
 -- Names that can be used again, and the next child.
 use Rattle.std.proofs.Common.{◌≡◌, ◌≢◌, ℤ, ◌≤◌, ◌↔◌, ℕ, suc, List, [], ◌∷◌, Bool, true, false, cond, length, refl, sym, ap, ap₂, ◌∙◌, arith, Option, Some, None, IsTrue, unwrap_or, ◌+◌, get_or, if◌then◌else◌, IfOk, Result, Ok, Err}
+use Rattle.std.specs.Prelude.{slice_get}
 use Rattle.std.proofs.lemmas.Bool.{true≢false}
 use Rattle.std.proofs.lemmas.List.{length-map}
 use Rattle.tb_model.specs.declared.item.Item.{Item}
@@ -75,12 +76,17 @@ module _ (s : Tables) (t : Name) (o : Option ℕ) (n : ℕ) (c : IsCount s t o) 
 -- ---- the nth child of a task
 
 -- a name whose first number is n, and that is a child of t
-pub nth_child : (name t : Name) (n : ℕ) (b : Bool) → 1 ≤ length name → get_or name 0 0 ≡ n → b ≡ is_child t name → IsTrue b ↔ (name ≡ child t n)
-nth_child [] t n b some first e = absurd (omega (arith, some))
-nth_child (m ∷ p) t n b some first e = (
-  λ h. ap₂ (λ x y. child y x) first (same_true p t (sym e ∙ h)),
+pub nth_child : (name t : Name) (n m : ℕ) (b : Bool) → slice_get name 0 ≡ Some m → m ≡ n → b ≡ is_child t name → IsTrue b ↔ (name ≡ child t n)
+nth_child [] t n m b first same e = absurd cc
+nth_child (k ∷ p) t n m b first same e = (
+  λ h. ap₂ (λ x y. child y x) (ap (λ o. unwrap_or o 0) first ∙ same) (same_true p t (sym e ∙ h)),
   λ h. e ∙ ap (is_child t) h ∙ same_refl t,
 )
+
+-- a name with another number is another child's
+pub other_child : (name t : Name) (n m : ℕ) → slice_get name 0 ≡ Some m → (m ≡ n → ⊥) → name ≡ child t n → ⊥
+other_child [] t n m first differ e = cc
+other_child (k ∷ p) t n m first differ e = differ (sym (ap (λ o. unwrap_or o 0) first) ∙ ap (λ x. unwrap_or (slice_get x 0) 0) e)
 
 -- ---- the event of an action
 
