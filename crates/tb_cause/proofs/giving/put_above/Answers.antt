@@ -15,3 +15,7 @@ up-preserved-in_ok-next c =
 pub up-preserved : goal.up-preserved
 up-preserved c =
     put_one c.args.task.now (contains same_name c.args.set.now) (contains same_name c.up.set) c.up.next c.up.invariant c.in-Some.name c.in-Some.is (contains same_name c.put.new.set) c.in_ok-put.ensures _ c.in_ok-next.ensures.parent
+
+pub up-preserved-in_ok-next-2 : goal.up-preserved-in_ok-next-2
+up-preserved-in_ok-next-2 c =
+    put_one c.args.task.now (contains same_name c.args.set.now) (contains same_name c.up.set) c.up.next c.up.invariant c.in-Some.name c.in-Some.is (contains same_name c.put.new.set) c.in_ok-put.ensures _ c.in_ok-next.ensures.parent
