@@ -146,7 +146,7 @@ fn hash_of(name: &TaskName) -> u64 {
     hasher.finish()
 }
 
-fn compare_copy(rt: &impl Abort, deep: &TaskName) {
+fn compare_copy(rt: &(impl Abort + AllocGlobal), deep: &TaskName) {
     let text = printed(rt, deep);
     assert_eq!(rt; text.as_str(), "0.1.2.3.4.5.6.7.8.9.10.11");
     mem::forget(text);
