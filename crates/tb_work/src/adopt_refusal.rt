@@ -2,7 +2,7 @@
 
 ghost use Rattle.std.specs.Prelude.{◌≡◌};
 ghost use Rattle.tb_work.specs.declared.adopt_refusal.AdoptRefusal.TheVariants.{Memory};
-ghost use Rattle.tb_work.specs.Numbers.{adopt_number};
+ghost use Rattle.tb_work.specs.Numbers.{adopt_number, not_adopted};
 
 use crate::unmade::Unmade;
 use std::alloc::AllocError;
@@ -37,6 +37,8 @@ impl From<AllocError> for AdoptRefusal {
 }
 
 impl From<Unmade> for AdoptRefusal {
+    ghost from_gives = { λ unmade refusal. refusal ≡ not_adopted unmade };
+
     fn from(unmade: Unmade) -> AdoptRefusal {
         match unmade {
             Unmade::Memory => AdoptRefusal::Memory,
