@@ -6,8 +6,9 @@ use std::mem;
 use std::process::Abort;
 use tb_model::TaskName;
 
+/// The nth child, which are counted from 1.
 fn child(rt: &impl Abort, name: &TaskName, n: u32) -> TaskName {
-    name.child(n).expect(rt, "memory is there")
+    name.child(1.max(n)).expect(rt, "memory is there")
 }
 
 fn hash_of(name: &TaskName) -> u64 {
@@ -39,7 +40,7 @@ fn compare_text(rt: &(impl Abort + AllocGlobal), name: &TaskName) {
 
 /// Whether the one is generated before the other by the task.
 fn compare_siblings(rt: &impl Abort, parent: &TaskName, n: u32) {
-    let (elder, younger) = (child(rt, parent, n), child(rt, parent, n + 1));
+    let (elder, younger) = (child(rt, parent, n), child(rt, parent, n.saturating_add(1)));
     assert!(rt; elder.is_elder_of(&younger) && !younger.is_elder_of(&elder));
     assert!(rt; elder != younger && elder.cmp(&younger) == Ordering::Less);
     assert!(rt; !elder.is_within(&younger) && !younger.is_within(&elder));
