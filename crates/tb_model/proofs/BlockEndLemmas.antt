@@ -1,4 +1,5 @@
 -- Where names that fall into blocks end.
+use Rattle.std.proofs.lemmas.List.{take_rest}
 use Rattle.std.proofs.Common.{◌≡◌, ℕ, ◌+◌, ◌-◌, ◌*◌, ◌<◌, ◌≤◌, List, [], ◌∷◌, ◌++◌, false, min, length, take, drop, take_all, refl, sym, ap, ap₂, ◌∙◌, subst, arith, append_assoc, append-nil, length-append, length-take, length-drop, take-append-drop}
 use Rattle.std.specs.Prelude.{slice_index_or}
 use Rattle.tb_model.specs.Names.{Name, same_name, is_within}
@@ -27,13 +28,10 @@ pub record IsFront (near : Name) (far : List (List ℕ)) (k : ℕ) (front : Name
 abbrev after : ℕ → List (List ℕ) → List (List ℕ)
 after k far = take (length far - k) (drop k far)
 
-after_is : (k : ℕ) (far : List (List ℕ)) → after k far ≡ drop k far
-after_is k far = take_all (length far - k) (drop k far) (omega (arith, length-drop k far))
-
 pub front_near : (near : Name) (far : List (List ℕ)) (k : ℕ) → length (take (length far - k) (drop k far)) < 1 → IsFront near far k near
 front_near near far k none = record {
   before = [];
-  is = ap (λ f. near ++ far_numbers f) (sym (take_all k far (omega (arith, none, ap length (after_is k far), length-drop k far))));
+  is = ap (λ f. near ++ far_numbers f) (sym (take_all k far (omega (arith, none, ap length (take_rest far k), length-drop k far))));
 }
 
 of_block : (near : Name) (far : List (List ℕ)) (k : ℕ) (b : List ℕ) (rest : List (List ℕ)) → drop k far ≡ b ∷ rest → IsFront near far k b
@@ -52,10 +50,10 @@ of_first near far k b (x ∷ rest) is some first = of_block near far k b rest (i
 pub front_block : (near : Name) (far : List (List ℕ)) (k : ℕ) (b front : List ℕ) → 1 ≤ length (take (length far - k) (drop k far))
     → b ≡ slice_index_or (take (length far - k) (drop k far)) 0 b → front ≡ b → IsFront near far k front
 front_block near far k b front some first same =
-    subst (IsFront near far k) (sym same) (of_first near far k b (after k far) (sym (after_is k far)) some first)
+    subst (IsFront near far k) (sym same) (of_first near far k b (after k far) (sym (take_rest far k)) some first)
 
 pub fewer_left : (far : List (List ℕ)) (k : ℕ) → k ≤ length far → length (take (length far - k) (drop k far)) < 1 → length far ≡ k
-fewer_left far k le none = omega (arith, le, none, ap length (after_is k far), length-drop k far)
+fewer_left far k le none = omega (arith, le, none, ap length (take_rest far k), length-drop k far)
 
 least : {j k : ℕ} → j ≤ k → min j k ≡ j
 least le = omega (arith, le)
@@ -77,7 +75,7 @@ module _ (m : Name) (mf : List (List ℕ)) (c : Name) (cf : List (List ℕ)) (ow
       → is_within (c ++ far_numbers cf) (m ++ far_numbers mf) ≡ same_name (c ++ far_numbers cf) (near ++ far_numbers (take (length cf) mf))
   by_end front near stands some le is =
       let k = length front - length c in
-      let whole : near ≡ drop k front = is ∙ take_all (length front - k) (drop k front) (omega (arith, length-drop k front)) in
+      let whole : near ≡ drop k front = is ∙ take_rest front k in
       let kept = far_numbers (take (length cf) mf) in
       let split : m ++ far_numbers mf ≡ (stands.before ++ take k front) ++ (near ++ kept) =
       stands.is ∙ ap (λ x. stands.before ++ (x ++ kept)) (sym (take-append-drop k front) ∙ ap (λ x. take k front ++ x) (sym whole))
@@ -95,7 +93,7 @@ module _ (m : Name) (mf : List (List ℕ)) (c : Name) (cf : List (List ℕ)) (ow
   end_split front le =
       let k = length front - length c in
       let near = take (length front - k) (drop k front) in
-      let long : length near ≡ length c = ap length (take_all (length front - k) (drop k front) (omega (arith, length-drop k front))) ∙ length-drop k front ∙ omega (arith, le) in
+      let long : length near ≡ length c = ap length (take_rest front k) ∙ length-drop k front ∙ omega (arith, le) in
       record {
         short = omega (arith, long, end.short);
         full = full_take (length cf) mf own.full;

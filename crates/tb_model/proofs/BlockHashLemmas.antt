@@ -1,10 +1,11 @@
 -- Which numbers of a name that falls into blocks are mixed.
 use borrow.Author.Tests.{lt-leb}
-use Rattle.std.proofs.Common.{◌≡◌, ℕ, zero, suc, ◌+◌, ◌-◌, ◌*◌, ◌<◌, ◌≤◌, List, [], ◌∷◌, ◌++◌, length, take, drop, take_all, refl, sym, ap, ap₂, ◌∙◌, arith, append_assoc, length-append, length-drop}
+use Rattle.std.proofs.lemmas.List.{take_rest}
+use Rattle.std.proofs.Common.{◌≡◌, ℕ, zero, suc, ◌+◌, ◌-◌, ◌*◌, ◌<◌, ◌≤◌, List, [], ◌∷◌, ◌++◌, length, take, drop, refl, sym, ap, ap₂, ◌∙◌, arith, append_assoc, length-append}
 use Rattle.std.specs.Prelude.{◌%◌, ◌^◌, slice_index_or}
 use Rattle.tb_model.specs.NameHash.{digest_of, mixed}
 use Rattle.tb_model.specs.Blocks.{far_numbers, IsSplit}
-use Rattle.tb_model.proofs.BlockLemmas.{far_last, others, others_are, deep_length}
+use Rattle.tb_model.proofs.BlockLemmas.{far_last, others, deep_length}
 
 pub mixed_both : (d : ℕ) (a b : List ℕ) → mixed d (a ++ b) ≡ mixed (mixed d a) b
 mixed_both d [] b = refl
@@ -13,7 +14,7 @@ mixed_both d (n ∷ a) b = mixed_both (((d * 2654435769) % 2 ^ 32 + n) % 2 ^ 32)
 -- the numbers nearest to the root end the first block
 pub far_first : (far : List (List ℕ)) (d : List ℕ) → 1 ≤ length far → far_numbers far ≡ far_numbers (others far) ++ slice_index_or far 0 d
 far_first [] d some = absurd (omega (arith, some))
-far_first (b ∷ far) d some = ap (λ f. far_numbers f ++ b) (sym (others_are (b ∷ far)))
+far_first (b ∷ far) d some = ap (λ f. far_numbers f ++ b) (sym (take_rest (b ∷ far) 1))
 
 drop_past : (k : ℕ) (a b : List ℕ) → drop (length a + k) (a ++ b) ≡ drop k b
 drop_past k [] b = ap (λ n. drop n b) (omega arith)
@@ -60,7 +61,3 @@ deep_digest near far last root next end d depth numbers split named some last-is
     let farthest : drop (length numbers - 8) numbers ≡ drop 120 end =
     ap (λ n. drop n numbers) at ∙ ap (drop (length before + 120)) back ∙ drop_past 120 before end in
     sym (long_digest depth numbers long ∙ ap₂ (λ x y. mixed (mixed depth x) y) nearest farthest)
-
--- the last eight of a block
-pub end_of_block : (root : List ℕ) → length root ≡ 128 → take (length root - 120) (drop 120 root) ≡ drop 120 root
-end_of_block root full = take_all (length root - 120) (drop 120 root) (omega (arith, length-drop 120 root))

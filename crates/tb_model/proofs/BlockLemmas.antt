@@ -1,5 +1,6 @@
 -- How the numbers of a name fall into blocks.
-use Rattle.std.proofs.Common.{true≢false, eqb-true, ◌≡◌, ◌⊎◌, inl, inr, ℕ, zero, suc, ◌+◌, ◌-◌, ◌*◌, ◌<◌, ◌≤◌, List, [], ◌∷◌, ◌++◌, Bool, true, false, ◌&&◌, ◌==◌, min, length, take, drop, take_all, length-drop, refl, sym, ap, ap₂, ◌∙◌, arith, append_assoc, append-nil, length-append, length-take, take-append-drop, subst}
+use Rattle.std.proofs.lemmas.List.{take_rest}
+use Rattle.std.proofs.Common.{true≢false, eqb-true, ◌≡◌, ◌⊎◌, inl, inr, ℕ, zero, suc, ◌+◌, ◌-◌, ◌*◌, ◌<◌, ◌≤◌, List, [], ◌∷◌, ◌++◌, Bool, true, false, ◌&&◌, ◌==◌, min, length, take, drop, length-drop, refl, sym, ap, ap₂, ◌∙◌, arith, append_assoc, append-nil, length-append, length-take, take-append-drop, subst}
 use Rattle.std.specs.Prelude.{slice_index_or}
 use Rattle.tb_model.specs.Names.{same_name}
 use Rattle.tb_model.specs.Blocks.{far_numbers, AreFull, IsSplit, IsDeep}
@@ -45,10 +46,6 @@ full_more (c ∷ far) b full is = (full.0, full_more far b full.1 is)
 abbrev pub others : {T : Type 0} → List T → List T
 others xs = take (length xs - 1) (drop 1 xs)
 
-pub others_are : {T : Type 0} → (xs : List T) → others xs ≡ drop 1 xs
-others_are [] = refl
-others_are (x ∷ xs) = take_all (length (x ∷ xs) - 1) xs (omega arith)
-
 and_assoc : (a b c : Bool) → (a && (b && c)) ≡ ((a && b) && c)
 and_assoc true b c = refl
 and_assoc false b c = refl
@@ -80,7 +77,7 @@ same_block [] right d e some long full its same = absurd (omega (arith, some))
 same_block (x ∷ left) [] d e some long full its same = absurd (omega (arith, long))
 same_block (x ∷ left) (y ∷ right) d e some long full its same =
     same_first x y left right (omega (arith, long)) full.1 its.1 ∙ and_true (same_name (far_numbers left) (far_numbers right)) _ same
-    ∙ ap₂ (λ l r. same_name (far_numbers l) (far_numbers r)) (sym (others_are (x ∷ left))) (sym (others_are (y ∷ right)))
+    ∙ ap₂ (λ l r. same_name (far_numbers l) (far_numbers r)) (sym (take_rest (x ∷ left) 1)) (sym (take_rest (y ∷ right) 1))
 
 -- and one in which they differ tells that they do
 pub other_block : (left right : List (List ℕ)) (d e : List ℕ) → 0 < length left → length left ≡ length right → AreFull left → AreFull right
@@ -95,7 +92,7 @@ pub full_others : (far : List (List ℕ)) → AreFull far → AreFull (others fa
 full_others far full = full_take (length far - 1) (drop 1 far) (full_drop 1 far full)
 
 pub length_others : (left right : List (List ℕ)) → length left ≡ length right → length (others left) ≡ length (others right)
-length_others left right long = ap length (others_are left) ∙ length-drop 1 left ∙ ap (λ n. n - 1) long ∙ sym (length-drop 1 right) ∙ sym (ap length (others_are right))
+length_others left right long = ap length (take_rest left 1) ∙ length-drop 1 left ∙ ap (λ n. n - 1) long ∙ sym (length-drop 1 right) ∙ sym (ap length (take_rest right 1))
 
 -- where there is a block there are numbers nearer to the task
 pub has_near : (m : List ℕ) (f : List (List ℕ)) → IsSplit m f → (length f ≡ 0) ⊎ (0 < length m)
@@ -133,7 +130,7 @@ pub more_blocks : (near : List ℕ) (far : List (List ℕ)) (b : List ℕ) (new 
     → (take (length near - 128) near ++ far_numbers new ≡ numbers) × AreFull new
 more_blocks near far b new numbers is pushed long named full =
     let k = length near - 128 in
-    let whole : b ≡ drop k near = is ∙ take_all (length near - k) (drop k near) (omega (arith, length-drop k near, long)) in
+    let whole : b ≡ drop k near = is ∙ take_rest near k in
     let size : length b ≡ 128 = ap length whole ∙ length-drop k near ∙ omega (arith, long) in (
       ap (λ x. take k near ++ far_numbers x) pushed ∙ ap (λ x. take k near ++ x) (far_more far b) ∙ sym (append_assoc (take k near) b (far_numbers far))
           ∙ ap (λ x. (take k near ++ x) ++ far_numbers far) whole ∙ ap (λ x. x ++ far_numbers far) (take-append-drop k near) ∙ named,
@@ -184,7 +181,7 @@ one_and_last [] far last m numbers named some one more is same = absurd (omega (
 one_and_last (n ∷ []) far last m numbers named some one more is same =
     sym named ∙ ap (λ x. n ∷ x) (far_last far last more ∙ ap (λ x. x ++ far_numbers (take (length far - 1) far)) (sym is ∙ sym same))
 one_and_last (n ∷ k ∷ near) far last m numbers named some one more is same =
-    absurd (omega (arith, is_zero _ one, ap length (others_are (n ∷ k ∷ near))))
+    absurd (omega (arith, is_zero _ one, ap length (take_rest (n ∷ k ∷ near) 1)))
 
 -- a name with 128 numbers nearest to the task, or with a block
 pub at_least_full : (near : List ℕ) (far : List (List ℕ)) (numbers : List ℕ) → IsSplit near far → near ++ far_numbers far ≡ numbers
@@ -200,15 +197,12 @@ pub fewer_others : (far : List (List ℕ)) → 0 < length (others far) → 0 < l
 fewer_others [] some = some
 fewer_others (b ∷ far) some = omega arith
 
-pub rest_is : {T : Type 0} → (k : ℕ) (xs : List T) → take (length xs - k) (drop k xs) ≡ drop k xs
-rest_is k xs = take_all (length xs - k) (drop k xs) (omega (arith, length-drop k xs))
-
 same_split : (k : ℕ) (a b : List ℕ) → length a ≡ length b
     → same_name a b ≡ (same_name (take k a) (take k b) && same_name (take (length a - k) (drop k a)) (take (length b - k) (drop k b)))
 same_split k a b long =
     ap₂ same_name (sym (take-append-drop k a)) (sym (take-append-drop k b))
     ∙ same_append (take k a) (take k b) (drop k a) (drop k b) (length-take k a ∙ ap (min k) long ∙ sym (length-take k b))
-    ∙ ap₂ (λ x y. same_name (take k a) (take k b) && same_name x y) (sym (rest_is k a)) (sym (rest_is k b))
+    ∙ ap₂ (λ x y. same_name (take k a) (take k b) && same_name x y) (sym (take_rest a k)) (sym (take_rest b k))
 
 -- numbers that both begin with tell nothing
 pub same_front : (k : ℕ) (a b : List ℕ) → length a ≡ length b → same_name (take k a) (take k b) ≡ true
@@ -220,4 +214,4 @@ other_front k a b long other = same_split k a b long ∙ ap (λ t. t && same_nam
 
 pub rests_long : (k : ℕ) (a b : List ℕ) → length a ≡ length b → length (take (length a - k) (drop k a)) ≡ length (take (length b - k) (drop k b))
 rests_long k a b long =
-    ap length (rest_is k a) ∙ length-drop k a ∙ ap (λ n. n - k) long ∙ sym (length-drop k b) ∙ sym (ap length (rest_is k b))
+    ap length (take_rest a k) ∙ length-drop k a ∙ ap (λ n. n - k) long ∙ sym (length-drop k b) ∙ sym (ap length (take_rest b k))

@@ -4,12 +4,12 @@ use Rattle.std.specs.declared.cmp.Ordering.{Ordering}
 use Rattle.std.specs.declared.cmp.Ordering.TheVariants.{Less, Equal, Greater}
 use Rattle.std.specs.Cmp.Lexicographic.{slice_cmp}
 use Rattle.std.specs.Ordering.{nat_cmp, ordering_then, is_eq}
-use Rattle.std.proofs.lemmas.List.{reverse-append, length-reverse}
+use Rattle.std.proofs.lemmas.List.{reverse-append, length-reverse, take_rest}
 use Rattle.std.specs.Prelude.{slice_index_or}
 use Rattle.tb_model.specs.Names.{Name, name_cmp, same_name}
 use Rattle.tb_model.specs.NameLaws.{name_cmp_ties}
 use Rattle.tb_model.specs.Blocks.{far_numbers}
-use Rattle.tb_model.proofs.BlockLemmas.{others, others_are, no_blocks}
+use Rattle.tb_model.proofs.BlockLemmas.{others, no_blocks}
 use Rattle.tb_model.proofs.InCommonLemmas.{name_cmp-append, same_is}
 
 then_equal : (o : Ordering) → ordering_then o Equal ≡ o
@@ -74,7 +74,7 @@ with_first : (near : Name) (x d : List ℕ) (left : List (List ℕ)) → 1 ≤ l
     → near ++ far_numbers left ≡ (near ++ far_numbers (others left)) ++ x
 with_first near x d [] some is same = absurd (omega (arith, some))
 with_first near x d (b ∷ left) some is same =
-    sym (append_assoc near (far_numbers left) b) ∙ ap₂ (λ l y. (near ++ far_numbers l) ++ y) (sym (others_are (b ∷ left))) (sym (same ∙ is))
+    sym (append_assoc near (far_numbers left) b) ∙ ap₂ (λ l y. (near ++ far_numbers l) ++ y) (sym (take_rest (b ∷ left) 1)) (sym (same ∙ is))
 
 module _ (a b m n : Name) (left right : List (List ℕ)) (ordered : AreOrdered a b m n left right) where
   pub same_blocks : length left < 1 → length right < 1 → name_cmp m n ≡ name_cmp a b

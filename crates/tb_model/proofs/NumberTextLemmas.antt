@@ -1,7 +1,7 @@
 -- The texts of numbers and of levels that are pushed as digits.
 use Rattle.std.proofs.Common.{◌≡◌, ℕ, zero, suc, ◌+◌, ◌-◌, ◌*◌, ◌<◌, ◌≤◌, true, set, take-append-drop, take-suc-set, length-set, take_all, length, take, drop, List, [], ◌∷◌, ◌++◌, ap, ap₂, sym, ◌∙◌, subst, arith, append_assoc, append-nil, if◌then◌else◌, Result, Ok, Err, OnOk, decimal}
 use Rattle.std.proofs.lemmas.Fmt.{decimal_digit}
-use Rattle.std.proofs.lemmas.List.{drop_more, take-append-drop}
+use Rattle.std.proofs.lemmas.List.{drop_more, take-append-drop, take_rest}
 use Rattle.std.proofs.lemmas.Str.{IsUtf8-from_ascii}
 use Rattle.std.proofs.lemmas.Str.Ascii.{IsAscii-push, IsAscii-nil}
 use Rattle.std.specs.Char.{encode_utf8}
@@ -15,7 +15,7 @@ use Rattle.std.specs.Prelude.{slice_index_or}
 use Rattle.tb_model.specs.Blocks.{far_numbers}
 use Rattle.tb_model.specs.Spelling.{name_text, levels_text, is_digit}
 use Rattle.tb_model.specs.Texts.{Begins}
-use Rattle.tb_model.proofs.BlockLemmas.{others, others_are, rest_is}
+use Rattle.tb_model.proofs.BlockLemmas.{others}
 
 -- a number of one digit is that digit
 pub one_digit : {T : Type 0} → {E : Type 0} → (old : List ℕ) (n b : ℕ) (new : List ℕ) (r : Result T E) → n < 10 → b ≡ 48 + n
@@ -73,7 +73,7 @@ block_more old far [] text new block d some is same named told = absurd (omega (
 block_more old far (b ∷ rest) text new block d some is same named told = (
   block ++ named.0,
   named.1 ∙ append_assoc (far_numbers rest) b named.0
-      ∙ ap₂ (λ x y. far_numbers x ++ (y ++ named.0)) (sym (others_are (b ∷ rest))) (sym (same ∙ is)),
+      ∙ ap₂ (λ x y. far_numbers x ++ (y ++ named.0)) (sym (take_rest (b ∷ rest) 1)) (sym (same ∙ is)),
   told ∙ ap (λ x. x ++ levels_text block) named.2 ∙ append_assoc old (name_text named.0) (levels_text block)
       ∙ ap (λ x. old ++ x) (sym (name_of_levels block named.0)),
 )
@@ -108,7 +108,7 @@ pub levels_more : (old numbers rest text new : List ℕ) (at : ℕ) → IsNamed 
     → new ≡ text ++ levels_text (take (length rest - at) (drop at rest)) → IsNamed old numbers (take at rest) new
 levels_more old numbers rest text new at named told =
     let last = drop at rest in
-    let is : take (length rest - at) last ≡ last = rest_is at rest in (
+    let is : take (length rest - at) last ≡ last = take_rest rest at in (
       last ++ named.0,
       named.1 ∙ ap (λ x. x ++ named.0) (sym (take-append-drop at rest)) ∙ append_assoc (take at rest) last named.0,
       told ∙ ap₂ (λ x y. x ++ levels_text y) named.2 is ∙ append_assoc old (levels_text named.0) (levels_text last)

@@ -17,7 +17,7 @@ pub(crate) fn are_same(a: &[u32], b: &[u32]) -> bool
     }
     let mut left = a;
     let mut right = b;
-    'blocks: while left.len() >= AT_ONCE && right.len() >= AT_ONCE {
+    'blocks: while left.len() >= AT_ONCE {
         if !are_same_sixteen(&left[..AT_ONCE], &right[..AT_ONCE]) {
             return false;
         }

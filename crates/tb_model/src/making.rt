@@ -1,4 +1,4 @@
-//! Deep names, whose blocks are those of the name that they are made of.
+//! How the numbers of a deep name are put together: from others, or with the blocks of another name.
 
 ghost use Rattle.std.specs.Prelude.{◌≡◌, ◌≤◌, ◌<◌, ◌∷◌, IfOk, length};
 ghost use Rattle.tb_model.specs.Blocks.{IsDeep};
@@ -40,7 +40,7 @@ pub(crate) fn shared(alloc: Global, parts: &Parts<'_>) -> Result<Deep, AllocErro
     })
 }
 
-/// A number, and those of the parts behind it: 128 or more.
+/// A number, and those of the parts after it: 128 or more.
 pub(crate) fn grown(alloc: Global, first: u32, rest: &Parts<'_>) -> Result<Deep, AllocError>
     requires { 128 ≤ length rest.now }
     ensures { IfOk result (λ d. IsDeep d.near.items d.far.items (first ∷ rest.now)) }

@@ -28,7 +28,7 @@ use std::mem::size_of;
 /// list, and the nth child of `t` is `n ∷ t`. The numbers stand in that order.
 ///
 /// A name takes two words. Up to three numbers stand in them; more stand on the heap, once for all
-/// copies of the name.
+/// copies of the name. Where there are more than 128, the names above and below share blocks of 128.
 #[derive(Drop, Debug)]
 pub struct TaskName {
     numbers: Numbers,

@@ -72,7 +72,7 @@ impl Numbers {
         Ok(Numbers { alloc, stored })
     }
 
-    /// This number, and those of the parts behind it. Takes memory only for more than three.
+    /// This number, and those of the parts after it. Takes memory only for more than three.
     pub fn with_first(alloc: Global, first: u32, rest: &Parts<'_>) -> Result<Numbers, AllocError>
         ensures ok { IfOk result (λ n. n ≡ first ∷ rest.now) }
         ensures short { length rest.now < 3 → IsOk result }
@@ -160,7 +160,7 @@ fn in_place(numbers: &[u32]) -> Option<Stored>
     }
 }
 
-/// A number, and fewer than 128 behind it.
+/// A number, and fewer than 128 after it.
 fn with_few(alloc: Global, first: u32, rest: &[u32]) -> Result<Stored, AllocError>
     requires { length rest.now < 128 }
     ensures ok { IfOk result (λ s. (numbers_in s ≡ first ∷ rest.now) × IsShortest s) }

@@ -1,5 +1,4 @@
-use Rattle.std.proofs.Common.{sym, ap, ◌∙◌, slice_get}
-use Rattle.std.specs.Option.{option_copied}
+use Rattle.std.proofs.Common.{sym, ◌∙◌}
 use Rattle.tb_undo.proofs.SetsLemmas.{from_one}
 use Rattle.tb_undo.proofs.rows.place_of.Goals as goal
 

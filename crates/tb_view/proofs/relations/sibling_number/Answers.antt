@@ -1,4 +1,4 @@
-use Rattle.std.proofs.Common.{ap, sym, ◌∙◌, slice_get}
+use Rattle.std.proofs.Common.{sym, ◌∙◌}
 use Rattle.tb_view.proofs.RelationLemmas.{by_number}
 use Rattle.tb_view.proofs.relations.sibling_number.Goals as goal
 

@@ -1,4 +1,4 @@
-use Rattle.std.proofs.Common.{option_map, slice_get, sym, ap, ◌∙◌, subst}
+use Rattle.std.proofs.Common.{option_map, sym, ap, ◌∙◌, subst}
 use Rattle.std.specs.Option.{option_copied}
 use Rattle.tb_undo.specs.Tasks.{row}
 use Rattle.tb_undo.specs.State.{IsState}

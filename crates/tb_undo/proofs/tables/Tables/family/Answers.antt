@@ -1,4 +1,4 @@
-use Rattle.std.proofs.Common.{slice_get, sym, ap, ◌∙◌, subst}
+use Rattle.std.proofs.Common.{sym, ap, ◌∙◌, subst}
 use Rattle.std.specs.Option.{option_copied}
 use Rattle.tb_model.specs.Lines.{events_of}
 use Rattle.tb_undo.specs.State.{IsState}
