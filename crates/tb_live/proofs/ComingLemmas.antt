@@ -1,16 +1,14 @@
 -- What a task does next, by the plan of its next step.
-use Rattle.std.proofs.Common.{◌≡◌, ◌≢◌, ◌<◌, ◌≤◌, ◌+◌, ◌↔◌, ◌++◌, ℕ, suc, List, [], ◌∷◌, Bool, true, false, length, refl, sym, ap, ap₂, ◌∙◌, subst, arith, Option, Some, None, option_map, nat_le}
-use Rattle.std.specs.Prelude.{Result, Ok, Err, IfOk, IfSome}
-use Rattle.std.proofs.lemmas.Bool.{false≢true}
+use Rattle.std.proofs.Common.{◌≡◌, ◌<◌, ◌≤◌, ◌+◌, ◌↔◌, ◌++◌, ℕ, suc, List, [], ◌∷◌, Bool, true, false, length, refl, sym, ap, ap₂, ◌∙◌, subst, arith, Option, Some, None, option_map}
+use Rattle.std.specs.Prelude.{Result, Ok, Err, IfOk}
 use Rattle.std.proofs.lemmas.Bool.Decides.{nat_tests}
 use Rattle.std.proofs.lemmas.List.{length-map}
 use Rattle.tb_model.specs.declared.entry.Entry.{Entry}
 use Rattle.tb_model.specs.declared.entry.Entry.TheVariants.{Stepped}
 use Rattle.tb_model.specs.declared.event.Event.{Event}
-use Rattle.tb_model.specs.declared.step_id.StepId.{StepId}
 use Rattle.tb_model.specs.Names.{Name}
 use Rattle.tb_model.specs.Facts.{History, is_of, own, is_spawned, prepend_if}
-use Rattle.tb_model.specs.Hindrances.{Refusal, By, Hindrance, can_step, in_the_way, least_ready, refusal_of}
+use Rattle.tb_model.specs.Hindrances.{By, Hindrance, can_step, in_the_way, least_ready, refusal_of}
 use Rattle.tb_model.specs.Lines.{Departure}
 use Rattle.tb_model.specs.Program.{Program, instr_at}
 use Rattle.tb_read.specs.declared.config.Config.{Config}
@@ -19,18 +17,18 @@ use Rattle.tb_read.specs.declared.planned.Plan.{Plan}
 use Rattle.tb_read.specs.Plans.{IsActionOf, instruction, line_behind, names_allowed}
 use Rattle.tb_undo.specs.declared.standing.Standing.{Standing}
 use Rattle.tb_core.specs.declared.step_refusal.StepRefusal.{StepRefusal}
-use Rattle.tb_core.specs.declared.step_refusal.StepRefusal.TheVariants.{Memory, Full, Stale}
+use Rattle.tb_core.specs.declared.step_refusal.StepRefusal.TheVariants.{Memory, Full}
 use Rattle.tb_core.specs.Naming.{config_with}
 use Rattle.tb_core.specs.Seen.{Seen, history}
 use Rattle.tb_core.specs.Situation.{config_of}
 use Rattle.tb_core.specs.Refusals.{told_by}
-use Rattle.tb_core.specs.Outcomes.{IsCurrent, IsKept, IsKeptBy, MayTake, Takes, event_for, event_of, has_ended, hindrance_of}
+use Rattle.tb_core.specs.Outcomes.{IsCurrent, IsKept, IsKeptBy, MayTake, Takes, event_of, has_ended, hindrance_of}
 use Rattle.tb_core.proofs.ShownLemmas.{kept_by, open_takes, takes_steps}
 use Rattle.tb_live.specs.declared.coming.Coming.{Coming}
 use Rattle.tb_live.specs.declared.control.Control.{Control}
 use Rattle.tb_live.specs.Controls.{behind_step}
 use Rattle.tb_live.specs.Soundness.{Fits}
-use Rattle.tb_live.specs.Plans.{Enters, IsClear, IsComing, IsKeptFrom, IsLeastComing, IsNext, IsPlanOf, IsStepOf, has_no_place}
+use Rattle.tb_live.specs.Plans.{Enters, IsComing, IsKeptFrom, IsLeastComing, IsNext, IsStepOf, has_no_place}
 use Rattle.tb_live.proofs.PlanLemmas.{IsReadyPlan, can_by_plan, plan_fits, plan_ready, refusal_of_plan}
 
 -- ---- the statement at which a task stands, evaluated for it

@@ -1,6 +1,6 @@
 //! A plan that was made at some time, and is taken now.
 
-ghost use Rattle.std.specs.Prelude.{◌≡◌, ◌≢◌, ◌<◌, ◌-◌, ◌↔◌, IfOk, IfErr, IfSome, IfNone, IsOk, OnOk, OnErr, IsTrue, IsFalse, Some, None, length, vec_len, vec_capacity};
+ghost use Rattle.std.specs.Prelude.{◌≡◌, ◌≢◌, ◌<◌, ◌↔◌, IfOk, IfErr, IfSome, IfNone, IsOk, OnOk, OnErr, IsTrue, IsFalse, Some, None, length};
 ghost use Rattle.tb_model.specs.Facts.{is_spawned};
 ghost use Rattle.tb_core.specs.Outcomes.{IsOpen, has_ended};
 ghost use Rattle.tb_core.specs.Outcomes as outcomes;
@@ -18,6 +18,7 @@ use crate::prepared::{Prepared, holds_step, take_step};
 use crate::same_instr::is_same_instr;
 use crate::stepping::{enter_readied, ready_step};
 use tb_core::{Core, StepRefusal};
+use tb_journal::Journal;
 use tb_model::{Entry, Event, StepId, TaskName};
 use tb_read::{Instr, Plan, Program};
 
@@ -66,7 +67,7 @@ pub fn foreign(program: &Program, core: &Core, plan: &Plan) -> Option<StepRefusa
 fn event_for(
     program: &Program,
     core: &mut Core,
-    journal: &mut Vec<Entry>,
+    journal: &mut Journal,
     prepared: &mut Option<Prepared>,
     floor: &mut Floor,
     limit: u32,
@@ -77,18 +78,15 @@ fn event_for(
     requires native { IsNative program.now core.old.run plan.now }
     requires limit { core.old.run.limit ≡ limit }
     requires shorter { length core.old.run.steps < length journal.old.items }
-    requires room { HasRoom limit program.now core.old journal.old.items
-        (vec_capacity journal.old - vec_len journal.old) prepared.old }
+    requires room { HasRoom limit program.now core.old journal.old.items journal.old.room prepared.old }
     ensures run { core.new.run ≡ core.old.run }
     ensures entries { journal.new.items ≡ journal.old.items }
-    ensures readied { IfOk result (IsReadied limit core.new plan.now journal.old.items
-        (vec_capacity journal.new - vec_len journal.new)) }
+    ensures readied { IfOk result (IsReadied limit core.new plan.now journal.old.items journal.new.room) }
     ensures refused { IfErr result (IsKeptFrom core.old.run plan.now
         (has_no_place limit journal.old.items)) }
     ensures given_up { OnOk result (prepared.new ≡ None) }
     ensures kept { IfErr result (λ e. e ≢ Memory → prepared.new ≡ prepared.old) }
-    ensures serves { HasRoom limit program.now core.new journal.new.items
-        (vec_capacity journal.new - vec_len journal.new) prepared.new }
+    ensures serves { HasRoom limit program.now core.new journal.new.items journal.new.room prepared.new }
     ensures succeeds { HoldsStep prepared.old seat plan.now.config.task
         → IsOpen core.old.run plan.now → IsOk result }
     ensures floor { floor.new ≡ floor.old }
@@ -110,7 +108,7 @@ fn event_for(
 pub fn enter_plan(
     program: &Program,
     core: &mut Core,
-    journal: &mut Vec<Entry>,
+    journal: &mut Journal,
     control: &mut Control,
     prepared: &mut Option<Prepared>,
     floor: &mut Floor,
@@ -122,12 +120,10 @@ pub fn enter_plan(
     requires native { IsNative program.now core.old.run plan }
     requires limit { core.old.run.limit ≡ limit }
     requires shorter { length core.old.run.steps < length journal.old.items }
-    requires room { HasRoom limit program.now core.old journal.old.items
-        (vec_capacity journal.old - vec_len journal.old) prepared.old }
+    requires room { HasRoom limit program.now core.old journal.old.items journal.old.room prepared.old }
     ensures entered { Enters limit seat core.old.run plan core.new.run journal.old.items journal.new.items control.old control.new result }
     ensures kept { IfErr result (λ e. e ≢ Memory → prepared.new ≡ prepared.old) }
-    ensures serves { HasRoom limit program.now core.new journal.new.items
-        (vec_capacity journal.new - vec_len journal.new) prepared.new }
+    ensures serves { HasRoom limit program.now core.new journal.new.items journal.new.room prepared.new }
     ensures succeeds { HoldsStep prepared.old seat plan.config.task
         → IsOpen core.old.run plan → IsOk result }
     ensures carried { OnOk result (IsCarried (history core.new.run) floor.old floor.new) }
@@ -143,7 +139,7 @@ pub fn enter_plan(
 pub fn enter_on(
     program: &Program,
     core: &mut Core,
-    journal: &mut Vec<Entry>,
+    journal: &mut Journal,
     control: &mut Control,
     prepared: &mut Option<Prepared>,
     floor: &mut Floor,
@@ -155,13 +151,11 @@ pub fn enter_on(
     requires native { IsNative program.now core.old.run plan }
     requires limit { core.old.run.limit ≡ limit }
     requires shorter { length core.old.run.steps < length journal.old.items }
-    requires room { HasRoom limit program.now core.old journal.old.items
-        (vec_capacity journal.old - vec_len journal.old) prepared.old }
+    requires room { HasRoom limit program.now core.old journal.old.items journal.old.room prepared.old }
     requires claimed { claim_of control.old.claims seat ≡ Some plan.config.task }
     ensures entered { EntersOn limit seat core.old.run plan core.new.run journal.old.items journal.new.items control.old control.new result }
     ensures kept { IfErr result (λ e. e ≢ Memory → prepared.new ≡ prepared.old) }
-    ensures serves { HasRoom limit program.now core.new journal.new.items
-        (vec_capacity journal.new - vec_len journal.new) prepared.new }
+    ensures serves { HasRoom limit program.now core.new journal.new.items journal.new.room prepared.new }
     ensures succeeds { HoldsStep prepared.old seat plan.config.task
         → IsOpen core.old.run plan → IsOk result }
     ensures carried { OnOk result (IsCarried (history core.new.run) floor.old floor.new) }

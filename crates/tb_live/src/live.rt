@@ -31,6 +31,7 @@ use crate::unevaluated::{least_wanting, wanting};
 use std::alloc::{AllocError, Global};
 use std::marker::Model;
 use tb_core::{Core, Removed, StepRefusal, UndoRefusal};
+use tb_journal::Journal;
 use tb_model::{Entry, Event, StepId, TaskName};
 use tb_read::Program;
 use tb_roll::RollRefusal;
@@ -41,7 +42,7 @@ pub struct Live {
     alloc: Global,
     program: Program,
     core: Core,
-    journal: Vec<Entry>,
+    journal: Journal,
     control: Control,
     limit: u32,
     // what the next change finds ready
@@ -51,7 +52,7 @@ pub struct Live {
 }
 
 impl Model for Live {
-    ghost use Rattle.std.specs.Prelude.{◌-◌, reverse, option_map, vec_len, vec_capacity};
+    ghost use Rattle.std.specs.Prelude.{reverse, option_map};
     ghost use Rattle.tb_live.specs.Session.{Held};
     ghost use Rattle.tb_live.specs.Soundness.{IsSound, IsLawful};
     ghost use Rattle.tb_live.specs.Preparing.{HasRoom, entry_of};
@@ -62,7 +63,7 @@ impl Model for Live {
 
     ghost view = { λ l. record { session = record { program = l.program; limit = l.limit; journal = reverse l.journal.items; control = l.control }; prepared = option_map entry_of l.prepared } };
 
-    ghost invariant = { λ l. IsSound l.program l.limit (reverse l.journal.items) l.core.run × IsLawful (reverse l.journal.items) l.control × HasRoom l.limit l.program l.core l.journal.items (vec_capacity l.journal - vec_len l.journal) l.prepared × IsFloor l.program (history l.core.run) l.floor };
+    ghost invariant = { λ l. IsSound l.program l.limit (reverse l.journal.items) l.core.run × IsLawful (reverse l.journal.items) l.control × HasRoom l.limit l.program l.core l.journal.items l.journal.room l.prepared × IsFloor l.program (history l.core.run) l.floor };
 }
 
 impl Live {
@@ -75,8 +76,7 @@ impl Live {
         ensures { IfOk result (λ live. live.session ≡ opened program limit seats) }
     {
         let claims = Claims::none(alloc, seats)?;
-        let mut journal = Vec::with_capacity(alloc, 1)?;
-        journal.push(Entry::Opened)?;
+        let journal = Journal::open(alloc)?;
         // last, so that no error drops a core with its tables
         let core = Core::open(alloc, program.cells(), program.root_line(), limit)?;
         let control = Control {
@@ -128,7 +128,7 @@ impl Live {
     pub fn is_full(&self) -> bool
         ensures { result ≡ is_full self.now.session }
     {
-        self.limit as usize <= self.journal.as_slice().len()
+        self.limit as usize <= self.journal.len()
     }
 
     /// The task that the seat claims. It is there, and no other seat claims it.

@@ -1,12 +1,13 @@
 //! A rollback, with its entry in the journal.
 
-ghost use Rattle.std.specs.Prelude.{◌≡◌, ◌<◌, ◌≤◌, ◌-◌, Some, IfOk, IfErr, IsOk, IsSome, IfSome, IfNone, OnOk, OnErr, vec_len, vec_capacity};
+ghost use Rattle.std.specs.Prelude.{◌≡◌, ◌<◌, ◌≤◌, Some, IfOk, IfErr, IsOk, IsSome, IfSome, IfNone, OnOk, OnErr};
 ghost use Rattle.tb_live.specs.Rollbacks.{EntersRollback, RefusesRollback};
 ghost use Rattle.tb_live.specs.Preparing.{HoldsRoll, IsRollReadied, held_name};
 
 use crate::prepared::{Prepared, holds_roll};
 use std::alloc::{AllocError, Global};
 use tb_core::{Core, Removed, place_of};
+use tb_journal::Journal;
 use tb_model::{Entry, StepId};
 use tb_roll::{Ready, RollRefusal, finish, ready};
 
@@ -14,19 +15,17 @@ use tb_roll::{Ready, RollRefusal, finish, ready};
 pub fn ready_roll(
     alloc: Global,
     core: &Core,
-    journal: &mut Vec<Entry>,
+    journal: &mut Journal,
     limit: u32,
     step: &StepId,
 ) -> Result<(StepId, Ready), RollRefusal>
     ensures entries { journal.new.items ≡ journal.old.items }
     ensures step { IfOk result (λ r. r.0 ≡ step.now) }
-    ensures readied { IfOk result (λ r. IsRollReadied limit core.now step.now journal.old.items
-        (vec_capacity journal.new - vec_len journal.new) r.1) }
+    ensures readied { IfOk result (λ r. IsRollReadied limit core.now step.now journal.old.items journal.new.room r.1) }
     ensures refused { IfErr result (RefusesRollback limit core.now.run step.now journal.old.items) }
-    ensures spare { vec_capacity journal.old - vec_len journal.old
-        ≤ vec_capacity journal.new - vec_len journal.new }
+    ensures spare { journal.old.room ≤ journal.new.room }
 {
-    if limit as usize <= journal.as_slice().len() {
+    if limit as usize <= journal.len() {
         return Err(match place_of(core.legal_entries(), step) {
             Some(_) => RollRefusal::Full,
             None => RollRefusal::NoSuchStep,
@@ -36,7 +35,7 @@ pub fn ready_roll(
         Ok(ready) => ready,
         Err(refusal) => return Err(refusal),
     };
-    if journal.reserve(1).is_err() {
+    if journal.reserve().is_err() {
         return Err(RollRefusal::Memory);
     }
     match step.clone() {
@@ -50,21 +49,20 @@ pub fn ready_roll(
 pub fn enter_roll(
     alloc: Global,
     core: &mut Core,
-    journal: &mut Vec<Entry>,
+    journal: &mut Journal,
     limit: u32,
     seat: u32,
     readied: Option<(StepId, Ready)>,
     step: &StepId,
 ) -> Result<Vec<Removed>, RollRefusal>
     requires { IfSome readied (λ r. (r.0 ≡ step.now) × IsRollReadied limit core.old step.now
-        journal.old.items (vec_capacity journal.old - vec_len journal.old) r.1) }
+        journal.old.items journal.old.room r.1) }
     ensures rolled { IfOk result (λ removed. EntersRollback limit seat core.old.run step.now
         core.new.run journal.old.items journal.new.items removed.items) }
     ensures refused { IfErr result (RefusesRollback limit core.old.run step.now journal.old.items) }
     ensures stays { OnErr result ((core.new ≡ core.old)
         × (journal.new.items ≡ journal.old.items)
-        × (vec_capacity journal.old - vec_len journal.old
-        ≤ vec_capacity journal.new - vec_len journal.new)) }
+        × (journal.old.room ≤ journal.new.room)) }
     ensures room { IsSome readied → IsOk result }
 {
     let (id, ready) = match readied {
@@ -81,24 +79,23 @@ pub fn enter_roll(
 /// A name of the step for its entry, for which the journal has room; none where the one that is
 /// prepared serves, and then without memory.
 pub fn fresh_name(
-    journal: &mut Vec<Entry>,
+    journal: &mut Journal,
     prepared: &Option<Prepared>,
     seat: u32,
     step: &StepId,
 ) -> Result<Option<StepId>, AllocError>
     requires { HoldsRoll prepared.now seat step.now
-        → 0 < vec_capacity journal.old - vec_len journal.old }
+        → 0 < journal.old.room }
     ensures entries { journal.new.items ≡ journal.old.items }
     ensures name { IfOk result (λ o. IfSome o (λ id. id ≡ step.now)) }
     ensures held { IfOk result (λ o. IfNone o (held_name prepared.now ≡ Some step.now)) }
-    ensures free { OnOk result (0 < vec_capacity journal.new - vec_len journal.new) }
-    ensures spare { vec_capacity journal.old - vec_len journal.old
-        ≤ vec_capacity journal.new - vec_len journal.new }
+    ensures free { OnOk result (0 < journal.new.room) }
+    ensures spare { journal.old.room ≤ journal.new.room }
     ensures room { HoldsRoll prepared.now seat step.now → IsOk result }
 {
     if holds_roll(prepared, seat, step) {
         return Ok(None);
     }
-    journal.reserve(1)?;
+    journal.reserve()?;
     Ok(Some(step.clone()?))
 }

@@ -1,6 +1,6 @@
 //! A planned step, with its entry in the journal.
 
-ghost use Rattle.std.specs.Prelude.{◌≡◌, ◌≢◌, ◌<◌, ◌-◌, IfOk, IfErr, OnOk, OnErr, Some, None, length, vec_len, vec_capacity};
+ghost use Rattle.std.specs.Prelude.{◌≡◌, ◌≢◌, ◌<◌, IfOk, IfErr, OnOk, OnErr, Some, None, length};
 ghost use Rattle.tb_model.specs.Program.{Program};
 ghost use Rattle.tb_core.specs.declared.step_refusal.StepRefusal.TheVariants.{Memory};
 ghost use Rattle.tb_core.specs.Outcomes.{Fits, IsCurrent, IsOpen, event_of};
@@ -15,7 +15,8 @@ use crate::control::Control;
 use crate::floor::Floor;
 use crate::prepared::{Prepared, forget};
 use tb_core::{Core, StepRefusal};
-use tb_model::{Entry, Event, StepId, TaskName};
+use tb_journal::Journal;
+use tb_model::{Event, StepId, TaskName};
 use tb_read::Plan;
 
 /// Makes all room for the step of a plan and for its entry, and tells the event. The journal has more
@@ -23,7 +24,7 @@ use tb_read::Plan;
 /// any other refusal keeps it.
 pub fn ready_step(
     core: &mut Core,
-    journal: &mut Vec<Entry>,
+    journal: &mut Journal,
     prepared: &mut Option<Prepared>,
     floor: &mut Floor,
     limit: u32,
@@ -34,20 +35,17 @@ pub fn ready_step(
     requires shorter { length core.old.run.steps < length journal.old.items }
     ensures run { core.new.run ≡ core.old.run }
     ensures entries { journal.new.items ≡ journal.old.items }
-    ensures readied { IfOk result (IsReadied limit core.new plan.now journal.old.items
-        (vec_capacity journal.new - vec_len journal.new)) }
+    ensures readied { IfOk result (IsReadied limit core.new plan.now journal.old.items journal.new.room) }
     ensures refused { IfErr result (IsKeptFrom core.old.run plan.now
         (has_no_place limit journal.old.items)) }
     ensures given_up { OnOk result (prepared.new ≡ None) }
     ensures kept { IfErr result (λ e. e ≢ Memory → prepared.new ≡ prepared.old) }
     ensures serves { (P : Program)
-        → HasRoom limit P core.old journal.old.items
-        (vec_capacity journal.old - vec_len journal.old) prepared.old
-        → HasRoom limit P core.new journal.new.items
-        (vec_capacity journal.new - vec_len journal.new) prepared.new }
+        → HasRoom limit P core.old journal.old.items journal.old.room prepared.old
+        → HasRoom limit P core.new journal.new.items journal.new.room prepared.new }
     ensures floor { floor.new ≡ floor.old }
 {
-    if limit as usize <= journal.as_slice().len() {
+    if limit as usize <= journal.len() {
         return Err(core.refusal(plan).unwrap_or(StepRefusal::Full));
     }
     let event = match core.reserve_step(plan) {
@@ -59,7 +57,7 @@ pub fn ready_step(
         Err(refusal) => return Err(refusal),
     };
     forget(prepared);
-    if journal.reserve(1).is_err() {
+    if journal.reserve().is_err() {
         return Err(StepRefusal::Memory);
     }
     floor.ready(&plan.config.task, &plan.action);
@@ -69,7 +67,7 @@ pub fn ready_step(
 /// Takes a step for which all room is made, and enters it for the seat. It takes no memory.
 pub fn enter_readied(
     core: &mut Core,
-    journal: &mut Vec<Entry>,
+    journal: &mut Journal,
     control: &mut Control,
     floor: &mut Floor,
     seat: u32,
@@ -80,7 +78,7 @@ pub fn enter_readied(
     requires open { IsOpen core.old.run plan }
     requires event { event ≡ event_of core.old.run plan }
     requires reserved { core.old.reserved ≡ Some event }
-    requires spare { 0 < vec_capacity journal.old - vec_len journal.old }
+    requires spare { 0 < journal.old.room }
     ensures entered { IsEntered seat core.old.run plan core.new.run
         journal.old.items journal.new.items result }
     ensures control { control.new ≡ behind_step plan.config.at event control.old }
@@ -90,7 +88,7 @@ pub fn enter_readied(
     let id = core.step_reserved(plan);
     floor.step_taken(core);
     control.step_taken(line, &event);
-    journal.push_reserved(Entry::Stepped { seat, event });
+    journal.push_step(seat, event);
     id
 }
 
@@ -98,7 +96,7 @@ pub fn enter_readied(
 /// again but whether the journal has a place. What was prepared is given up, but where it has none.
 pub fn enter_clear(
     core: &mut Core,
-    journal: &mut Vec<Entry>,
+    journal: &mut Journal,
     control: &mut Control,
     prepared: &mut Option<Prepared>,
     floor: &mut Floor,
@@ -114,18 +112,16 @@ pub fn enter_clear(
         → Enters limit seat core.old.run p core.new.run journal.old.items journal.new.items control.old control.new result }
     ensures kept { IfErr result (λ e. e ≢ Memory → prepared.new ≡ prepared.old) }
     ensures serves { (P : Program)
-        → HasRoom limit P core.old journal.old.items
-        (vec_capacity journal.old - vec_len journal.old) prepared.old
-        → HasRoom limit P core.new journal.new.items
-        (vec_capacity journal.new - vec_len journal.new) prepared.new }
+        → HasRoom limit P core.old journal.old.items journal.old.room prepared.old
+        → HasRoom limit P core.new journal.new.items journal.new.room prepared.new }
     ensures carried { OnOk result (IsCarried (history core.new.run) floor.old floor.new) }
     ensures stays { OnErr result (floor.new ≡ floor.old) }
 {
-    if limit as usize <= journal.as_slice().len() {
+    if limit as usize <= journal.len() {
         return Err(StepRefusal::Full);
     }
     forget(prepared);
-    if journal.reserve(1).is_err() {
+    if journal.reserve().is_err() {
         return Err(StepRefusal::Memory);
     }
     floor.ready(&task, &coming.action);
@@ -139,7 +135,7 @@ pub fn enter_clear(
         Ok(event) => {
             floor.step_taken(core);
             control.step_taken(at, &event);
-            journal.push_reserved(Entry::Stepped { seat, event });
+            journal.push_step(seat, event);
             Ok(StepId { task, k: steps + 1 })
         }
         Err(_) => Err(StepRefusal::Memory),
@@ -150,7 +146,7 @@ pub fn enter_clear(
 /// prepared is kept where the step is refused for any reason but memory.
 pub fn enter_step(
     core: &mut Core,
-    journal: &mut Vec<Entry>,
+    journal: &mut Journal,
     control: &mut Control,
     prepared: &mut Option<Prepared>,
     floor: &mut Floor,
@@ -166,17 +162,15 @@ pub fn enter_step(
         → Enters limit seat core.old.run p core.new.run journal.old.items journal.new.items control.old control.new result }
     ensures kept { IfErr result (λ e. e ≢ Memory → prepared.new ≡ prepared.old) }
     ensures serves { (P : Program)
-        → HasRoom limit P core.old journal.old.items
-        (vec_capacity journal.old - vec_len journal.old) prepared.old
-        → HasRoom limit P core.new journal.new.items
-        (vec_capacity journal.new - vec_len journal.new) prepared.new }
+        → HasRoom limit P core.old journal.old.items journal.old.room prepared.old
+        → HasRoom limit P core.new journal.new.items journal.new.room prepared.new }
     ensures carried { OnOk result (IsCarried (history core.new.run) floor.old floor.new) }
     ensures stays { OnErr result (floor.new ≡ floor.old) }
 {
     if let Some(refusal) = core.hindrance(task, &coming.action) {
         return Err(refusal);
     }
-    if limit as usize <= journal.as_slice().len() {
+    if limit as usize <= journal.len() {
         return Err(StepRefusal::Full);
     }
     match task.clone() {

@@ -8,6 +8,8 @@ mod commits;
 #[cfg(test)]
 mod groups;
 #[cfg(test)]
+mod journals;
+#[cfg(test)]
 mod moves;
 #[cfg(test)]
 mod seats;

@@ -23,7 +23,8 @@ use Rattle.tb_team.specs.declared.gone.Gone.{Gone}
 use Rattle.tb_team.specs.declared.stop.Stop.{Stop}
 use Rattle.tb_team.specs.Gone.{IsGone}
 use Rattle.tb_team.specs.Lending.{IsBack}
-use Rattle.tb_team.specs.Looking.{is_turn, meets_newest, none_met, reason, IsLooked}
+use Rattle.tb_journal.specs.Journals.{is_turn}
+use Rattle.tb_team.specs.Looking.{meets_newest, none_met, reason, IsLooked}
 use Rattle.tb_team.specs.Turns.{started, stop_of, why_idle, why_paused}
 use Rattle.tb_team.proofs.Counting.{above_none, equal_by, not_equal, all_taken, less, plus_one, minus_one, one_more_left, new_count, new_left, within_both, few_of}
 use Rattle.tb_team.proofs.Records.{all_reversed}

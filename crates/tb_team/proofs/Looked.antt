@@ -68,11 +68,11 @@ seats_stay s t seats e = subst (λ n. 64 < n) (sym (ap (λ (z : Session). length
 pub seats_back : (s t : Session) → HasSeats s → IsBack s t → HasSeats t
 seats_back s t seats back = subst (λ n. 64 < n) (sym back.seats) seats
 
-pub still_there : (s t back : Session) (es : List Entry) → t ≡ unclaimed s → reverse es ≡ s.journal → IsBack t back → length es ≤ length back.journal
-still_there s t back es e has is_back =
-    subst (λ n. n ≤ length back.journal) (ap (λ (z : Session). length z.journal) e ∙ sym (same_length es s.journal has)) (longer back.journal t.journal is_back.begins)
+pub still_there : (s t back : Session) (from : ℕ) → t ≡ unclaimed s → from ≡ length s.journal → IsBack t back → from ≤ length back.journal
+still_there s t back from e has is_back =
+    subst (λ n. n ≤ length back.journal) (ap (λ (z : Session). length z.journal) e ∙ sym has) (longer back.journal t.journal is_back.begins)
 
-pub gone_from : (workers most : ℕ) (s t back : Session) (es : List Entry) (gone : Gone) → 1 < workers → t ≡ unclaimed s → reverse es ≡ s.journal → IsBack t back
-    → IsLooked workers most (length es) back gone → IsGone workers most s gone
-gone_from workers most s t back es gone several e has is_back looked =
-    gone_of workers most (length es) s back gone several (same_length es s.journal has) (subst (λ (z : Session). IsBack z back) e is_back) looked
+pub gone_from : (workers most : ℕ) (s t back : Session) (from : ℕ) (gone : Gone) → 1 < workers → t ≡ unclaimed s → from ≡ length s.journal → IsBack t back
+    → IsLooked workers most from back gone → IsGone workers most s gone
+gone_from workers most s t back from gone several e has is_back looked =
+    gone_of workers most from s back gone several has (subst (λ (z : Session). IsBack z back) e is_back) looked

@@ -28,7 +28,8 @@ use Rattle.tb_live.specs.Session.{Session, history, is_full}
 use Rattle.tb_live.proofs.ReadyLemmas.{can_spawned}
 use Rattle.tb_team.proofs.Counting.{above_none, at_most, full_is_not_room, not_none, room_left, some_left, one_fewer, less, plus_one, all_of_it}
 use Rattle.tb_team.specs.Turns.{AreTurns, IsTurn, started, stop_of, turned, why_idle, why_paused}
-use Rattle.tb_team.specs.Looking.{is_turn, none_met}
+use Rattle.tb_journal.specs.Journals.{is_turn}
+use Rattle.tb_team.specs.Looking.{none_met}
 
 -- ---- claims
 

@@ -1,8 +1,6 @@
 -- What is looked at in a run that comes back from workers.
-use Rattle.std.specs.Prelude.{◌≡◌, ◌≤◌, ◌+◌, ◌-◌, ℕ, zero, suc, List, [], ◌∷◌, Bool, true, false, ◌&&◌, not, is_some, nat_le, nat_lt, nat_eq, length, drop, if◌then◌else◌, Option, Some}
+use Rattle.std.specs.Prelude.{◌≡◌, ◌≤◌, ◌+◌, ◌-◌, ℕ, zero, suc, List, [], ◌∷◌, Bool, true, false, ◌&&◌, not, is_some, nat_lt, nat_eq, length, drop, if◌then◌else◌, Option, Some}
 use Rattle.std.specs.List.{list_all}
-use Rattle.tb_model.specs.declared.entry.Entry.{Entry}
-use Rattle.tb_model.specs.declared.entry.Entry.TheVariants.{Opened, Stepped, Rolled}
 use Rattle.tb_model.specs.Facts.{History}
 use Rattle.tb_model.specs.Journal.{Sound}
 use Rattle.tb_model.specs.WellFormed.{WellFormed}
@@ -14,17 +12,12 @@ use Rattle.tb_live.specs.Breaks.{met}
 use Rattle.tb_live.specs.Claims.{Claims, withdrawn}
 use Rattle.tb_live.specs.Session.{Session, history, is_full}
 use Rattle.tb_live.specs.Moves.{least_task}
+use Rattle.tb_journal.specs.Journals.{is_turn}
 use Rattle.tb_work.specs.Changes.{entries}
 use Rattle.tb_team.specs.declared.gone.Gone.{Gone}
 use Rattle.tb_team.specs.declared.stop.Stop.{Stop}
 use Rattle.tb_team.specs.declared.stop.Stop.TheVariants.{Break, Limit}
 use Rattle.tb_team.specs.Turns.{why_idle}
-
--- a step of one of so many workers
-abbrev pub is_turn : ℕ → Entry → Bool
-is_turn workers Opened = false
-is_turn workers (Stepped seat v) = nat_le 1 seat && nat_le seat workers
-is_turn workers (Rolled seat i) = false
 
 -- the step met a breakpoint, by its own record of the line at which its task stood
 abbrev pub is_met : List Breakpoint → Step → Bool

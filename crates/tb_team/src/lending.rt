@@ -2,7 +2,7 @@
 
 ghost use Rattle.std.specs.Prelude.{◌≡◌, ◌<◌, ◌≤◌, true, IfOk, OnOk, length, vec_len};
 ghost use Rattle.tb_work.specs.Changes.{entries};
-ghost use Rattle.tb_work.specs.Receipts.{all_below};
+ghost use Rattle.tb_journal.specs.Journals.{all_below};
 ghost use Rattle.tb_team.specs.Gone.{HasSeats};
 ghost use Rattle.tb_team.specs.Lending.{IsBack};
 ghost use Rattle.tb_team.specs.Losing.{lost_by};

@@ -3,29 +3,12 @@
 ghost use Rattle.std.specs.Prelude.{◌≡◌, ◌-◌, ◌<◌, ◌≤◌, IsTrue, true, not, length, drop};
 ghost use Rattle.std.specs.List.{list_all};
 ghost use Rattle.tb_live.specs.Session.{history};
-ghost use Rattle.tb_team.specs.Looking.{is_turn, is_met, meets_newest, none_met, IsCourse};
+ghost use Rattle.tb_journal.specs.Journals.{is_turn};
+ghost use Rattle.tb_team.specs.Looking.{is_met, meets_newest, none_met, IsCourse};
 ghost use Rattle.tb_work.specs.Changes.{entries};
 
 use tb_core::Entry as Step;
 use tb_live::{Breakpoint, Live};
-use tb_model::Entry;
-
-/// Whether the entry is a step of a worker, of which there are so many.
-fn is_turn(workers: u32, entry: &Entry) -> bool
-    ensures { result ≡ is_turn workers entry.now }
-{
-    match entry {
-        Entry::Stepped { seat, .. } => 1 <= *seat && *seat <= workers,
-        _ => false,
-    }
-}
-
-/// Whether each of the entries is a step of a worker.
-fn are_turns(workers: u32, entries: &[Entry]) -> bool
-    ensures { result ≡ list_all (is_turn workers) entries.now }
-{
-    entries.iter().all(|entry| is_turn(workers, entry))
-}
 
 /// Whether the step met a breakpoint, by its own record.
 fn is_met(points: &[Breakpoint], step: &Step) -> bool
@@ -51,7 +34,7 @@ fn are_turns_from(live: &Live, workers: u32, from: usize) -> bool
     requires { from ≤ length live.now.session.journal }
     ensures { result ≡ list_all (is_turn workers) (drop from (entries live.now.session)) }
 {
-    are_turns(workers, &live.journal()[from..])
+    live.journal().are_turns(workers, from)
 }
 
 /// Whether none of so many of the newest steps met a breakpoint, the newest aside. False where there aren't

@@ -1,8 +1,7 @@
 -- What claims and pauses leave.
-use Rattle.std.proofs.Common.{ℕ, ◌≡◌, refl, ap, length, length-set, ◌∙◌, Option, Result, Ok, Err, IfOk, OnErr}
+use Rattle.std.proofs.Common.{ℕ, ◌≡◌, ap, length, length-set, ◌∙◌, Option, Result, Ok, Err, IfOk, OnErr}
 use Rattle.std.specs.declared.alloc.AllocError.{AllocError}
 use Rattle.tb_model.specs.Names.{Name}
-use Rattle.tb_model.specs.Program.{Program}
 use Rattle.tb_live.specs.declared.work.Work.{Work}
 use Rattle.tb_live.specs.declared.claim.Claim.{Claim}
 use Rattle.tb_live.specs.declared.claim.Claim.TheVariants.{Work as Works, Later, Done, Stopped}

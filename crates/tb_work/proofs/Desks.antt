@@ -1,6 +1,6 @@
 -- What a desk keeps, and what an entry more leaves of it.
-use Rattle.std.proofs.Common.{ℕ, ◌+◌, ◌<◌, ◌≤◌, ◌≡◌, suc, List, [], ◌∷◌, ◌++◌, Some, Option, map, take, length, get_or, refl, ap, sym, subst, ◌∙◌, arith, rules, length-set}
-use Rattle.std.specs.Prelude.{reverse, slice_index}
+use Rattle.std.proofs.Common.{ℕ, ◌+◌, ◌<◌, ◌≤◌, ◌≡◌, suc, List, [], ◌∷◌, ◌++◌, Some, Option, map, take, length, get_or, refl, ap, sym, subst, ◌∙◌, arith, length-set}
+use Rattle.std.specs.Prelude.{slice_index}
 use Rattle.std.proofs.lemmas.List.{map-append, reverse-append, length-map, length-take, take-append-le}
 use Rattle.std.proofs.Math.Seq.{take-suc, take-length}
 use Rattle.tb_model.specs.declared.entry.Entry.{Entry}

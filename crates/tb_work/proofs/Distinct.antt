@@ -1,7 +1,7 @@
 -- Places of several rows, each of which rises and has only places that its own row owns, are distinct.
-use Rattle.std.proofs.Common.{ℕ, ◌+◌, ◌<◌, ◌≤◌, ◌≡◌, ◌≢◌, zero, suc, List, [], ◌∷◌, ◌++◌, Bool, true, false, cond, nat_eq, nat_lt, map, length, get_or, refl, ap, sym, subst, ◌∙◌, arith, eq-eqb}
+use Rattle.std.proofs.Common.{ℕ, ◌+◌, ◌<◌, ◌≤◌, ◌≡◌, ◌≢◌, suc, List, [], ◌∷◌, ◌++◌, Bool, true, false, cond, nat_eq, nat_lt, length, get_or, refl, ap, sym, ◌∙◌, arith}
 use Rattle.std.proofs.lemmas.Bool.Decides.{nat_tests}
-use Rattle.tb_work.proofs.Numbered.{Rises, AllAtMost, all_places}
+use Rattle.tb_work.proofs.Numbered.{Rises}
 
 abbrev pub hit : ℕ → ℕ → ℕ
 hit q p = cond (nat_eq p q) 1 0

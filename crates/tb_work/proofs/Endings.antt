@@ -1,5 +1,5 @@
 -- What ends a worker.
-use Rattle.std.proofs.Common.{ℕ, ◌≡◌, ◌<◌, ◌≤◌, ◌+◌, List, length, get_or, ⊎_elim, inr, Some, sym, subst, ◌∙◌, arith}
+use Rattle.std.proofs.Common.{ℕ, ◌≡◌, ◌<◌, ◌+◌, List, length, get_or, ⊎_elim, inr, Some, sym, subst, ◌∙◌, arith}
 use Rattle.std.proofs.lemmas.Bool.{cases_lt}
 use Rattle.std.proofs.lemmas.List.{get_or_default}
 use Rattle.tb_model.specs.declared.entry.Entry.{Entry}
@@ -14,7 +14,7 @@ use Rattle.tb_work.specs.declared.turn.Turn.{Turn}
 use Rattle.tb_work.specs.declared.turn.Turn.TheVariants.{On, Later, Over}
 use Rattle.tb_work.specs.Answering.{IsAnswer}
 use Rattle.tb_work.specs.Bursts.{TakesBurst}
-use Rattle.tb_work.specs.Ending.{EndsBurst, IsEnding, IsTurn}
+use Rattle.tb_work.specs.Ending.{IsTurn}
 use Rattle.tb_work.specs.Going.{turn_behind}
 
 module _ (P : Program) (limit : ℕ) (points : Points) (seats : ℕ) (begun : List Entry) (seat : ℕ) where

@@ -14,3 +14,4 @@ pub mod Answered
 pub mod Endings
 pub mod Over
 pub mod Whys
+pub mod Telling

@@ -1,6 +1,5 @@
 -- Claims that end one by one.
-use Rattle.std.proofs.Common.{ℕ, ◌+◌, ◌<◌, ◌≡◌, zero, suc, List, [], ◌∷◌, None, Option, set, get_or, length, refl, ap, ◌∙◌, arith, length-set}
-use Rattle.tb_model.specs.Names.{Name}
+use Rattle.std.proofs.Common.{ℕ, ◌+◌, ◌<◌, ◌≡◌, zero, suc, [], ◌∷◌, None, length, refl, ap, ◌∙◌, arith, length-set}
 use Rattle.tb_live.specs.Claims.{Claims, claim_of, with_claim}
 use Rattle.tb_live.specs.Session.{Session, with_seat}
 use Rattle.tb_work.specs.Closing.{IsReleasedTo}

@@ -1,9 +1,10 @@
 -- Receipts that grow at the end.
-use Rattle.std.proofs.Common.{ℕ, ◌+◌, ◌<◌, ◌≡◌, List, [], ◌∷◌, ◌++◌, Bool, true, false, ◌&&◌, nat_lt, nat_eq, map, subst, refl, ap, sym, ◌∙◌, arith, rules}
+use Rattle.std.proofs.Common.{ℕ, ◌<◌, ◌≡◌, List, [], ◌∷◌, ◌++◌, true, nat_lt, nat_eq, map, refl, ap, sym, ◌∙◌, arith}
 use Rattle.std.proofs.lemmas.Bool.Decides.{nat_tests}
 use Rattle.std.proofs.lemmas.List.{map-append}
 use Rattle.tb_work.specs.declared.receipt.Receipt.{Receipt}
-use Rattle.tb_work.specs.Receipts.{seat_of, last_from, rises_from, all_of}
+use Rattle.tb_journal.specs.Journals.{seat_of}
+use Rattle.tb_work.specs.Receipts.{last_from, rises_from, all_of}
 
 pub last_more : (n : ℕ) (rs : List Receipt) (r : Receipt) → last_from n (rs ++ r ∷ []) ≡ r.place
 last_more n [] r = refl

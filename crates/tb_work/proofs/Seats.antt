@@ -1,8 +1,8 @@
 -- Rows of seats.
-use Rattle.std.proofs.Common.{ℕ, ◌+◌, ◌-◌, ◌<◌, ◌≡◌, ◌≢◌, zero, suc, List, [], ◌∷◌, ◌++◌, Bool, true, false, ◌&&◌, nat_lt, length, set, get_or, refl, ap, sym, subst, ◌∙◌, arith, rules}
+use Rattle.std.proofs.Common.{ℕ, ◌<◌, ◌≡◌, zero, suc, List, [], ◌∷◌, true, nat_lt, length, set, get_or, arith}
 use Rattle.std.proofs.lemmas.Bool.Decides.{nat_tests}
 use Rattle.tb_model.specs.declared.entry.Entry.{Entry}
-use Rattle.tb_work.specs.Receipts.{seat_of, all_below}
+use Rattle.tb_journal.specs.Journals.{seat_of, all_below}
 
 -- what holds at each place, and of what is written to one, holds at each place then
 pub each_set : {X : Type 0} (P : ℕ → X → Type 0) (xs : List X) (k : ℕ) (x : X) → ((i : ℕ) (d : X) → i < length xs → P i (get_or xs i d)) → P k x → (i : ℕ) (d : X) → i < length (set xs k x) → P i (get_or (set xs k x) i d)

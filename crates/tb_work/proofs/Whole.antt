@@ -1,5 +1,5 @@
 -- Receipts of all seats that stand in the journal, and are as many as its entries after the first, are all of these by place.
-use Rattle.std.proofs.Common.{ℕ, ◌+◌, ◌<◌, ◌≤◌, ◌≡◌, zero, suc, List, [], ◌∷◌, ◌++◌, Bool, true, false, ◌&&◌, cond, nat_eq, nat_lt, map, drop, length, get_or, refl, ap, sym, subst, ◌∙◌, arith, All, Option, None, Some, length-append, append_assoc}
+use Rattle.std.proofs.Common.{ℕ, ◌+◌, ◌<◌, ◌≤◌, ◌≡◌, zero, suc, List, [], ◌∷◌, ◌++◌, Bool, true, false, cond, nat_eq, nat_lt, map, drop, length, get_or, refl, ap, sym, subst, ◌∙◌, arith, All, None, Some, length-append, append_assoc}
 use Rattle.std.proofs.lemmas.Bool.Decides.{nat_tests}
 use Rattle.std.proofs.lemmas.List.{length-map, get_or-map}
 use Rattle.std.proofs.lemmas.List.Sums.{sum_by-cons, sum_by-append}
@@ -11,7 +11,8 @@ use Rattle.std.specs.List.{sum_by}
 use Rattle.tb_model.specs.declared.entry.Entry.{Entry}
 use Rattle.tb_model.specs.declared.entry.Entry.TheVariants.{Opened}
 use Rattle.tb_work.specs.declared.receipt.Receipt.{Receipt}
-use Rattle.tb_work.specs.Receipts.{Seated, seat_of, receipt, rises_from, all_of, IsRow, Stands, first_gap, all_receipts, receipts_in, receipts_from}
+use Rattle.tb_journal.specs.Journals.{seat_of}
+use Rattle.tb_work.specs.Receipts.{Seated, receipt, rises_from, all_of, IsRow, Stands, first_gap, all_receipts, receipts_in, receipts_from}
 use Rattle.tb_work.proofs.Numbered.{Rises, AllAtMost, all_places, from}
 use Rattle.tb_work.proofs.Distinct.{hit, hits, above, hits-append, hit_same, Owned, concat, Good, once, strict}
 

@@ -1,11 +1,11 @@
 -- What a seat is told that asks for work, and what that leaves of the run.
-use Rattle.std.specs.Prelude.{ℕ, ◌≡◌, length, ⊤}
+use Rattle.std.specs.Prelude.{◌≡◌, length, ⊤}
 use Rattle.tb_model.specs.Facts.{History}
 use Rattle.tb_model.specs.Names.{Name}
 use Rattle.tb_model.specs.Program.{Program}
 use Rattle.tb_live.specs.declared.work.Work.{Work}
 use Rattle.tb_live.specs.declared.claim.Claim.{Claim}
-use Rattle.tb_live.specs.declared.claim.Claim.TheVariants.{Work as Works, Later, Done, Stopped}
+use Rattle.tb_live.specs.declared.claim.Claim.TheVariants.{Work as Works}
 use Rattle.tb_live.specs.Session.{Session}
 use Rattle.tb_live.specs.Working.{IsWork}
 

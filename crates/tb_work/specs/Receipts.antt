@@ -1,8 +1,8 @@
 -- Receipts: the places of a journal at which a seat made entries, and these entries.
-use Rattle.std.specs.Prelude.{ℕ, ◌<◌, ◌≡◌, List, [], ◌∷◌, ◌++◌, Bool, true, false, ◌&&◌, nat_lt, nat_eq, map, length, suc, slice_index_or, Option, Some, None, if◌then◌else◌, flat_map}
-use Rattle.std.specs.List.{list_all, sum_by}
+use Rattle.std.specs.Prelude.{ℕ, ◌<◌, ◌≡◌, List, [], ◌∷◌, ◌++◌, Bool, true, ◌&&◌, nat_lt, nat_eq, length, suc, slice_index_or, Option, Some, None, if◌then◌else◌, flat_map}
+use Rattle.std.specs.List.{sum_by}
 use Rattle.tb_model.specs.declared.entry.Entry.{Entry}
-use Rattle.tb_model.specs.declared.entry.Entry.TheVariants.{Opened, Stepped, Rolled}
+use Rattle.tb_journal.specs.Journals.{seat_of}
 use Rattle.tb_work.specs.declared.receipt.Receipt.{Receipt}
 
 -- what a contract sees of a seat
@@ -12,16 +12,6 @@ pub record Seated : Type 0 where
 
 abbrev pub receipt : ℕ → Entry → Receipt
 receipt place entry = record { place = place; entry = entry }
-
--- whose entry it is
-abbrev pub seat_of : Entry → ℕ
-seat_of Opened = 0
-seat_of (Stepped seat v) = seat
-seat_of (Rolled seat e) = seat
-
--- each entry is of a seat below n
-abbrev pub all_below : ℕ → List Entry → Bool
-all_below n es = list_all (λ e. nat_lt (seat_of e) n) es
 
 -- the place of the last receipt, or n
 abbrev pub last_from : ℕ → List Receipt → ℕ

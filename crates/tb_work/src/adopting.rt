@@ -3,12 +3,12 @@
 
 ghost use Rattle.std.specs.Prelude.{◌≡◌, ◌+◌, ◌<◌, ◌≤◌, ◌^◌, ◌++◌, [], ◌∷◌, Some, true, IsTrue, length, slice_index, vec_len, vec_capacity, map, take, IfOk, OnOk, IfErr};
 ghost use Rattle.tb_work.specs.Changes.{entries};
-ghost use Rattle.tb_work.specs.Receipts.{seat_of, all_below, HaveNumbers, AreBelow, receipts_in};
+ghost use Rattle.tb_journal.specs.Journals.{seat_of, all_below};
+ghost use Rattle.tb_work.specs.Receipts.{HaveNumbers, AreBelow, receipts_in};
 
 use crate::adopt_refusal::AdoptRefusal;
-use crate::copying::copy_of;
 use crate::desk::Desk;
-use crate::entering::{enter, tell};
+use crate::entering::{enter, write};
 use crate::places::Places;
 use crate::receipt::Receipt;
 use crate::seat::Seat;
@@ -18,38 +18,21 @@ use crate::told::Told;
 use std::alloc::{AllocError, Global};
 use std::sync::Mutex;
 use std::sync::ledger::{Blank, Book, Share};
+use tb_journal::{Journal, seat_of};
 use tb_live::Live;
 use tb_model::Entry;
-
-/// Which seat made the entry.
-fn seat_of(entry: &Entry) -> u32
-    ensures { result ≡ seat_of entry.now }
-{
-    match entry {
-        Entry::Opened => 0,
-        Entry::Stepped { seat, .. } => *seat,
-        Entry::Rolled { seat, .. } => *seat,
-    }
-}
-
-/// Whether each entry is of one of so many seats.
-fn are_below(seats: u32, entries: &[Entry]) -> bool
-    ensures { result ≡ all_below seats entries.now }
-{
-    entries.iter().all(|entry| seat_of(entry) < seats)
-}
 
 /// Whether each entry of the run's journal is of one of its seats.
 pub fn is_seated(live: &Live) -> bool
     ensures { result ≡ all_below (length live.now.session.control.claims) (entries live.now.session) }
 {
-    are_below(live.seats(), journal_of(live))
+    journal_of(live).are_below(live.seats())
 }
 
 /// The journal, and how long it is.
-pub fn journal_of(live: &Live) -> &[Entry]
-    ensures entries { result.now ≡ entries live.now.session }
-    ensures length { length result.now ≡ length live.now.session.journal }
+pub fn journal_of(live: &Live) -> &Journal
+    ensures entries { result.now.items ≡ entries live.now.session }
+    ensures length { length result.now.items ≡ length live.now.session.journal }
 {
     live.journal()
 }
@@ -125,35 +108,32 @@ fn give<N: Team>(
 /// Writes all entries to their places' cells, and gives the seats their receipts.
 fn tell_all<N: Team>(
     alloc: Global,
-    journal: &[Entry],
+    journal: &Journal,
     places: &Places,
     book: &mut Book<N>,
     seats: &mut [Seat<N>],
 ) -> Result<Vec<Told>, AdoptRefusal>
     requires cells { places.now ≡ N.cells }
-    requires enough { length journal.now ≤ length places.now }
-    requires fits { length journal.now < 2 ^ 32 }
-    requires begun { 0 < length journal.now }
+    requires enough { length journal.now.items ≤ length places.now }
+    requires fits { length journal.now.items < 2 ^ 32 }
+    requires begun { 0 < length journal.now.items }
     requires total { book.old.total ≡ 0 }
-    requires own { all_below (length seats.old) journal.now ≡ true }
+    requires own { all_below (length seats.old) journal.now.items ≡ true }
     requires numbers { HaveNumbers seats.old }
     requires above { AreBelow 1 seats.old }
     requires none { receipts_in seats.old ≡ 0 }
-    ensures receipts { OnOk result (receipts_in seats.new + 1 ≡ length journal.now) }
-    ensures total { OnOk result (book.new.total + 1 ≡ length journal.now) }
-    ensures cells { IfOk result (λ t. map (λ t. t.note.cell) t.items ≡ take (length journal.now) N.cells) }
-    ensures known { IfOk result (λ t. map (λ t. t.note.known) t.items ≡ map (λ e. Some e) journal.now) }
+    ensures receipts { OnOk result (receipts_in seats.new + 1 ≡ length journal.now.items) }
+    ensures total { OnOk result (book.new.total + 1 ≡ length journal.now.items) }
+    ensures cells { IfOk result (λ t. map (λ t. t.note.cell) t.items ≡ take (length journal.now.items) N.cells) }
+    ensures known { IfOk result (λ t. map (λ t. t.note.known) t.items ≡ map (λ e. Some e) journal.now.items) }
     ensures numbers { OnOk result (HaveNumbers seats.new) }
 {
     let mut told = Vec::new(alloc);
-    for place in 0..journal.len() {
-        let entry = &journal[place];
-        if place == 0 {
-            tell(alloc, places, &mut told, 0, entry)?;
-        } else {
-            let copy = copy_of(entry)?;
-            give(alloc, places, &mut told, book, seats, place as u32, copy)?;
-        }
+    let opening = journal.entry(0)?;
+    write(alloc, places, &mut told, 0, opening)?;
+    for place in 1..journal.len() {
+        let entry = journal.entry(place)?;
+        give(alloc, places, &mut told, book, seats, place as u32, entry)?;
     }
     Ok(told)
 }

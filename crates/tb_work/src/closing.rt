@@ -19,6 +19,7 @@ use crate::team::Team;
 use crate::told::Told;
 use once_cell::race::Note;
 use std::sync::ledger::{Book, Share};
+use tb_journal::Journal;
 use tb_live::Live;
 use tb_model::Entry;
 
@@ -35,22 +36,22 @@ fn compare(told: &mut [Told], place: usize, note: Note<Entry>)
 
 /// Takes one receipt in.
 fn take_in<N: Team>(
-    journal: &[Entry],
+    journal: &Journal,
     told: &mut [Told],
     kept: Kept<N>,
     receipts: &mut Vec<Receipt>,
     gap: &mut Option<u32>,
 )
-    requires cells { map (λ t. t.note.cell) told.old ≡ take (length journal.now) N.cells }
-    requires known { map (λ t. t.note.known) told.old ≡ map (λ e. Some e) journal.now }
-    requires enough { length journal.now ≤ length N.cells }
+    requires cells { map (λ t. t.note.cell) told.old ≡ take (length journal.now.items) N.cells }
+    requires known { map (λ t. t.note.known) told.old ≡ map (λ e. Some e) journal.now.items }
+    requires enough { length journal.now.items ≤ length N.cells }
     requires room { vec_len receipts.old < vec_capacity receipts.old }
     ensures told { told.new ≡ told.old }
     ensures receipts { receipts.new.items ≡ receipts.old.items ++ kept.receipt ∷ [] }
     ensures len { vec_len receipts.new ≡ vec_len receipts.old + 1 }
     ensures capacity { vec_capacity receipts.new ≡ vec_capacity receipts.old }
-    ensures stands { Stands journal.now kept.receipt }
-    ensures gap { MatchOption gap.old (gap.new ≡ first_gap (length journal.now) (kept.receipt ∷ [])) (λ n. gap.new ≡ Some n) }
+    ensures stands { Stands journal.now.items kept.receipt }
+    ensures gap { MatchOption gap.old (gap.new ≡ first_gap (length journal.now.items) (kept.receipt ∷ [])) (λ n. gap.new ≡ Some n) }
 {
     let Kept {
         receipt,
@@ -68,22 +69,22 @@ fn take_in<N: Team>(
 
 /// Takes a seat's receipts in.
 fn take_all<N: Team>(
-    journal: &[Entry],
+    journal: &Journal,
     told: &mut [Told],
     kept: Vec<Kept<N>>,
     receipts: &mut Vec<Receipt>,
     gap: &mut Option<u32>,
 )
-    requires cells { map (λ t. t.note.cell) told.old ≡ take (length journal.now) N.cells }
-    requires known { map (λ t. t.note.known) told.old ≡ map (λ e. Some e) journal.now }
-    requires enough { length journal.now ≤ length N.cells }
+    requires cells { map (λ t. t.note.cell) told.old ≡ take (length journal.now.items) N.cells }
+    requires known { map (λ t. t.note.known) told.old ≡ map (λ e. Some e) journal.now.items }
+    requires enough { length journal.now.items ≤ length N.cells }
     requires room { vec_len receipts.old + vec_len kept ≤ vec_capacity receipts.old }
     ensures told { told.new ≡ told.old }
     ensures receipts { receipts.new.items ≡ receipts.old.items ++ map (λ k. k.receipt) kept.items }
     ensures len { vec_len receipts.new ≡ vec_len receipts.old + vec_len kept }
     ensures capacity { vec_capacity receipts.new ≡ vec_capacity receipts.old }
-    ensures stands { All (Stands journal.now) (map (λ k. k.receipt) kept.items) }
-    ensures gap { MatchOption gap.old (gap.new ≡ first_gap (length journal.now) (map (λ k. k.receipt) kept.items)) (λ n. gap.new ≡ Some n) }
+    ensures stands { All (Stands journal.now.items) (map (λ k. k.receipt) kept.items) }
+    ensures gap { MatchOption gap.old (gap.new ≡ first_gap (length journal.now.items) (map (λ k. k.receipt) kept.items)) (λ n. gap.new ≡ Some n) }
 {
     for one in kept {
         take_in(journal, told, one, receipts, gap);
@@ -92,7 +93,7 @@ fn take_all<N: Team>(
 
 /// Takes all seats' receipts in, and their shares.
 fn take_seats<N: Team>(
-    journal: &[Entry],
+    journal: &Journal,
     told: &mut [Told],
     book: &mut Book<N>,
     all: &mut Share<N>,
@@ -100,20 +101,20 @@ fn take_seats<N: Team>(
     receipts: &mut Vec<Receipt>,
     gap: &mut Option<u32>,
 )
-    requires cells { map (λ t. t.note.cell) told.old ≡ take (length journal.now) N.cells }
-    requires known { map (λ t. t.note.known) told.old ≡ map (λ e. Some e) journal.now }
-    requires enough { length journal.now ≤ length N.cells }
-    requires total { book.old.total + 1 ≡ length journal.now }
+    requires cells { map (λ t. t.note.cell) told.old ≡ take (length journal.now.items) N.cells }
+    requires known { map (λ t. t.note.known) told.old ≡ map (λ e. Some e) journal.now.items }
+    requires enough { length journal.now.items ≤ length N.cells }
+    requires total { book.old.total + 1 ≡ length journal.now.items }
     requires none { (all.old.parts ≡ 0) × (all.old.amount ≡ 0) }
     requires empty { receipts.old.items ≡ [] }
-    requires room { length journal.now ≤ vec_capacity receipts.old }
+    requires room { length journal.now.items ≤ vec_capacity receipts.old }
     requires no_gap { gap.old ≡ None }
     ensures parts { all.new.parts ≡ vec_len seats }
     ensures amount { all.new.amount ≡ receipts_in seats.items }
     ensures total { book.new.total ≡ book.old.total }
     ensures receipts { receipts.new.items ≡ all_receipts seats.items }
-    ensures stands { All (Stands journal.now) (all_receipts seats.items) }
-    ensures gap { gap.new ≡ first_gap (length journal.now) (all_receipts seats.items) }
+    ensures stands { All (Stands journal.now.items) (all_receipts seats.items) }
+    ensures gap { gap.new ≡ first_gap (length journal.now.items) (all_receipts seats.items) }
     ensures rows { All IsRow seats.items }
 {
     for seat in seats {

@@ -1,9 +1,9 @@
 //! An entry is written to its place's cell, and its seat gets a receipt.
 
 ghost use Rattle.std.specs.Prelude.{◌≡◌, ◌<◌, ◌+◌, ◌++◌, [], ◌∷◌, slice_index, Some, length, map, IfOk, OnOk, OnErr};
-ghost use Rattle.tb_work.specs.Receipts.{seat_of, Grew};
+ghost use Rattle.tb_journal.specs.Journals.{seat_of};
+ghost use Rattle.tb_work.specs.Receipts.{Grew};
 
-use crate::copying::copy_of;
 use crate::kept::Kept;
 use crate::places::Places;
 use crate::receipt::Receipt;
@@ -15,10 +15,44 @@ use once_cell::race::Note;
 use std::alloc::Global;
 use std::marker::PhantomData;
 use std::sync::ledger::Book;
+use tb_journal::copy_of;
 use tb_model::Entry;
 
+/// Lets an entry go. It stands apart, since whoever lets one go has to show it for each kind of entry.
+fn lose(_entry: Entry) {}
+
 /// Writes an entry to its place's cell, and notes that. What can fail comes before the cell is written.
-pub fn tell(
+pub fn write(
+    alloc: Global,
+    places: &Places,
+    told: &mut Vec<Told>,
+    place: u32,
+    entry: Entry,
+) -> Result<Note<Entry>, Unmade>
+    requires { place < length places.now }
+    ensures cell { IfOk result (λ n. n.cell ≡ slice_index places.now place) }
+    ensures entry { IfOk result (λ n. n.known ≡ Some entry) }
+    ensures cells { OnOk result (map (λ t. t.note.cell) told.new.items ≡ map (λ t. t.note.cell) told.old.items ++ slice_index places.now place ∷ []) }
+    ensures known { OnOk result (map (λ t. t.note.known) told.new.items ≡ map (λ t. t.note.known) told.old.items ++ Some entry ∷ []) }
+    ensures refused { OnErr result (told.new.items ≡ told.old.items) }
+{
+    if told.reserve(1).is_err() {
+        lose(entry);
+        return Err(Unmade::Memory);
+    }
+    let Ok(boxed) = Box::new(alloc, entry) else {
+        return Err(Unmade::Memory);
+    };
+    let Some(mut note) = places.write(place, boxed) else {
+        return Err(Unmade::CellTaken);
+    };
+    let again = note.again();
+    told.push_reserved(Told { place, note: again });
+    Ok(note)
+}
+
+/// The same of a copy.
+fn tell(
     alloc: Global,
     places: &Places,
     told: &mut Vec<Told>,
@@ -32,20 +66,9 @@ pub fn tell(
     ensures known { OnOk result (map (λ t. t.note.known) told.new.items ≡ map (λ t. t.note.known) told.old.items ++ Some entry.now ∷ []) }
     ensures refused { OnErr result (told.new.items ≡ told.old.items) }
 {
-    told.reserve(1)?;
-    let Ok(copy) = Box::new(alloc, copy_of(entry)?) else {
-        return Err(Unmade::Memory);
-    };
-    let Some(mut note) = places.write(place, copy) else {
-        return Err(Unmade::CellTaken);
-    };
-    let again = note.again();
-    told.push_reserved(Told { place, note: again });
-    Ok(note)
+    let copy = copy_of(entry)?;
+    write(alloc, places, told, place, copy)
 }
-
-/// Lets an entry go. It stands apart, since whoever lets one go has to show it for each kind of entry.
-fn lose(_entry: Entry) {}
 
 /// Makes an entry of the seat at the place, which has to be above the seat's last one.
 pub fn enter<N: Team>(

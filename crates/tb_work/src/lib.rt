@@ -7,7 +7,6 @@ mod asking;
 mod burst;
 mod closed;
 mod closing;
-mod copying;
 mod desk;
 mod ended;
 mod entering;

@@ -1,8 +1,8 @@
 //! A run is shared, and given back when a scenario has been played.
 
 ghost use Rattle.std.specs.Prelude.{◌≡◌, ◌≤◌, length, true};
+ghost use Rattle.tb_journal.specs.Journals.{all_below};
 ghost use Rattle.tb_work.specs.Changes.{entries};
-ghost use Rattle.tb_work.specs.Receipts.{all_below};
 
 use crate::scenario::{Left, Scenario};
 use std::alloc::{AllocGlobal, Global};
@@ -12,6 +12,7 @@ use std::process::Abort;
 use std::sync::Wait;
 use std::sync::ledger::Blank;
 use std::thread::Threads;
+use tb_journal::{Journal, seat_of};
 use tb_live::{Break, Live};
 use tb_model::Entry;
 use tb_read::read;
@@ -44,14 +45,6 @@ pub fn opened_to_stop(alloc: Global, text: &[u8], cell: u32, seats: u32) -> Opti
     }
 }
 
-fn seat_of(entry: &Entry) -> Option<u32> {
-    match entry {
-        Entry::Opened => None,
-        Entry::Stepped { seat, .. } => Some(*seat),
-        Entry::Rolled { seat, .. } => Some(*seat),
-    }
-}
-
 /// Whether both entries are of one seat and one task.
 fn are_alike(left: &Entry, right: &Entry) -> bool {
     if seat_of(left) != seat_of(right) {
@@ -67,15 +60,15 @@ fn are_alike(left: &Entry, right: &Entry) -> bool {
 }
 
 /// The receipts are the journal behind its opening, place by place.
-fn compare(rt: &impl Abort, receipts: &[Receipt], journal: &[Entry]) {
+fn compare(rt: &impl Abort, receipts: &[Receipt], journal: &Journal) {
     assert_eq!(rt; receipts.len(), journal.len().saturating_sub(1));
     let mut last = 0;
     for receipt in receipts {
         let place = receipt.place;
         assert!(rt; last < place, "{place} behind {last}");
-        match journal.get(place as usize) {
-            Some(entry) => assert!(rt; are_alike(&receipt.entry, entry), "at {place}"),
-            None => panic!(rt; "no entry at {place}"),
+        assert!(rt; (place as usize) < journal.len(), "no entry at {place}");
+        if let Ok(entry) = journal.entry(place as usize) {
+            assert!(rt; are_alike(&receipt.entry, &entry), "at {place}");
         }
         last = place;
     }

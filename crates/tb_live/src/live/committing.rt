@@ -64,7 +64,7 @@ impl Live {
         if let Some(refusal) = self.withheld(seat, &plan) {
             return Err(refusal);
         }
-        let place = self.journal.as_slice().len() as u32;
+        let place = self.journal.len() as u32;
         match enter_plan(
             &self.program,
             &mut self.core,
@@ -91,7 +91,7 @@ impl Live {
         if let Some(refusal) = self.withheld(seat, &plan) {
             return Err(refusal);
         }
-        let place = self.journal.as_slice().len() as u32;
+        let place = self.journal.len() as u32;
         match enter_on(
             &self.program,
             &mut self.core,

@@ -9,7 +9,7 @@ ghost use Rattle.tb_live.specs.Soundness.{Fits};
 
 use crate::live::Live;
 use tb_core::Core;
-use tb_model::Entry;
+use tb_journal::Journal;
 
 impl Live {
     /// The core: its history is what the journal leaves.
@@ -22,10 +22,10 @@ impl Live {
     }
 
     /// What was done, from the opening on.
-    pub fn journal(&self) -> &[Entry]
-        ensures { reverse result.now ≡ self.now.session.journal }
+    pub fn journal(&self) -> &Journal
+        ensures { reverse result.now.items ≡ self.now.session.journal }
     {
-        self.journal.as_slice()
+        &self.journal
     }
 
     /// What always holds, for a caller to cite: the journal is sound and within its limit, and the

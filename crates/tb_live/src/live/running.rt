@@ -55,7 +55,7 @@ impl Live {
     fn step_for_move(&mut self, task: &TaskName) -> Result<u32, CommitRefusal>
         ensures { StepsAt self.old.session task.now self.new.session result }
     {
-        let place = self.journal.as_slice().len() as u32;
+        let place = self.journal.len() as u32;
         match self.step(task) {
             Ok(_) => Ok(place),
             Err(refusal) => Err(CommitRefusal::Step { refusal }),

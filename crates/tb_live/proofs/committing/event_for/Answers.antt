@@ -1,5 +1,4 @@
-use Rattle.std.proofs.Common.{sym, ◌∙◌, ◌-◌}
-use Rattle.std.specs.Prelude.{vec_len, vec_capacity}
+use Rattle.std.proofs.Common.{sym, ◌∙◌}
 use Rattle.tb_live.proofs.CommitLemmas.{native_fits, readied_so}
 use Rattle.tb_live.proofs.PreparedLemmas.{event_room, event_taken}
 use Rattle.tb_live.proofs.committing.event_for.Goals as goal
@@ -16,7 +15,7 @@ returns-then-not-holds_step-clause-serves c = c.ready_step.ensures.serves c.args
 -- what is prepared serves
 pub returns-clause-readied : goal.returns-clause-readied
 returns-clause-readied c =
-    let spare = vec_capacity c.args.journal.now - vec_len c.args.journal.now in
+    let spare = c.args.journal.now.room in
     let k = event_room c.args.limit c.args.program.now c.args.core.now c.args.journal.now.items spare c.args.prepared.now c.args.seat c.args.plan.now.config.task c.in-Some-take_step.event
     c.requires.room (c.holds_step.ensures.0 c.if-not-holds_step.false) (sym c.take_step.ensures.event ∙ c.in-Some-take_step.is)
     in

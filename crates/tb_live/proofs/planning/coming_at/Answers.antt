@@ -1,4 +1,4 @@
-use Rattle.std.proofs.Common.{ap, sym, ◌∙◌, rules, refl, subst}
+use Rattle.std.proofs.Common.{ap, sym, ◌∙◌, refl, subst}
 use Rattle.std.proofs.lemmas.Bool.{false≢true}
 use Rattle.tb_model.specs.Program.{situation}
 use Rattle.tb_read.specs.declared.config.Config.{Config}

@@ -1,11 +1,9 @@
-use Rattle.std.proofs.Common.{◌≡◌, ◌<◌, ◌≤◌, arith, length, rules, refl}
-use Rattle.std.proofs.lemmas.Bool.Decides.{nat_tests}
-use Rattle.tb_live.specs.Plans.{has_no_place}
+use Rattle.std.proofs.Common.{arith, rules, refl}
 use Rattle.tb_live.proofs.ComingLemmas.{few_steps, full_enters, may_go, memory_enters, taken_enters, no_place, some_place}
 use Rattle.tb_live.proofs.stepping.enter_clear.Goals as goal
 
-pub returns-then-limit-as_slice-clause-entered : goal.returns-then-limit-as_slice-clause-entered
-returns-then-limit-as_slice-clause-entered c p says current =
+pub returns-then-limit-len-clause-entered : goal.returns-then-limit-len-clause-entered
+returns-then-limit-len-clause-entered c p says current =
     full_enters c.args.limit c.args.seat c.args.core.now.run c.args.task c.args.coming p c.args.journal.now.items c.args.control.now says current c.requires.clear.clear (no_place c.args.limit c.args.journal.now.items (search rules))
 
 pub returns-then-is_err-clause-entered : goal.returns-then-is_err-clause-entered
@@ -23,7 +21,7 @@ overflow_add-result c =
 
 pub returns-in-Ok-clause-entered : goal.returns-in-Ok-clause-entered
 returns-in-Ok-clause-entered c p says current =
-    taken_enters c.args.limit c.args.seat c.args.core.now.run c.args.task c.args.coming p c.step_clear.new.self.run c.in-Ok.event c.args.journal.now.items c.push_reserved.new.self.items c.args.control.now c.step_taken-in-Ok.new.self _ says current (search rules)
+    taken_enters c.args.limit c.args.seat c.args.core.now.run c.args.task c.args.coming p c.step_clear.new.self.run c.in-Ok.event c.args.journal.now.items c.push_step.new.self.items c.args.control.now c.step_taken-in-Ok.new.self _ says current (search rules)
     c.in-Ok.ensures.taken (search rules) (some_place c.args.limit c.args.journal.now.items (search rules)) (search rules) refl
 
 pub returns-in-Err-clause-entered : goal.returns-in-Err-clause-entered

@@ -14,8 +14,8 @@ pub returns-in-Some-clause-entered : goal.returns-in-Some-clause-entered
 returns-in-Some-clause-entered c p says current =
     kept_enters c.args.limit c.args.seat c.args.core.now.run c.args.task.now c.args.coming p c.args.journal.now.items c.args.control.now c.in-Some.refusal says current c.in-Some.ensures.some
 
-pub returns-then-limit-as_slice-clause-entered : goal.returns-then-limit-as_slice-clause-entered
-returns-then-limit-as_slice-clause-entered c p says current =
+pub returns-then-limit-len-clause-entered : goal.returns-then-limit-len-clause-entered
+returns-then-limit-len-clause-entered c p says current =
     full_enters c.args.limit c.args.seat c.args.core.now.run c.args.task.now c.args.coming p c.args.journal.now.items c.args.control.now says current c.in_default.ensures.none (no_place c.args.limit c.args.journal.now.items (search rules))
 
 pub returns-in-Err-clause-entered : goal.returns-in-Err-clause-entered

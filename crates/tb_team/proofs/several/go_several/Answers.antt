@@ -1,9 +1,9 @@
-use Rattle.std.proofs.Common.{length}
+use Rattle.std.proofs.Common.{◌∙◌}
 use Rattle.std.proofs.lemmas.Result.{IfOk-weaker}
 use Rattle.tb_team.specs.Gone.{IsGone}
 use Rattle.tb_team.specs.Looking.{IsLooked}
 use Rattle.tb_team.proofs.Counting.{some_of}
-use Rattle.tb_team.proofs.Looked.{seats_stay, seats_back, still_there, gone_from}
+use Rattle.tb_team.proofs.Looked.{same_length, seats_stay, seats_back, still_there, gone_from}
 use Rattle.tb_team.proofs.several.go_several.Goals as goal
 
 pub lend-requires-clause-seats : goal.lend-requires-clause-seats
@@ -23,7 +23,7 @@ look-requires g c =
     let free = c.withdraw_all.ensures in
     record {
       seats = seats_back mid back (seats_stay s mid c.requires.seats free) c.in_ok-live.ensures;
-      from = still_there s mid back c.journal-from.result.now free c.journal-from.ensures c.in_ok-live.ensures;
+      from = still_there s mid back c.len-from.result free (c.len-from.ensures ∙ same_length c.journal.result.now.items s.journal c.journal.ensures) c.in_ok-live.ensures;
     }
 
 pub returns : goal.returns
@@ -31,6 +31,7 @@ returns g c =
     let s = c.args.live.session in
     let mid = c.withdraw_all.new.self.session in
     let back = c.in_ok-live.live.session in
-    let es = c.journal-from.result.now in
-    IfOk-weaker c.look.result (IsLooked c.args.workers c.args.most (length es) back) (IsGone c.args.workers c.args.most s)
-    (λ gone looked. gone_from c.args.workers c.args.most s mid back es gone c.requires.several c.withdraw_all.ensures c.journal-from.ensures c.in_ok-live.ensures looked) c.look.ensures
+    let from = c.len-from.result in
+    IfOk-weaker c.look.result (IsLooked c.args.workers c.args.most from back) (IsGone c.args.workers c.args.most s)
+    (λ gone looked. gone_from c.args.workers c.args.most s mid back from gone c.requires.several c.withdraw_all.ensures
+    (c.len-from.ensures ∙ same_length c.journal.result.now.items s.journal c.journal.ensures) c.in_ok-live.ensures looked) c.look.ensures

@@ -1,6 +1,6 @@
-use Rattle.std.proofs.Common.{rules, ◌≡◌, ℕ, ◌+◌, ◌<◌, List, arith, get_or, length, subst, sym, ap, ◌∙◌, ◌++◌, ◌∷◌, [], length-append}
+use Rattle.std.proofs.Common.{rules, ◌≡◌, ℕ, ◌+◌, ◌<◌, arith, get_or, length, ap, ◌∙◌, ◌∷◌, [], length-append}
 use Rattle.std.proofs.lemmas.List.Sums.{sum_by-set}
-use Rattle.tb_work.specs.Receipts.{Seated, receipt, last_from, AreBelow, receipts_in}
+use Rattle.tb_work.specs.Receipts.{Seated, receipt, last_from}
 use Rattle.tb_work.proofs.Rising.{last_more}
 use Rattle.tb_work.proofs.Seats.{each_set}
 use Rattle.tb_work.proofs.adopting.give.Goals as goal

@@ -1,4 +1,3 @@
-use Rattle.std.proofs.Common.{rules}
 use Rattle.tb_work.proofs.Releases.{released_more}
 use Rattle.tb_work.proofs.closing.release.Goals as goal
 

@@ -13,5 +13,5 @@ invariant-loop-one g l =
     × (l.receipts.items ≡ l.initial.receipts.items ++ map (λ k. k.receipt) l.yielded)
     × (vec_len l.receipts ≡ vec_len l.initial.receipts + length l.yielded)
     × (vec_capacity l.receipts ≡ vec_capacity l.initial.receipts)
-    × All (Stands l.journal) (map (λ k. k.receipt) l.yielded)
-    × MatchOption l.initial.gap (l.gap ≡ first_gap (length l.journal) (map (λ k. k.receipt) l.yielded)) (λ n. l.gap ≡ Some n)
+    × All (Stands l.journal.items) (map (λ k. k.receipt) l.yielded)
+    × MatchOption l.initial.gap (l.gap ≡ first_gap (length l.journal.items) (map (λ k. k.receipt) l.yielded)) (λ n. l.gap ≡ Some n)

@@ -1,6 +1,6 @@
-use Rattle.std.proofs.Common.{rules, ◌≡◌, ℕ, ◌+◌, List, [], ◌∷◌, ◌++◌, All, Some, None, length, vec_len, map, refl, ap, sym, subst, ◌∙◌, arith, append_assoc, length-append}
+use Rattle.std.proofs.Common.{◌≡◌, [], ◌∷◌, ◌++◌, All, None, length, map, ap, subst, ◌∙◌, arith, append_assoc, length-append}
 use Rattle.std.specs.Vec.Iter.{into_iter_items}
-use Rattle.tb_work.specs.Receipts.{first_gap, all_receipts, receipts_in, Stands, IsRow}
+use Rattle.tb_work.specs.Receipts.{all_receipts, Stands, IsRow}
 use Rattle.tb_work.proofs.Standing.{After, gap_append, all_append, all_one, receipts_more, count_more}
 use Rattle.tb_work.proofs.closing.take_seats.Goals as goal
 
@@ -9,7 +9,7 @@ loop-seat-preserved g c =
     let at = c.loop-seat in
     let i = at.invariant in
     let s = c.in-Some.seat in
-    let journal = c.args.journal.now in
+    let journal = c.args.journal.now.items in
     let n = length journal in
     let more = receipts_more at.yielded s in
     let count = count_more at.yielded s in

@@ -1,4 +1,4 @@
-use Rattle.std.proofs.Common.{◌≡◌, ◌+◌, ◌++◌, length, map, All, Some, vec_len, vec_capacity}
+use Rattle.std.proofs.Common.{◌≡◌, ◌++◌, length, All, vec_len, vec_capacity}
 use Rattle.std.specs.Vec.Iter.{into_iter_items, into_iter_len}
 use Rattle.tb_work.specs.Receipts.{first_gap, all_receipts, receipts_in, Stands, IsRow}
 use Rattle.tb_work.proofs.closing.take_seats.Given as goal
@@ -12,8 +12,8 @@ invariant-loop-seat g l =
     × (l.receipts.items ≡ all_receipts l.yielded)
     × (vec_len l.receipts ≡ receipts_in l.yielded)
     × (vec_capacity l.receipts ≡ vec_capacity l.initial.receipts)
-    × All (Stands l.journal) (all_receipts l.yielded)
-    × (l.gap ≡ first_gap (length l.journal) (all_receipts l.yielded))
+    × All (Stands l.journal.items) (all_receipts l.yielded)
+    × (l.gap ≡ first_gap (length l.journal.items) (all_receipts l.yielded))
     × (l.all.parts ≡ length l.yielded)
     × (l.all.amount ≡ receipts_in l.yielded)
     × (l.book.total ≡ l.initial.book.total)

@@ -1,5 +1,5 @@
-use Rattle.std.proofs.Common.{rules, ◌≡◌, ℕ, ◌<◌, arith, sym, ◌∙◌, ap}
-use Rattle.tb_work.specs.Receipts.{seat_of}
+use Rattle.std.proofs.Common.{rules, ◌≡◌, ◌<◌}
+use Rattle.tb_journal.specs.Journals.{seat_of}
 use Rattle.tb_work.specs.declared.kept.Kept.{Kept}
 use Rattle.tb_work.proofs.Rising.{seat_more}
 use Rattle.tb_work.proofs.entering.enter.Goals as goal

@@ -4,5 +4,5 @@ use Rattle.tb_work.proofs.taking.next_place.Goals as goal
 
 pub returns : goal.returns
 returns c =
-    let long : length c.journal.result.now ≡ length c.args.live.now.session.journal = sym (length-reverse c.journal.result.now) ∙ ap length c.journal.ensures in
+    let long : length c.journal.result.now.items ≡ length c.args.live.now.session.journal = sym (length-reverse c.journal.result.now.items) ∙ ap length c.journal.ensures in
     search rules

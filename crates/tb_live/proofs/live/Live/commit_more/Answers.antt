@@ -1,4 +1,4 @@
-use Rattle.std.proofs.Common.{ap, ◌∙◌, length, rules}
+use Rattle.std.proofs.Common.{ap, ◌∙◌, rules}
 use Rattle.std.specs.Prelude.{Ok, Err}
 use Rattle.tb_live.specs.declared.commit_refusal.CommitRefusal.TheVariants.{Step as NotTaken}
 use Rattle.tb_live.specs.Claims.{claim_of}
@@ -24,7 +24,7 @@ invariant_of-self c =
     let i = c.self.inside in
     let native = offered_native i.program i.limit i.journal.items i.control i.core.run c.args.self.now.session (ap (λ (h : Held). h.session) c.self.view_is) c.self.invariant.0 c.args.seat c.args.plan c.in_default.ensures.none in
     let l = live_commits_more c.args.seat i.program i.limit i.journal.items i.control i.core.run c.args.self.now.session (ap (λ (h : Held). h.session) c.self.view_is) (c.self.invariant.0, c.self.invariant.1) c.args.plan c.in_default.ensures.none.claimed native
-    (length c.as_slice.result.now) (ap length c.as_slice.ensures.value) c.enter_on.new.journal.items c.enter_on.new.control c.enter_on.new.core.run c.enter_on.result c.enter_on.ensures.entered in
+    c.len-place.result c.len-place.ensures c.enter_on.new.journal.items c.enter_on.new.control c.enter_on.new.core.run c.enter_on.result c.enter_on.ensures.entered in
     let e = as_ended i.limit c.args.seat i.core.run c.args.plan c.enter_on.new.core.run i.journal.items c.enter_on.new.journal.items i.control c.enter_on.new.control c.enter_on.result c.enter_on.ensures.entered in (
       l.keeps.sound,
       l.keeps.lawful,
@@ -38,14 +38,14 @@ returns-in-Ok-clause-committed c =
     let i = c.self.inside in
     let native = offered_native i.program i.limit i.journal.items i.control i.core.run c.args.self.now.session (ap (λ (h : Held). h.session) c.self.view_is) c.self.invariant.0 c.args.seat c.args.plan c.in_default.ensures.none in
     (live_commits_more c.args.seat i.program i.limit i.journal.items i.control i.core.run c.args.self.now.session (ap (λ (h : Held). h.session) c.self.view_is) (c.self.invariant.0, c.self.invariant.1) c.args.plan c.in_default.ensures.none.claimed native
-    (length c.as_slice.result.now) (ap length c.as_slice.ensures.value) c.enter_on.new.journal.items c.enter_on.new.control c.enter_on.new.core.run (Ok c.in-Ok.field-0) c.in-Ok.ensures.entered).answer
+    c.len-place.result c.len-place.ensures c.enter_on.new.journal.items c.enter_on.new.control c.enter_on.new.core.run (Ok c.in-Ok.field-0) c.in-Ok.ensures.entered).answer
 
 pub returns-clause-committed : goal.returns-clause-committed
 returns-clause-committed c =
     let i = c.self.inside in
     let native = offered_native i.program i.limit i.journal.items i.control i.core.run c.args.self.now.session (ap (λ (h : Held). h.session) c.self.view_is) c.self.invariant.0 c.args.seat c.args.plan c.in_default.ensures.none in
     (live_commits_more c.args.seat i.program i.limit i.journal.items i.control i.core.run c.args.self.now.session (ap (λ (h : Held). h.session) c.self.view_is) (c.self.invariant.0, c.self.invariant.1) c.args.plan c.in_default.ensures.none.claimed native
-    (length c.as_slice.result.now) (ap length c.as_slice.ensures.value) c.enter_on.new.journal.items c.enter_on.new.control c.enter_on.new.core.run (Err c.in-Err.refusal) c.in-Err.ensures.entered).answer
+    c.len-place.result c.len-place.ensures c.enter_on.new.journal.items c.enter_on.new.control c.enter_on.new.core.run (Err c.in-Err.refusal) c.in-Err.ensures.entered).answer
 
 pub returns-clause-kept : goal.returns-clause-kept
 returns-clause-kept c =

@@ -6,4 +6,4 @@ use Rattle.tb_live.proofs.live.Live.open.Goals as goal
 
 pub invariant_of-result : goal.invariant_of-result
 invariant_of-result c =
-    (search rules, subst (λ (cs : Claims). AreLawful (hist (reverse c.push.new.self.items)) cs) (sym c.in_ok-claims.ensures) (lawful_none (hist (reverse c.push.new.self.items)) c.args.seats), tt, search rules)
+    (search rules, subst (λ (cs : Claims). AreLawful (hist (reverse c.in_ok-journal.journal.items)) cs) (sym c.in_ok-claims.ensures) (lawful_none (hist (reverse c.in_ok-journal.journal.items)) c.args.seats), tt, search rules)

@@ -1,5 +1,4 @@
-use Rattle.std.proofs.Common.{ap, refl, sym, ◌∙◌, subst, ◌-◌, option_map, Some}
-use Rattle.std.specs.Prelude.{vec_len, vec_capacity}
+use Rattle.std.proofs.Common.{ap, refl, sym, ◌∙◌, subst, option_map, Some}
 use Rattle.tb_model.specs.declared.entry.Entry.TheVariants.{Stepped}
 use Rattle.tb_core.specs.Outcomes.{event_of, IsOpen}
 use Rattle.tb_live.specs.Preparing.{HasRoom, entry_of}
@@ -28,7 +27,7 @@ invariant_of-self c =
     let i = c.self.inside in
     let native = offered_native i.program i.limit i.journal.items i.control i.core.run c.args.self.now.session (ap (λ (h : Held). h.session) c.self.view_is) c.self.invariant.0 c.args.seat c.args.plan.now c.in_default.ensures.none in
     let l = stays i.program i.limit i.journal.items c.ready_step.new.journal.items i.control i.control i.core.run c.ready_step.new.core.run c.args.self.now.session (ap (λ (h : Held). h.session) c.self.view_is) (c.self.invariant.0, c.self.invariant.1) c.ready_step.ensures.run c.ready_step.ensures.entries refl in
-    let spare = vec_capacity c.ready_step.new.journal - vec_len c.ready_step.new.journal in (
+    let spare = c.ready_step.new.journal.room in (
       l.keeps.sound,
       l.keeps.lawful,
       subst (HasRoom i.limit i.program c.ready_step.new.core c.ready_step.new.journal.items spare) (sym c.keep.ensures)

@@ -1,5 +1,4 @@
-use Rattle.std.proofs.Common.{ap, ◌-◌, subst, sym}
-use Rattle.std.specs.Prelude.{vec_len, vec_capacity}
+use Rattle.std.proofs.Common.{ap, subst, sym}
 use Rattle.tb_core.specs.Seen.{history}
 use Rattle.tb_live.specs.Floor.{IsFloor}
 use Rattle.tb_live.specs.Session.{Held}
@@ -13,7 +12,7 @@ invariant_of-self c =
     let l = live_rolls c.args.seat i.program i.limit i.journal.items c.enter_roll.new.journal.items i.control c.steps_removed.new.self i.core.run c.enter_roll.new.core.run c.args.self.now.session c.args.id.now c.in-Ok.removed.items c.deref.result.now
     (ap (λ (h : Held). h.session) c.self.view_is) (c.self.invariant.0, c.self.invariant.1) c.in-Ok.ensures.rolled c.deref.ensures.value c.steps_removed.ensures
     in
-    (l.keeps.sound, l.keeps.lawful, no_room i.limit i.program c.enter_roll.new.core c.enter_roll.new.journal.items (vec_capacity c.enter_roll.new.journal - vec_len c.enter_roll.new.journal) c.forget.new.place c.forget.ensures, subst (IsFloor i.program (history c.enter_roll.new.core.run)) (sym c.forget-in-Ok.ensures) tt)
+    (l.keeps.sound, l.keeps.lawful, no_room i.limit i.program c.enter_roll.new.core c.enter_roll.new.journal.items c.enter_roll.new.journal.room c.forget.new.place c.forget.ensures, subst (IsFloor i.program (history c.enter_roll.new.core.run)) (sym c.forget-in-Ok.ensures) tt)
 
 pub returns-in-Ok-clause-rolled : goal.returns-in-Ok-clause-rolled
 returns-in-Ok-clause-rolled c =

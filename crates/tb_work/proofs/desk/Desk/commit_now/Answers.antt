@@ -1,5 +1,4 @@
-use Rattle.std.proofs.Common.{rules, ◌≡◌, ◌<◌, ◌≤◌, length, arith, refl, ap, sym, ◌∙◌}
-use Rattle.std.specs.Vec.{vec_len, vec_capacity}
+use Rattle.std.proofs.Common.{rules}
 use Rattle.tb_work.proofs.Desks.{agrees_more}
 use Rattle.tb_work.proofs.Refusals.{committed_now, taken_now, short_now, run_refuses}
 use Rattle.tb_work.proofs.desk.Desk.commit_now.Goals as goal

@@ -1,5 +1,4 @@
-use Rattle.std.proofs.Common.{rules, ◌≡◌, ◌<◌, ◌≤◌, length, arith, refl, ap, sym, ◌∙◌}
-use Rattle.std.specs.Vec.{vec_len, vec_capacity}
+use Rattle.std.proofs.Common.{rules}
 use Rattle.tb_work.specs.declared.refused.Refused.TheVariants.{Run, CellTaken}
 use Rattle.tb_roll.specs.declared.roll_refusal.RollRefusal.TheVariants.{Memory}
 use Rattle.tb_work.proofs.Desks.{agrees_more}

@@ -1,5 +1,4 @@
-use Rattle.std.proofs.Common.{rules, ◌≡◌, ◌<◌, ◌≤◌, length, arith, refl, ap, sym, ◌∙◌}
-use Rattle.std.specs.Vec.{vec_len, vec_capacity}
+use Rattle.std.proofs.Common.{rules, refl}
 use Rattle.tb_work.specs.declared.refused.Refused.TheVariants.{Run, CellTaken}
 use Rattle.tb_core.specs.declared.undo_refusal.UndoRefusal.TheVariants.{Memory}
 use Rattle.tb_work.proofs.Desks.{agrees_more}

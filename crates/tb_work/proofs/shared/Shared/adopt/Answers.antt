@@ -1,4 +1,4 @@
-use Rattle.std.proofs.Common.{rules, ◌≡◌, ◌≤◌, length, arith, ap, sym, ◌∙◌}
+use Rattle.std.proofs.Common.{rules, ◌≤◌, length, arith}
 use Rattle.tb_work.specs.Changes.{entries}
 use Rattle.tb_work.proofs.Desks.{all_begun}
 use Rattle.tb_work.proofs.shared.Shared.adopt.Goals as goal

@@ -1,4 +1,4 @@
-use Rattle.std.proofs.Common.{rules, arith, ◌≡◌, ℕ, ◌<◌, ◌≤◌, length, get_or, List, ap, sym, subst, ◌∙◌}
+use Rattle.std.proofs.Common.{rules, arith, ℕ, ◌<◌, ◌≤◌, length, get_or, subst}
 use Rattle.tb_work.specs.Receipts.{Seated, receipts_in}
 use Rattle.tb_work.specs.Growing.{GrewBySteps}
 use Rattle.tb_work.proofs.Growing.{grew_len, counts_grow}

@@ -19,7 +19,7 @@ returns-clause-stands g c = subst (λ es. All (Stands es) (all_receipts c.args.s
 pub returns-in-None-clause-whole : goal.returns-in-None-clause-whole
 returns-in-None-clause-whole g c numbers =
     let taken = c.take_seats.ensures in
-    let J = c.journal_of.result.now in
+    let J = c.journal_of.result.now.items in
     let seats = c.args.seats.items in
     let sorted = c.sort_unstable_by_key.ensures.sorted (λ (r : Receipt). r.place) (answers_always _ _ _ (λ f a r g h. search rules)) in
     let gap : first_gap (length J) (all_receipts seats) ≡ None = sym taken.gap ∙ c.in-None.is in

@@ -1,0 +1,31 @@
+-- What a contract sees of a journal, and who made its entries.
+use Rattle.std.specs.Prelude.{ℕ, ◌-◌, List, Bool, true, false, ◌&&◌, nat_lt, nat_le}
+use Rattle.std.specs.List.{list_all}
+use Rattle.tb_model.specs.declared.entry.Entry.{Entry}
+use Rattle.tb_model.specs.declared.entry.Entry.TheVariants.{Opened, Stepped, Rolled}
+
+-- the entries, the oldest first, and for how many more there is room
+pub record Written : Type 0 where
+  pub items : List Entry
+  pub room : ℕ
+
+abbrev pub lesser : ℕ → ℕ → ℕ
+lesser m n = m - (m - n)
+
+-- whose entry it is
+abbrev pub seat_of : Entry → ℕ
+seat_of Opened = 0
+seat_of (Stepped seat v) = seat
+seat_of (Rolled seat e) = seat
+
+-- each entry is of a seat below n
+abbrev pub all_below : ℕ → List Entry → Bool
+all_below n es = list_all (λ e. nat_lt (seat_of e) n) es
+
+abbrev pub is_step : Entry → Bool
+is_step (Stepped seat v) = true
+is_step _ = false
+
+-- a step of one of so many workers
+abbrev pub is_turn : ℕ → Entry → Bool
+is_turn workers e = is_step e && (nat_le 1 (seat_of e) && nat_le (seat_of e) workers)

@@ -1,0 +1,161 @@
+//! A journal.
+
+ghost use Rattle.std.specs.Prelude.{◌≡◌, ◌<◌, ◌≤◌, ◌+◌, ◌++◌, ◌∷◌, [], IfOk, OnOk, length, drop, slice_index_or, nat_lt};
+ghost use Rattle.std.specs.List.{list_all};
+ghost use Rattle.tb_model.specs.declared.entry.Entry.{Entry};
+ghost use Rattle.tb_model.specs.declared.entry.Entry.TheVariants.{Opened, Stepped};
+ghost use Rattle.tb_journal.specs.Journals.{all_below, is_turn, seat_of};
+ghost use Rattle.tb_journal.specs.Compact.{entry_in, entry_of, StandsFor};
+
+use crate::compact::Compact;
+use crate::shortening::{short, short_step};
+use std::alloc::{AllocError, Global};
+use std::marker::Model;
+use tb_model::{Entry, Event};
+
+/// The entries of a run, the oldest first. Contracts see them, and for how many more there is room.
+///
+/// An entry takes 32 bytes. Those of a spawn, of a `taskwait` with items and of the opening stand
+/// whole in a list of their own.
+#[derive(Drop)]
+pub struct Journal {
+    alloc: Global,
+    compact: Vec<Compact>,
+    apart: Vec<Entry>,
+}
+
+impl Model for Journal {
+    ghost use Rattle.std.specs.Prelude.{◌-◌, map, length, vec_len, vec_capacity};
+    ghost use Rattle.std.specs.List.{AllByRecursion};
+    ghost use Rattle.tb_journal.specs.Journals.{Written, lesser};
+    ghost use Rattle.tb_journal.specs.Compact.{entry_of, IsThere};
+
+    ghost Value = { Written };
+
+    ghost view = { λ j. record { items = map (entry_of j.apart.items) j.compact.items; room = lesser (vec_capacity j.compact - vec_len j.compact) (vec_capacity j.apart - vec_len j.apart) } };
+
+    ghost invariant = { λ j. AllByRecursion (IsThere (length j.apart.items)) j.compact.items };
+}
+
+impl Journal {
+    /// A journal of the opening alone.
+    pub fn open(alloc: Global) -> Result<Journal, AllocError>
+        ensures { IfOk result (λ j. j.items ≡ Opened ∷ []) }
+    {
+        let mut journal = Journal {
+            alloc,
+            compact: Vec::new(alloc),
+            apart: Vec::new(alloc),
+        };
+        journal.reserve()?;
+        journal.push_reserved(Entry::Opened);
+        Ok(journal)
+    }
+
+    /// How many entries there are.
+    pub fn len(&self) -> usize
+        ensures { result ≡ length self.now.items }
+    {
+        self.compact.as_slice().len()
+    }
+
+    /// Room for one more entry. Where it is refused, what room there was stays.
+    pub fn reserve(&mut self) -> Result<(), AllocError>
+        ensures items { self.new.items ≡ self.old.items }
+        ensures room { OnOk result (0 < self.new.room) }
+        ensures kept { self.old.room ≤ self.new.room }
+    {
+        self.compact.reserve(1)?;
+        self.apart.reserve(1)?;
+        Ok(())
+    }
+
+    /// Adds an entry for which there is room. It takes no memory.
+    pub fn push_reserved(&mut self, entry: Entry)
+        requires { 0 < self.old.room }
+        ensures items { self.new.items ≡ self.old.items ++ entry ∷ [] }
+        ensures room { self.old.room ≤ self.new.room + 1 }
+    {
+        self.add(short(entry));
+    }
+
+    /// Adds the step of a seat, for which there is room. It takes no memory.
+    #[inline]
+    pub fn push_step(&mut self, seat: u32, event: Event)
+        requires { 0 < self.old.room }
+        ensures items { self.new.items ≡ self.old.items ++ Stepped seat event ∷ [] }
+        ensures room { self.old.room ≤ self.new.room + 1 }
+    {
+        self.add(short_step(seat, event));
+    }
+
+    #[inline]
+    fn add(&mut self, short: Result<Compact, Entry>)
+        requires room { 0 < self.old.room }
+        requires short { IfOk short (StandsFor (entry_in short)) }
+        ensures items { self.new.items ≡ self.old.items ++ entry_in short ∷ [] }
+        ensures room { self.old.room ≤ self.new.room + 1 }
+    {
+        match short {
+            Ok(compact) => self.compact.push_reserved(compact),
+            Err(entry) => {
+                let number = self.apart.as_slice().len();
+                self.compact.push_reserved(Compact::Apart(number));
+                self.apart.push_reserved(entry);
+            }
+        }
+    }
+
+    /// The entry at the place, made anew. Its lists share memory with what stands here.
+    pub fn entry(&self, place: usize) -> Result<Entry, AllocError>
+        requires { place < length self.now.items }
+        ensures { IfOk result (λ e. (d : Entry) → slice_index_or self.now.items place d ≡ e) }
+    {
+        let compact = &self.compact.as_slice()[place];
+        compact.entry(self.alloc, self.apart.as_slice())
+    }
+
+    /// Whether each entry was made by one of so many seats.
+    pub fn are_below(&self, seats: u32) -> bool
+        ensures { result ≡ all_below seats self.now.items }
+    {
+        let apart = self.apart.as_slice();
+        are_below(seats, apart, self.compact.as_slice())
+    }
+
+    /// Whether the entries from the place on are steps of so many workers, the seats from 1 on.
+    pub fn are_turns(&self, workers: u32, from: usize) -> bool
+        requires { from ≤ length self.now.items }
+        ensures { result ≡ list_all (is_turn workers) (drop from self.now.items) }
+    {
+        let apart = self.apart.as_slice();
+        are_turns(workers, apart, later(self.compact.as_slice(), from))
+    }
+}
+
+/// Those from the place on.
+fn later(compact: &[Compact], from: usize) -> &[Compact]
+    requires { from ≤ length compact.now }
+    ensures { result.now ≡ drop from compact.now }
+{
+    &compact[from..]
+}
+
+fn are_below(seats: u32, apart: &[Entry], compact: &[Compact]) -> bool
+    ensures { result ≡ list_all (λ k. nat_lt (seat_of (entry_of apart.now k)) seats) compact.now }
+{
+    compact.iter().all(|one| one.seat(apart) < seats)
+}
+
+fn are_turns(workers: u32, apart: &[Entry], compact: &[Compact]) -> bool
+    ensures { result ≡ list_all (λ k. is_turn workers (entry_of apart.now k)) compact.now }
+{
+    compact.iter().all(|one| is_turn(workers, one, apart))
+}
+
+fn is_turn(workers: u32, compact: &Compact, apart: &[Entry]) -> bool
+    ensures { result ≡ is_turn workers (entry_of apart.now compact.now) }
+{
+    let seat = compact.seat(apart);
+    compact.is_step(apart) && 1 <= seat && seat <= workers
+}

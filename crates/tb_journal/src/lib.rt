@@ -1,0 +1,12 @@
+//! The journal of a run, in few bytes an entry.
+#![tactic(auto)]
+
+mod compact;
+mod copying;
+mod journal;
+mod seat;
+mod shortening;
+
+pub use copying::copy_of;
+pub use journal::Journal;
+pub use seat::seat_of;
