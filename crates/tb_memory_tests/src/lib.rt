@@ -21,6 +21,8 @@ macro_rules! again {
 #[cfg(test)]
 mod full;
 #[cfg(test)]
+mod history;
+#[cfg(test)]
 mod needs;
 #[cfg(test)]
 mod run;
