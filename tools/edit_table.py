@@ -39,8 +39,9 @@ def refusals(log):
     if log:
         with open(log, encoding="utf-8", errors="replace") as file:
             for crate, name, why in re.findall(r"must-fail (\w+)/([\w.-]+)\.edit: refused, as it must be:? ?(.*)", file.read()):
-                goal = re.search(r"`([\w-]+)`\)?$", why)
-                said[crate, name] = f"`{goal[1]}`" if goal else why.replace("|", "\\|")[:80]
+                # the first goal that was left, or that of a proof file which no longer fits
+                goal = re.search(r"\(`([\w-]+)", why) or re.search(r"`([\w+-]+)`", why)
+                said[crate, name] = f"`{goal[1]}`" if goal else "what a proof file names is gone"
     return said
 
 
