@@ -1,5 +1,5 @@
 -- What a contract sees of a journal, and who made its entries.
-use Rattle.std.specs.Prelude.{ℕ, ◌-◌, List, Bool, true, false, ◌&&◌, nat_lt, nat_le}
+use Rattle.std.specs.Prelude.{ℕ, List, Bool, true, false, ◌&&◌, nat_lt, nat_le}
 use Rattle.std.specs.List.{list_all}
 use Rattle.tb_model.specs.declared.entry.Entry.{Entry}
 use Rattle.tb_model.specs.declared.entry.Entry.TheVariants.{Opened, Stepped, Rolled}
@@ -8,9 +8,6 @@ use Rattle.tb_model.specs.declared.entry.Entry.TheVariants.{Opened, Stepped, Rol
 pub record Written : Type 0 where
   pub items : List Entry
   pub room : ℕ
-
-abbrev pub lesser : ℕ → ℕ → ℕ
-lesser m n = m - (m - n)
 
 -- whose entry it is
 abbrev pub seat_of : Entry → ℕ

@@ -25,14 +25,14 @@ pub struct Journal {
 }
 
 impl Model for Journal {
-    ghost use Rattle.std.specs.Prelude.{◌-◌, map, length, vec_len, vec_capacity};
+    ghost use Rattle.std.specs.Prelude.{◌-◌, min, map, length, vec_len, vec_capacity};
     ghost use Rattle.std.specs.List.{AllByRecursion};
-    ghost use Rattle.tb_journal.specs.Journals.{Written, lesser};
+    ghost use Rattle.tb_journal.specs.Journals.{Written};
     ghost use Rattle.tb_journal.specs.Compact.{entry_of, IsThere};
 
     ghost Value = { Written };
 
-    ghost view = { λ j. record { items = map (entry_of j.apart.items) j.compact.items; room = lesser (vec_capacity j.compact - vec_len j.compact) (vec_capacity j.apart - vec_len j.apart) } };
+    ghost view = { λ j. record { items = map (entry_of j.apart.items) j.compact.items; room = min (vec_capacity j.compact - vec_len j.compact) (vec_capacity j.apart - vec_len j.apart) } };
 
     ghost invariant = { λ j. AllByRecursion (IsThere (length j.apart.items)) j.compact.items };
 }

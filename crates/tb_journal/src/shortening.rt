@@ -76,22 +76,7 @@ fn short_action(seat: u8, task: TaskName, action: Action) -> Result<Compact, Ent
         Action::Test { yes } => Compact::Tested { yes, seat, task },
         Action::End => Compact::Ended { seat, task },
         Action::Fault => Compact::Faulted { seat, task },
-        Action::Spawn {
-            child,
-            body,
-            args,
-            items,
-            deferred,
-        } => {
-            let spawn = Action::Spawn {
-                child,
-                body,
-                args,
-                items,
-                deferred,
-            };
-            return Err(step(seat, task, spawn));
-        }
+        action => return Err(step(seat, task, action)),
     };
     Ok(compact)
 }
