@@ -1,6 +1,6 @@
 -- How the numbers of a name fall into blocks.
 use Rattle.std.proofs.lemmas.List.{take_rest}
-use Rattle.std.proofs.Common.{true≢false, eqb-true, ◌≡◌, ◌⊎◌, inl, inr, ℕ, zero, suc, ◌+◌, ◌-◌, ◌*◌, ◌<◌, ◌≤◌, List, [], ◌∷◌, ◌++◌, Bool, true, false, ◌&&◌, ◌==◌, min, length, take, drop, length-drop, refl, sym, ap, ap₂, ◌∙◌, arith, append_assoc, append-nil, length-append, length-take, take-append-drop, subst}
+use Rattle.std.proofs.Common.{true≢false, eqb-true, not, nat_lt, le-ltb, lt-ltb, eq-eqb, ne_eqb, ◌≡◌, ◌⊎◌, inl, inr, ℕ, zero, suc, ◌+◌, ◌-◌, ◌*◌, ◌<◌, ◌≤◌, List, [], ◌∷◌, ◌++◌, Bool, true, false, ◌&&◌, ◌==◌, min, length, take, drop, length-drop, refl, sym, ap, ap₂, ◌∙◌, arith, append_assoc, append-nil, length-append, length-take, take-append-drop, subst}
 use Rattle.std.specs.Prelude.{slice_index_or}
 use Rattle.tb_model.specs.Names.{same_name}
 use Rattle.tb_model.specs.Blocks.{far_numbers, AreFull, IsSplit, IsDeep}
@@ -122,6 +122,15 @@ deep_length m f split some = let far = far_length f split.full in let long = len
 
 pub length_deep : (m : List ℕ) (f : List (List ℕ)) → IsSplit m f → 128 < length (m ++ far_numbers f) → 0 < length f
 length_deep m f split long = let far = far_length f split.full in let whole = length-append m (far_numbers f) in omega (arith, far, whole, split.short, long)
+
+-- whether there are blocks tells whether the name is long
+pub deep_or_not : (m : List ℕ) (f : List (List ℕ)) (empty : Bool) → IsSplit m f → empty ≡ (length f == 0)
+    → not empty ≡ nat_lt 128 (length (m ++ far_numbers f))
+deep_or_not m [] empty split is = ap not (is ∙ eq-eqb 0 0 refl) ∙ sym (le-ltb 128 (length (m ++ [])) (short m split.short))
+  where
+    short : (m : List ℕ) → length m ≤ 128 → length (m ++ []) ≤ 128
+    short m few = omega (arith, few, ap length (append-nil m))
+deep_or_not m (b ∷ f) empty split is = ap not (is ∙ ne_eqb (suc (length f)) 0 (λ e. absurd (omega (arith, e)))) ∙ sym (lt-ltb 128 (length (m ++ far_numbers (b ∷ f))) (deep_length m (b ∷ f) split (omega arith)))
 
 -- the last 128 numbers of those that are left become a block
 pub more_blocks : (near : List ℕ) (far : List (List ℕ)) (b : List ℕ) (new : List (List ℕ)) (numbers : List ℕ)

@@ -99,7 +99,7 @@ pub on_ok : {T E : Type 0} {A B : Type 0} → (r : Result T E) → (A → B) →
 on_ok (Ok x) f a = f a
 on_ok (Err e) f a = tt
 
-levels_both : (m t : List ℕ) → levels_text (m ++ t) ≡ levels_text t ++ levels_text m
+pub levels_both : (m t : List ℕ) → levels_text (m ++ t) ≡ levels_text t ++ levels_text m
 levels_both [] t = sym (append-nil (levels_text t))
 levels_both (n ∷ m) t = ap (λ x. x ++ 46 ∷ decimal n) (levels_both m t) ∙ append_assoc (levels_text t) (levels_text m) (46 ∷ decimal n)
 

@@ -1,6 +1,6 @@
 //! Names of tasks.
 
-ghost use Rattle.std.specs.Prelude.{◌≡◌, ◌<◌, ◌≤◌, IfOk, IsOk, IsErrOf, OnOk, OnErr, IsFalse, ◌↔◌, [], ◌++◌, length, slice_get, string_bytes};
+ghost use Rattle.std.specs.Prelude.{◌≡◌, ◌<◌, ◌≤◌, IfOk, IsOk, IsErrOf, OnOk, OnErr, IsFalse, ◌↔◌, [], ◌++◌, length, nat_lt, slice_get, string_bytes};
 ghost use Rattle.std.specs.Cmp.Rules.{comparing};
 ghost use Rattle.std.specs.Hash as fed;
 ghost use Rattle.std.specs.Ordering.{as_partial_cmp};
@@ -192,8 +192,15 @@ impl TaskName {
         self.numbers.parts().first()
     }
 
+    /// Whether there are more than 128 levels between the root and the task.
+    pub fn is_deep(&self) -> bool
+        ensures { result ≡ nat_lt 128 (length self.now) }
+    {
+        !self.numbers.parts().far.is_empty()
+    }
+
     /// The numbers as they stand in memory.
-    pub(crate) fn parts(&self) -> Parts<'_>
+    pub fn parts(&self) -> Parts<'_>
         ensures { result ≡ self.now }
     {
         self.numbers.parts()

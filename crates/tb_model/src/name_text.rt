@@ -1,6 +1,6 @@
 //! Names as bytes: how they are written, and how bytes fall into numbers.
 
-ghost use Rattle.std.specs.Prelude.{◌≡◌, ◌<◌, ◌++◌, ◌+◌, true, OnOk, OnErr, IfSome, drop, length, string_bytes};
+ghost use Rattle.std.specs.Prelude.{◌≡◌, ◌<◌, ◌≤◌, ◌++◌, ◌+◌, ◌-◌, true, false, OnOk, OnErr, IfSome, IfNone, drop, length, string_bytes};
 ghost use Rattle.std.specs.List.{list_all};
 ghost use Rattle.tb_model.specs.Spelling.{name_text, levels_text, is_digit, spells_name, is_zero, IsLastPart};
 ghost use Rattle.tb_model.specs.Texts.{Begins};
@@ -51,9 +51,10 @@ fn append_levels(text: &mut String, numbers: &[u32]) -> Result<(), AllocError>
     Ok(())
 }
 
-/// Where the last sixteen numbers begin, if each has one digit: deep names are mostly of such.
-fn digits_at(numbers: &[u32]) -> Option<usize>
-    ensures { IfSome result (λ at. (at + 16 ≡ length numbers.now) × (list_all is_digit (drop at numbers.now) ≡ true)) }
+/// Where the last sixteen numbers begin, if there are as many and each has one digit: deep names are mostly of such.
+pub fn digits_at(numbers: &[u32]) -> Option<usize>
+    ensures some { IfSome result (λ at. (at + 16 ≡ length numbers.now) × (list_all is_digit (drop at numbers.now) ≡ true)) }
+    ensures none { IfNone result (16 ≤ length numbers.now → list_all is_digit (drop (length numbers.now - 16) numbers.now) ≡ false) }
 {
     if numbers.len() < LEVELS {
         return None;
@@ -79,18 +80,28 @@ fn are_digits(numbers: &[u32]) -> bool
     all
 }
 
-/// Appends sixteen levels of one digit each, the last of these first.
-fn append_digits(text: &mut String, numbers: &[u32]) -> Result<(), AllocError>
+/// Sixteen levels of one digit each, as text: the last of these first.
+pub fn digit_levels(numbers: &[u32]) -> [u8; 32]
     requires sixteen { length numbers.now ≡ 16 }
     requires digits { list_all is_digit numbers.now ≡ true }
-    ensures ok { OnOk result (string_bytes text.new ≡ string_bytes text.old ++ levels_text numbers.now) }
-    ensures err { OnErr result (string_bytes text.new ≡ string_bytes text.old) }
+    ensures { result ≡ levels_text numbers.now }
 {
     let mut levels = [b'.'; 32];
     for i in 0..LEVELS {
         levels[2 * i] = b'.';
         levels[2 * i + 1] = b'0' + numbers[LEVELS - 1 - i] as u8;
     }
+    levels
+}
+
+/// Appends these levels.
+fn append_digits(text: &mut String, numbers: &[u32]) -> Result<(), AllocError>
+    requires sixteen { length numbers.now ≡ 16 }
+    requires digits { list_all is_digit numbers.now ≡ true }
+    ensures ok { OnOk result (string_bytes text.new ≡ string_bytes text.old ++ levels_text numbers.now) }
+    ensures err { OnErr result (string_bytes text.new ≡ string_bytes text.old) }
+{
+    let levels = digit_levels(numbers);
     // each byte is a point or a digit
     text.push_str(unsafe { str::from_utf8_unchecked(&levels) })
 }

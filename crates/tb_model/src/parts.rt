@@ -11,9 +11,9 @@ use std::marker::Model;
 /// A name's numbers: those nearest to the task, up to 128, then those in the blocks, of which the one at the
 /// root comes first.
 #[derive(Drop)]
-pub(crate) struct Parts<'a> {
-    pub near: &'a [u32],
-    pub far: &'a [Block],
+pub struct Parts<'a> {
+    pub(crate) near: &'a [u32],
+    pub(crate) far: &'a [Block],
 }
 
 impl<'a> Model for Parts<'a> {
@@ -49,6 +49,25 @@ impl<'a> Parts<'a> {
                 Some((*n, Parts { near, far }))
             }
             far => Some((*n, Parts { near, far })),
+        }
+    }
+
+    /// Takes off the numbers that stand together nearest to the root, 128 at most. It takes none where there are no more.
+    pub fn take_run(&mut self) -> &'a [u32]
+        ensures split { self.old ≡ self.new ++ result.now }
+        ensures none { result.now ≡ [] → self.old ≡ [] }
+        ensures few { length result.now ≤ 128 }
+    {
+        match self.far {
+            [block, far @ ..] => {
+                self.far = far;
+                block.as_slice()
+            }
+            [] => {
+                let near = self.near;
+                self.near = &[];
+                near
+            }
         }
     }
 

@@ -1,6 +1,6 @@
 use Rattle.std.proofs.Common.{◌≡◌, ◌*◌, ◌-◌, take, drop, length}
 use Rattle.tb_model.specs.Spelling.{levels_text}
-use Rattle.tb_model.proofs.name_text.append_digits.Given as goal
+use Rattle.tb_model.proofs.name_text.digit_levels.Given as goal
 
 -- the levels so far
 abbrev pub invariant-loop-i : goal.invariant-loop-i
