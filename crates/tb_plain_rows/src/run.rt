@@ -2,6 +2,8 @@
 
 use crate::line;
 use std::alloc::{AllocError, Global};
+use std::str::from_utf8;
+use tb_draft::Draft;
 use tb_model::{Action, Event, StepId};
 use tb_plain::{is_legal, is_removed, last, own, printed, removed, without};
 use tb_view::write_step;
@@ -182,7 +184,10 @@ impl Run {
             body.push(char::from_u32(*letter).unwrap_or('?'))?;
         }
         let k = self.number(front, event)?;
-        write_step(text, body.as_str(), &event.task, k, &event.action)?;
-        text.push_str("\n")
+        let mut line = Draft::new(self.alloc);
+        write_step(&mut line, body.as_str(), &event.task, k, &event.action)?;
+        line.push('\n')?;
+        let line = line.into_bytes()?;
+        text.push_str(from_utf8(line.as_slice()).unwrap_or("?"))
     }
 }

@@ -7,8 +7,9 @@ use Rattle.tb_commands.specs.declared.asked.Asked.{Asked}
 use Rattle.tb_replies.specs.declared.unanswered.Unanswered.{Unanswered}
 use Rattle.tb_replies.specs.declared.unanswered.Unanswered.TheVariants.{Memory, Write, Journal}
 use Rattle.tb_replies.specs.Replies.{Answers, GoReply, ReplyTo}
-use Rattle.tb_replies.specs.Told.{Begins, Fails, Told}
-use Rattle.tb_replies.proofs.ToldLemmas.{told_nothing}
+use Rattle.tb_replies.specs.Told.{Begins, Fails}
+use Rattle.tb_draft.specs.Written.{Told}
+use Rattle.tb_draft.proofs.WrittenLemmas.{told_nothing}
 
 -- all of the reply to a line waits
 pub answers_waiting : (limit : ℕ) (s new : Session) (line rest : List ℕ) (a : Option (List ℕ)) (asks : Asked) → asked limit line ≡ asks → ReplyTo s asks rest new → Told a a rest (λ out. Answers limit s line out new)

@@ -21,33 +21,13 @@ use Rattle.tb_replies.specs.Alone.{IsWhole, Stops, TakesTurn}
 use Rattle.tb_replies.specs.Course.{Course, IsCourse, behind, course, course_text}
 use Rattle.tb_replies.specs.Replies.{GoReply, RunReply}
 use Rattle.tb_replies.specs.Turns.{Goes, IsGo}
-use Rattle.tb_replies.specs.Told.{Told, WroteFront, Begins}
+use Rattle.tb_replies.specs.Told.{Begins}
+use Rattle.tb_draft.specs.Written.{Told, WroteFront}
+use Rattle.tb_draft.proofs.WrittenLemmas.{told_on, longer}
 use Rattle.tb_replies.specs.Texts.{newest_line, told_step}
 use Rattle.tb_replies.proofs.AloneLemmas.{UnderWay, ends, turns_on}
 use Rattle.tb_replies.proofs.CourseLemmas.{Going, IsTaken, behind_nothing, course_ends_full, course_goes_on}
 use Rattle.tb_replies.proofs.TurnLemmas.{some_goes}
-
--- ---- what was written, and what waits
-
--- nothing was written
-pub told_nothing : (a : Option (List ℕ)) (rest : List ℕ) (IsText : List ℕ → Type 0) → IsText rest → Told a a rest IsText
-told_nothing a rest IsText h = record { front = []; wrote = appends_nil a; whole = h }
-
--- more waits
-pub told_on : (a b : Option (List ℕ)) (rest more : List ℕ) (IsText IsMore : List ℕ → Type 0) → Told a b rest IsText → ((front : List ℕ) → IsText (front ++ rest) → IsMore (front ++ more)) → Told a b more IsMore
-told_on a b rest more IsText IsMore t f = record { front = t.front; wrote = t.wrote; whole = f t.front t.whole }
-
--- the same behind a front
-longer : (front text line more : List ℕ) → more ≡ text ++ line → front ++ more ≡ (front ++ text) ++ line
-longer front text line more e = ap (λ l. front ++ l) e ∙ sym (append_assoc front text line)
-
--- a part of what waits was written
-pub told_passed : (a b c : Option (List ℕ)) (held left : List ℕ) (IsText : List ℕ → Type 0) → Told a b held IsText → Told b c left (λ all. all ≡ held) → Told a c left IsText
-told_passed a b c held left IsText t p = record {
-  front = t.front ++ p.front;
-  wrote = appends_trans a b c t.front p.front t.wrote p.wrote;
-  whole = subst IsText (sym (append_assoc t.front p.front left ∙ ap (λ l. t.front ++ l) p.whole)) t.whole;
-}
 
 -- ---- a beginning of a reply
 

@@ -1,5 +1,5 @@
--- What is written of a reply, piece by piece.
-use Rattle.std.specs.Prelude.{◌≡◌, ◌⊎◌, ℕ, List, [], ◌++◌, take, Option, ⊤}
+-- What is written of a reply, where it is not written whole.
+use Rattle.std.specs.Prelude.{◌≡◌, ◌⊎◌, ℕ, List, [], take, Option, ⊤}
 use Rattle.std.specs.Io.KnownBytes.{Appends}
 use Rattle.tb_live.specs.Session.{Session}
 use Rattle.tb_commands.specs.Commands.{AsksSeveral, asked}
@@ -14,16 +14,6 @@ use Rattle.tb_replies.specs.declared.unwritten.Unwritten.{Unwritten}
 use Rattle.tb_replies.specs.declared.unwritten.Unwritten.TheVariants.{Memory as NoRoom, Write as NoWrite}
 use Rattle.tb_replies.specs.declared.unanswered.Unanswered.{Unanswered}
 use Rattle.tb_replies.specs.declared.unanswered.Unanswered.TheVariants.{Memory, Write, Journal}
-
--- a front was written and the rest waits; both together are such a text
-pub record Told (before after : Option (List ℕ)) (rest : List ℕ) (IsText : List ℕ → Type 0) : Type 0 where
-  pub front : List ℕ
-  pub wrote : Appends before after front
-  pub whole : IsText (front ++ rest)
-
--- a front of the text was written
-abbrev pub WroteFront : Option (List ℕ) → Option (List ℕ) → List ℕ → Type 0
-WroteFront before after text = (n : ℕ) × Appends before after (take n text)
 
 -- a beginning of such a reply was written
 abbrev pub Begins : (List ℕ → Session → Type 0) → Option (List ℕ) → Option (List ℕ) → Type 0

@@ -1,6 +1,6 @@
 //! Makes breakpoints and takes them away.
 
-ghost use Rattle.std.specs.Prelude.{◌≡◌, IfOk, string_bytes};
+ghost use Rattle.std.specs.Prelude.{◌≡◌, IfOk};
 ghost use Rattle.tb_replies.specs.Bodies.{body_line, is_named};
 ghost use Rattle.tb_read.specs.Bodies.{name_at};
 ghost use Rattle.tb_replies.specs.Refusals.{break_refusal, clear_refusal};
@@ -8,6 +8,7 @@ ghost use Rattle.tb_replies.specs.Replies.{BodyReply, BreakReply, ClearReply};
 
 use crate::refusing::refused;
 use std::alloc::{AllocError, Global};
+use tb_draft::Draft;
 use tb_live::{Break, BreakRefusal, Live};
 use tb_read::{Program, same_word};
 
@@ -37,12 +38,12 @@ fn body_line(program: &Program, name: &[u8]) -> Option<u32>
 }
 
 /// Makes a breakpoint, and tells its number.
-pub fn break_reply(alloc: Global, live: &mut Live, at: Break) -> Result<String, AllocError>
+pub fn break_reply(alloc: Global, live: &mut Live, at: Break) -> Result<Draft, AllocError>
     ensures { IfOk result (λ text. BreakReply (break_refusal live.old.session at)
-        live.old.session at (string_bytes text) live.new.session) }
+        live.old.session at text live.new.session) }
 {
     match live.add_break(at) {
-        Ok(number) => format!(in alloc; "break {number}\n"),
+        Ok(number) => Ok(Draft::of(alloc, format!(in alloc; "break {number}\n")?)),
         Err(BreakRefusal::NoSuchBody) => refused(alloc, 3, "NoSuchBody"),
         Err(BreakRefusal::NoSuchCell) => refused(alloc, 4, "NoSuchCell"),
         Err(BreakRefusal::TooMany) => refused(alloc, 1, "TooMany"),
@@ -52,9 +53,9 @@ pub fn break_reply(alloc: Global, live: &mut Live, at: Break) -> Result<String, 
 }
 
 /// Makes a breakpoint at the starts of tasks of the body with this name, and tells its number.
-pub fn body_reply(alloc: Global, live: &mut Live, name: &[u8]) -> Result<String, AllocError>
+pub fn body_reply(alloc: Global, live: &mut Live, name: &[u8]) -> Result<Draft, AllocError>
     ensures { IfOk result (λ text. BodyReply (body_line name.now live.old.session.program)
-        live.old.session (string_bytes text) live.new.session) }
+        live.old.session text live.new.session) }
 {
     match body_line(live.program(), name) {
         Some(line) => break_reply(alloc, live, Break::Body(line)),
@@ -63,12 +64,12 @@ pub fn body_reply(alloc: Global, live: &mut Live, name: &[u8]) -> Result<String,
 }
 
 /// Takes a breakpoint away, and tells it.
-pub fn clear_reply(alloc: Global, live: &mut Live, number: u32) -> Result<String, AllocError>
+pub fn clear_reply(alloc: Global, live: &mut Live, number: u32) -> Result<Draft, AllocError>
     ensures { IfOk result (λ text. ClearReply (clear_refusal live.old.session number)
-        live.old.session number (string_bytes text) live.new.session) }
+        live.old.session number text live.new.session) }
 {
     match live.clear_break(number) {
-        Ok(()) => format!(in alloc; "cleared {number}\n"),
+        Ok(()) => Ok(Draft::of(alloc, format!(in alloc; "cleared {number}\n")?)),
         Err(BreakRefusal::NoSuchBreak) => refused(alloc, 2, "NoSuchBreak"),
         Err(_) => unreachable!(),
     }

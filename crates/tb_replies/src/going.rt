@@ -1,28 +1,29 @@
 //! Turns of a worker alone.
 
-ghost use Rattle.std.specs.Prelude.{◌≡◌, ◌≢◌, ◌+◌, ◌-◌, ◌<◌, ◌^◌, IfErr, IfOk, OnErr, OnOk, None, Some, [], string_bytes};
+ghost use Rattle.std.specs.Prelude.{◌≡◌, ◌≢◌, ◌+◌, ◌-◌, ◌<◌, ◌^◌, IfErr, IfOk, OnErr, OnOk, None, Some, []};
 ghost use Rattle.tb_replies.specs.Alone.{HasNoClaims, IsIdle, IsIdleStop, IsUnderWay, IsWhole, Stops, TakesTurn};
 ghost use Rattle.tb_replies.specs.Replies.{GoReply};
-ghost use Rattle.tb_replies.specs.Told.{Begins, Told, failed_at};
+ghost use Rattle.tb_replies.specs.Told.{Begins, failed_at};
+ghost use Rattle.tb_draft.specs.Written.{Told};
 ghost use Rattle.tb_team.specs.Turns.{stop_of};
 ghost use Rattle.tb_team.specs.Gone.{HasSeats};
 
 use crate::newest::append_newest;
-use crate::passing::pass_on;
 use crate::running::{Taken, append_end};
 use crate::unwritten::Unwritten;
 use std::alloc::{AllocError, Global};
+use tb_draft::Draft;
 use tb_lines::Sink;
 use tb_live::{Live, Mode, PausedBy, StepRefusal};
 use tb_team::Stop;
 
 /// Takes the next step of the least task that can step, as the worker's claim and its commit would, and tells it. False
 /// where there is no such task, or the run is paused.
-fn take_turn(text: &mut String, live: &mut Live) -> Result<bool, AllocError>
+fn take_turn(text: &mut Draft, live: &mut Live) -> Result<bool, AllocError>
     requires free { HasNoClaims live.old.session }
     requires going { IsUnderWay live.old.session.control.mode }
-    ensures { IfOk result (TakesTurn live.old.session (string_bytes text.old)
-        (string_bytes text.new) live.new.session) }
+    ensures { IfOk result (TakesTurn live.old.session text.old
+        text.new live.new.session) }
 {
     if live.mode().is_paused() {
         return Ok(false);
@@ -84,14 +85,14 @@ fn settle(live: &mut Live, count: u32) -> Result<Taken, AllocError>
 /// Takes up to so many turns, and tells each as soon as it is taken.
 fn take_turns<K: Sink>(
     sink: &mut K,
-    text: &mut String,
+    text: &mut Draft,
     live: &mut Live,
     most: u32,
 ) -> Result<Taken, Unwritten>
     requires seats { HasSeats live.old.session }
-    requires empty { string_bytes text.old ≡ [] }
+    requires empty { text.old ≡ [] }
     requires failures { K.failures sink.old < 2 ^ 64 - 1 }
-    ensures told { IfOk result (λ taken. Told (K.taken sink.old) (K.taken sink.new) (string_bytes text.new)
+    ensures told { IfOk result (λ taken. Told (K.taken sink.old) (K.taken sink.new) text.new
         (λ told. IsWhole most live.old.session told live.new.session taken)) }
     ensures err { OnErr result (Begins (GoReply 1 most live.old.session)
         (K.taken sink.old) (K.taken sink.new)) }
@@ -105,7 +106,7 @@ fn take_turns<K: Sink>(
         if !take_turn(text, live)? {
             return Ok(settle(live, count)?);
         }
-        pass_on(sink, text)?;
+        text.pass_on(sink)?;
         count += 1;
     }
     Ok(settle(live, count)?)
@@ -118,17 +119,17 @@ pub fn go_reply<K: Sink>(
     sink: &mut K,
     live: &mut Live,
     most: u32,
-) -> Result<String, Unwritten>
+) -> Result<Draft, Unwritten>
     requires seats { HasSeats live.old.session }
     requires failures { K.failures sink.old < 2 ^ 64 - 1 }
-    ensures told { IfOk result (λ text. Told (K.taken sink.old) (K.taken sink.new) (string_bytes text)
+    ensures told { IfOk result (λ text. Told (K.taken sink.old) (K.taken sink.new) text
         (λ out. GoReply 1 most live.old.session out live.new.session)) }
     ensures err { OnErr result (Begins (GoReply 1 most live.old.session)
         (K.taken sink.old) (K.taken sink.new)) }
     ensures ok { OnOk result (K.failures sink.new ≡ K.failures sink.old) }
     ensures failed { IfErr result (λ why. K.failures sink.new ≡ K.failures sink.old + failed_at why) }
 {
-    let mut text = String::new(alloc);
+    let mut text = Draft::new(alloc);
     let taken = take_turns(sink, &mut text, live, most)?;
     append_end(&mut text, taken)?;
     Ok(text)

@@ -5,7 +5,6 @@ mod breaking;
 mod going;
 pub mod laws;
 mod newest;
-mod passing;
 mod refusing;
 mod replies;
 mod rolling;

@@ -1,11 +1,12 @@
 //! The reply to a line of a session.
 
-ghost use Rattle.std.specs.Prelude.{◌≡◌, ◌<◌, ◌+◌, ◌++◌, ◌-◌, ◌^◌, IfOk, IfErr, OnOk, ⊤, codes, string_bytes};
+ghost use Rattle.std.specs.Prelude.{◌≡◌, ◌<◌, ◌+◌, ◌++◌, ◌-◌, ◌^◌, IfOk, IfErr, OnOk, ⊤, codes};
 ghost use Rattle.tb_view.specs.Lines.{line};
 ghost use Rattle.tb_replies.specs.Texts.{fault_word, newest_line};
 ghost use Rattle.tb_replies.specs.Refusals.{step_refusal, undo_refusal};
 ghost use Rattle.tb_replies.specs.Replies.{Answers, GoReply, Reply, StepReply, UndoReply};
-ghost use Rattle.tb_replies.specs.Told.{Fails, FailsAt, TellsSteps, Told, failures_at};
+ghost use Rattle.tb_replies.specs.Told.{Fails, FailsAt, TellsSteps, failures_at};
+ghost use Rattle.tb_draft.specs.Written.{Told};
 ghost use Rattle.tb_team.specs.Gone.{HasSeats};
 ghost use Rattle.tb_live.specs.Runs.{resumed};
 ghost use Rattle.tb_model.specs.Spelling.{step_id_text};
@@ -23,6 +24,7 @@ use std::alloc::{AllocError, Global};
 use std::sync::Wait;
 use std::thread::Threads;
 use tb_commands::{Asked, Command, CommandFault, Workers, read_line};
+use tb_draft::Draft;
 use tb_lines::Sink;
 use tb_live::{Live, StepRefusal, UndoRefusal, end};
 use tb_model::{StepId, TaskName};
@@ -39,35 +41,37 @@ fn fault_word(fault: CommandFault) -> &'static str
     }
 }
 
-fn fault_reply(alloc: Global, fault: CommandFault) -> Result<String, AllocError>
-    ensures { IfOk result (λ text. string_bytes text ≡ line (codes "error " ++ fault_word fault)) }
+fn fault_reply(alloc: Global, fault: CommandFault) -> Result<Draft, AllocError>
+    ensures { IfOk result (λ text. text ≡ line (codes "error " ++ fault_word fault)) }
 {
     let word = fault_word(fault);
-    format!(in alloc; "error {word}\n")
+    let text = format!(in alloc; "error {word}\n")?;
+    Ok(Draft::of(alloc, text))
 }
 
-fn undone(alloc: Global, id: &StepId) -> Result<String, AllocError>
-    ensures { IfOk result (λ text. string_bytes text
+fn undone(alloc: Global, id: &StepId) -> Result<Draft, AllocError>
+    ensures { IfOk result (λ text. text
         ≡ line (codes "undone " ++ step_id_text id.now)) }
 {
-    let mut text = String::from_str(alloc, "undone ")?;
-    id.print(&mut text)?;
+    let mut text = Draft::new(alloc);
+    text.push_str("undone ")?;
+    text.push_step(id)?;
     text.push('\n')?;
     Ok(text)
 }
 
 /// The line of the newest event that stands, of which this is the step.
-fn newest_line(alloc: Global, live: &Live, id: &StepId) -> Result<String, AllocError>
-    ensures { IfOk result (λ text. string_bytes text ≡ newest_line live.now.session id.now) }
+fn newest_line(alloc: Global, live: &Live, id: &StepId) -> Result<Draft, AllocError>
+    ensures { IfOk result (λ text. text ≡ newest_line live.now.session id.now) }
 {
-    let mut text = String::new(alloc);
+    let mut text = Draft::new(alloc);
     append_newest(&mut text, live, id)?;
     Ok(text)
 }
 
-fn step_reply(alloc: Global, live: &mut Live, task: &TaskName) -> Result<String, AllocError>
+fn step_reply(alloc: Global, live: &mut Live, task: &TaskName) -> Result<Draft, AllocError>
     ensures { IfOk result (λ text. StepReply (step_refusal (resumed live.old.session) task.now)
-        (resumed live.old.session) task.now (string_bytes text) live.new.session) }
+        (resumed live.old.session) task.now text live.new.session) }
 {
     live.resume();
     match live.step(task) {
@@ -85,9 +89,9 @@ fn step_reply(alloc: Global, live: &mut Live, task: &TaskName) -> Result<String,
     }
 }
 
-fn undo_reply(alloc: Global, live: &mut Live, id: &StepId) -> Result<String, AllocError>
+fn undo_reply(alloc: Global, live: &mut Live, id: &StepId) -> Result<Draft, AllocError>
     ensures { IfOk result (λ text. UndoReply (undo_refusal live.old.session id.now)
-        live.old.session id.now (string_bytes text) live.new.session) }
+        live.old.session id.now text live.new.session) }
 {
     match live.undo(0, id) {
         Ok(_) => undone(alloc, id),
@@ -104,9 +108,9 @@ fn reply<K: Sink>(
     sink: &mut K,
     live: &mut Live,
     command: Command,
-) -> Result<Vec<u8>, Unanswered>
+) -> Result<Draft, Unanswered>
     requires failures { K.failures sink.old < 2 ^ 64 - 1 }
-    ensures told { IfOk result (λ text. Told (K.taken sink.old) (K.taken sink.new) text.items
+    ensures told { IfOk result (λ text. Told (K.taken sink.old) (K.taken sink.new) text
         (λ out. Reply live.old.session command out live.new.session)) }
     ensures err { IfErr result (Fails (TellsSteps command) ⊥ (Reply live.old.session command)
         (K.taken sink.old) (K.taken sink.new)) }
@@ -114,13 +118,13 @@ fn reply<K: Sink>(
     ensures failed { IfErr result (λ why. K.failures sink.new ≡ K.failures sink.old + failures_at why) }
 {
     match command {
-        Command::Step { task } => Ok(step_reply(alloc, live, &task)?.into_bytes()),
-        Command::Undo { id } => Ok(undo_reply(alloc, live, &id)?.into_bytes()),
-        Command::Roll { target } => Ok(roll_reply(alloc, live, &target)?.into_bytes()),
-        Command::Run { most } => Ok(run_reply(alloc, sink, live, most)?.into_bytes()),
-        Command::Break { at } => Ok(break_reply(alloc, live, at)?.into_bytes()),
-        Command::BreakBody { name } => Ok(body_reply(alloc, live, name.as_slice())?.into_bytes()),
-        Command::Clear { number } => Ok(clear_reply(alloc, live, number)?.into_bytes()),
+        Command::Step { task } => Ok(step_reply(alloc, live, &task)?),
+        Command::Undo { id } => Ok(undo_reply(alloc, live, &id)?),
+        Command::Roll { target } => Ok(roll_reply(alloc, live, &target)?),
+        Command::Run { most } => Ok(run_reply(alloc, sink, live, most)?),
+        Command::Break { at } => Ok(break_reply(alloc, live, at)?),
+        Command::BreakBody { name } => Ok(body_reply(alloc, live, name.as_slice())?),
+        Command::Clear { number } => Ok(clear_reply(alloc, live, number)?),
         Command::Show { view } => Ok(view_reply(alloc, live, &view)?),
     }
 }
@@ -131,9 +135,9 @@ fn command_told<K: Sink>(
     sink: &mut K,
     mut live: Live,
     command: Command,
-) -> Result<(Live, Vec<u8>), Unanswered>
+) -> Result<(Live, Draft), Unanswered>
     requires failures { K.failures sink.old < 2 ^ 64 - 1 }
-    ensures told { IfOk result (λ r. Told (K.taken sink.old) (K.taken sink.new) r.1.items
+    ensures told { IfOk result (λ r. Told (K.taken sink.old) (K.taken sink.new) r.1
         (λ out. Reply live.session command out r.0.session)) }
     ensures err { IfErr result (Fails (TellsSteps command) ⊥ (Reply live.session command)
         (K.taken sink.old) (K.taken sink.new)) }
@@ -150,13 +154,13 @@ fn command_told<K: Sink>(
 }
 
 /// Tells why a line is no command.
-fn fault_told(alloc: Global, live: Live, fault: CommandFault) -> Result<(Live, Vec<u8>), Unanswered>
-    ensures told { IfOk result (λ r. (r.1.items ≡ line (codes "error " ++ fault_word fault))
+fn fault_told(alloc: Global, live: Live, fault: CommandFault) -> Result<(Live, Draft), Unanswered>
+    ensures told { IfOk result (λ r. (r.1 ≡ line (codes "error " ++ fault_word fault))
         × (r.0.session ≡ live.session)) }
     ensures memory { IfErr result (λ why. why ≡ Unanswered.Memory) }
 {
     match fault_reply(alloc, fault) {
-        Ok(text) => Ok((live, text.into_bytes())),
+        Ok(text) => Ok((live, text)),
         Err(_) => {
             end(live);
             Err(Unanswered::Memory)
@@ -170,10 +174,10 @@ fn alone_told<K: Sink>(
     sink: &mut K,
     mut live: Live,
     most: u32,
-) -> Result<(Live, Vec<u8>), Unanswered>
+) -> Result<(Live, Draft), Unanswered>
     requires seats { HasSeats live.session }
     requires failures { K.failures sink.old < 2 ^ 64 - 1 }
-    ensures told { IfOk result (λ r. Told (K.taken sink.old) (K.taken sink.new) r.1.items
+    ensures told { IfOk result (λ r. Told (K.taken sink.old) (K.taken sink.new) r.1
         (λ out. GoReply 1 most live.session out r.0.session)) }
     ensures err { IfErr result (Fails ⊤ ⊥ (GoReply 1 most live.session)
         (K.taken sink.old) (K.taken sink.new)) }
@@ -181,7 +185,7 @@ fn alone_told<K: Sink>(
     ensures failed { IfErr result (λ why. K.failures sink.new ≡ K.failures sink.old + failures_at why) }
 {
     match go_reply(alloc, sink, &mut live, most) {
-        Ok(text) => Ok((live, text.into_bytes())),
+        Ok(text) => Ok((live, text)),
         Err(why) => {
             end(live);
             Err(Unanswered::from(why))
@@ -197,10 +201,10 @@ fn go_told<R: Threads + Wait + Sync, K: Sink>(
     live: Live,
     workers: Workers,
     most: u32,
-) -> Result<(Live, Vec<u8>), Unanswered>
+) -> Result<(Live, Draft), Unanswered>
     requires seats { HasSeats live.session }
     requires failures { K.failures sink.old < 2 ^ 64 - 1 }
-    ensures told { IfOk result (λ r. Told (K.taken sink.old) (K.taken sink.new) r.1.items
+    ensures told { IfOk result (λ r. Told (K.taken sink.old) (K.taken sink.new) r.1
         (λ out. GoReply workers most live.session out r.0.session)) }
     ensures err { IfErr result (Fails (workers ≡ 1) (1 < workers) (GoReply workers most live.session)
         (K.taken sink.old) (K.taken sink.new)) }
@@ -211,7 +215,7 @@ fn go_told<R: Threads + Wait + Sync, K: Sink>(
         return alone_told(alloc, sink, live, most);
     }
     let (live, text) = team_reply(rt, alloc, live, workers.count(), most)?;
-    Ok((live, text.into_bytes()))
+    Ok((live, text))
 }
 
 /// Does what a line asks for, and tells it, where `go` may name so many workers. A long reply is
@@ -224,10 +228,10 @@ pub fn answer<R: Threads + Wait + Sync, K: Sink>(
     sink: &mut K,
     live: Live,
     line: &[u8],
-) -> Result<(Live, Vec<u8>), Unanswered>
+) -> Result<(Live, Draft), Unanswered>
     requires seats { HasSeats live.session }
     requires failures { K.failures sink.old < 2 ^ 64 - 1 }
-    ensures told { IfOk result (λ r. Told (K.taken sink.old) (K.taken sink.new) r.1.items
+    ensures told { IfOk result (λ r. Told (K.taken sink.old) (K.taken sink.new) r.1
         (λ out. Answers limit live.session line.now out r.0.session)) }
     ensures err { IfErr result (FailsAt limit live.session line.now (K.taken sink.old) (K.taken sink.new)) }
     ensures ok { OnOk result (K.failures sink.new ≡ K.failures sink.old) }
@@ -241,7 +245,7 @@ pub fn answer<R: Threads + Wait + Sync, K: Sink>(
         }
     };
     match asked {
-        Asked::Nothing => Ok((live, Vec::new(alloc))),
+        Asked::Nothing => Ok((live, Draft::new(alloc))),
         Asked::Command(command) => command_told(alloc, sink, live, command),
         Asked::Go { workers, most } => go_told(rt, alloc, sink, live, workers, most),
         Asked::Fault(fault) => fault_told(alloc, live, fault),

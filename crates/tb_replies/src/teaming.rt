@@ -1,6 +1,6 @@
 //! Steps of several workers.
 
-ghost use Rattle.std.specs.Prelude.{◌≡◌, ◌<◌, ◌≤◌, IfOk, length, string_bytes};
+ghost use Rattle.std.specs.Prelude.{◌≡◌, ◌<◌, ◌≤◌, IfOk, length};
 ghost use Rattle.tb_live.specs.Session.{history};
 ghost use Rattle.tb_view.specs.Steps.{newest_lines};
 ghost use Rattle.tb_replies.specs.Course.{course_text};
@@ -11,17 +11,18 @@ use crate::running::{Taken, append_end};
 use std::alloc::{AllocError, Global};
 use std::sync::Wait;
 use std::thread::Threads;
+use tb_draft::Draft;
 use tb_live::{Live, end};
 use tb_team::{Gone, Lost, Stop, go_several};
 use tb_view::append_newest;
 
 /// The lines of so many of the newest steps, and the last line of a run.
-fn course_text(alloc: Global, live: &Live, count: u32, stop: Stop) -> Result<String, AllocError>
+fn course_text(alloc: Global, live: &Live, count: u32, stop: Stop) -> Result<Draft, AllocError>
     requires { count ≤ length (history live.now.session) }
-    ensures { IfOk result (λ text. string_bytes text
+    ensures { IfOk result (λ text. text
         ≡ course_text (record { lines = newest_lines live.now.session.program count (history live.now.session); count = count; stop = stop; session = live.now.session })) }
 {
-    let mut text = String::new(alloc);
+    let mut text = Draft::new(alloc);
     let entries = live.core().legal_entries();
     append_newest(alloc, &mut text, live.program(), entries, count as usize)?;
     append_end(&mut text, Taken { count, stop })?;
@@ -35,11 +36,11 @@ pub fn team_reply<R: Threads + Wait + Sync>(
     live: Live,
     workers: u32,
     most: u32,
-) -> Result<(Live, String), Lost>
+) -> Result<(Live, Draft), Lost>
     requires seats { HasSeats live.session }
     requires several { 1 < workers }
     requires few { workers ≤ 64 }
-    ensures { IfOk result (λ r. GoReply workers most live.session (string_bytes r.1) r.0.session) }
+    ensures { IfOk result (λ r. GoReply workers most live.session r.1 r.0.session) }
 {
     let Gone { live, count, stop } = go_several(rt, alloc, live, workers, most)?;
     match course_text(alloc, &live, count, stop) {

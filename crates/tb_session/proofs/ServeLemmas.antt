@@ -7,7 +7,8 @@ use Rattle.tb_lines.specs.Lines.{IsUnbroken, AreUnbroken, spelled, GaveLine}
 use Rattle.tb_live.specs.Session.{Session, Held}
 use Rattle.tb_commands.specs.Commands.{AsksSeveral}
 use Rattle.tb_replies.specs.Replies.{Answers}
-use Rattle.tb_replies.specs.Told.{AsksSteps, Begins, Told, WroteFront}
+use Rattle.tb_replies.specs.Told.{AsksSteps, Begins}
+use Rattle.tb_draft.specs.Written.{Told, WroteFront}
 use Rattle.tb_session.specs.Answer.{RunOf}
 use Rattle.tb_session.specs.Stages.{Answered, Served, line_at}
 use Rattle.tb_session.specs.declared.halt.Halt.{Halt}
@@ -22,13 +23,13 @@ use Rattle.tb_session.proofs.RunLemmas.{run_append, run_one}
 
 module _ (workers : ℕ) where
   -- what waits of a reply was written
-  pub answer_whole : (s new : Session) (line rest seen : List ℕ) (a b c : Option (List ℕ)) → Told a b rest (λ out. Answers workers s line out new) → seen ≡ rest → Appends b c seen → (reply : List ℕ) × Answers workers s line reply new × Appends a c reply
-  answer_whole s new line rest seen a b c t same w = (t.front ++ rest, t.whole, appends_trans a b c t.front rest t.wrote (subst (λ l. Appends b c l) same w))
+  pub answer_whole : (s new : Session) (line rest : List ℕ) (a b c : Option (List ℕ)) → Told a b rest (λ out. Answers workers s line out new) → Appends b c rest → (reply : List ℕ) × Answers workers s line reply new × Appends a c reply
+  answer_whole s new line rest a b c t w = (t.front ++ rest, t.whole, appends_trans a b c t.front rest t.wrote w)
 
   -- of what waits of a reply, a front was written
-  pub answer_cut : (s new : Session) (line rest seen : List ℕ) (a b c : Option (List ℕ)) → Told a b rest (λ out. Answers workers s line out new) → seen ≡ rest → WroteFront b c seen → Begins (Answers workers s line) a c
-  answer_cut s new line rest seen a b c t same w =
-      begins_cut a b c rest _ _ t (subst (λ l. WroteFront b c l) same w) (reply_extends (Answers workers s line) new)
+  pub answer_cut : (s new : Session) (line rest : List ℕ) (a b c : Option (List ℕ)) → Told a b rest (λ out. Answers workers s line out new) → WroteFront b c rest → Begins (Answers workers s line) a c
+  answer_cut s new line rest a b c t w =
+      begins_cut a b c rest _ _ t w (reply_extends (Answers workers s line) new)
 
   -- whole lines were taken and answered
   pub record Serving (s : Session) (start now before after : Option (List ℕ)) (new : Session) : Type 0 where

@@ -10,7 +10,7 @@ use std::alloc::Global;
 use std::sync::Wait;
 use std::thread::Threads;
 use tb_commands::Workers;
-use tb_lines::{LineEnd, LineFault, LineReader, Sink, Source, write_whole};
+use tb_lines::{LineEnd, LineFault, LineReader, Sink, Source};
 use tb_live::{Live, end};
 use tb_replies::{Unanswered, answer};
 
@@ -38,7 +38,7 @@ pub fn answer_line<R: Threads + Wait + Sync, K: Sink>(
         Err(Unanswered::Write) => return Err(Halt::Write),
         Err(Unanswered::Journal) => return Err(Halt::Journal),
     };
-    match write_whole(sink, &rest) {
+    match rest.write(sink) {
         Ok(()) => Ok(live),
         Err(_) => {
             end(live);

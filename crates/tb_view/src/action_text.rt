@@ -1,22 +1,17 @@
 //! What a step did, as text. Each piece may stand in part where memory runs out.
 
-ghost use Rattle.std.specs.Prelude.{◌≡◌, ◌++◌, OnOk, string_bytes, codes, decimal};
+ghost use Rattle.std.specs.Prelude.{◌≡◌, ◌++◌, OnOk, codes, decimal};
 ghost use Rattle.std.specs.Fmt.{signed_decimal};
 ghost use Rattle.tb_model.specs.Spelling.{name_text};
-ghost use Rattle.tb_model.specs.Texts.{Begins};
 ghost use Rattle.tb_view.specs.Step.{kind_text, place_text, item_text, items_text, args_text, deferred_text, answer_text, action_text};
 
 use std::alloc::AllocError;
-use tb_model::{Action, Args, Item, Items, Kind, Place, TaskName, append_number, append_signed};
+use tb_draft::Draft;
+use tb_model::{Action, Args, Item, Items, Kind, Place, TaskName};
 
 /// Appends what was done; `body` is the name of the body that a spawn names.
-pub(crate) fn append_action(
-    text: &mut String,
-    body: &str,
-    action: &Action,
-) -> Result<(), AllocError>
-    ensures ok { OnOk result (string_bytes text.new ≡ string_bytes text.old ++ action_text body.now action.now) }
-    ensures begins { Begins (string_bytes text.old) (string_bytes text.new) }
+pub(crate) fn append_action(text: &mut Draft, body: &str, action: &Action) -> Result<(), AllocError>
+    ensures { OnOk result (text.new ≡ text.old ++ action_text body.now action.now) }
 {
     match action {
         Action::Start => text.push_str("start"),
@@ -40,67 +35,61 @@ pub(crate) fn append_action(
     }
 }
 
-fn append_let(text: &mut String, reg: u8, value: i64) -> Result<(), AllocError>
-    ensures ok { OnOk result (string_bytes text.new ≡ string_bytes text.old ++ (codes "let r" ++ decimal reg ++ codes " " ++ signed_decimal value)) }
-    ensures begins { Begins (string_bytes text.old) (string_bytes text.new) }
+fn append_let(text: &mut Draft, reg: u8, value: i64) -> Result<(), AllocError>
+    ensures { OnOk result (text.new ≡ text.old ++ (codes "let r" ++ decimal reg ++ codes " " ++ signed_decimal value)) }
 {
     text.push_str("let r")?;
-    append_number(text, u32::from(reg))?;
+    text.push_number(u32::from(reg))?;
     text.push(' ')?;
-    append_signed(text, value)
+    text.push_signed(value)
 }
 
-fn append_load(text: &mut String, reg: u8, cell: u32, value: i64) -> Result<(), AllocError>
-    ensures ok { OnOk result (string_bytes text.new ≡ string_bytes text.old ++ (codes "load r" ++ decimal reg ++ codes " " ++ decimal cell ++ codes " " ++ signed_decimal value)) }
-    ensures begins { Begins (string_bytes text.old) (string_bytes text.new) }
+fn append_load(text: &mut Draft, reg: u8, cell: u32, value: i64) -> Result<(), AllocError>
+    ensures { OnOk result (text.new ≡ text.old ++ (codes "load r" ++ decimal reg ++ codes " " ++ decimal cell ++ codes " " ++ signed_decimal value)) }
 {
     text.push_str("load r")?;
-    append_number(text, u32::from(reg))?;
+    text.push_number(u32::from(reg))?;
     text.push(' ')?;
-    append_number(text, cell)?;
+    text.push_number(cell)?;
     text.push(' ')?;
-    append_signed(text, value)
+    text.push_signed(value)
 }
 
-fn append_store(text: &mut String, cell: u32, value: i64) -> Result<(), AllocError>
-    ensures ok { OnOk result (string_bytes text.new ≡ string_bytes text.old ++ (codes "store " ++ decimal cell ++ codes " " ++ signed_decimal value)) }
-    ensures begins { Begins (string_bytes text.old) (string_bytes text.new) }
+fn append_store(text: &mut Draft, cell: u32, value: i64) -> Result<(), AllocError>
+    ensures { OnOk result (text.new ≡ text.old ++ (codes "store " ++ decimal cell ++ codes " " ++ signed_decimal value)) }
 {
     text.push_str("store ")?;
-    append_number(text, cell)?;
+    text.push_number(cell)?;
     text.push(' ')?;
-    append_signed(text, value)
+    text.push_signed(value)
 }
 
-fn append_print(text: &mut String, value: i64) -> Result<(), AllocError>
-    ensures ok { OnOk result (string_bytes text.new ≡ string_bytes text.old ++ (codes "print " ++ signed_decimal value)) }
-    ensures begins { Begins (string_bytes text.old) (string_bytes text.new) }
+fn append_print(text: &mut Draft, value: i64) -> Result<(), AllocError>
+    ensures { OnOk result (text.new ≡ text.old ++ (codes "print " ++ signed_decimal value)) }
 {
     text.push_str("print ")?;
-    append_signed(text, value)
+    text.push_signed(value)
 }
 
-fn append_wait(text: &mut String, items: &Items) -> Result<(), AllocError>
-    ensures ok { OnOk result (string_bytes text.new ≡ string_bytes text.old ++ (codes "wait" ++ items_text items.now)) }
-    ensures begins { Begins (string_bytes text.old) (string_bytes text.new) }
+fn append_wait(text: &mut Draft, items: &Items) -> Result<(), AllocError>
+    ensures { OnOk result (text.new ≡ text.old ++ (codes "wait" ++ items_text items.now)) }
 {
     text.push_str("wait")?;
     append_items(text, items.as_slice())
 }
 
 fn append_spawn(
-    text: &mut String,
+    text: &mut Draft,
     child: &TaskName,
     body: &str,
     args: &Args,
     items: &Items,
     deferred: bool,
 ) -> Result<(), AllocError>
-    ensures ok { OnOk result (string_bytes text.new ≡ string_bytes text.old ++ (codes "spawn " ++ name_text child.now ++ codes " " ++ body.now ++ args_text args.now ++ items_text items.now ++ deferred_text deferred)) }
-    ensures begins { Begins (string_bytes text.old) (string_bytes text.new) }
+    ensures { OnOk result (text.new ≡ text.old ++ (codes "spawn " ++ name_text child.now ++ codes " " ++ body.now ++ args_text args.now ++ items_text items.now ++ deferred_text deferred)) }
 {
     text.push_str("spawn ")?;
-    child.print(text)?;
+    text.push_name(child)?;
     text.push(' ')?;
     text.push_str(body)?;
     append_args(text, args.as_slice())?;
@@ -109,20 +98,18 @@ fn append_spawn(
 }
 
 /// Appends each number behind a blank.
-pub(crate) fn append_args(text: &mut String, args: &[i64]) -> Result<(), AllocError>
-    ensures ok { OnOk result (string_bytes text.new ≡ string_bytes text.old ++ args_text args.now) }
-    ensures begins { Begins (string_bytes text.old) (string_bytes text.new) }
+pub(crate) fn append_args(text: &mut Draft, args: &[i64]) -> Result<(), AllocError>
+    ensures { OnOk result (text.new ≡ text.old ++ args_text args.now) }
 {
     'each: for arg in args {
         text.push(' ')?;
-        append_signed(text, *arg)?;
+        text.push_signed(*arg)?;
     }
     Ok(())
 }
 
-fn append_items(text: &mut String, items: &[Item]) -> Result<(), AllocError>
-    ensures ok { OnOk result (string_bytes text.new ≡ string_bytes text.old ++ items_text items.now) }
-    ensures begins { Begins (string_bytes text.old) (string_bytes text.new) }
+fn append_items(text: &mut Draft, items: &[Item]) -> Result<(), AllocError>
+    ensures { OnOk result (text.new ≡ text.old ++ items_text items.now) }
 {
     'each: for item in items {
         append_item(text, item)?;
@@ -130,9 +117,8 @@ fn append_items(text: &mut String, items: &[Item]) -> Result<(), AllocError>
     Ok(())
 }
 
-fn append_item(text: &mut String, item: &Item) -> Result<(), AllocError>
-    ensures ok { OnOk result (string_bytes text.new ≡ string_bytes text.old ++ item_text item.now) }
-    ensures begins { Begins (string_bytes text.old) (string_bytes text.new) }
+fn append_item(text: &mut Draft, item: &Item) -> Result<(), AllocError>
+    ensures { OnOk result (text.new ≡ text.old ++ item_text item.now) }
 {
     text.push_str(" depend ")?;
     text.push_str(kind(item.kind))?;
@@ -141,12 +127,11 @@ fn append_item(text: &mut String, item: &Item) -> Result<(), AllocError>
 }
 
 /// Appends a cell by its number, or that it is all memory.
-pub(crate) fn append_place(text: &mut String, place: Place) -> Result<(), AllocError>
-    ensures ok { OnOk result (string_bytes text.new ≡ string_bytes text.old ++ place_text place) }
-    ensures begins { Begins (string_bytes text.old) (string_bytes text.new) }
+pub(crate) fn append_place(text: &mut Draft, place: Place) -> Result<(), AllocError>
+    ensures { OnOk result (text.new ≡ text.old ++ place_text place) }
 {
     match place {
-        Place::Cell(cell) => append_number(text, cell),
+        Place::Cell(cell) => text.push_number(cell),
         Place::All => text.push_str("all"),
     }
 }

@@ -1,6 +1,6 @@
 //! What keeps a task from its step, as text.
 
-ghost use Rattle.std.specs.Prelude.{◌≡◌, ◌≤◌, ◌++◌, IfOk, OnOk, length, codes, string_bytes};
+ghost use Rattle.std.specs.Prelude.{◌≡◌, ◌≤◌, ◌++◌, IfOk, OnOk, length, codes};
 ghost use Rattle.tb_model.specs.Spelling.{name_text};
 ghost use Rattle.tb_view.specs.Lines.{line};
 ghost use Rattle.tb_view.specs.Listing.{joined};
@@ -9,23 +9,24 @@ ghost use Rattle.tb_view.specs.Waits.{wait_by};
 
 use std::alloc::AllocError;
 use tb_core::StepRefusal;
+use tb_draft::Draft;
 use tb_model::TaskName;
 
 /// Appends the line of a task, of a kind of hindrance and of the task that is in the way.
 fn append_kind(
-    text: &mut String,
+    text: &mut Draft,
     task: &TaskName,
     kind: &str,
     other: &TaskName,
 ) -> Result<usize, AllocError>
-    ensures text { OnOk result (string_bytes text.new ≡ string_bytes text.old
+    ensures text { OnOk result (text.new ≡ text.old
         ++ line (name_text task.now ++ codes " " ++ (kind.now ++ name_text other.now))) }
     ensures count { IfOk result (λ n. n ≡ 1) }
 {
-    task.print(text)?;
+    text.push_name(task)?;
     text.push(' ')?;
     text.push_str(kind)?;
-    other.print(text)?;
+    text.push_name(other)?;
     text.push('\n')?;
     Ok(1)
 }
@@ -33,12 +34,12 @@ fn append_kind(
 /// Appends what keeps the task from its step, unless it has ended, and tells how many lines that
 /// took.
 pub(crate) fn append_hindrance(
-    text: &mut String,
+    text: &mut Draft,
     task: &TaskName,
     refusal: &StepRefusal,
 ) -> Result<usize, AllocError>
-    ensures text { OnOk result (string_bytes text.new
-        ≡ string_bytes text.old ++ joined (wait_by task.now (told_by refusal.now))) }
+    ensures text { OnOk result (text.new
+        ≡ text.old ++ joined (wait_by task.now (told_by refusal.now))) }
     ensures count { IfOk result (λ n. n ≡ length (wait_by task.now (told_by refusal.now))) }
     ensures few { IfOk result (λ n. n ≤ 1) }
 {

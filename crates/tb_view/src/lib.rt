@@ -20,7 +20,7 @@ mod view;
 mod view_refusal;
 mod waits;
 
-pub use showing::{line, text};
+pub use showing::{draft, line, text};
 pub use step_line::append_line;
 pub use step_text::write_step;
 pub use steps::append_newest;

@@ -1,34 +1,35 @@
 //! Immediate needs and races, as text.
 
-ghost use Rattle.std.specs.Prelude.{◌≡◌, ◌++◌, IfOk, OnOk, codes, string_bytes};
+ghost use Rattle.std.specs.Prelude.{◌≡◌, ◌++◌, IfOk, OnOk, codes};
+ghost use Rattle.tb_model.specs.Spelling.{step_id_text};
 ghost use Rattle.tb_core.specs.Scans.{history_of};
 ghost use Rattle.tb_view.specs.Reasons;
 
 use crate::step_line::append_line;
+use crate::step_text::append_id;
 use std::alloc::{AllocError, Global};
 use tb_core::{Entry, place_of};
-use tb_model::{StepId, append_number};
+use tb_draft::Draft;
+use tb_model::StepId;
 use tb_races::{Cause, Conflict, NeedKind, Race};
 use tb_read::Program;
 
 /// Appends what two steps share.
-fn append_conflict(text: &mut String, conflict: Conflict) -> Result<(), AllocError>
-    ensures { OnOk result (string_bytes text.new
-        ≡ string_bytes text.old ++ Reasons.conflict_text conflict) }
+fn append_conflict(text: &mut Draft, conflict: Conflict) -> Result<(), AllocError>
+    ensures { OnOk result (text.new ≡ text.old ++ Reasons.conflict_text conflict) }
 {
     match conflict {
         Conflict::Cell { cell } => {
             text.push_str("cell ")?;
-            append_number(text, cell)
+            text.push_number(cell)
         }
         Conflict::Print => text.push_str("print"),
     }
 }
 
 /// Appends the kind of a need.
-fn append_kind(text: &mut String, kind: NeedKind) -> Result<(), AllocError>
-    ensures { OnOk result (string_bytes text.new
-        ≡ string_bytes text.old ++ Reasons.need_text kind) }
+fn append_kind(text: &mut Draft, kind: NeedKind) -> Result<(), AllocError>
+    ensures { OnOk result (text.new ≡ text.old ++ Reasons.need_text kind) }
 {
     match kind {
         NeedKind::Task => text.push_str("task"),
@@ -45,13 +46,13 @@ fn append_kind(text: &mut String, kind: NeedKind) -> Result<(), AllocError>
 /// Appends the line of a step of the history, and nothing for other steps.
 #[tactic(auto, using(crate::proofs::ReasonLemmas::line_found))]
 fn append_step(
-    text: &mut String,
+    text: &mut Draft,
     program: &Program,
     entries: &[Entry],
     step: &StepId,
 ) -> Result<(), AllocError>
-    ensures { OnOk result (string_bytes text.new
-        ≡ string_bytes text.old ++ Reasons.line_of program.now step.now (history_of entries.now)) }
+    ensures { OnOk result (text.new
+        ≡ text.old ++ Reasons.line_of program.now step.now (history_of entries.now)) }
 {
     match place_of(entries, step) {
         Some(at) => {
@@ -64,13 +65,13 @@ fn append_step(
 
 /// Appends the kind of a need and the line of the step that is needed.
 fn append_cause(
-    text: &mut String,
+    text: &mut Draft,
     program: &Program,
     entries: &[Entry],
     cause: &Cause,
 ) -> Result<(), AllocError>
-    ensures { OnOk result (string_bytes text.new
-        ≡ string_bytes text.old ++ Reasons.cause_line program.now (history_of entries.now) cause.now) }
+    ensures { OnOk result (text.new
+        ≡ text.old ++ Reasons.cause_line program.now (history_of entries.now) cause.now) }
 {
     append_kind(text, cause.kind)?;
     text.push_str(": ")?;
@@ -83,12 +84,13 @@ pub(crate) fn causes_text(
     program: &Program,
     entries: &[Entry],
     causes: &[Cause],
-) -> Result<String, AllocError>
-    ensures { IfOk result (λ text. string_bytes text
+) -> Result<Draft, AllocError>
+    ensures { IfOk result (λ text. text
         ≡ Reasons.causes_text program.now (history_of entries.now) causes.now) }
 {
     let count = causes.len();
-    let mut text = format!(in alloc; "causes {count}\n")?;
+    let head = format!(in alloc; "causes {count}\n")?;
+    let mut text = Draft::of(alloc, head);
     'causes: for cause in causes {
         append_cause(&mut text, program, entries, cause)?;
     }
@@ -96,9 +98,8 @@ pub(crate) fn causes_text(
 }
 
 /// Appends that exclusion keeps two steps from being under way at once, where it does.
-fn append_apart(text: &mut String, apart: bool) -> Result<(), AllocError>
-    ensures { OnOk result (string_bytes text.new
-        ≡ string_bytes text.old ++ Reasons.apart_text apart) }
+fn append_apart(text: &mut Draft, apart: bool) -> Result<(), AllocError>
+    ensures { OnOk result (text.new ≡ text.old ++ Reasons.apart_text apart) }
 {
     if apart {
         text.push_str(" apart")
@@ -107,26 +108,42 @@ fn append_apart(text: &mut String, apart: bool) -> Result<(), AllocError>
     }
 }
 
-/// Appends the line of a race.
-fn append_race(text: &mut String, race: &Race) -> Result<(), AllocError>
-    ensures { OnOk result (string_bytes text.new
-        ≡ string_bytes text.old ++ Reasons.race_line race.now) }
+/// Appends what the two race over, and whether exclusion keeps them apart.
+fn append_subject(text: &mut Draft, race: &Race) -> Result<(), AllocError>
+    ensures { OnOk result (text.new ≡ text.old
+        ++ (Reasons.conflict_text race.now.conflict ++ Reasons.apart_text race.now.apart)) }
 {
-    race.earlier.print(text)?;
-    text.push_str(" ")?;
-    race.later.print(text)?;
-    text.push_str(" ")?;
     append_conflict(text, race.conflict)?;
-    append_apart(text, race.apart)?;
+    append_apart(text, race.apart)
+}
+
+/// Appends the names of two steps.
+fn append_pair(text: &mut Draft, first: &StepId, second: &StepId) -> Result<(), AllocError>
+    ensures { OnOk result (text.new ≡ text.old
+        ++ (step_id_text first.now ++ codes " " ++ step_id_text second.now)) }
+{
+    append_id(text, &first.task, first.k)?;
+    text.push(' ')?;
+    append_id(text, &second.task, second.k)
+}
+
+/// Appends the line of a race.
+fn append_race(text: &mut Draft, race: &Race) -> Result<(), AllocError>
+    ensures { OnOk result (text.new ≡ text.old ++ Reasons.race_line race.now) }
+{
+    append_pair(text, &race.earlier, &race.later)?;
+    text.push(' ')?;
+    append_subject(text, race)?;
     text.push('\n')
 }
 
 /// How many races these are, and the line of each.
-pub(crate) fn races_text(alloc: Global, races: &[Race]) -> Result<String, AllocError>
-    ensures { IfOk result (λ text. string_bytes text ≡ Reasons.races_text races.now) }
+pub(crate) fn races_text(alloc: Global, races: &[Race]) -> Result<Draft, AllocError>
+    ensures { IfOk result (λ text. text ≡ Reasons.races_text races.now) }
 {
     let count = races.len();
-    let mut text = format!(in alloc; "races {count}\n")?;
+    let head = format!(in alloc; "races {count}\n")?;
+    let mut text = Draft::of(alloc, head);
     'races: for race in races {
         append_race(&mut text, race)?;
     }

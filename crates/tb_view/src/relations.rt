@@ -1,6 +1,6 @@
 //! How a task stands to its siblings, as text.
 
-ghost use Rattle.std.specs.Prelude.{◌≡◌, ◌≤◌, ◌++◌, ◌||◌, IfOk, IfSome, IfNone, OnOk, IsFalse, drop, length, string_bytes};
+ghost use Rattle.std.specs.Prelude.{◌≡◌, ◌≤◌, ◌++◌, ◌||◌, IfOk, IfSome, IfNone, OnOk, IsFalse, drop, length};
 ghost use Rattle.tb_model.specs.Names.{child, is_elder};
 ghost use Rattle.tb_core.specs.Seen.{history};
 ghost use Rattle.tb_view.specs.Listing.{joined};
@@ -9,24 +9,25 @@ ghost use Rattle.tb_view.specs.Relations.{line_where, relation_lines, spawned_li
 use crate::listing::headed;
 use std::alloc::{AllocError, Global};
 use tb_core::Core;
+use tb_draft::Draft;
 use tb_model::{Action, TaskName};
 
 /// Appends the name with the word, where the relation holds, and tells how many lines that took.
 fn append_where(
-    text: &mut String,
+    text: &mut Draft,
     holds: bool,
     other: &TaskName,
     word: &str,
 ) -> Result<usize, AllocError>
-    ensures text { OnOk result (string_bytes text.new
-        ≡ string_bytes text.old ++ joined (line_where holds other.now word.now)) }
+    ensures text { OnOk result (text.new
+        ≡ text.old ++ joined (line_where holds other.now word.now)) }
     ensures count { IfOk result (λ n. n ≡ length (line_where holds other.now word.now)) }
     ensures few { IfOk result (λ n. n ≤ 1) }
 {
     if !holds {
         return Ok(0);
     }
-    other.print(text)?;
+    text.push_name(other)?;
     text.push_str(word)?;
     text.push('\n')?;
     Ok(1)
@@ -54,12 +55,12 @@ fn sibling_number(other: &TaskName, task: &TaskName) -> Option<u32>
 /// Appends whether the other is before the task and whether the two are apart, and tells how many
 /// lines that took.
 fn append_relations(
-    text: &mut String,
+    text: &mut Draft,
     core: &Core,
     task: &TaskName,
     other: &TaskName,
 ) -> Result<usize, AllocError>
-    ensures text { OnOk result (string_bytes text.new ≡ string_bytes text.old
+    ensures text { OnOk result (text.new ≡ text.old
         ++ joined (relation_lines (history core.now.run) task.now other.now)) }
     ensures count { IfOk result
         (λ n. n ≡ length (relation_lines (history core.now.run) task.now other.now)) }
@@ -75,12 +76,12 @@ fn append_relations(
 
 /// Appends the relations to the task that the action spawns, where it spawns one.
 fn append_spawned(
-    text: &mut String,
+    text: &mut Draft,
     core: &Core,
     task: &TaskName,
     action: &Action,
 ) -> Result<usize, AllocError>
-    ensures text { OnOk result (string_bytes text.new ≡ string_bytes text.old
+    ensures text { OnOk result (text.new ≡ text.old
         ++ joined (spawned_lines (history core.now.run) task.now action.now)) }
     ensures count { IfOk result
         (λ n. n ≡ length (spawned_lines (history core.now.run) task.now action.now)) }
@@ -93,12 +94,11 @@ fn append_spawned(
 }
 
 /// The siblings that are before the task, and those that are apart from it.
-pub(crate) fn deps_text(alloc: Global, core: &Core, task: &TaskName) -> Result<String, AllocError>
-    ensures { IfOk result (λ text. string_bytes text
-        ≡ deps_text (history core.now.run) task.now) }
+pub(crate) fn deps_text(alloc: Global, core: &Core, task: &TaskName) -> Result<Draft, AllocError>
+    ensures { IfOk result (λ text. text ≡ deps_text (history core.now.run) task.now) }
 {
     let entries = core.legal_entries();
-    let mut text = String::new(alloc);
+    let mut text = Draft::new(alloc);
     let mut count = 0;
     'entries: for entry in entries {
         count += append_spawned(&mut text, core, task, &entry.event.action)?;

@@ -19,14 +19,15 @@ use crate::view_refusal::ViewRefusal;
 use crate::waits::{ready_text, waits_text};
 use std::alloc::{AllocError, Global};
 use tb_cause::{CauseRefusal, needed_by, needs};
+use tb_draft::Draft;
 use tb_live::{Live, Removed};
 use tb_model::{StepId, TaskName};
 use tb_order::{causes, races};
 
 /// The text, or that memory ran out.
-fn told(text: Result<String, AllocError>) -> Result<String, ViewRefusal>
-    ensures ok { (own : List ℕ) → IfOk text (λ given. string_bytes given ≡ own) →
-        IfOk result (λ given. string_bytes given ≡ own) }
+fn told(text: Result<Draft, AllocError>) -> Result<Draft, ViewRefusal>
+    ensures ok { (own : List ℕ) → IfOk text (λ given. given ≡ own) →
+        IfOk result (λ given. given ≡ own) }
     ensures err { IfErr result (λ e. e ≡ refusal.Memory) }
 {
     match text {
@@ -35,9 +36,20 @@ fn told(text: Result<String, AllocError>) -> Result<String, ViewRefusal>
     }
 }
 
-fn why_text(alloc: Global, live: &Live, id: &StepId) -> Result<String, ViewRefusal>
-    ensures shown { IfOk result
-        (λ text. IsShown live.now.session (view.Why id.now) (string_bytes text)) }
+/// The same for a text without long names.
+fn told_short(alloc: Global, text: Result<String, AllocError>) -> Result<Draft, ViewRefusal>
+    ensures ok { (own : List ℕ) → IfOk text (λ given. string_bytes given ≡ own) →
+        IfOk result (λ given. given ≡ own) }
+    ensures err { IfErr result (λ e. e ≡ refusal.Memory) }
+{
+    match text {
+        Ok(text) => Ok(Draft::of(alloc, text)),
+        Err(_) => Err(ViewRefusal::Memory),
+    }
+}
+
+fn why_text(alloc: Global, live: &Live, id: &StepId) -> Result<Draft, ViewRefusal>
+    ensures shown { IfOk result (λ text. IsShown live.now.session (view.Why id.now) text) }
     ensures refused { IfErr result (IsRefused live.now.session (view.Why id.now)) }
 {
     let core = live.core();
@@ -48,9 +60,8 @@ fn why_text(alloc: Global, live: &Live, id: &StepId) -> Result<String, ViewRefus
     }
 }
 
-fn needed_at_once(alloc: Global, live: &Live, id: &StepId) -> Result<String, ViewRefusal>
-    ensures shown { IfOk result
-        (λ text. IsShown live.now.session (view.Causes id.now) (string_bytes text)) }
+fn needed_at_once(alloc: Global, live: &Live, id: &StepId) -> Result<Draft, ViewRefusal>
+    ensures shown { IfOk result (λ text. IsShown live.now.session (view.Causes id.now) text) }
     ensures refused { IfErr result (IsRefused live.now.session (view.Causes id.now)) }
 {
     let core = live.core();
@@ -61,9 +72,8 @@ fn needed_at_once(alloc: Global, live: &Live, id: &StepId) -> Result<String, Vie
     }
 }
 
-fn raced(alloc: Global, live: &Live) -> Result<String, ViewRefusal>
-    ensures shown { IfOk result
-        (λ text. IsShown live.now.session view.Races (string_bytes text)) }
+fn raced(alloc: Global, live: &Live) -> Result<Draft, ViewRefusal>
+    ensures shown { IfOk result (λ text. IsShown live.now.session view.Races text) }
     ensures refused { IfErr result (IsRefused live.now.session view.Races) }
 {
     match races(alloc, live.core()) {
@@ -72,9 +82,8 @@ fn raced(alloc: Global, live: &Live) -> Result<String, ViewRefusal>
     }
 }
 
-fn who_text(alloc: Global, live: &Live, id: &StepId) -> Result<String, ViewRefusal>
-    ensures shown { IfOk result
-        (λ text. IsShown live.now.session (view.Who id.now) (string_bytes text)) }
+fn who_text(alloc: Global, live: &Live, id: &StepId) -> Result<Draft, ViewRefusal>
+    ensures shown { IfOk result (λ text. IsShown live.now.session (view.Who id.now) text) }
     ensures refused { IfErr result (IsRefused live.now.session (view.Who id.now)) }
 {
     let core = live.core();
@@ -85,9 +94,8 @@ fn who_text(alloc: Global, live: &Live, id: &StepId) -> Result<String, ViewRefus
     }
 }
 
-fn one_task(alloc: Global, live: &Live, task: &TaskName) -> Result<String, ViewRefusal>
-    ensures shown { IfOk result
-        (λ text. IsShown live.now.session (view.Task task.now) (string_bytes text)) }
+fn one_task(alloc: Global, live: &Live, task: &TaskName) -> Result<Draft, ViewRefusal>
+    ensures shown { IfOk result (λ text. IsShown live.now.session (view.Task task.now) text) }
     ensures refused { IfErr result (IsRefused live.now.session (view.Task task.now)) }
 {
     let core = live.core();
@@ -97,9 +105,8 @@ fn one_task(alloc: Global, live: &Live, task: &TaskName) -> Result<String, ViewR
     told(task_text(alloc, live.program(), core, task))
 }
 
-fn relations(alloc: Global, live: &Live, task: &TaskName) -> Result<String, ViewRefusal>
-    ensures shown { IfOk result
-        (λ text. IsShown live.now.session (view.Deps task.now) (string_bytes text)) }
+fn relations(alloc: Global, live: &Live, task: &TaskName) -> Result<Draft, ViewRefusal>
+    ensures shown { IfOk result (λ text. IsShown live.now.session (view.Deps task.now) text) }
     ensures refused { IfErr result (IsRefused live.now.session (view.Deps task.now)) }
 {
     let core = live.core();
@@ -109,13 +116,14 @@ fn relations(alloc: Global, live: &Live, task: &TaskName) -> Result<String, View
     told(deps_text(alloc, core, task))
 }
 
-fn written(alloc: Global, live: &Live, view: &View) -> Result<String, ViewRefusal>
-    ensures shown { IfOk result (λ text. IsShown live.now.session view.now (string_bytes text)) }
+/// What the view shows, with its long names still to be spelled.
+pub fn draft(alloc: Global, live: &Live, view: &View) -> Result<Draft, ViewRefusal>
+    ensures shown { IfOk result (λ text. IsShown live.now.session view.now text) }
     ensures refused { IfErr result (IsRefused live.now.session view.now) }
 {
     match view {
-        View::Cells => told(cells_text(alloc, live.cells())),
-        View::Out => told(out_text(alloc, live.output())),
+        View::Cells => told_short(alloc, cells_text(alloc, live.cells())),
+        View::Out => told_short(alloc, out_text(alloc, live.output())),
         View::Hist => told(history_text(alloc, live.program(), live.core().legal_entries())),
         View::Why { id } => why_text(alloc, live, id),
         View::Causes { id } => needed_at_once(alloc, live, id),
@@ -126,7 +134,10 @@ fn written(alloc: Global, live: &Live, view: &View) -> Result<String, ViewRefusa
         View::Ready => told(ready_text(alloc, live)),
         View::Waits => told(waits_text(alloc, live)),
         View::Deps { task } => relations(alloc, live, task),
-        View::Breaks => told(breaks_text(alloc, live.program(), live.breakpoints())),
+        View::Breaks => told_short(
+            alloc,
+            breaks_text(alloc, live.program(), live.breakpoints()),
+        ),
     }
 }
 
@@ -135,9 +146,9 @@ pub fn text(alloc: Global, live: &Live, view: &View) -> Result<Vec<u8>, ViewRefu
     ensures shown { IfOk result (λ text. IsShown live.now.session view.now text.items) }
     ensures refused { IfErr result (IsRefused live.now.session view.now) }
 {
-    match written(alloc, live, view) {
-        Ok(text) => Ok(text.into_bytes()),
-        Err(refusal) => Err(refusal),
+    match draft(alloc, live, view)?.into_bytes() {
+        Ok(text) => Ok(text),
+        Err(_) => Err(ViewRefusal::Memory),
     }
 }
 
@@ -145,8 +156,8 @@ pub fn text(alloc: Global, live: &Live, view: &View) -> Result<Vec<u8>, ViewRefu
 pub fn line(alloc: Global, live: &Live, removed: &Removed) -> Result<Vec<u8>, AllocError>
     ensures { IfOk result (λ text. text.items ≡ removal_line live.now.session.program removed.now) }
 {
-    let mut text = String::new(alloc);
+    let mut text = Draft::new(alloc);
     let id = &removed.id;
     append_line(&mut text, live.program(), &id.task, id.k, &removed.action)?;
-    Ok(text.into_bytes())
+    text.into_bytes()
 }

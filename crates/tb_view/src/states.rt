@@ -1,6 +1,6 @@
 //! How far a task is, as text.
 
-ghost use Rattle.std.specs.Prelude.{◌≡◌, ◌++◌, OnOk, codes, if◌then◌else◌, string_bytes};
+ghost use Rattle.std.specs.Prelude.{◌≡◌, ◌++◌, OnOk, codes, decimal, if◌then◌else◌};
 ghost use Rattle.tb_model.specs.Program.{instr_at};
 ghost use Rattle.tb_read.specs.Followed.{IsFollowed, is_last};
 ghost use Rattle.tb_core.specs.Seen.{history};
@@ -9,6 +9,7 @@ ghost use Rattle.tb_view.specs.Tasks.{state_text};
 
 use std::alloc::AllocError;
 use tb_core::Core;
+use tb_draft::Draft;
 use tb_model::{Statement, TaskName};
 use tb_read::Program;
 
@@ -29,17 +30,25 @@ fn ending(last: bool) -> &'static str
     if last { "ended" } else { "faulted" }
 }
 
+/// Appends that a task stands at this line.
+fn append_running(text: &mut Draft, at: u32) -> Result<(), AllocError>
+    ensures { OnOk result (text.new ≡ text.old ++ (codes "running " ++ decimal at)) }
+{
+    text.push_str("running ")?;
+    text.push_number(at)
+}
+
 /// Appends how far the task is. A task that is over keeps its line: an end leaves it at the end of
 /// its body, and a fault doesn't.
 pub(crate) fn append_state(
-    text: &mut String,
+    text: &mut Draft,
     program: &Program,
     core: &Core,
     task: &TaskName,
 ) -> Result<(), AllocError>
     requires { Fits program.now core.now.run }
-    ensures { OnOk result (string_bytes text.new
-        ≡ string_bytes text.old ++ state_text program.now (history core.now.run) task.now) }
+    ensures { OnOk result (text.new
+        ≡ text.old ++ state_text program.now (history core.now.run) task.now) }
 {
     let Some(config) = core.config(task)? else {
         // what isn't there has taken no step
@@ -50,7 +59,7 @@ pub(crate) fn append_state(
     }
     let at = config.at;
     if !core.has_ended(task) {
-        return write!(text, "running {at}");
+        return append_running(text, at);
     }
     text.push_str(ending(is_last(program, at)))
 }

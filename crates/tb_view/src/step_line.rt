@@ -1,12 +1,13 @@
 //! The line of a step.
 
-ghost use Rattle.std.specs.Prelude.{◌≡◌, ◌++◌, OnOk, string_bytes};
+ghost use Rattle.std.specs.Prelude.{◌≡◌, ◌++◌, OnOk};
 ghost use Rattle.tb_view.specs.Step.{spawned_name};
 ghost use Rattle.tb_view.specs.Lines.{event_line};
 ghost use Rattle.tb_view.specs.Tasks.{body_text};
 
 use crate::step_text::write_step;
 use std::alloc::AllocError;
+use tb_draft::Draft;
 use tb_model::{Action, TaskName};
 use tb_read::Program;
 
@@ -32,13 +33,13 @@ fn spawned_name<'a>(program: &'a Program, action: &Action) -> &'a str
 
 /// Appends the line of the kth step of a task. Where memory runs out a part of it may stand.
 pub fn append_line(
-    text: &mut String,
+    text: &mut Draft,
     program: &Program,
     task: &TaskName,
     k: u32,
     action: &Action,
 ) -> Result<(), AllocError>
-    ensures { OnOk result (string_bytes text.new ≡ string_bytes text.old
+    ensures { OnOk result (text.new ≡ text.old
         ++ event_line program.now (record { task = task.now; k = k })
         (record { task = task.now; action = action.now })) }
 {

@@ -1,6 +1,6 @@
 //! Steps of a history, as text.
 
-ghost use Rattle.std.specs.Prelude.{◌≡◌, ◌<◌, ◌≤◌, ◌+◌, ◌++◌, [], IfOk, OnOk, length, reverse, string_bytes, suc, drop, if◌then◌else◌};
+ghost use Rattle.std.specs.Prelude.{◌≡◌, ◌<◌, ◌≤◌, ◌+◌, ◌++◌, [], IfOk, OnOk, length, reverse, suc, drop, if◌then◌else◌};
 ghost use Rattle.tb_core.specs.Scans.{history_of};
 ghost use Rattle.tb_view.specs.Lines.{event_line};
 ghost use Rattle.tb_view.specs.Steps.{history_text, newest_lines, chosen_text, AreStepsOf, count_of, IsCounted, is_first};
@@ -10,19 +10,19 @@ use crate::step_line::append_line;
 use indexmap::IndexMap;
 use std::alloc::{AllocError, Global};
 use tb_core::Entry;
+use tb_draft::Draft;
 use tb_model::{Event, StepId, TaskName};
 use tb_read::Program;
 
 /// Appends the line of the next step of its task.
 fn append_next(
-    text: &mut String,
+    text: &mut Draft,
     program: &Program,
     counts: &mut IndexMap<TaskName, u32>,
     event: &Event,
 ) -> Result<(), AllocError>
     requires { count_of counts.old.entries event.now.task < 4294967295 }
-    ensures text { OnOk result (string_bytes text.new ≡ string_bytes text.old
-        ++ event_line program.now
+    ensures text { OnOk result (text.new ≡ text.old ++ event_line program.now
         (record { task = event.now.task; k = suc (count_of counts.old.entries event.now.task) })
         event.now) }
     ensures counts { OnOk result
@@ -37,13 +37,13 @@ pub(crate) fn history_text(
     alloc: Global,
     program: &Program,
     entries: &[Entry],
-) -> Result<String, AllocError>
+) -> Result<Draft, AllocError>
     requires { length entries.now ≤ 1000000 }
-    ensures { IfOk result (λ text. string_bytes text
-        ≡ history_text program.now (history_of entries.now)) }
+    ensures { IfOk result (λ text. text ≡ history_text program.now (history_of entries.now)) }
 {
     let count = entries.len();
-    let mut text = format!(in alloc; "hist {count}\n")?;
+    let head = format!(in alloc; "hist {count}\n")?;
+    let mut text = Draft::of(alloc, head);
     let mut counts = IndexMap::new(alloc);
     'steps: for entry in entries {
         append_next(&mut text, program, &mut counts, &entry.event)?;
@@ -53,15 +53,14 @@ pub(crate) fn history_text(
 
 /// Counts the next step of its task, and appends its line where it is told.
 fn append_if(
-    text: &mut String,
+    text: &mut Draft,
     program: &Program,
     counts: &mut IndexMap<TaskName, u32>,
     event: &Event,
     is_told: bool,
 ) -> Result<(), AllocError>
     requires { count_of counts.old.entries event.now.task < 4294967295 }
-    ensures text { OnOk result (string_bytes text.new ≡ string_bytes text.old
-        ++ (if is_told then event_line program.now
+    ensures text { OnOk result (text.new ≡ text.old ++ (if is_told then event_line program.now
         (record { task = event.now.task; k = suc (count_of counts.old.entries event.now.task) })
         event.now
         else [])) }
@@ -79,15 +78,15 @@ fn append_if(
 /// Appends the lines of so many of the newest steps, in the order of the history.
 pub fn append_newest(
     alloc: Global,
-    text: &mut String,
+    text: &mut Draft,
     program: &Program,
     entries: &[Entry],
     count: usize,
 ) -> Result<(), AllocError>
     requires bound { length entries.now ≤ 1000000 }
     requires few { count ≤ length entries.now }
-    ensures { OnOk result (string_bytes text.new
-        ≡ string_bytes text.old ++ newest_lines program.now count (history_of entries.now)) }
+    ensures { OnOk result (text.new
+        ≡ text.old ++ newest_lines program.now count (history_of entries.now)) }
 {
     let first = entries.len() - count;
     let mut counts = IndexMap::new(alloc);
@@ -113,7 +112,7 @@ fn is_next(steps: &[StepId], found: usize, task: &TaskName, k: u32) -> bool
 /// Appends the line of the next step of its task, where it is the next of these steps, and tells
 /// how many of them were found then.
 fn append_chosen(
-    text: &mut String,
+    text: &mut Draft,
     program: &Program,
     counts: &mut IndexMap<TaskName, u32>,
     event: &Event,
@@ -122,7 +121,7 @@ fn append_chosen(
 ) -> Result<usize, AllocError>
     requires few { count_of counts.old.entries event.now.task < 4294967295 }
     requires within { found ≤ length steps.now }
-    ensures text { OnOk result (string_bytes text.new ≡ string_bytes text.old
+    ensures text { OnOk result (text.new ≡ text.old
         ++ (if is_first (record { task = event.now.task; k = suc (count_of counts.old.entries event.now.task) }) (drop found steps.now)
         then event_line program.now
         (record { task = event.now.task; k = suc (count_of counts.old.entries event.now.task) })
@@ -150,14 +149,15 @@ pub(crate) fn chosen_text(
     program: &Program,
     entries: &[Entry],
     steps: &[StepId],
-) -> Result<String, AllocError>
+) -> Result<Draft, AllocError>
     requires bound { length entries.now ≤ 1000000 }
     requires steps { AreStepsOf (reverse steps.now) (history_of entries.now) }
-    ensures { IfOk result (λ text. string_bytes text
+    ensures { IfOk result (λ text. text
         ≡ chosen_text word.now program.now steps.now (history_of entries.now)) }
 {
     let count = steps.len();
-    let mut text = format!(in alloc; "{word} {count}\n")?;
+    let head = format!(in alloc; "{word} {count}\n")?;
+    let mut text = Draft::of(alloc, head);
     let mut counts = IndexMap::new(alloc);
     let mut found = 0;
     'steps: for entry in entries {

@@ -1,6 +1,6 @@
 //! One task, as text.
 
-ghost use Rattle.std.specs.Prelude.{◌≡◌, ◌++◌, IfOk, OnOk, IsTrue, None, codes, length, string_bytes};
+ghost use Rattle.std.specs.Prelude.{◌≡◌, ◌++◌, IfOk, OnOk, IsTrue, None, codes, length};
 ghost use Rattle.tb_model.specs.Facts.{own, is_spawned};
 ghost use Rattle.tb_model.specs.State.{spawn_of, spawn_or, called_by, open_groups};
 ghost use Rattle.tb_core.specs.Scans.{history_of};
@@ -11,10 +11,12 @@ ghost use Rattle.tb_view.specs.Listing.{joined, listed, lines_of};
 ghost use Rattle.tb_view.specs.Tasks.{head_text, numbers_text, item_line, task_text};
 
 use crate::action_text::{append_args, append_place, kind};
+use crate::listing::append_count;
 use crate::states::append_state;
 use crate::step_line::body_name;
 use std::alloc::{AllocError, Global};
 use tb_core::{Core, Entry};
+use tb_draft::Draft;
 use tb_model::{Action, Item, TaskName};
 use tb_read::Program;
 
@@ -41,18 +43,18 @@ fn spawned_line(action: &Action, task: &TaskName, line: u32) -> u32
 
 /// Appends the lines of the task's name, of its body and of its state.
 fn append_head(
-    text: &mut String,
+    text: &mut Draft,
     program: &Program,
     core: &Core,
     task: &TaskName,
 ) -> Result<(), AllocError>
     requires { Fits program.now core.now.run }
-    ensures { OnOk result (string_bytes text.new
-        ≡ string_bytes text.old ++ head_text program.now (history core.now.run) task.now) }
+    ensures { OnOk result (text.new
+        ≡ text.old ++ head_text program.now (history core.now.run) task.now) }
 {
     let begins = body_line(program.root_line(), core.legal_entries(), task);
     text.push_str("task ")?;
-    task.print(text)?;
+    text.push_name(task)?;
     text.push_str("\nbody ")?;
     text.push_str(body_name(program, begins))?;
     text.push_str("\nstate ")?;
@@ -62,37 +64,43 @@ fn append_head(
 
 /// Appends the lines of so many steps, of these registers and of so many open groups.
 fn append_numbers(
-    text: &mut String,
+    alloc: Global,
+    text: &mut Draft,
     steps: u32,
     regs: &[i64],
     groups: usize,
 ) -> Result<(), AllocError>
-    ensures { OnOk result (string_bytes text.new
-        ≡ string_bytes text.old ++ numbers_text steps regs.now groups) }
+    ensures { OnOk result (text.new ≡ text.old ++ numbers_text steps regs.now groups) }
 {
-    writeln!(text, "steps {steps}")?;
-    text.push_str("regs")?;
+    text.push_str("steps ")?;
+    text.push_number(steps)?;
+    text.push_str("\nregs")?;
     append_args(text, regs)?;
-    writeln!(text, "\ngroups {groups}")
+    text.push('\n')?;
+    append_count(alloc, text, "groups", groups)
 }
 
 /// Appends those of the task.
-fn append_own(text: &mut String, core: &Core, task: &TaskName) -> Result<(), AllocError>
+fn append_own(
+    alloc: Global,
+    text: &mut Draft,
+    core: &Core,
+    task: &TaskName,
+) -> Result<(), AllocError>
     requires { IsTrue (is_spawned (history core.now.run) task.now) }
-    ensures { OnOk result (string_bytes text.new ≡ string_bytes text.old
+    ensures { OnOk result (text.new ≡ text.old
         ++ numbers_text (config_of core.now.run task.now).steps (config_of core.now.run task.now).regs
         (length (open_groups (own task.now (history core.now.run))))) }
 {
     let Some(config) = core.config(task)? else {
         unreachable!()
     };
-    append_numbers(text, config.steps, &config.regs, core.groups(task))
+    append_numbers(alloc, text, config.steps, &config.regs, core.groups(task))
 }
 
 /// Appends the line of a depend item.
-fn append_item(text: &mut String, item: &Item) -> Result<(), AllocError>
-    ensures { OnOk result (string_bytes text.new
-        ≡ string_bytes text.old ++ joined (item_line item.now)) }
+fn append_item(text: &mut Draft, item: &Item) -> Result<(), AllocError>
+    ensures { OnOk result (text.new ≡ text.old ++ joined (item_line item.now)) }
 {
     text.push_str(kind(item.kind))?;
     text.push(' ')?;
@@ -101,12 +109,11 @@ fn append_item(text: &mut String, item: &Item) -> Result<(), AllocError>
 }
 
 /// Appends how many depend items these are, and the line of each.
-fn append_items(text: &mut String, items: &[Item]) -> Result<(), AllocError>
-    ensures { OnOk result (string_bytes text.new
-        ≡ string_bytes text.old ++ listed (codes "items") (lines_of item_line items.now)) }
+fn append_items(alloc: Global, text: &mut Draft, items: &[Item]) -> Result<(), AllocError>
+    ensures { OnOk result (text.new
+        ≡ text.old ++ listed (codes "items") (lines_of item_line items.now)) }
 {
-    let count = items.len();
-    writeln!(text, "items {count}")?;
+    append_count(alloc, text, "items", items.len())?;
     'items: for item in items {
         append_item(text, item)?;
     }
@@ -119,15 +126,14 @@ pub(crate) fn task_text(
     program: &Program,
     core: &Core,
     task: &TaskName,
-) -> Result<String, AllocError>
+) -> Result<Draft, AllocError>
     requires fits { Fits program.now core.now.run }
     requires there { IsTrue (is_spawned (history core.now.run) task.now) }
-    ensures { IfOk result (λ text. string_bytes text
-        ≡ task_text program.now (history core.now.run) task.now) }
+    ensures { IfOk result (λ text. text ≡ task_text program.now (history core.now.run) task.now) }
 {
-    let mut text = String::new(alloc);
+    let mut text = Draft::new(alloc);
     append_head(&mut text, program, core, task)?;
-    append_own(&mut text, core, task)?;
-    append_items(&mut text, core.items(task))?;
+    append_own(alloc, &mut text, core, task)?;
+    append_items(alloc, &mut text, core.items(task))?;
     Ok(text)
 }

@@ -1,17 +1,19 @@
 //! The tasks of a run, as text.
 
-ghost use Rattle.std.specs.Prelude.{◌≡◌, ◌++◌, IfOk, OnOk, string_bytes};
+ghost use Rattle.std.specs.Prelude.{◌≡◌, ◌++◌, IfOk, OnOk, codes};
+ghost use Rattle.tb_model.specs.Spelling.{name_text};
 ghost use Rattle.tb_core.specs.Scans.{history_of};
 ghost use Rattle.tb_core.specs.Seen.{history};
 ghost use Rattle.tb_live.specs.Soundness.{Fits};
 ghost use Rattle.tb_view.specs.Listing.{joined};
-ghost use Rattle.tb_view.specs.Tasks.{with_spawned, named_tasks, task_line, tasks_text};
+ghost use Rattle.tb_view.specs.Tasks.{body_text, with_spawned, named_tasks, task_line, tasks_text};
 
 use crate::states::append_state;
 use crate::step_line::body_name;
 use std::alloc::{AllocError, Global};
 use std::collections::BTreeMap;
 use tb_core::{Core, Entry};
+use tb_draft::Draft;
 use tb_model::{Action, TaskName};
 use tb_read::Program;
 
@@ -45,39 +47,48 @@ pub(crate) fn named_tasks(
     tasks.into_iter().collect(alloc)
 }
 
+/// Appends the names of a task and of its body.
+fn append_named(
+    text: &mut Draft,
+    program: &Program,
+    task: &TaskName,
+    body: u32,
+) -> Result<(), AllocError>
+    ensures { OnOk result (text.new ≡ text.old
+        ++ (name_text task.now ++ codes " " ++ body_text program.now body)) }
+{
+    text.push_name(task)?;
+    text.push(' ')?;
+    text.push_str(body_name(program, body))
+}
+
 /// Appends the line of a task.
 fn append_task(
-    text: &mut String,
+    text: &mut Draft,
     program: &Program,
     core: &Core,
     task: &TaskName,
     body: u32,
 ) -> Result<(), AllocError>
     requires { Fits program.now core.now.run }
-    ensures { OnOk result (string_bytes text.new ≡ string_bytes text.old
+    ensures { OnOk result (text.new ≡ text.old
         ++ joined (task_line program.now (history core.now.run) (task.now, body))) }
 {
-    task.print(text)?;
-    text.push(' ')?;
-    text.push_str(body_name(program, body))?;
+    append_named(text, program, task, body)?;
     text.push(' ')?;
     append_state(text, program, core, task)?;
     text.push('\n')
 }
 
 /// How many tasks there are, and the line of each.
-pub(crate) fn tasks_text(
-    alloc: Global,
-    program: &Program,
-    core: &Core,
-) -> Result<String, AllocError>
+pub(crate) fn tasks_text(alloc: Global, program: &Program, core: &Core) -> Result<Draft, AllocError>
     requires { Fits program.now core.now.run }
-    ensures { IfOk result (λ text. string_bytes text
-        ≡ tasks_text program.now (history core.now.run)) }
+    ensures { IfOk result (λ text. text ≡ tasks_text program.now (history core.now.run)) }
 {
     let tasks = named_tasks(alloc, program.root_line(), core.legal_entries())?;
     let count = tasks.len();
-    let mut text = format!(in alloc; "tasks {count}\n")?;
+    let head = format!(in alloc; "tasks {count}\n")?;
+    let mut text = Draft::of(alloc, head);
     'tasks: for (task, body) in &tasks {
         append_task(&mut text, program, core, task, *body)?;
     }

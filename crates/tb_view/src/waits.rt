@@ -1,6 +1,6 @@
 //! The tasks that can step, and what the others wait for, as text.
 
-ghost use Rattle.std.specs.Prelude.{◌≡◌, ◌≤◌, ◌++◌, IfOk, OnOk, length, string_bytes};
+ghost use Rattle.std.specs.Prelude.{◌≡◌, ◌≤◌, ◌++◌, IfOk, OnOk, length};
 ghost use Rattle.tb_model.specs.Hindrances.{refusal_of, can_step};
 ghost use Rattle.tb_model.specs.Spelling.{name_text};
 ghost use Rattle.tb_live.specs.Session.{history};
@@ -12,23 +12,23 @@ use crate::hindrances::append_hindrance;
 use crate::listing::headed;
 use crate::tasks::named_tasks;
 use std::alloc::{AllocError, Global};
+use tb_draft::Draft;
 use tb_live::Live;
 use tb_model::TaskName;
 
 /// Appends the task's name on a line, and tells that it took one.
-fn append_name(text: &mut String, task: &TaskName) -> Result<usize, AllocError>
-    ensures text { OnOk result (string_bytes text.new ≡ string_bytes text.old
-        ++ line (name_text task.now)) }
+fn append_name(text: &mut Draft, task: &TaskName) -> Result<usize, AllocError>
+    ensures text { OnOk result (text.new ≡ text.old ++ line (name_text task.now)) }
     ensures count { IfOk result (λ n. n ≡ 1) }
 {
-    task.print(text)?;
+    text.push_name(task)?;
     text.push('\n')?;
     Ok(1)
 }
 
 /// Appends the task's name, where it can step, and tells how many lines that took.
-fn append_ready(text: &mut String, live: &Live, task: &TaskName) -> Result<usize, AllocError>
-    ensures text { OnOk result (string_bytes text.new ≡ string_bytes text.old
+fn append_ready(text: &mut Draft, live: &Live, task: &TaskName) -> Result<usize, AllocError>
+    ensures text { OnOk result (text.new ≡ text.old
         ++ joined (ready_by task.now (can_step live.now.session.program (history live.now.session) task.now))) }
     ensures count { IfOk result (λ n. n
         ≡ length (ready_by task.now (can_step live.now.session.program (history live.now.session) task.now))) }
@@ -41,8 +41,8 @@ fn append_ready(text: &mut String, live: &Live, task: &TaskName) -> Result<usize
 }
 
 /// Appends what the task waits for, if it waits, and tells how many lines that took.
-fn append_wait(text: &mut String, live: &Live, task: &TaskName) -> Result<usize, AllocError>
-    ensures text { OnOk result (string_bytes text.new ≡ string_bytes text.old
+fn append_wait(text: &mut Draft, live: &Live, task: &TaskName) -> Result<usize, AllocError>
+    ensures text { OnOk result (text.new ≡ text.old
         ++ joined (wait_by task.now (refusal_of live.now.session.program (history live.now.session) task.now))) }
     ensures count { IfOk result (λ n. n
         ≡ length (wait_by task.now (refusal_of live.now.session.program (history live.now.session) task.now))) }
@@ -55,8 +55,8 @@ fn append_wait(text: &mut String, live: &Live, task: &TaskName) -> Result<usize,
 }
 
 /// The tasks that can step.
-pub(crate) fn ready_text(alloc: Global, live: &Live) -> Result<String, AllocError>
-    ensures { IfOk result (λ text. string_bytes text
+pub(crate) fn ready_text(alloc: Global, live: &Live) -> Result<Draft, AllocError>
+    ensures { IfOk result (λ text. text
         ≡ ready_text live.now.session.program (history live.now.session)) }
 {
     let tasks = named_tasks(
@@ -64,7 +64,7 @@ pub(crate) fn ready_text(alloc: Global, live: &Live) -> Result<String, AllocErro
         live.program().root_line(),
         live.core().legal_entries(),
     )?;
-    let mut text = String::new(alloc);
+    let mut text = Draft::new(alloc);
     let mut count = 0;
     'tasks: for (task, _) in &tasks {
         count += append_ready(&mut text, live, task)?;
@@ -73,8 +73,8 @@ pub(crate) fn ready_text(alloc: Global, live: &Live) -> Result<String, AllocErro
 }
 
 /// What the tasks wait for that haven't ended and can't step.
-pub(crate) fn waits_text(alloc: Global, live: &Live) -> Result<String, AllocError>
-    ensures { IfOk result (λ text. string_bytes text
+pub(crate) fn waits_text(alloc: Global, live: &Live) -> Result<Draft, AllocError>
+    ensures { IfOk result (λ text. text
         ≡ waits_text live.now.session.program (history live.now.session)) }
 {
     let tasks = named_tasks(
@@ -82,7 +82,7 @@ pub(crate) fn waits_text(alloc: Global, live: &Live) -> Result<String, AllocErro
         live.program().root_line(),
         live.core().legal_entries(),
     )?;
-    let mut text = String::new(alloc);
+    let mut text = Draft::new(alloc);
     let mut count = 0;
     'tasks: for (task, _) in &tasks {
         count += append_wait(&mut text, live, task)?;

@@ -4,6 +4,7 @@ use std::cmp::Ordering;
 use std::hash::{DefaultHasher, Hash, Hasher};
 use std::mem;
 use std::process::Abort;
+use tb_draft::Draft;
 use tb_model::{Action, Args, Item, Items, Kind, NameRefusal, Place, StepId, TaskName};
 use tb_view::write_step;
 
@@ -174,9 +175,10 @@ fn relatives_of_a_name(rt: HostRuntime) {
 /// The line of the step is this.
 fn show(rt: &(impl Abort + AllocGlobal), id: &str, action: Action, want: &str) {
     let id = StepId::parse(rt.alloc(), id.as_bytes()).expect(rt, "a step");
-    let mut text = String::new(rt.alloc());
+    let mut text = Draft::new(rt.alloc());
     write_step(&mut text, "t", &id.task, id.k, &action).expect(rt, "memory is there");
-    assert_eq!(rt; text.as_str(), want);
+    let text = text.into_bytes().expect(rt, "memory is there");
+    assert_eq!(rt; text.as_slice(), want.as_bytes());
     mem::forget(id);
     mem::forget(text);
     mem::forget(action);

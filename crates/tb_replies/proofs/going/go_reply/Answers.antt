@@ -1,4 +1,4 @@
-use Rattle.tb_replies.proofs.ResultLemmas.{on_err}
+use Rattle.tb_draft.proofs.WrittenLemmas.{on_err}
 use Rattle.tb_replies.proofs.ToldLemmas.{begins_told, go_told, whole_extends}
 use Rattle.tb_replies.proofs.going.go_reply.Goals as goal
 

@@ -1,8 +1,7 @@
 use Rattle.std.proofs.Common.{◌≡◌, ◌++◌, drop}
-use Rattle.std.specs.Prelude.{string_bytes}
 use Rattle.tb_replies.specs.Rolled.{removal_lines, removals_text}
 use Rattle.tb_replies.proofs.rolling.removals_text.Given as goal
 
 -- the text so far, and the lines of the steps that are left, are the whole text
 abbrev pub invariant-loop-removed : goal.invariant-loop-removed
-invariant-loop-removed l = string_bytes l.text ++ removal_lines l.program (drop l.removed-index l.removals) ≡ removals_text l.program l.removals
+invariant-loop-removed l = l.text ++ removal_lines l.program (drop l.removed-index l.removals) ≡ removals_text l.program l.removals

@@ -1,7 +1,6 @@
 use Rattle.std.proofs.Common.{◌≡◌, ◌≤◌, ◌-◌}
-use Rattle.std.specs.Prelude.{string_bytes}
 use Rattle.tb_replies.specs.Course.{course, behind}
-use Rattle.tb_replies.specs.Told.{Told}
+use Rattle.tb_draft.specs.Written.{Told}
 use Rattle.tb_replies.proofs.CourseLemmas.{Going}
 use Rattle.tb_replies.proofs.running.take_steps.Given as goal
 
@@ -9,8 +8,8 @@ use Rattle.tb_replies.proofs.running.take_steps.Given as goal
 abbrev pub invariant-steps : goal.invariant-steps
 invariant-steps g l = record {
   within : l.count ≤ l.most;
-  told : Told (g.K.Sink.taken l.initial.sink) (g.K.Sink.taken l.sink) (string_bytes l.text)
-      (λ told. Going (behind (string_bytes l.initial.text) 0 (course l.most l.initial.live.session)) told l.count (l.most - l.count) l.live.session);
+  told : Told (g.K.Sink.taken l.initial.sink) (g.K.Sink.taken l.sink) l.text
+      (λ told. Going (behind l.initial.text 0 (course l.most l.initial.live.session)) told l.count (l.most - l.count) l.live.session);
   failures : g.K.Sink.failures l.sink ≡ g.K.Sink.failures l.initial.sink;
 }
 

@@ -1,4 +1,3 @@
-use Rattle.std.specs.Prelude.{string_bytes}
 use Rattle.tb_replies.proofs.TeamLemmas.{few_steps, gone_reply}
 use Rattle.tb_replies.proofs.teaming.team_reply.Goals as goal
 
@@ -7,4 +6,4 @@ course_text-requires g c = few_steps c.args.workers c.args.most c.args.live.sess
 
 pub returns-in-Ok : goal.returns-in-Ok
 returns-in-Ok g c =
-    gone_reply c.args.workers c.args.most c.args.live.session c.in_ok-live.field-0 (string_bytes c.in-Ok.text) c.in_ok-live.ensures c.in-Ok.ensures
+    gone_reply c.args.workers c.args.most c.args.live.session c.in_ok-live.field-0 c.in-Ok.text c.in_ok-live.ensures c.in-Ok.ensures

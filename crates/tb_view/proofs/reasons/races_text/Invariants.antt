@@ -1,8 +1,7 @@
 use Rattle.std.proofs.Common.{◌≡◌, ◌++◌, drop}
-use Rattle.std.specs.Prelude.{string_bytes}
 use Rattle.tb_view.specs.Reasons.{race_lines, races_text}
 use Rattle.tb_view.proofs.reasons.races_text.Given as goal
 
 -- the text so far, and the lines of the races that are left, are the whole text
 abbrev pub invariant-races : goal.invariant-races
-invariant-races l = string_bytes l.text ++ race_lines (drop l.race-index l.races) ≡ races_text l.races
+invariant-races l = l.text ++ race_lines (drop l.race-index l.races) ≡ races_text l.races

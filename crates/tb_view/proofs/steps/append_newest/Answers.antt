@@ -1,4 +1,4 @@
-use Rattle.std.proofs.Common.{◌-◌, length, rules, sym, ap, ◌∙◌, refl, arith}
+use Rattle.std.proofs.Common.{◌-◌, length, rules}
 use Rattle.tb_view.proofs.CountLemmas.{counted, few}
 use Rattle.tb_view.proofs.WalkLemmas.{newest_more, newest_all}
 use Rattle.tb_view.proofs.steps.append_newest.Goals as goal

@@ -1,4 +1,4 @@
-use Rattle.std.proofs.Common.{◌≡◌, ◌≤◌, ◌-◌, ◌++◌, length, take, string_bytes}
+use Rattle.std.proofs.Common.{◌≡◌, ◌≤◌, ◌-◌, ◌++◌, length, take}
 use Rattle.tb_core.specs.Scans.{history_of}
 use Rattle.tb_view.specs.Steps.{newest_lines, AreCounts}
 use Rattle.tb_view.proofs.steps.append_newest.Given as goal
@@ -9,5 +9,5 @@ invariant-steps l = record {
   counts : AreCounts (history_of (take l.entry-index l.entries)) l.counts.entries;
   within : l.entry-index ≤ length l.entries;
   place : l.place ≡ l.entry-index;
-  text : string_bytes l.text ≡ string_bytes l.initial.text ++ newest_lines l.program (l.entry-index - (length l.entries - l.count)) (history_of (take l.entry-index l.entries));
+  text : l.text ≡ l.initial.text ++ newest_lines l.program (l.entry-index - (length l.entries - l.count)) (history_of (take l.entry-index l.entries));
 }

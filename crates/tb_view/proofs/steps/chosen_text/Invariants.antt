@@ -1,4 +1,4 @@
-use Rattle.std.proofs.Common.{◌++◌, [], length, take, string_bytes, codes}
+use Rattle.std.proofs.Common.{◌++◌, [], length, take, codes}
 use Rattle.std.specs.Fmt.{decimal}
 use Rattle.tb_core.specs.Scans.{history_of}
 use Rattle.tb_view.specs.Lines.{line}
@@ -10,6 +10,6 @@ use Rattle.tb_view.proofs.steps.chosen_text.Given as goal
 abbrev pub invariant-steps : goal.invariant-steps
 invariant-steps l = record {
   counts : AreCounts (history_of (take l.entry-index l.entries)) l.counts.entries;
-  walked : Walked l.program l.entries l.steps l.entry-index l.found (string_bytes l.text)
+  walked : Walked l.program l.entries l.steps l.entry-index l.found l.text
       (line (l.word ++ codes " " ++ decimal (length l.steps)) ++ walk l.program l.steps [] l.entries);
 }

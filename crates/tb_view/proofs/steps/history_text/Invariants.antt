@@ -1,4 +1,4 @@
-use Rattle.std.proofs.Common.{◌≡◌, ◌++◌, length, take, string_bytes, codes}
+use Rattle.std.proofs.Common.{◌≡◌, ◌++◌, length, take, codes}
 use Rattle.std.specs.Fmt.{decimal}
 use Rattle.tb_core.specs.Scans.{history_of}
 use Rattle.tb_view.specs.Lines.{line}
@@ -9,5 +9,5 @@ use Rattle.tb_view.proofs.steps.history_text.Given as goal
 abbrev pub invariant-steps : goal.invariant-steps
 invariant-steps l = record {
   counts : AreCounts (history_of (take l.entry-index l.entries)) l.counts.entries;
-  text : string_bytes l.text ≡ line (codes "hist " ++ decimal (length l.entries)) ++ history_lines l.program (history_of (take l.entry-index l.entries));
+  text : l.text ≡ line (codes "hist " ++ decimal (length l.entries)) ++ history_lines l.program (history_of (take l.entry-index l.entries));
 }

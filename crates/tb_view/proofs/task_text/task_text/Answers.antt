@@ -11,6 +11,6 @@ returns c =
     let P = c.args.program.now in
     let run = c.args.core.now.run in
     let t = c.args.task.now in
-    let head = c.in_ok-append_head.ensures ∙ ap (λ (text : List ℕ). text ++ head_text P (history run) t) c.new-text.ensures.bytes in
+    let head = c.in_ok-append_head.ensures ∙ ap (λ (text : List ℕ). text ++ head_text P (history run) t) c.new-text.ensures in
     let own = c.in_ok-append_own.ensures ∙ ap₂ (λ (text numbers : List ℕ). text ++ numbers) head (own_numbers P run t) in
     c.in_ok-append_items.ensures ∙ ap₂ (λ (text : List ℕ) (items : List Item). text ++ listed (codes "items") (lines_of item_line items)) own c.items.ensures

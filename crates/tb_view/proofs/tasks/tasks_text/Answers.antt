@@ -12,4 +12,4 @@ tasks-init c =
     let tasks : List Named = c.deref-task-items.result.now in
     let f = task_line c.args.program.now (history c.args.core.now.run) in
     let count : c.len-count.result ≡ length tasks = c.len-count.ensures ∙ sym c.deref-task-items.ensures.len in
-    ap (λ (text : List ℕ). text ++ joined (lines_of f tasks)) (c.in_ok-text.ensures.ok ∙ ap (λ n. line (codes "tasks " ++ decimal n)) (count ∙ sym (one_each f (λ t. refl) tasks)))
+    ap (λ (text : List ℕ). text ++ joined (lines_of f tasks)) (c.of-text.ensures ∙ c.in_ok-head.ensures.ok ∙ ap (λ n. line (codes "tasks " ++ decimal n)) (count ∙ sym (one_each f (λ t. refl) tasks)))

@@ -1,4 +1,4 @@
-use Rattle.std.proofs.Common.{◌≡◌, ◌≤◌, ◌+◌, ◌++◌, drop, length, string_bytes}
+use Rattle.std.proofs.Common.{◌≡◌, ◌≤◌, ◌+◌, ◌++◌, drop, length}
 use Rattle.tb_live.specs.Session.{history}
 use Rattle.tb_view.specs.Listing.{joined, lines_of}
 use Rattle.tb_view.specs.Waits.{wait_line}
@@ -7,7 +7,7 @@ use Rattle.tb_view.proofs.waits.waits_text.Given as goal
 -- the text so far, and the lines of the tasks that are left, are the whole, and so are their numbers; a task has one line at most
 abbrev pub invariant-tasks : goal.invariant-tasks
 invariant-tasks l = record {
-  text : string_bytes l.text ++ joined (lines_of (wait_line l.live.session.program (history l.live.session)) (drop l.task-index l.task-items)) ≡ joined (lines_of (wait_line l.live.session.program (history l.live.session)) l.task-items);
+  text : l.text ++ joined (lines_of (wait_line l.live.session.program (history l.live.session)) (drop l.task-index l.task-items)) ≡ joined (lines_of (wait_line l.live.session.program (history l.live.session)) l.task-items);
   count : l.count + length (lines_of (wait_line l.live.session.program (history l.live.session)) (drop l.task-index l.task-items)) ≡ length (lines_of (wait_line l.live.session.program (history l.live.session)) l.task-items);
   few : l.count ≤ l.task-index;
 }

@@ -1,0 +1,191 @@
+//! A text that is still to be written.
+
+ghost use Rattle.std.specs.Prelude.{◌≡◌, ◌+◌, ◌++◌, ◌-◌, ◌<◌, ◌^◌, [], IfOk, OnErr, OnOk, decimal, encode_utf8, string_bytes};
+ghost use Rattle.std.specs.Fmt.{signed_decimal};
+ghost use Rattle.std.specs.Io.KnownBytes.{Appends};
+ghost use Rattle.tb_model.specs.Spelling.{name_text, step_id_text};
+ghost use Rattle.tb_draft.specs.Written.{Told, WroteFront};
+
+use crate::passage::Passage;
+use crate::spelling::put_passages;
+use crate::waiting::put;
+use arrayvec::ArrayVec;
+use std::alloc::{AllocError, Global};
+use std::marker::Model;
+use std::mem::replace;
+use tb_lines::{Failed, Sink, write_whole};
+use tb_model::{StepId, TaskName, append_number, append_signed};
+
+/// So many bytes of a text wait at most for its end, where it may go out in pieces.
+const PIECE: usize = 65536;
+
+/// So many long names wait at most.
+const NAMES: usize = 64;
+
+/// A text that is still to be written. A name of more than 128 levels stands in it as what names share, and is spelled as
+/// it is written: so a text of many deep names takes memory for each of their lines, and not for each of their levels.
+#[derive(Drop)]
+pub struct Draft {
+    alloc: Global,
+    passages: Vec<Passage>,
+    text: String,
+}
+
+impl Model for Draft {
+    ghost use Rattle.std.specs.Prelude.{List, ℕ, ◌++◌, string_bytes};
+    ghost use Rattle.tb_draft.specs.Passages.{passages_text};
+
+    ghost Value = { List ℕ };
+
+    ghost view = { λ d. passages_text d.passages.items ++ string_bytes d.text };
+}
+
+impl Draft {
+    /// An empty text. Takes no memory.
+    pub fn new(alloc: Global) -> Draft
+        ensures { result ≡ [] }
+    {
+        Draft::of(alloc, String::new(alloc))
+    }
+
+    /// This text. Takes no memory.
+    pub fn of(alloc: Global, text: String) -> Draft
+        ensures { result ≡ string_bytes text }
+    {
+        Draft {
+            alloc,
+            passages: Vec::new(alloc),
+            text,
+        }
+    }
+
+    /// Appends a text.
+    pub fn push_str(&mut self, text: &str) -> Result<(), AllocError>
+        ensures ok { OnOk result (self.new ≡ self.old ++ text.now) }
+        ensures err { OnErr result (self.new ≡ self.old) }
+    {
+        self.text.push_str(text)
+    }
+
+    /// Appends a character.
+    pub fn push(&mut self, character: char) -> Result<(), AllocError>
+        ensures ok { OnOk result (self.new ≡ self.old ++ encode_utf8 character) }
+        ensures err { OnErr result (self.new ≡ self.old) }
+    {
+        self.text.push(character)
+    }
+
+    /// Appends a number in decimal.
+    pub fn push_number(&mut self, n: u32) -> Result<(), AllocError>
+        ensures ok { OnOk result (self.new ≡ self.old ++ decimal n) }
+        ensures err { OnErr result (self.new ≡ self.old) }
+    {
+        append_number(&mut self.text, n)
+    }
+
+    /// Appends a number in decimal, with a minus where it is below zero.
+    pub fn push_signed(&mut self, n: i64) -> Result<(), AllocError>
+        ensures ok { OnOk result (self.new ≡ self.old ++ signed_decimal n) }
+        ensures err { OnErr result (self.new ≡ self.old) }
+    {
+        append_signed(&mut self.text, n)
+    }
+
+    /// Appends a name.
+    pub fn push_name(&mut self, name: &TaskName) -> Result<(), AllocError>
+        ensures ok { OnOk result (self.new ≡ self.old ++ name_text name.now) }
+        ensures err { OnErr result (self.new ≡ self.old) }
+    {
+        if name.is_deep() {
+            self.push_deep(name)
+        } else {
+            name.print(&mut self.text)
+        }
+    }
+
+    fn push_deep(&mut self, name: &TaskName) -> Result<(), AllocError>
+        ensures ok { OnOk result (self.new ≡ self.old ++ name_text name.now) }
+        ensures err { OnErr result (self.new ≡ self.old) }
+    {
+        self.passages.reserve(1)?;
+        let name = name.clone()?;
+        let text = replace(&mut self.text, String::new(self.alloc));
+        self.passages.push_reserved(Passage { text, name });
+        Ok(())
+    }
+
+    /// Appends a step. Where memory runs out a part of it may stand.
+    pub fn push_step(&mut self, step: &StepId) -> Result<(), AllocError>
+        ensures { OnOk result (self.new ≡ self.old ++ step_id_text step.now) }
+    {
+        self.push_name(&step.task)?;
+        self.push('#')?;
+        self.push_number(step.k)
+    }
+
+    /// Puts a text in front of all.
+    pub fn prepend(&mut self, text: &str) -> Result<(), AllocError>
+        ensures ok { OnOk result (self.new ≡ text.now ++ self.old) }
+        ensures err { OnErr result (self.new ≡ self.old) }
+    {
+        if self.passages.is_empty() {
+            self.text.insert_str(0, text)
+        } else {
+            self.passages[0].text.insert_str(0, text)
+        }
+    }
+
+    /// Writes the text, in one call where it has no long name and the sink takes it at once. At `Err` a beginning of it was
+    /// written. Takes no memory.
+    pub fn write<K: Sink>(&self, sink: &mut K) -> Result<(), Failed>
+        requires { K.failures sink.old < 2 ^ 64 - 1 }
+        ensures ok { OnOk result (Appends (K.taken sink.old) (K.taken sink.new) self.now
+            × (K.failures sink.new ≡ K.failures sink.old)) }
+        ensures err { OnErr result (WroteFront (K.taken sink.old) (K.taken sink.new) self.now
+            × (K.failures sink.new ≡ K.failures sink.old + 1)) }
+    {
+        if self.passages.is_empty() {
+            return write_whole(sink, self.text.as_bytes());
+        }
+        let mut waiting = ArrayVec::new();
+        put_passages(sink, &mut waiting, &self.passages)?;
+        put(sink, &mut waiting, self.text.as_bytes())?;
+        write_whole(sink, waiting.as_slice())?;
+        Ok(())
+    }
+
+    /// Writes the text where much of it waits, and empties it then; its room stays.
+    pub fn pass_on<K: Sink>(&mut self, sink: &mut K) -> Result<(), Failed>
+        requires { K.failures sink.old < 2 ^ 64 - 1 }
+        ensures ok { OnOk result (Told (K.taken sink.old) (K.taken sink.new) self.new (λ all. all ≡ self.old)
+            × (K.failures sink.new ≡ K.failures sink.old)) }
+        ensures err { OnErr result (WroteFront (K.taken sink.old) (K.taken sink.new) self.old
+            × (K.failures sink.new ≡ K.failures sink.old + 1)) }
+    {
+        if self.text.len() < PIECE && self.passages.len() < NAMES {
+            return Ok(());
+        }
+        self.write(sink)?;
+        self.passages.clear();
+        self.text.clear();
+        Ok(())
+    }
+
+    /// All of the text, with each name spelled.
+    pub fn into_bytes(self) -> Result<Vec<u8>, AllocError>
+        ensures { IfOk result (λ bytes. bytes.items ≡ self) }
+    {
+        let Draft {
+            alloc,
+            passages,
+            text: last,
+        } = self;
+        let mut text = String::new(alloc);
+        'passages: for passage in &passages {
+            text.push_str(passage.text.as_str())?;
+            passage.name.print(&mut text)?;
+        }
+        text.push_str(last.as_str())?;
+        Ok(text.into_bytes())
+    }
+}
