@@ -6,6 +6,8 @@
 #[cfg(test)]
 mod deep_names;
 #[cfg(test)]
+mod drafts;
+#[cfg(test)]
 mod steps;
 #[cfg(test)]
 mod tasks;
