@@ -19,8 +19,8 @@ use tb_model::{StepId, TaskName, append_number, append_signed};
 /// So many bytes of a text wait at most for its end, where it may go out in pieces.
 const PIECE: usize = 65536;
 
-/// So many long names wait at most.
-const NAMES: usize = 64;
+/// So many long names wait at most: they are as long as a piece.
+const NAMES: usize = 256;
 
 /// A text that is still to be written. A name of more than 128 levels stands in it as what names share, and is spelled as
 /// it is written: so a text of many deep names takes memory for each of their lines, and not for each of their levels.
@@ -135,8 +135,8 @@ impl Draft {
         }
     }
 
-    /// Writes the text, in one call where it has no long name and the sink takes it at once. At `Err` a beginning of it was
-    /// written. Takes no memory.
+    /// Writes the text, in one call where the sink takes it at once and it has no long name, or up to 65,536 bytes. At `Err` a
+    /// beginning of it was written. Takes no memory.
     pub fn write<K: Sink>(&self, sink: &mut K) -> Result<(), Failed>
         requires { K.failures sink.old < 2 ^ 64 - 1 }
         ensures ok { OnOk result (Appends (K.taken sink.old) (K.taken sink.new) self.now

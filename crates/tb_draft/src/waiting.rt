@@ -7,7 +7,7 @@ use arrayvec::ArrayVec;
 use tb_lines::{Failed, Sink, write_whole};
 
 /// So many bytes wait at most.
-pub(crate) const ROOM: usize = 16384;
+pub(crate) const ROOM: usize = 65536;
 
 /// Puts the bytes after those that wait, which are written first where there is no room for more.
 pub(crate) fn put<K: Sink>(

@@ -123,7 +123,7 @@ fn drafts_in_pieces(rt: HostRuntime) {
     };
     let mut draft = Draft::new(rt.alloc());
     let mut text = String::new(rt.alloc());
-    for n in 0..200u32 {
+    for n in 0..600u32 {
         draft.push_name(&name).expect(&rt, "memory is there");
         draft.push_number(n).expect(&rt, "memory is there");
         name.print(&mut text).expect(&rt, "memory is there");
