@@ -179,7 +179,8 @@ def sizes(program, count, _):
 
 
 def levels(program, count, depth):
-    """Tasks that each generate the next: views and rollbacks, with a stack that wouldn't do for a call a level."""
+    """Tasks that each generate the next: views and rollbacks, with a stack that wouldn't do for a call a level, and with less memory
+    than their replies have bytes."""
     nested = b'cells 0\nbody main 0\ntask a %d\nend\nbody a 1\nif 0 < r0\nlet r1 r0 - 1\ntask a r1\nend\nend\n---\nrun 1000000\n'
     begin = nested % depth
     last = b'0' + b'.1' * (depth + 1)
@@ -192,7 +193,7 @@ def levels(program, count, depth):
             (b'tasks', last + b' a ended\n'), (b'task ' + named, b'items 0\n'), (b'hist', last + b'#3 end\n'), (b'ready\nwaits', b'ready 0\nwaits 0\n'),
             (b'why ' + named + b'#1', spawner + spawned), (b'causes ' + named + b'#1', spawner + spawned), (b'who ' + spawner, last + b'#3 end\n'),
             (b'rolltask ' + named, last + b'#3 end\n'), (b'rolltask 0.1\nhist', left)):
-        accepted(program, count, 'tasks %d levels deep' % depth, begin + view + b'\n', lines, seconds=600, megabytes=1024, stack=SMALL_STACK)
+        accepted(program, count, 'tasks %d levels deep' % depth, begin + view + b'\n', lines, seconds=600, megabytes=64, stack=SMALL_STACK)
     # Their names want more than 16 MB: what is written is a beginning of the run, line by line.
     status, output, error = program.run(nested % 100_000, ('--limit', '1000000'), functools.partial(bounded, 16, SMALL_STACK))
     last_line = output[output.rfind(b'\n', 0, -1) + 1:]
@@ -239,7 +240,7 @@ def main():
     args.add_argument('--program', default=os.path.join(TOP, 'crates/taskback/out/taskback'))
     args.add_argument('--texts', type=int, default=20000)
     args.add_argument('--seed', type=int, default=1)
-    args.add_argument('--levels', type=int, default=1000)
+    args.add_argument('--levels', type=int, default=4000)
     args.add_argument('--jobs', type=int, default=os.cpu_count())
     args.add_argument('--quick', action='store_true')
     given = args.parse_args()
