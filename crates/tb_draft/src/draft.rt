@@ -14,7 +14,7 @@ use std::alloc::{AllocError, Global};
 use std::marker::Model;
 use std::mem::replace;
 use tb_lines::{Failed, Sink, write_whole};
-use tb_model::{StepId, TaskName, append_number, append_signed};
+use tb_model::{TaskName, append_number, append_signed};
 
 /// So many bytes of a text wait at most for its end, where it may go out in pieces.
 const PIECE: usize = 65536;
@@ -114,13 +114,13 @@ impl Draft {
         Ok(())
     }
 
-    /// Appends a step. Where memory runs out a part of it may stand.
-    pub fn push_step(&mut self, step: &StepId) -> Result<(), AllocError>
-        ensures { OnOk result (self.new ≡ self.old ++ step_id_text step.now) }
+    /// Appends the name of the kth step of a task, as `0.1#3`. Where memory runs out a part of it may stand.
+    pub fn push_step(&mut self, task: &TaskName, k: u32) -> Result<(), AllocError>
+        ensures { OnOk result (self.new ≡ self.old ++ step_id_text (record { task = task.now; k = k })) }
     {
-        self.push_name(&step.task)?;
+        self.push_name(task)?;
         self.push('#')?;
-        self.push_number(step.k)
+        self.push_number(k)
     }
 
     /// Puts a text in front of all.

@@ -37,7 +37,7 @@ pub fn refused_with(alloc: Global, number: u8, name: &str, id: &StepId) -> Resul
 {
     let begin = format!(in alloc; "refused {number} {name} ")?;
     let mut text = Draft::of(alloc, begin);
-    text.push_step(id)?;
+    text.push_step(&id.task, id.k)?;
     text.push('\n')?;
     Ok(text)
 }

@@ -55,7 +55,7 @@ fn undone(alloc: Global, id: &StepId) -> Result<Draft, AllocError>
 {
     let mut text = Draft::new(alloc);
     text.push_str("undone ")?;
-    text.push_step(id)?;
+    text.push_step(&id.task, id.k)?;
     text.push('\n')?;
     Ok(text)
 }

@@ -20,7 +20,7 @@ pub(crate) fn append_count(
     text.push_str(line.as_str())
 }
 
-/// Puts the word and the number of the lines in front of them, which are moved once.
+/// Puts the word and the number of the lines in front of them; of these the text in front of the first long name is moved, once.
 pub(crate) fn headed(
     alloc: Global,
     word: &str,

@@ -6,7 +6,6 @@ ghost use Rattle.tb_core.specs.Scans.{history_of};
 ghost use Rattle.tb_view.specs.Reasons;
 
 use crate::step_line::append_line;
-use crate::step_text::append_id;
 use std::alloc::{AllocError, Global};
 use tb_core::{Entry, place_of};
 use tb_draft::Draft;
@@ -122,9 +121,9 @@ fn append_pair(text: &mut Draft, first: &StepId, second: &StepId) -> Result<(), 
     ensures { OnOk result (text.new ≡ text.old
         ++ (step_id_text first.now ++ codes " " ++ step_id_text second.now)) }
 {
-    append_id(text, &first.task, first.k)?;
+    text.push_step(&first.task, first.k)?;
     text.push(' ')?;
-    append_id(text, &second.task, second.k)
+    text.push_step(&second.task, second.k)
 }
 
 /// Appends the line of a race.

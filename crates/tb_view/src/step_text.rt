@@ -1,22 +1,12 @@
 //! The text of a step.
 
 ghost use Rattle.std.specs.Prelude.{◌≡◌, ◌++◌, OnOk};
-ghost use Rattle.tb_model.specs.Spelling.{step_id_text};
 ghost use Rattle.tb_view.specs.Step.{step_text};
 
 use crate::action_text::append_action;
 use std::alloc::AllocError;
 use tb_draft::Draft;
 use tb_model::{Action, TaskName};
-
-/// Appends the name of the kth step of a task.
-pub(crate) fn append_id(text: &mut Draft, task: &TaskName, k: u32) -> Result<(), AllocError>
-    ensures { OnOk result (text.new ≡ text.old ++ step_id_text (record { task = task.now; k = k })) }
-{
-    text.push_name(task)?;
-    text.push('#')?;
-    text.push_number(k)
-}
 
 /// Appends the text of the kth step of a task, without a line feed. `body` is the name of the body
 /// that a spawn names; it is read for a spawn alone. Where memory runs out a part of the text may
@@ -30,7 +20,7 @@ pub fn write_step(
 ) -> Result<(), AllocError>
     ensures { OnOk result (text.new ≡ text.old ++ step_text body.now task.now k action.now) }
 {
-    append_id(text, task, k)?;
+    text.push_step(task, k)?;
     text.push(' ')?;
     append_action(text, body, action)
 }

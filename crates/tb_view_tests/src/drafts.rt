@@ -6,7 +6,7 @@ use std::mem;
 use std::process::Abort;
 use tb_draft::Draft;
 use tb_lines::{Failed, Sink};
-use tb_model::{StepId, TaskName};
+use tb_model::TaskName;
 
 /// A sink that takes so many bytes in all, and then fails.
 #[derive(Drop)]
@@ -52,12 +52,7 @@ fn draft_of(rt: &(impl Abort + AllocGlobal), name: &TaskName) -> Draft {
     let mut draft = Draft::new(rt.alloc());
     draft.push_name(name).expect(rt, "memory is there");
     draft.push_str(" and ").expect(rt, "memory is there");
-    let step = StepId {
-        task: name.clone().expect(rt, "memory is there"),
-        k: 17,
-    };
-    draft.push_step(&step).expect(rt, "memory is there");
-    mem::forget(step);
+    draft.push_step(name, 17).expect(rt, "memory is there");
     draft.push_signed(-5).expect(rt, "memory is there");
     draft.push('\n').expect(rt, "memory is there");
     draft.prepend("head ").expect(rt, "memory is there");
