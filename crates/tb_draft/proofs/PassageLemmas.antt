@@ -1,6 +1,6 @@
 -- How the passages of a draft are made and spelled.
 use Rattle.std.proofs.Common.{◌≡◌, ◌<◌, ◌≤◌, ◌+◌, ◌-◌, ℕ, zero, suc, List, [], ◌∷◌, ◌++◌, length, take, drop, refl, sym, ap, ap₂, ◌∙◌, arith, get_or, append_assoc, append-nil, drop-cons, subst, Option, Bool, true, eqb-true, ◌==◌, decimal, string_bytes}
-use Rattle.std.proofs.lemmas.List.{drop_all, take-append-drop, take_rest}
+use Rattle.std.proofs.lemmas.List.{drop_all, nil_from_length, take-append-drop, take_rest}
 use Rattle.tb_model.specs.Spelling.{levels_text, name_text}
 use Rattle.tb_model.proofs.NumberTextLemmas.{levels_both, name_of_levels}
 use Rattle.tb_draft.specs.declared.passage.Passage.{Passage}
@@ -9,7 +9,7 @@ use Rattle.tb_draft.specs.Written.{Told, WroteFront}
 use Rattle.tb_draft.proofs.WrittenLemmas.{told_nothing, told_more, front_told, front_held, first_cut, second_cut, both_told}
 
 -- one passage more
-pub passages_pushed : (ps : List Passage) (p : Passage) → passages_text (ps ++ p ∷ []) ≡ passages_text ps ++ passage_text p
+passages_pushed : (ps : List Passage) (p : Passage) → passages_text (ps ++ p ∷ []) ≡ passages_text ps ++ passage_text p
 passages_pushed [] p = append-nil (passage_text p)
 passages_pushed (q ∷ ps) p = ap (λ l. passage_text q ++ l) (passages_pushed ps p) ∙ sym (append_assoc (passage_text q) (passages_text ps) (passage_text p))
 
@@ -34,11 +34,11 @@ module _ (a b : Option (List ℕ)) (held start numbers rest front last bytes : L
   left : numbers ≡ front ++ (last ++ s.0)
   left = s.1 ∙ ap (λ l. l ++ s.0) cut ∙ append_assoc front last s.0
 
-  pub spelled_more : (c : Option (List ℕ)) (more : List ℕ) → Told b c more (λ all. all ≡ held ++ bytes) → Spelled a c more start numbers front
+  spelled_more : (c : Option (List ℕ)) (more : List ℕ) → Told b c more (λ all. all ≡ held ++ bytes) → Spelled a c more start numbers front
   spelled_more c more t =
       (last ++ s.0, left, subst (λ whole. Told a c more (λ all. all ≡ whole)) next (told_more a b c held more (start ++ levels_text s.0) bytes s.2 t))
 
-  pub spelled_cut : (c : Option (List ℕ)) → WroteFront b c (held ++ bytes) → WroteFront a c (start ++ levels_text numbers)
+  spelled_cut : (c : Option (List ℕ)) → WroteFront b c (held ++ bytes) → WroteFront a c (start ++ levels_text numbers)
   spelled_cut c w =
       front_told a b c held (start ++ levels_text s.0) bytes (start ++ levels_text numbers) (levels_text front) s.2 w
       (ap (λ l. start ++ levels_text l) left ∙ ap (λ l. start ++ l) (levels_both front (last ++ s.0)) ∙ sym (append_assoc start (levels_text (last ++ s.0)) (levels_text front))
@@ -81,7 +81,7 @@ module _ (a b : Option (List ℕ)) (held start numbers rest : List ℕ) (s : Spe
     one_cut = spelled_cut a b held start numbers rest front (last ∷ []) (46 ∷ decimal last) s cut refl
 
 -- all of them
-pub spelled_all : (a b : Option (List ℕ)) (held start numbers rest : List ℕ) → rest ≡ [] → Spelled a b held start numbers rest → Told a b held (λ all. all ≡ start ++ levels_text numbers)
+spelled_all : (a b : Option (List ℕ)) (held start numbers rest : List ℕ) → rest ≡ [] → Spelled a b held start numbers rest → Told a b held (λ all. all ≡ start ++ levels_text numbers)
 spelled_all a b held start numbers rest none s =
     subst (λ l. Told a b held (λ all. all ≡ start ++ levels_text l)) (sym (s.1 ∙ ap (λ l. l ++ s.0) none)) s.2
 
@@ -95,14 +95,10 @@ pub none_left : (xs ys : List ℕ) → xs ++ ys ≡ [] → xs ≡ []
 none_left [] ys e = refl
 none_left (x ∷ xs) ys e = absurd (omega (arith, ap length e))
 
-none_of : (xs : List ℕ) → length xs ≡ 0 → xs ≡ []
-none_of [] e = refl
-none_of (x ∷ xs) e = absurd (omega (arith, e))
-
 -- an empty run is the last one
 pub last_run : (parts run : List ℕ) (empty : Bool) → empty ≡ (length run == 0) → empty ≡ true → (run ≡ [] → parts ≡ []) → parts ++ run ≡ []
 last_run parts run empty is so no_parts =
-    let none = none_of run (eqb-true (length run) 0 (sym is ∙ so)) in
+    let none = nil_from_length run (eqb-true (length run) 0 (sym is ∙ so)) in
     ap₂ (λ p r. p ++ r) (no_parts none) none
 
 -- the run was spelled, and the next one taken off the parts
@@ -113,11 +109,6 @@ module _ (a b : Option (List ℕ)) (held start numbers parts run : List ℕ) (s 
 
   pub run_cut : (c : Option (List ℕ)) → WroteFront b c (held ++ levels_text run) → WroteFront a c (start ++ levels_text numbers)
   run_cut = spelled_cut a b held start numbers (parts ++ run) parts run (levels_text run) s refl refl
-
--- the root's name was put
-pub root_put : (a b : Option (List ℕ)) (held waiting numbers parts run : List ℕ) → Told a b held (λ all. all ≡ waiting ++ 48 ∷ []) → numbers ≡ parts ++ run → Spelled a b held (waiting ++ 48 ∷ []) numbers (parts ++ run)
-root_put a b held waiting numbers parts run t split =
-    ([], split ∙ sym (append-nil (parts ++ run)), subst (λ whole. Told a b held (λ all. all ≡ whole)) (sym (append-nil (waiting ++ 48 ∷ []))) t)
 
 name_whole : (waiting numbers : List ℕ) → (waiting ++ 48 ∷ []) ++ levels_text numbers ≡ waiting ++ name_text numbers
 name_whole waiting numbers = append_assoc waiting (48 ∷ []) (levels_text numbers) ∙ ap (λ l. waiting ++ l) (sym (named numbers))

@@ -1,5 +1,5 @@
 -- What was written and what waits, one piece after another.
-use Rattle.std.proofs.Common.{◌≡◌, ℕ, List, [], ◌++◌, take, drop, length, sym, ap, ◌∙◌, append_assoc, append-nil, subst, Option, Result, Ok, Err, OnOk}
+use Rattle.std.proofs.Common.{◌≡◌, ℕ, List, [], ◌++◌, take, drop, length, sym, ap, ◌∙◌, append_assoc, append-nil, subst, Option, Result, Ok, Err}
 use Rattle.std.specs.Prelude.{OnErr}
 use Rattle.std.proofs.Math.Seq.{take-append_seam}
 use Rattle.std.proofs.lemmas.List.{take-append-drop}
@@ -35,10 +35,6 @@ told_more a b c held left done more t p = record {
   whole = append_assoc t.front p.front left ∙ ap (λ l. t.front ++ l) p.whole ∙ sym (append_assoc t.front held more) ∙ ap (λ l. l ++ more) t.whole;
 }
 
--- the whole was written, and nothing waits
-pub all_written : (a b c : Option (List ℕ)) (held done : List ℕ) → Told a b held (λ all. all ≡ done) → Appends b c held → Appends a c done
-all_written a b c held done t wrote = subst (Appends a c) t.whole (appends_trans a b c t.front held t.wrote wrote)
-
 -- ---- a front
 
 -- of a text that is longer
@@ -66,11 +62,7 @@ pub front_held : (a b c : Option (List ℕ)) (held done whole rest : List ℕ) �
 front_held a b c held done whole rest t w is =
     subst (WroteFront a c) (sym is) (front_more a c done rest (subst (WroteFront a c) t.whole (front_after a b c t.front held t.wrote w)))
 
--- ---- what holds of a value, or of an error, where there is one
-
-pub on_ok : {A E : Type 0} (r : Result A E) (X : Type 0) → X → OnOk r X
-on_ok (Ok x) X h = h
-on_ok (Err e) X h = tt
+-- ---- what holds of an error, where there is one
 
 pub on_err : {A E : Type 0} (r : Result A E) (X : Type 0) → X → OnErr r X
 on_err (Ok x) X h = tt
