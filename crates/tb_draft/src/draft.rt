@@ -8,7 +8,7 @@ ghost use Rattle.tb_draft.specs.Written.{Told, WroteFront};
 
 use crate::passage::Passage;
 use crate::spelling::put_passages;
-use crate::waiting::put;
+use crate::waiting::{ROOM, put};
 use arrayvec::ArrayVec;
 use std::alloc::{AllocError, Global};
 use std::marker::Model;
@@ -16,10 +16,7 @@ use std::mem::replace;
 use tb_lines::{Failed, Sink, write_whole};
 use tb_model::{TaskName, append_number, append_signed};
 
-/// So many bytes of a text wait at most for its end, where it may go out in pieces.
-const PIECE: usize = 65536;
-
-/// So many long names wait at most: they are as long as a piece.
+/// So many long names wait at most: they are as long as what waits at most in other texts.
 const NAMES: usize = 256;
 
 /// A text that is still to be written. A name of more than 128 levels stands in it as what names share, and is spelled as
@@ -162,7 +159,7 @@ impl Draft {
         ensures err { OnErr result (WroteFront (K.taken sink.old) (K.taken sink.new) self.old
             × (K.failures sink.new ≡ K.failures sink.old + 1)) }
     {
-        if self.text.len() < PIECE && self.passages.len() < NAMES {
+        if self.text.len() < ROOM && self.passages.len() < NAMES {
             return Ok(());
         }
         self.write(sink)?;
@@ -172,8 +169,8 @@ impl Draft {
     }
 
     /// All of the text, with each name spelled.
-    pub fn into_bytes(self) -> Result<Vec<u8>, AllocError>
-        ensures { IfOk result (λ bytes. bytes.items ≡ self) }
+    pub fn into_string(self) -> Result<String, AllocError>
+        ensures { IfOk result (λ text. string_bytes text ≡ self) }
     {
         let Draft {
             alloc,
@@ -186,6 +183,6 @@ impl Draft {
             passage.name.print(&mut text)?;
         }
         text.push_str(last.as_str())?;
-        Ok(text.into_bytes())
+        Ok(text)
     }
 }

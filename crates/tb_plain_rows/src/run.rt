@@ -2,7 +2,6 @@
 
 use crate::line;
 use std::alloc::{AllocError, Global};
-use std::str::from_utf8;
 use tb_draft::Draft;
 use tb_model::{Action, Event, StepId};
 use tb_plain::{is_legal, is_removed, last, own, printed, removed, without};
@@ -187,7 +186,6 @@ impl Run {
         let mut line = Draft::new(self.alloc);
         write_step(&mut line, body.as_str(), &event.task, k, &event.action)?;
         line.push('\n')?;
-        let line = line.into_bytes()?;
-        text.push_str(from_utf8(line.as_slice()).unwrap_or("?"))
+        text.push_str(line.into_string()?.as_str())
     }
 }

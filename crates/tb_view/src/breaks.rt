@@ -6,6 +6,7 @@ ghost use Rattle.tb_view.specs.Breaks.{break_text, break_line, breaks_text};
 
 use crate::step_line::body_name;
 use std::alloc::{AllocError, Global};
+use tb_draft::Draft;
 use tb_live::{Break, Breakpoint};
 use tb_model::append_number;
 use tb_read::Program;
@@ -53,8 +54,8 @@ pub(crate) fn breaks_text(
     alloc: Global,
     program: &Program,
     breakpoints: &[Breakpoint],
-) -> Result<String, AllocError>
-    ensures { IfOk result (λ text. string_bytes text
+) -> Result<Draft, AllocError>
+    ensures { IfOk result (λ text. text
         ≡ breaks_text program.now breakpoints.now) }
 {
     let count = breakpoints.len();
@@ -62,5 +63,5 @@ pub(crate) fn breaks_text(
     'breakpoints: for breakpoint in breakpoints {
         append_breakpoint(&mut text, program, breakpoint)?;
     }
-    Ok(text)
+    Ok(Draft::of(alloc, text))
 }

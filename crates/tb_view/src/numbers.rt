@@ -6,6 +6,7 @@ ghost use Rattle.tb_view.specs.Lines.{line};
 ghost use Rattle.std.specs.Fmt.{signed_decimal};
 
 use std::alloc::{AllocError, Global};
+use tb_draft::Draft;
 
 /// Appends the line of a cell, where its number isn't 0.
 fn append_cell(text: &mut String, cell: usize, number: i64) -> Result<(), AllocError>
@@ -25,25 +26,25 @@ fn append_number(text: &mut String, number: i64) -> Result<(), AllocError>
 }
 
 /// How many cells there are, and a line for each that isn't 0.
-pub(crate) fn cells_text(alloc: Global, numbers: &[i64]) -> Result<String, AllocError>
-    ensures { IfOk result (λ text. string_bytes text ≡ cells_text numbers.now) }
+pub(crate) fn cells_text(alloc: Global, numbers: &[i64]) -> Result<Draft, AllocError>
+    ensures { IfOk result (λ text. text ≡ cells_text numbers.now) }
 {
     let count = numbers.len();
     let mut text = format!(in alloc; "cells {count}\n")?;
     for (cell, number) in numbers.iter().enumerate() {
         append_cell(&mut text, cell, *number)?;
     }
-    Ok(text)
+    Ok(Draft::of(alloc, text))
 }
 
 /// How many numbers were printed, and each on a line.
-pub(crate) fn out_text(alloc: Global, numbers: &[i64]) -> Result<String, AllocError>
-    ensures { IfOk result (λ text. string_bytes text ≡ out_text numbers.now) }
+pub(crate) fn out_text(alloc: Global, numbers: &[i64]) -> Result<Draft, AllocError>
+    ensures { IfOk result (λ text. text ≡ out_text numbers.now) }
 {
     let count = numbers.len();
     let mut text = format!(in alloc; "out {count}\n")?;
     for number in numbers {
         append_number(&mut text, *number)?;
     }
-    Ok(text)
+    Ok(Draft::of(alloc, text))
 }

@@ -1,6 +1,6 @@
 //! The texts of views.
 
-ghost use Rattle.std.specs.Prelude.{◌≡◌, ℕ, List, IfOk, IfErr, string_bytes};
+ghost use Rattle.std.specs.Prelude.{◌≡◌, ℕ, List, IfOk, IfErr};
 ghost use Rattle.tb_view.specs.Lines.{removal_line};
 ghost use Rattle.tb_view.specs.Views.{IsShown, IsRefused};
 ghost use Rattle.tb_view.specs.declared.view.View.TheVariants as view;
@@ -32,18 +32,6 @@ fn told(text: Result<Draft, AllocError>) -> Result<Draft, ViewRefusal>
 {
     match text {
         Ok(text) => Ok(text),
-        Err(_) => Err(ViewRefusal::Memory),
-    }
-}
-
-/// The same for a text without long names.
-fn told_short(alloc: Global, text: Result<String, AllocError>) -> Result<Draft, ViewRefusal>
-    ensures ok { (own : List ℕ) → IfOk text (λ given. string_bytes given ≡ own) →
-        IfOk result (λ given. given ≡ own) }
-    ensures err { IfErr result (λ e. e ≡ refusal.Memory) }
-{
-    match text {
-        Ok(text) => Ok(Draft::of(alloc, text)),
         Err(_) => Err(ViewRefusal::Memory),
     }
 }
@@ -122,8 +110,8 @@ pub fn draft(alloc: Global, live: &Live, view: &View) -> Result<Draft, ViewRefus
     ensures refused { IfErr result (IsRefused live.now.session view.now) }
 {
     match view {
-        View::Cells => told_short(alloc, cells_text(alloc, live.cells())),
-        View::Out => told_short(alloc, out_text(alloc, live.output())),
+        View::Cells => told(cells_text(alloc, live.cells())),
+        View::Out => told(out_text(alloc, live.output())),
         View::Hist => told(history_text(alloc, live.program(), live.core().legal_entries())),
         View::Why { id } => why_text(alloc, live, id),
         View::Causes { id } => needed_at_once(alloc, live, id),
@@ -134,10 +122,7 @@ pub fn draft(alloc: Global, live: &Live, view: &View) -> Result<Draft, ViewRefus
         View::Ready => told(ready_text(alloc, live)),
         View::Waits => told(waits_text(alloc, live)),
         View::Deps { task } => relations(alloc, live, task),
-        View::Breaks => told_short(
-            alloc,
-            breaks_text(alloc, live.program(), live.breakpoints()),
-        ),
+        View::Breaks => told(breaks_text(alloc, live.program(), live.breakpoints())),
     }
 }
 
@@ -146,8 +131,8 @@ pub fn text(alloc: Global, live: &Live, view: &View) -> Result<Vec<u8>, ViewRefu
     ensures shown { IfOk result (λ text. IsShown live.now.session view.now text.items) }
     ensures refused { IfErr result (IsRefused live.now.session view.now) }
 {
-    match draft(alloc, live, view)?.into_bytes() {
-        Ok(text) => Ok(text),
+    match draft(alloc, live, view)?.into_string() {
+        Ok(text) => Ok(text.into_bytes()),
         Err(_) => Err(ViewRefusal::Memory),
     }
 }
@@ -159,5 +144,5 @@ pub fn line(alloc: Global, live: &Live, removed: &Removed) -> Result<Vec<u8>, Al
     let mut text = Draft::new(alloc);
     let id = &removed.id;
     append_line(&mut text, live.program(), &id.task, id.k, &removed.action)?;
-    text.into_bytes()
+    Ok(text.into_string()?.into_bytes())
 }

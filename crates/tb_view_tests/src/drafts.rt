@@ -99,9 +99,9 @@ fn drafts_of_deep_names(rt: HostRuntime) {
         let draft = draft_of(&rt, &name);
         let text = text_of(&rt, &name);
         compare_written(&rt, &draft, text.as_str());
-        let bytes = draft.into_bytes().expect(&rt, "memory is there");
-        assert_eq!(rt; bytes.as_slice(), text.as_bytes());
-        mem::forget(bytes);
+        let spelled = draft.into_string().expect(&rt, "memory is there");
+        assert_eq!(rt; spelled.as_str(), text.as_str());
+        mem::forget(spelled);
         mem::forget(text);
         mem::forget(name);
     }

@@ -177,8 +177,8 @@ fn show(rt: &(impl Abort + AllocGlobal), id: &str, action: Action, want: &str) {
     let id = StepId::parse(rt.alloc(), id.as_bytes()).expect(rt, "a step");
     let mut text = Draft::new(rt.alloc());
     write_step(&mut text, "t", &id.task, id.k, &action).expect(rt, "memory is there");
-    let text = text.into_bytes().expect(rt, "memory is there");
-    assert_eq!(rt; text.as_slice(), want.as_bytes());
+    let text = text.into_string().expect(rt, "memory is there");
+    assert_eq!(rt; text.as_str(), want);
     mem::forget(id);
     mem::forget(text);
     mem::forget(action);

@@ -11,19 +11,19 @@ use Rattle.tb_view.proofs.showing.draft.Goals as goal
 
 pub returns-in-Cells-clause-shown : goal.returns-in-Cells-clause-shown
 returns-in-Cells-clause-shown c =
-    subst (λ v. IfOk c.told_short.result (λ text. IsShown c.args.live.now.session v text)) (sym c.in-Cells.is)
-    (ok_then c.told_short.result _ _ (λ given is. record { unrefused = refl; text_is = is ∙ ap cells_text c.cells.ensures }) (c.told_short.ensures.ok _ c.cells_text.ensures))
+    subst (λ v. IfOk c.told.result (λ text. IsShown c.args.live.now.session v text)) (sym c.in-Cells.is)
+    (ok_then c.told.result _ _ (λ given is. record { unrefused = refl; text_is = is ∙ ap cells_text c.cells.ensures }) (c.told.ensures.ok _ c.cells_text.ensures))
 
 pub returns-in-Out-clause-shown : goal.returns-in-Out-clause-shown
 returns-in-Out-clause-shown c =
-    subst (λ v. IfOk c.told_short-in-Out.result (λ text. IsShown c.args.live.now.session v text)) (sym c.in-Out.is)
-    (ok_then c.told_short-in-Out.result _ _ (λ given is. record { unrefused = refl; text_is = is ∙ ap out_text c.output.ensures }) (c.told_short-in-Out.ensures.ok _ c.out_text.ensures))
+    subst (λ v. IfOk c.told-in-Out.result (λ text. IsShown c.args.live.now.session v text)) (sym c.in-Out.is)
+    (ok_then c.told-in-Out.result _ _ (λ given is. record { unrefused = refl; text_is = is ∙ ap out_text c.output.ensures }) (c.told-in-Out.ensures.ok _ c.out_text.ensures))
 
 pub returns-in-Hist-clause-shown : goal.returns-in-Hist-clause-shown
 returns-in-Hist-clause-shown c =
     let all = entries_are c.args.live.now.session c.core.result.now.run c.legal_entries.result.now c.core.ensures.history c.legal_entries.ensures.steps in
-    subst (λ v. IfOk c.told.result (λ text. IsShown c.args.live.now.session v text)) (sym c.in-Hist.is)
-    (ok_then c.told.result _ _ (λ given is. record { unrefused = refl; text_is = is ∙ ap₂ (λ (P : Program) H. history_text P H) c.program.ensures all }) (c.told.ensures.ok _ c.history_text.ensures))
+    subst (λ v. IfOk c.told-in-Hist.result (λ text. IsShown c.args.live.now.session v text)) (sym c.in-Hist.is)
+    (ok_then c.told-in-Hist.result _ _ (λ given is. record { unrefused = refl; text_is = is ∙ ap₂ (λ (P : Program) H. history_text P H) c.program.ensures all }) (c.told-in-Hist.ensures.ok _ c.history_text.ensures))
 
 pub returns-in-Tasks-clause-shown : goal.returns-in-Tasks-clause-shown
 returns-in-Tasks-clause-shown c =
@@ -42,5 +42,5 @@ returns-in-Waits-clause-shown c =
 
 pub returns-in-Breaks-clause-shown : goal.returns-in-Breaks-clause-shown
 returns-in-Breaks-clause-shown c =
-    subst (λ v. IfOk c.told_short-in-Breaks.result (λ text. IsShown c.args.live.now.session v text)) (sym c.in-Breaks.is)
-    (ok_then c.told_short-in-Breaks.result _ _ (λ given is. record { unrefused = refl; text_is = is ∙ ap₂ (λ (P : Program) points. breaks_text P points) c.program-in-Breaks.ensures c.breakpoints.ensures.standing }) (c.told_short-in-Breaks.ensures.ok _ c.breaks_text.ensures))
+    subst (λ v. IfOk c.told-in-Breaks.result (λ text. IsShown c.args.live.now.session v text)) (sym c.in-Breaks.is)
+    (ok_then c.told-in-Breaks.result _ _ (λ given is. record { unrefused = refl; text_is = is ∙ ap₂ (λ (P : Program) points. breaks_text P points) c.program-in-Breaks.ensures c.breakpoints.ensures.standing }) (c.told-in-Breaks.ensures.ok _ c.breaks_text.ensures))
