@@ -1,5 +1,5 @@
 -- Names that can be used again, and the next child.
-use Rattle.std.proofs.Common.{◌≡◌, ◌≢◌, ℤ, ◌≤◌, ◌↔◌, ℕ, suc, List, [], ◌∷◌, Bool, true, false, cond, length, refl, sym, ap, ap₂, ◌∙◌, arith, Option, Some, None, IsTrue, unwrap_or, ◌+◌, get_or, if◌then◌else◌, IfOk, Result, Ok, Err}
+use Rattle.std.proofs.Common.{◌≡◌, ◌≢◌, ℤ, ◌≤◌, ◌↔◌, ℕ, suc, List, [], ◌∷◌, Bool, true, false, cond, length, refl, sym, ap, ap₂, ◌∙◌, arith, Option, Some, None, IsTrue, unwrap_or, ◌+◌, if◌then◌else◌, IfOk, Result, Ok, Err}
 use Rattle.std.specs.Prelude.{slice_get}
 use Rattle.std.proofs.lemmas.Bool.{true≢false}
 use Rattle.std.proofs.lemmas.List.{length-map}

@@ -11,25 +11,25 @@ use tb_read::Config;
 use tb_undo::{Obstacle, Standing};
 
 /// A task that stands so.
-pub fn config(task: TaskName, standing: Standing) -> Config
-    ensures { result ≡ config_with task standing }
+pub fn config(task: TaskName, standing: &Standing<'_>) -> Config
+    ensures { result ≡ config_with task standing.now }
 {
-    let regs = standing.regs;
+    let regs = *standing.regs();
     Config {
         task,
-        steps: standing.steps,
-        at: standing.at,
+        steps: standing.steps(),
+        at: standing.at(),
         regs,
     }
 }
 
 /// Whether the task of the configuration stands so.
-pub fn stands_so(config: &Config, standing: &Standing) -> bool
+pub fn stands_so(config: &Config, standing: &Standing<'_>) -> bool
     ensures { IsTrue result ↔ (config.now ≡ config_with config.now.task standing.now) }
 {
-    config.steps == standing.steps
-        && config.at == standing.at
-        && are_same(&config.regs, &standing.regs)
+    config.steps == standing.steps()
+        && config.at == standing.at()
+        && are_same(&config.regs, standing.regs())
 }
 
 fn are_same(a: &[i64; 16], b: &[i64; 16]) -> bool
@@ -39,8 +39,8 @@ fn are_same(a: &[i64; 16], b: &[i64; 16]) -> bool
 }
 
 /// The task stands so now.
-pub fn stale(task: &TaskName, standing: Standing) -> StepRefusal
-    ensures { IsStaleAnswer (config_with task.now standing) result }
+pub fn stale(task: &TaskName, standing: &Standing<'_>) -> StepRefusal
+    ensures { IsStaleAnswer (config_with task.now standing.now) result }
 {
     match task.clone() {
         Ok(task) => StepRefusal::Stale {

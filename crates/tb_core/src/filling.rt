@@ -25,6 +25,24 @@ pub fn spare_names(event: Option<Event>) -> (Option<TaskName>, Option<TaskName>)
     }
 }
 
+/// No event is kept any longer.
+#[inline]
+pub fn forget(place: &mut Option<Event>)
+    ensures { place.new ≡ None }
+{
+    if place.is_some() {
+        drop_event(place);
+    }
+}
+
+/// The same where one is, apart, so that a step without it doesn't pay for its room.
+#[inline(never)]
+fn drop_event(place: &mut Option<Event>)
+    ensures { place.new ≡ None }
+{
+    *place = None;
+}
+
 /// A copy of the name: the spare one, where it is the same.
 pub fn copy_of(name: &TaskName, spare: Option<TaskName>) -> Result<TaskName, AllocError>
     ensures ok { IfOk result (λ copy. copy ≡ name.now) }

@@ -13,7 +13,7 @@ ghost use Rattle.tb_core.specs.Soundness.{departure};
 ghost use Rattle.tb_core.specs.Naming.{config_with};
 ghost use Rattle.tb_core.specs.Seen.{history};
 ghost use Rattle.tb_core.specs.Situation.{config_of};
-ghost use Rattle.tb_core.specs.Outcomes.{event_of, has_ended, Fits, IsOpen, IsKept, IsKeptBy, MayTake, Takes, grown_by, Refuses, Steps, Stepped, IsFree, IsPlaceOf, TakesBack, Keeps, Undone};
+ghost use Rattle.tb_core.specs.Outcomes.{event_for, event_of, has_ended, Fits, IsOpen, IsKept, IsKeptBy, MayTake, Takes, grown_by, Refuses, Steps, Stepped, IsFree, IsPlaceOf, TakesBack, Keeps, Undone};
 ghost use Rattle.tb_core.specs.Soundness.{AreRecords, seen};
 ghost use Rattle.tb_core.specs.declared.step_refusal.StepRefusal.TheVariants.{Memory};
 ghost use Rattle.tb_core.specs.Rolled.{IsOfHistory, RollsBack};
@@ -21,7 +21,7 @@ ghost use Rattle.tb_core.specs.Scans.{AreLegal};
 
 use crate::answers::{config, named, stale, stands_so};
 use crate::entry::Entry;
-use crate::filling::{copy_event, copy_of, event_for, fill_in, planned, spare_names};
+use crate::filling::{copy_event, copy_of, event_for, fill_in, forget, planned, spare_names};
 use crate::needing::first_needer;
 use crate::places::{is_number_of, place_in, step_among};
 use crate::removed::Removed;
@@ -126,14 +126,14 @@ impl Core {
         ensures { result ≡ stands id.now (history self.now.run) }
     {
         match self.tables.standing(&id.task) {
-            Some(standing) => is_number_of(id, standing.steps as usize),
+            Some(standing) => is_number_of(id, standing.steps() as usize),
             None => false,
         }
     }
 
     /// Where a task stands that is there.
     #[inline]
-    pub fn standing(&self, task: &TaskName) -> Option<Standing>
+    pub fn standing(&self, task: &TaskName) -> Option<Standing<'_>>
         ensures some { IfSome result (λ k. IsTrue (is_spawned (history self.now.run) task.now) × (config_of self.now.run task.now ≡ config_with task.now k)) }
         ensures none { IfNone result (IsFalse (is_spawned (history self.now.run) task.now)) }
     {
@@ -145,7 +145,7 @@ impl Core {
         ensures { IfOk result (λ o. o ≡ (if is_spawned (history self.now.run) task.now then Some (config_of self.now.run task.now) else None)) }
     {
         match self.tables.standing(task) {
-            Some(standing) => Ok(Some(config(task.clone()?, standing))),
+            Some(standing) => Ok(Some(config(task.clone()?, &standing))),
             None => Ok(None),
         }
     }
@@ -197,7 +197,7 @@ impl Core {
             return Some(StepRefusal::Ended);
         }
         if !stands_so(&plan.config, &standing) {
-            return Some(stale(name, standing));
+            return Some(stale(name, &standing));
         }
         if let Some(hindrance) = self.hindrance(name, &plan.action) {
             return Some(hindrance);
@@ -257,9 +257,21 @@ impl Core {
         }
     }
 
-    /// Takes an action of a task from which nothing keeps it, and tells the event: nothing is asked
-    /// again. The action leaves the task at the line `to`.
-    pub fn step_clear(
+    /// Takes an action of a task from which nothing keeps it: nothing is asked again. The action
+    /// leaves the task at the line `to`. The event is the newest then.
+    pub fn step_clear(&mut self, task: &TaskName, action: Action, to: u32) -> Result<(), AllocError>
+        requires { MayTake self.old.run task.now action }
+        ensures taken { OnOk result (Takes self.old.run task.now action to self.new.run
+            (event_for self.old.run task.now action)) }
+        ensures err { OnErr result (self.new.run ≡ self.old.run) }
+    {
+        let event = event_for(&self.tables, task, action)?;
+        self.append(event, to)?;
+        Ok(())
+    }
+
+    /// The same with a copy of the event, for which memory is taken before the step.
+    pub fn step_copied(
         &mut self,
         task: &TaskName,
         action: Action,
@@ -285,7 +297,7 @@ impl Core {
     {
         let at = self.count();
         self.entries.reserve(1)?;
-        self.reserved = None;
+        forget(&mut self.reserved);
         self.places.reserve(&event)?;
         let replaced = self.tables.apply(&event, to)?;
         self.places.push_reserved(&event, at);

@@ -1,6 +1,8 @@
 -- What a contract sees of a journal, and who made its entries.
-use Rattle.std.specs.Prelude.{ℕ, List, Bool, true, false, ◌&&◌, nat_lt, nat_le}
+use Rattle.std.specs.Prelude.{ℕ, List, [], Bool, true, false, ◌&&◌, ◌||◌, nat_lt, nat_le}
 use Rattle.std.specs.List.{list_all}
+use Rattle.tb_model.specs.declared.action.Action.{Action}
+use Rattle.tb_model.specs.declared.action.Action.TheVariants.{Spawn, Wait}
 use Rattle.tb_model.specs.declared.entry.Entry.{Entry}
 use Rattle.tb_model.specs.declared.entry.Entry.TheVariants.{Opened, Stepped, Rolled}
 
@@ -26,3 +28,14 @@ is_step _ = false
 -- a step of one of so many workers
 abbrev pub is_turn : ℕ → Entry → Bool
 is_turn workers e = is_step e && (nat_le 1 (seat_of e) && nat_le (seat_of e) workers)
+
+-- the action has a name or a list of its own
+abbrev pub is_long : Action → Bool
+is_long (Spawn u body args items deferred) = true
+is_long (Wait []) = false
+is_long (Wait items) = true
+is_long _ = false
+
+-- the entry of a step of the seat with this action stands apart
+abbrev pub stands_apart : ℕ → Action → Bool
+stands_apart seat a = nat_le 256 seat || is_long a

@@ -1,17 +1,17 @@
 //! A journal.
 
-ghost use Rattle.std.specs.Prelude.{◌≡◌, ◌<◌, ◌≤◌, ◌+◌, ◌++◌, ◌∷◌, [], IfOk, OnOk, length, drop, slice_index_or, nat_lt};
+ghost use Rattle.std.specs.Prelude.{◌≡◌, ◌<◌, ◌≤◌, ◌+◌, ◌++◌, ◌∷◌, [], IfOk, OnOk, length, drop, slice_index_or, nat_lt, IsFalse};
 ghost use Rattle.std.specs.List.{list_all};
 ghost use Rattle.tb_model.specs.declared.entry.Entry.{Entry};
 ghost use Rattle.tb_model.specs.declared.entry.Entry.TheVariants.{Opened, Stepped};
-ghost use Rattle.tb_journal.specs.Journals.{all_below, is_turn, seat_of};
+ghost use Rattle.tb_journal.specs.Journals.{all_below, is_turn, seat_of, stands_apart};
 ghost use Rattle.tb_journal.specs.Compact.{entry_in, entry_of, StandsFor};
 
 use crate::compact::Compact;
-use crate::shortening::{short, short_step};
+use crate::shortening::{short, short_action, short_step};
 use std::alloc::{AllocError, Global};
 use std::marker::Model;
-use tb_model::{Entry, Event};
+use tb_model::{Action, Entry, Event, TaskName};
 
 /// The entries of a run, the oldest first. Contracts see them, and for how many more there is room.
 ///
@@ -87,6 +87,17 @@ impl Journal {
         ensures room { self.old.room ≤ self.new.room + 1 }
     {
         self.add(short_step(seat, event));
+    }
+
+    /// Adds the step of a seat that takes no memory of its own, and for which there is room.
+    #[inline]
+    pub fn push_short(&mut self, seat: u32, task: TaskName, action: &Action)
+        requires room { 0 < self.old.room }
+        requires short { IsFalse (stands_apart seat action.now) }
+        ensures items { self.new.items ≡ self.old.items ++ Stepped seat (record { task = task; action = action.now }) ∷ [] }
+        ensures room { self.old.room ≤ self.new.room + 1 }
+    {
+        self.add(Ok(short_action(seat as u8, task, action)));
     }
 
     #[inline]

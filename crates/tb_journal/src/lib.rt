@@ -10,3 +10,4 @@ mod shortening;
 pub use copying::copy_of;
 pub use journal::Journal;
 pub use seat::seat_of;
+pub use shortening::stands_apart;

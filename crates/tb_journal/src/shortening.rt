@@ -1,11 +1,33 @@
 //! How an entry is put into few bytes.
 
-ghost use Rattle.std.specs.Prelude.{◌≡◌, IfOk};
+ghost use Rattle.std.specs.Prelude.{◌≡◌, IfOk, IsFalse};
 ghost use Rattle.tb_model.specs.declared.entry.Entry.TheVariants.{Stepped};
 ghost use Rattle.tb_journal.specs.Compact.{StandsFor, entry_in, step};
+ghost use Rattle.tb_journal.specs.Journals.{is_long, stands_apart};
 
 use crate::compact::Compact;
 use tb_model::{Action, Entry, Event, StepId, TaskName};
+
+/// Whether the entry of a step of the seat with this action stands apart: where that is a spawn or a
+/// `taskwait` with items, or a seat that no run has. No other entry takes memory.
+#[inline]
+pub fn stands_apart(seat: u32, action: &Action) -> bool
+    ensures { result ≡ stands_apart seat action.now }
+{
+    256 <= seat || is_long(action)
+}
+
+/// Whether the action has a name or a list of its own.
+#[inline]
+fn is_long(action: &Action) -> bool
+    ensures { result ≡ is_long action.now }
+{
+    match action {
+        Action::Spawn { .. } => true,
+        Action::Wait { items } => !items.as_slice().is_empty(),
+        _ => false,
+    }
+}
 
 /// The entry in few bytes; itself, where it stands apart.
 pub(crate) fn short(entry: Entry) -> Result<Compact, Entry>
@@ -26,24 +48,24 @@ pub(crate) fn short(entry: Entry) -> Result<Compact, Entry>
 }
 
 /// The same of a step.
-#[inline]
 pub(crate) fn short_step(seat: u32, event: Event) -> Result<Compact, Entry>
     ensures ok { IfOk result (StandsFor (Stepped seat event)) }
     ensures is { entry_in result ≡ Stepped seat event }
 {
-    let Ok(seat) = u8::try_from(seat) else {
+    if stands_apart(seat, &event.action) {
         return Err(Entry::Stepped { seat, event });
-    };
+    }
     let Event { task, action } = event;
-    short_action(seat, task, action)
+    Ok(short_action(seat as u8, task, &action))
 }
 
+/// The entry of a step that doesn't stand apart.
 #[inline]
-fn short_action(seat: u8, task: TaskName, action: Action) -> Result<Compact, Entry>
-    ensures ok { IfOk result (StandsFor (step seat task action)) }
-    ensures is { entry_in result ≡ step seat task action }
+pub(crate) fn short_action(seat: u8, task: TaskName, action: &Action) -> Compact
+    requires { IsFalse (is_long action.now) }
+    ensures { StandsFor (step seat task action.now) result }
 {
-    let compact = match action {
+    match *action {
         Action::Start => Compact::Started { seat, task },
         Action::Let { reg, value } => Compact::Set {
             reg,
@@ -65,27 +87,12 @@ fn short_action(seat: u8, task: TaskName, action: Action) -> Result<Compact, Ent
             task,
         },
         Action::Print { value } => Compact::Printed { seat, value, task },
-        Action::Wait { items } => {
-            if !items.as_slice().is_empty() {
-                return Err(step(seat, task, Action::Wait { items }));
-            }
-            Compact::Waited { seat, task }
-        }
+        Action::Wait { .. } => Compact::Waited { seat, task },
         Action::Open => Compact::Entered { seat, task },
         Action::Close => Compact::Left { seat, task },
         Action::Test { yes } => Compact::Tested { yes, seat, task },
         Action::End => Compact::Ended { seat, task },
         Action::Fault => Compact::Faulted { seat, task },
-        action => return Err(step(seat, task, action)),
-    };
-    Ok(compact)
-}
-
-fn step(seat: u8, task: TaskName, action: Action) -> Entry
-    ensures { result ≡ step seat task action }
-{
-    Entry::Stepped {
-        seat: seat as u32,
-        event: Event { task, action },
+        Action::Spawn { .. } => unreachable!(),
     }
 }

@@ -15,7 +15,7 @@ use Rattle.tb_read.specs.declared.config.Config.{Config}
 use Rattle.tb_read.specs.declared.instr.Instr.{Instr}
 use Rattle.tb_read.specs.declared.planned.Plan.{Plan}
 use Rattle.tb_read.specs.Plans.{IsActionOf, instruction, line_behind, names_allowed}
-use Rattle.tb_undo.specs.declared.standing.Standing.{Standing}
+use Rattle.tb_undo.specs.Standings.{Standing}
 use Rattle.tb_core.specs.declared.step_refusal.StepRefusal.{StepRefusal}
 use Rattle.tb_core.specs.declared.step_refusal.StepRefusal.TheVariants.{Memory, Full}
 use Rattle.tb_core.specs.Naming.{config_with}

@@ -24,7 +24,7 @@ use Rattle.tb_model.proofs.LeastNameLemmas.{one_least, least_found}
 use Rattle.tb_read.specs.declared.config.Config.{Config}
 use Rattle.tb_read.specs.declared.instr.Instr.{Instr as Read}
 use Rattle.tb_read.specs.Plans.{instruction}
-use Rattle.tb_undo.specs.declared.standing.Standing.{Standing}
+use Rattle.tb_undo.specs.Standings.{Standing}
 use Rattle.tb_core.specs.Naming.{config_with}
 use Rattle.tb_core.specs.Outcomes.{has_ended}
 use Rattle.tb_core.specs.Seen.{Seen, history}

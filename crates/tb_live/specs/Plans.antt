@@ -1,5 +1,6 @@
 -- The plan of a task's next step by the program, and the entry that it becomes.
 use Rattle.std.specs.Prelude.{◌≡◌, ◌≢◌, ◌++◌, ℕ, List, [], ◌∷◌, Bool, nat_le, length, Option, Some, None, Result, Ok, Err, IsSomeAnd, IsTrue, IsFalse, ⊤}
+use Rattle.tb_model.specs.declared.action.Action.{Action}
 use Rattle.tb_model.specs.declared.entry.Entry.{Entry}
 use Rattle.tb_model.specs.declared.entry.Entry.TheVariants.{Stepped}
 use Rattle.tb_model.specs.declared.step_id.StepId.{StepId}
@@ -27,7 +28,7 @@ use Rattle.tb_live.specs.declared.claim_refusal.ClaimRefusal.{ClaimRefusal}
 use Rattle.tb_live.specs.declared.claim_refusal.ClaimRefusal.TheVariants.{Memory as NoMemory, NoSuchTask as NoTask, Ended as Over, Claimed}
 use Rattle.tb_live.specs.Claims.{Claims, IsHeldBeside, IsFreeBeside}
 use Rattle.tb_live.specs.Controls.{behind_step, claimed_by}
-use Rattle.tb_core.specs.Outcomes.{Fits, IsCurrent, IsKept, Steps, event_of, has_ended, hindrance_of}
+use Rattle.tb_core.specs.Outcomes.{Fits, IsCurrent, IsKept, Steps, Takes, event_for, event_of, has_ended, hindrance_of}
 
 -- the instruction is the program's at its line
 pub record IsOfProgram (P : Program) (i : Instr) : Type 0 where
@@ -101,6 +102,11 @@ has_no_place limit entries = nat_le limit (length entries)
 pub record IsEntered (seat : ℕ) (run : Seen) (p : Plan) (new : Seen) (old entries : List Entry) (i : StepId) : Type 0 where
   pub steps : Steps run p new i
   pub grows : entries ≡ old ++ Stepped seat (event_of run p) ∷ []
+
+-- the event of an action was taken, and is the newest entry, of this seat
+pub record IsTaken (seat : ℕ) (run : Seen) (t : Name) (a : Action) (to : ℕ) (new : Seen) (old entries : List Entry) : Type 0 where
+  pub taken : Takes run t a to new (event_for run t a)
+  pub grows : entries ≡ old ++ Stepped seat (event_for run t a) ∷ []
 
 -- what keeps the task from its action comes before a full journal, and want of memory last: at a full journal it takes the
 -- place of a name alone

@@ -47,7 +47,7 @@ pub fn coming_at(
     program: &Program,
     core: &Core,
     task: &TaskName,
-    standing: &Standing,
+    standing: &Standing<'_>,
 ) -> Result<Coming, AllocError>
     requires fits { Fits program.now core.now.run }
     requires there { IsTrue (is_spawned (history core.now.run) task.now) }
@@ -55,15 +55,16 @@ pub fn coming_at(
     requires here { config_of core.now.run task.now ≡ config_with task.now standing.now }
     ensures { IfOk result (IsComing program.now core.now.run task.now) }
 {
-    match program.instr(standing.at) {
+    let at = standing.at();
+    match program.instr(at) {
         Some(instr) => {
-            let action = evaluate(alloc, instr, task, &standing.regs)?;
-            let to = line_behind(instr, standing.at, &action);
+            let action = evaluate(alloc, instr, task, standing.regs())?;
+            let to = line_behind(instr, at, &action);
             Ok(Coming {
                 action,
-                at: standing.at,
+                at,
                 to,
-                steps: standing.steps,
+                steps: standing.steps(),
             })
         }
         None => unreachable!(),

@@ -1,22 +1,24 @@
 //! A planned step, with its entry in the journal.
 
-ghost use Rattle.std.specs.Prelude.{◌≡◌, ◌≢◌, ◌<◌, IfOk, IfErr, OnOk, OnErr, Some, None, length};
+ghost use Rattle.std.specs.Prelude.{◌≡◌, ◌≢◌, ◌<◌, IfOk, IfErr, OnOk, OnErr, Some, None, length, slice_get};
+ghost use Rattle.tb_model.specs.declared.event.Event.{Event as AnEvent};
 ghost use Rattle.tb_model.specs.Program.{Program};
 ghost use Rattle.tb_core.specs.declared.step_refusal.StepRefusal.TheVariants.{Memory};
-ghost use Rattle.tb_core.specs.Outcomes.{Fits, IsCurrent, IsOpen, event_of};
+ghost use Rattle.tb_core.specs.Outcomes.{Fits, IsCurrent, IsOpen, MayTake, event_of};
 ghost use Rattle.tb_core.specs.Seen.{history};
 ghost use Rattle.tb_live.specs.Controls.{behind_step};
 ghost use Rattle.tb_live.specs.Floor.{IsCarried};
-ghost use Rattle.tb_live.specs.Plans.{Enters, IsClear, IsEntered, IsKeptFrom, IsNext, IsStepOf, has_no_place};
+ghost use Rattle.tb_live.specs.Plans.{Enters, IsClear, IsEntered, IsKeptFrom, IsNext, IsStepOf, IsTaken, has_no_place};
 ghost use Rattle.tb_live.specs.Preparing.{HasRoom, IsReadied};
 
 use crate::coming::Coming;
 use crate::control::Control;
 use crate::floor::Floor;
 use crate::prepared::{Prepared, forget};
+use std::alloc::AllocError;
 use tb_core::{Core, StepRefusal};
-use tb_journal::Journal;
-use tb_model::{Event, StepId, TaskName};
+use tb_journal::{Journal, stands_apart};
+use tb_model::{Action, Event, StepId, TaskName};
 use tb_read::Plan;
 
 /// Makes all room for the step of a plan and for its entry, and tells the event. The journal has more
@@ -131,15 +133,55 @@ pub fn enter_clear(
         to,
         steps,
     } = coming;
-    match core.step_clear(&task, action, to) {
-        Ok(event) => {
+    match take(core, journal, seat, &task, action, to) {
+        Ok(()) => {
             floor.step_taken(core);
-            control.step_taken(at, &event);
-            journal.push_step(seat, event);
+            follow(control, core, at);
             Ok(StepId { task, k: steps + 1 })
         }
         Err(_) => Err(StepRefusal::Memory),
     }
+}
+
+/// Follows the newest step, whose task stood at the line.
+fn follow(control: &mut Control, core: &Core, line: u32)
+    ensures { (v : AnEvent) → slice_get (history core.now.run) 0 ≡ Some v →
+        control.new ≡ behind_step line v control.old }
+{
+    if let Some(event) = core.newest() {
+        control.step_taken(line, event);
+    }
+}
+
+/// Takes an action from which nothing keeps the task, and enters it for the seat. Most entries are read
+/// off the history's newest event; one that stands apart is copied before the step.
+#[inline]
+fn take(
+    core: &mut Core,
+    journal: &mut Journal,
+    seat: u32,
+    task: &TaskName,
+    action: Action,
+    to: u32,
+) -> Result<(), AllocError>
+    requires may { MayTake core.old.run task.now action }
+    requires room { 0 < journal.old.room }
+    ensures ok { OnOk result (IsTaken seat core.old.run task.now action to core.new.run
+        journal.old.items journal.new.items) }
+    ensures err { OnErr result ((core.new.run ≡ core.old.run) × (journal.new.items ≡ journal.old.items)) }
+{
+    if stands_apart(seat, &action) {
+        let event = core.step_copied(task, action, to)?;
+        journal.push_step(seat, event);
+        return Ok(());
+    }
+    let name = task.clone()?;
+    core.step_clear(task, action, to)?;
+    match core.newest() {
+        Some(event) => journal.push_short(seat, name, &event.action),
+        None => unreachable!(),
+    }
+    Ok(())
 }
 
 /// Takes what a task does next, where nothing keeps it from that, and enters it for the seat. What was

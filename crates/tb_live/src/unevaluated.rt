@@ -67,10 +67,10 @@ fn can_step(program: &Program, core: &Core, task: &TaskName) -> bool
     if core.has_ended(task) {
         return false;
     }
-    match program.instr(standing.at) {
+    match program.instr(standing.at()) {
         Some(instr) => {
             is_free(core, task, &instr.statement)
-                && !is_held_up(program, core, task, &standing.regs, &instr.statement)
+                && !is_held_up(program, core, task, standing.regs(), &instr.statement)
         }
         None => unreachable!(),
     }

@@ -3,7 +3,7 @@
 use std::alloc::{AllocError, AllocGlobal, Global};
 use std::mem;
 use std::process::Abort;
-use tb_journal::{Journal, copy_of, seat_of};
+use tb_journal::{Journal, copy_of, seat_of, stands_apart};
 use tb_model::{Action, Args, Entry, Event, Item, Items, Kind, Place, StepId, TaskName};
 
 /// A step of a task that is five levels deep.
@@ -45,13 +45,27 @@ fn has_same_text(rt: &impl AllocGlobal, left: &Entry, right: &Entry) -> Result<b
     Ok(left.as_str() == right.as_str())
 }
 
-/// Adds the entry, and asks for it and its seat.
-fn add(rt: &(impl Abort + AllocGlobal), journal: &mut Journal, entry: Entry) {
+/// Adds the entry for which there is room by its action, where it doesn't stand apart.
+fn push(rt: &impl Abort, journal: &mut Journal, entry: Entry) {
+    if let Entry::Stepped { seat, event } = &entry {
+        if !stands_apart(*seat, &event.action) {
+            let task = event.task.clone().expect(rt, "a name");
+            journal.push_short(*seat, task, &event.action);
+            mem::forget(entry);
+            return;
+        }
+    }
+    journal.push_reserved(entry);
+}
+
+/// Adds the entry, whole or by its action, and asks for it and its seat.
+fn enter(rt: &(impl Abort + AllocGlobal), journal: &mut Journal, entry: Entry, whole: bool) {
     let place = journal.len();
     let seat = seat_of(&entry);
     let kept = copy_of(&entry).expect(rt, "memory");
     match journal.reserve() {
-        Ok(()) => journal.push_reserved(entry),
+        Ok(()) if whole => journal.push_reserved(entry),
+        Ok(()) => push(rt, journal, entry),
         Err(_) => panic!(rt; "memory"),
     }
     assert_eq!(rt; journal.len(), place + 1);
@@ -61,6 +75,13 @@ fn add(rt: &(impl Abort + AllocGlobal), journal: &mut Journal, entry: Entry) {
     assert_eq!(rt; seat_of(&again), seat);
     assert!(rt; has_same_text(rt, &again, &kept).unwrap_or(false));
     mem::forget((kept, again));
+}
+
+/// Adds the entry twice, in either way.
+fn add(rt: &(impl Abort + AllocGlobal), journal: &mut Journal, entry: Entry) {
+    let copy = copy_of(&entry).expect(rt, "memory");
+    enter(rt, journal, entry, true);
+    enter(rt, journal, copy, false);
 }
 
 fn add_steps(rt: &(impl Abort + AllocGlobal), journal: &mut Journal, seat: u32) {
@@ -109,7 +130,7 @@ fn entries_come_back(rt: HostRuntime) {
     let mut journal = Journal::open(rt.alloc()).expect(&rt, "memory");
     add_steps(&rt, &mut journal, 64);
     add_others(&rt, &mut journal, 64);
-    assert_eq!(&rt; journal.len(), 15);
+    assert_eq!(&rt; journal.len(), 29);
     assert!(&rt; journal.are_below(65));
     assert!(&rt; journal.are_turns(64, 1) == false);
     mem::forget(journal);
@@ -119,7 +140,7 @@ fn entries_come_back(rt: HostRuntime) {
 fn entries_of_any_seat_come_back(rt: HostRuntime) {
     let mut journal = Journal::open(rt.alloc()).expect(&rt, "memory");
     add_steps(&rt, &mut journal, u32::MAX);
-    assert_eq!(&rt; journal.len(), 7);
+    assert_eq!(&rt; journal.len(), 13);
     assert!(&rt; journal.are_turns(u32::MAX, 1));
     assert!(&rt; journal.are_turns(64, 1) == false);
     add_others(&rt, &mut journal, 256);

@@ -1,4 +1,5 @@
 pub mod Tasks
+pub mod Standings
 pub mod Sets
 pub mod State
 pub mod Obstacles

@@ -1,4 +1,4 @@
--- What the tables tell of a task: where it stands, and which parent and siblings it has.
+-- What the tables tell of a task: which parent and siblings it has.
 use Rattle.std.specs.Prelude.{◌≡◌, ◌<◌, ◌≤◌, ℕ, List, ◌∷◌, Option, Some, IsTrue, drop}
 use Rattle.tb_model.specs.declared.item.Item.{Item}
 use Rattle.tb_model.specs.Names.{Name, child}
@@ -6,11 +6,6 @@ use Rattle.tb_model.specs.Facts.{History, own}
 use Rattle.tb_model.specs.State.{is_unended, is_unended_child}
 use Rattle.tb_depend.specs.Relations.{spawned_items}
 use Rattle.tb_ready.specs.Tasks.{IsBehind}
-use Rattle.tb_undo.specs.declared.standing.Standing.{Standing}
-use Rattle.tb_undo.specs.Tasks.{Task}
-
-abbrev pub standing_of : Task → Standing
-standing_of k = record { body = k.body; at = k.at; steps = k.steps; regs = k.regs }
 
 -- t is the nth child of its parent, whose children have these items
 pub record IsNthOf (H : History) (t : Name) (n : ℕ) (children : List (List Item)) : Type 0 where

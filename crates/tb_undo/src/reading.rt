@@ -10,7 +10,8 @@ ghost use Rattle.tb_model.specs.Legal.{first_number, spawn_count};
 ghost use Rattle.tb_model.specs.Lines.{events_of};
 ghost use Rattle.tb_undo.specs.State.{AreLast, task_of, ForState, ForHistory};
 ghost use Rattle.tb_undo.specs.Obstacles.{sibling};
-ghost use Rattle.tb_undo.specs.Readings.{standing_of, IsNthOf, IsNextChild, IsUnendedBehind};
+ghost use Rattle.tb_undo.specs.Readings.{IsNthOf, IsNextChild, IsUnendedBehind};
+ghost use Rattle.tb_undo.specs.Standings.{standing_of};
 
 use crate::near::get;
 use crate::row::Row;
@@ -43,16 +44,11 @@ impl Tables {
     }
 
     /// Where the task stands.
-    pub fn standing(&self, name: &TaskName) -> Option<Standing>
+    pub fn standing(&self, name: &TaskName) -> Option<Standing<'_>>
         ensures { ForState self.now (λ first root_line D. result ≡ option_map standing_of (task_of root_line D name.now)) }
     {
         let row = get(&self.rows, self.near, name)?;
-        Some(Standing {
-            body: row.body,
-            at: row.at,
-            steps: row.steps,
-            regs: row.regs,
-        })
+        Some(Standing::of(row))
     }
 
     /// How many children the task generated.

@@ -1,11 +1,53 @@
 //! Where a task stands.
 
-/// Where a task stands: the line of its body and its own, how many steps it has taken, and its
-/// registers.
-#[derive(Clone, Copy)]
-pub struct Standing {
-    pub body: u32,
-    pub at: u32,
-    pub steps: u32,
-    pub regs: [i64; 16],
+ghost use Rattle.std.specs.Prelude.{◌≡◌};
+ghost use Rattle.tb_undo.specs.Standings.{standing_of};
+ghost use Rattle.tb_undo.specs.Tasks.{seen_row};
+
+use crate::row::Row;
+use std::marker::Model;
+
+/// Where a task stands: its line, how many steps it has taken, and its registers, read where they are
+/// kept.
+#[derive(Drop)]
+pub struct Standing<'a> {
+    row: &'a Row,
+}
+
+impl<'a> Model for Standing<'a> {
+    ghost use Rattle.tb_undo.specs.Standings.{Standing, standing_of};
+    ghost use Rattle.tb_undo.specs.Tasks.{seen_row};
+
+    ghost Value = { Standing };
+
+    ghost view = { λ s. standing_of (seen_row s.row.now) };
+}
+
+impl<'a> Standing<'a> {
+    pub(crate) fn of(row: &'a Row) -> Standing<'a>
+        ensures { result ≡ standing_of (seen_row row.now) }
+    {
+        Standing { row }
+    }
+
+    /// Its line.
+    pub fn at(&self) -> u32
+        ensures { result ≡ self.now.at }
+    {
+        self.row.at
+    }
+
+    /// How many steps it has taken.
+    pub fn steps(&self) -> u32
+        ensures { result ≡ self.now.steps }
+    {
+        self.row.steps
+    }
+
+    /// Its registers.
+    pub fn regs(&self) -> &'a [i64; 16]
+        ensures { result.now ≡ self.now.regs }
+    {
+        &self.row.regs
+    }
 }

@@ -1,4 +1,6 @@
-use Rattle.std.proofs.Common.{arith, rules, refl}
+use Rattle.std.proofs.Common.{arith, rules, refl, ap, slice_get}
+use Rattle.tb_core.specs.Outcomes.{event_for}
+use Rattle.tb_core.specs.Seen.{history}
 use Rattle.tb_live.proofs.ComingLemmas.{few_steps, full_enters, may_go, memory_enters, taken_enters, no_place, some_place}
 use Rattle.tb_live.proofs.stepping.enter_clear.Goals as goal
 
@@ -10,8 +12,8 @@ pub returns-then-is_err-clause-entered : goal.returns-then-is_err-clause-entered
 returns-then-is_err-clause-entered c p says current =
     memory_enters c.args.limit c.args.seat c.args.core.now.run c.args.core.now.run p c.args.journal.now.items c.reserve.new.self.items c.args.control.now c.args.control.now refl (search rules) refl (some_place c.args.limit c.args.journal.now.items (search rules))
 
-pub step_clear-requires : goal.step_clear-requires
-step_clear-requires c =
+pub take-requires-clause-may : goal.take-requires-clause-may
+take-requires-clause-may c =
     may_go c.args.core.now.run c.args.task c.args.coming c.requires.clear.next c.requires.clear.clear (search rules)
 
 pub overflow_add-result : goal.overflow_add-result
@@ -21,9 +23,12 @@ overflow_add-result c =
 
 pub returns-in-Ok-clause-entered : goal.returns-in-Ok-clause-entered
 returns-in-Ok-clause-entered c p says current =
-    taken_enters c.args.limit c.args.seat c.args.core.now.run c.args.task c.args.coming p c.step_clear.new.self.run c.in-Ok.event c.args.journal.now.items c.push_step.new.self.items c.args.control.now c.step_taken-in-Ok.new.self _ says current (search rules)
-    c.in-Ok.ensures.taken (search rules) (some_place c.args.limit c.args.journal.now.items (search rules)) (search rules) refl
+    let run = c.args.core.now.run in
+    let taken = c.in-Ok.ensures.ok.taken in
+    let newest = ap (λ r. slice_get (history r) 0) taken.now in
+    taken_enters c.args.limit c.args.seat run c.args.task c.args.coming p c.take.new.core.run (event_for run c.args.task c.args.coming.action) c.args.journal.now.items c.take.new.journal.items c.args.control.now c.follow.new.control _ says current (search rules)
+    taken (search rules) (some_place c.args.limit c.args.journal.now.items (search rules)) (c.follow.ensures _ newest) refl
 
 pub returns-in-Err-clause-entered : goal.returns-in-Err-clause-entered
 returns-in-Err-clause-entered c p says current =
-    memory_enters c.args.limit c.args.seat c.args.core.now.run c.step_clear.new.self.run p c.args.journal.now.items c.reserve.new.self.items c.args.control.now c.args.control.now c.in-Err.ensures.err (search rules) refl (some_place c.args.limit c.args.journal.now.items (search rules))
+    memory_enters c.args.limit c.args.seat c.args.core.now.run c.take.new.core.run p c.args.journal.now.items c.take.new.journal.items c.args.control.now c.args.control.now c.in-Err.ensures.err.0 (search rules) refl (some_place c.args.limit c.args.journal.now.items (search rules))

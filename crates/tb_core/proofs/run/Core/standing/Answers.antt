@@ -1,7 +1,7 @@
 use Rattle.std.proofs.Common.{◌≡◌, map, option_map, reverse, subst}
 use Rattle.tb_core.specs.Soundness.{departure}
 use Rattle.tb_undo.specs.State.{task_of}
-use Rattle.tb_undo.specs.Readings.{standing_of}
+use Rattle.tb_undo.specs.Standings.{standing_of}
 use Rattle.tb_core.specs.Seen.{Held}
 use Rattle.tb_core.proofs.ShownLemmas.{some_stands, none_stands}
 use Rattle.tb_core.proofs.run.Core.standing.Goals as goal
