@@ -6,7 +6,10 @@ ghost use Rattle.tb_model.specs.Names.{same_name, name_cmp};
 // So many numbers are looked for at once.
 const AT_ONCE: usize = 16;
 
-/// Whether the numbers are the same. Sixteen are compared at once.
+// And so many, of those that are left then.
+const FEW: usize = 4;
+
+/// Whether the numbers are the same. Sixteen are compared at once, then four.
 #[inline]
 #[tactic(auto, using(crate::proofs::WithinLemmas::different))]
 pub(crate) fn are_same(a: &[u32], b: &[u32]) -> bool
@@ -18,11 +21,18 @@ pub(crate) fn are_same(a: &[u32], b: &[u32]) -> bool
     let mut left = a;
     let mut right = b;
     'blocks: while left.len() >= AT_ONCE {
-        if !are_same_sixteen(&left[..AT_ONCE], &right[..AT_ONCE]) {
+        if !are_so_many_same(&left[..AT_ONCE], &right[..AT_ONCE], AT_ONCE) {
             return false;
         }
         left = &left[AT_ONCE..];
         right = &right[AT_ONCE..];
+    }
+    'fours: while left.len() >= FEW {
+        if !are_so_many_same(&left[..FEW], &right[..FEW], FEW) {
+            return false;
+        }
+        left = &left[FEW..];
+        right = &right[FEW..];
     }
     'numbers: while let ([n, more @ ..], [s, others @ ..]) = (left, right) {
         if *n != *s {
@@ -34,14 +44,14 @@ pub(crate) fn are_same(a: &[u32], b: &[u32]) -> bool
     true
 }
 
-/// The same of sixteen, without a branch after each.
-#[inline]
-fn are_same_sixteen(a: &[u32], b: &[u32]) -> bool
-    requires { (length a.now ≡ 16) × (length b.now ≡ 16) }
+/// The same of so many numbers, without a branch after each.
+#[inline(always)]
+fn are_so_many_same(a: &[u32], b: &[u32], count: usize) -> bool
+    requires { (length a.now ≡ count) × (length b.now ≡ count) }
     ensures { result ≡ same_name a.now b.now }
 {
     let mut same = true;
-    for i in 0..AT_ONCE {
+    for i in 0..count {
         same &= a[i] == b[i];
     }
     same

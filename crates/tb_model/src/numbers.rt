@@ -5,6 +5,7 @@ ghost use Rattle.tb_model.specs.Names.{same_name};
 ghost use Rattle.tb_model.specs.Stored.{numbers_in, IsShortest};
 
 use crate::block::BLOCK;
+use crate::in_common::are_same;
 use crate::making::{cut, grown, shared};
 use crate::parts::Parts;
 use crate::stored::Stored;
@@ -141,6 +142,9 @@ impl Numbers {
             (Stored::Two([a, b]), Stored::Two([k, l])) => *a == *k && *b == *l,
             (Stored::Three([a, b, c]), Stored::Three([k, l, m])) => {
                 *a == *k && *b == *l && *c == *m
+            }
+            (Stored::Shared(numbers), Stored::Shared(others)) => {
+                are_same(numbers.as_slice(), others.as_slice())
             }
             _ => self.parts().is_same(&other.parts()),
         }

@@ -12,6 +12,15 @@ invariant-blocks-2 l = record {
 abbrev pub decreases-blocks-2 : goal.decreases-blocks-2
 decreases-blocks-2 l = length l.left
 
+abbrev pub invariant-fours : goal.invariant-fours
+invariant-fours l = record {
+  long : length l.left ≡ length l.right;
+  rest : same_name l.a l.b ≡ same_name l.left l.right;
+}
+
+abbrev pub decreases-fours : goal.decreases-fours
+decreases-fours l = length l.left
+
 abbrev pub invariant-numbers : goal.invariant-numbers
 invariant-numbers l = record {
   long : length l.left ≡ length l.right;

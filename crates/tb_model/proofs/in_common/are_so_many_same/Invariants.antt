@@ -1,6 +1,6 @@
 use Rattle.std.proofs.Common.{◌≡◌, ◌&&◌, drop}
 use Rattle.tb_model.specs.Names.{same_name}
-use Rattle.tb_model.proofs.in_common.are_same_sixteen.Given as goal
+use Rattle.tb_model.proofs.in_common.are_so_many_same.Given as goal
 
 -- the numbers so far, and those that are left
 abbrev pub invariant-loop-i : goal.invariant-loop-i
