@@ -1,5 +1,7 @@
 //! A journal gives each entry back as it was added.
 
+ghost use Rattle.std.specs.Prelude.{◌<◌, length};
+
 use std::alloc::{AllocError, AllocGlobal, Global};
 use std::mem;
 use std::process::Abort;
@@ -46,7 +48,10 @@ fn has_same_text(rt: &impl AllocGlobal, left: &Entry, right: &Entry) -> Result<b
 }
 
 /// Adds the entry for which there is room by its action, where it doesn't stand apart.
-fn push(rt: &impl Abort, journal: &mut Journal, entry: Entry) {
+fn push(rt: &impl Abort, journal: &mut Journal, entry: Entry)
+    requires { 0 < journal.old.room }
+    ensures { length journal.old.items < length journal.new.items }
+{
     if let Entry::Stepped { seat, event } = &entry {
         if !stands_apart(*seat, &event.action) {
             let task = event.task.clone().expect(rt, "a name");
