@@ -10,9 +10,8 @@ use Rattle.tb_model.specs.Lines.{Departure}
 use Rattle.tb_model.specs.Equivalent.{stands}
 use Rattle.tb_model.proofs.FactsLemmas.{no_acts}
 use Rattle.tb_read.specs.declared.config.Config.{Config}
-use Rattle.tb_undo.specs.Standings.{Standing}
 use Rattle.tb_undo.specs.State.{Seen as Tables, task_of}
-use Rattle.tb_undo.specs.Standings.{standing_of}
+use Rattle.tb_undo.specs.Standings.{Standing, standing_of}
 use Rattle.tb_undo.proofs.TaskLemmas.{unacted_in}
 use Rattle.tb_core.specs.Seen.{Seen}
 use Rattle.tb_core.specs.declared.entry.Entry.{Entry}

@@ -26,9 +26,8 @@ use Rattle.tb_model.proofs.StateLemmas.{over_ended}
 use Rattle.tb_read.specs.declared.planned.Plan.{Plan}
 use Rattle.tb_read.specs.declared.config.Config.{Config}
 use Rattle.tb_read.specs.Plans.{names_allowed, line_behind, is_placed, is_place}
-use Rattle.tb_undo.specs.Standings.{Standing}
 use Rattle.tb_undo.specs.State.{known_task, task_of}
-use Rattle.tb_undo.specs.Standings.{standing_of}
+use Rattle.tb_undo.specs.Standings.{Standing, standing_of}
 use Rattle.tb_core.specs.declared.step_refusal.StepRefusal.{StepRefusal}
 use Rattle.tb_core.specs.declared.step_refusal.StepRefusal.TheVariants.{Memory, Full, Stale}
 use Rattle.tb_core.specs.Seen.{Seen, history}

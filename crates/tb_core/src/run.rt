@@ -265,7 +265,7 @@ impl Core {
             (event_for self.old.run task.now action)) }
         ensures err { OnErr result (self.new.run ≡ self.old.run) }
     {
-        let event = event_for(&self.tables, task, action)?;
+        let event = self.event_of_clear(task, action)?;
         self.append(event, to)?;
         Ok(())
     }
@@ -281,10 +281,21 @@ impl Core {
         ensures taken { IfOk result (Takes self.old.run task.now action to self.new.run) }
         ensures err { OnErr result (self.new.run ≡ self.old.run) }
     {
-        let event = event_for(&self.tables, task, action)?;
+        let event = self.event_of_clear(task, action)?;
         let copy = copy_event(&event)?;
         self.append(event, to)?;
         Ok(copy)
+    }
+
+    /// The event of an action from which nothing keeps the task.
+    #[inline]
+    fn event_of_clear(&self, task: &TaskName, action: Action) -> Result<Event, AllocError>
+        requires { MayTake self.now.run task.now action }
+        ensures is { IfOk result (λ v. v ≡ event_for self.now.run task.now action) }
+        ensures may { IfOk result (MayFollow self.now.run.cells (history self.now.run)) }
+    {
+        let event = event_for(&self.tables, task, action)?;
+        Ok(event)
     }
 
     /// Takes an event that may follow the others.

@@ -16,7 +16,7 @@ use std::mem::replace;
 use tb_lines::{Failed, Sink, write_whole};
 use tb_model::{TaskName, append_number, append_signed};
 
-/// So many long names wait at most: they are as long as what waits at most in other texts.
+/// So many long names wait at most: as text they have at least as many bytes.
 const NAMES: usize = 256;
 
 /// A text that is still to be written. A name of more than 128 levels stands in it as what names share, and is spelled as

@@ -89,7 +89,8 @@ impl Journal {
         self.add(short_step(seat, event));
     }
 
-    /// Adds the step of a seat that takes no memory of its own, and for which there is room.
+    /// Adds the step of a seat whose entry doesn't stand apart, and for which there is room. It takes no
+    /// memory.
     #[inline]
     pub fn push_short(&mut self, seat: u32, task: TaskName, action: &Action)
         requires room { 0 < self.old.room }

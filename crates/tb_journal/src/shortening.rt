@@ -9,7 +9,7 @@ use crate::compact::Compact;
 use tb_model::{Action, Entry, Event, StepId, TaskName};
 
 /// Whether the entry of a step of the seat with this action stands apart: where that is a spawn or a
-/// `taskwait` with items, or a seat that no run has. No other entry takes memory.
+/// `taskwait` with items, or a seat that no run has. The others have no memory of their own.
 #[inline]
 pub fn stands_apart(seat: u32, action: &Action) -> bool
     ensures { result ≡ stands_apart seat action.now }

@@ -1,33 +1,11 @@
-use Rattle.std.proofs.Common.{ap, subst}
+use Rattle.std.proofs.Common.{subst}
 use Rattle.tb_core.specs.Outcomes.{Takes}
-use Rattle.tb_core.specs.Seen.{Held}
-use Rattle.tb_core.proofs.TakenLemmas.{names, run_of, filled, follows, takes_so}
+use Rattle.tb_core.proofs.TakenLemmas.{takes_so}
 use Rattle.tb_core.proofs.run.Core.step_clear.Goals as goal
-
-pub event_for-requires-clause-allowed : goal.event_for-requires-clause-allowed
-event_for-requires-clause-allowed c =
-    let i = c.self.inside in
-    let is = ap (λ (h : Held). h.run) c.self.view_is in
-    names i.first.items i.root_line i.limit i.entries.items i.tables c.self.invariant.0 c.args.self.now.run is c.args.task.now c.args.action c.requires
-
-pub event_for-requires-clause-run : goal.event_for-requires-clause-run
-event_for-requires-clause-run c =
-    let i = c.self.inside in
-    let is = ap (λ (h : Held). h.run) c.self.view_is in
-    run_of i.first.items i.root_line i.limit i.entries.items i.tables c.self.invariant.0 c.args.self.now.run is c.args.task.now c.args.action c.requires
-
-pub append-requires-clause-may : goal.append-requires-clause-may
-append-requires-clause-may c =
-    let i = c.self.inside in
-    let is = ap (λ (h : Held). h.run) c.self.view_is in
-    let event = filled i.first.items i.root_line i.limit i.entries.items i.tables c.self.invariant.0 c.args.self.now.run is c.args.task.now c.args.action c.requires c.in_ok-event.event c.in_ok-event.ensures in
-    follows i.first.items i.root_line i.limit i.entries.items i.tables c.self.invariant.0 c.args.self.now.run is c.args.task.now c.args.action c.requires c.in_ok-event.event event
 
 pub returns-clause-taken : goal.returns-clause-taken
 returns-clause-taken c =
-    let i = c.self.inside in
-    let is = ap (λ (h : Held). h.run) c.self.view_is in
-    let event = filled i.first.items i.root_line i.limit i.entries.items i.tables c.self.invariant.0 c.args.self.now.run is c.args.task.now c.args.action c.requires c.in_ok-event.event c.in_ok-event.ensures in
-    subst (Takes c.args.self.now.run c.args.task.now c.args.action c.args.to c.append.new.self.run) event
-    (takes_so c.args.self.now.run c.args.task.now c.args.action c.args.to c.append.new.self.run c.in_ok-event.event event
-    (follows i.first.items i.root_line i.limit i.entries.items i.tables c.self.invariant.0 c.args.self.now.run is c.args.task.now c.args.action c.requires c.in_ok-event.event event) c.in_ok-append.ensures.ok)
+    let run = c.args.self.now.run in
+    let taken = Takes run c.args.task.now c.args.action c.args.to c.append.new.self.run in
+    let event = c.in_ok-event.event in
+    subst taken c.in_ok-event.ensures.is (takes_so run c.args.task.now c.args.action c.args.to c.append.new.self.run event c.in_ok-event.ensures.is c.in_ok-event.ensures.may c.in_ok-append.ensures.ok)
