@@ -55,7 +55,7 @@ program cs = record {
 
 -- both were generated
 abbrev ready : List Item → History
-ready is = by [] (Spawn two 3 [] is true) ∷ by [] (Spawn one 3 [] is true) ∷ by [] Start ∷ []
+ready is = by [] (Spawn (record { child = two; body = 3; args = []; items = is; deferred = true })) ∷ by [] (Spawn (record { child = one; body = 3; args = []; items = is; deferred = true })) ∷ by [] Start ∷ []
 
 -- the first steps of the two
 abbrev first : Label
@@ -203,16 +203,16 @@ spawn_one = record { task = []; k = 2 }
 needed_spawn : needs_in (record { task = one; k = 1 }) spawn_one both ≡ true
 needed_spawn = refl
 
-spawn_stays : Enabled free both (Undo spawn_one (Spawn one 3 [] [] true)) → ⊥
+spawn_stays : Enabled free both (Undo spawn_one (Spawn (record { child = one; body = 3; args = []; items = []; deferred = true }))) → ⊥
 spawn_stays h = omega (arith, h.0)
 
 -- its undo would leave too little
-with_all_that_need_it : target both (Undo spawn_one (Spawn one 3 [] [] true)) ≡ by [] Start ∷ []
+with_all_that_need_it : target both (Undo spawn_one (Spawn (record { child = one; body = 3; args = []; items = []; deferred = true }))) ≡ by [] Start ∷ []
 with_all_that_need_it = refl
 
 -- the start of the second task and the undo of its spawn aren't independent, those of the first and of that spawn are
 abbrev undo_spawn : Label
-undo_spawn = Undo (record { task = []; k = 3 }) (Spawn two 3 [] [] true)
+undo_spawn = Undo (record { task = []; k = 3 }) (Spawn (record { child = two; body = 3; args = []; items = []; deferred = true }))
 
 spawn_undone : Enabled free (ready []) undo_spawn
 spawn_undone = (refl, refl)
@@ -252,7 +252,7 @@ can_go =
 -- a journal of three steps and the rollback of the last
 abbrev journal : List Entry
 journal =
-    Rolled 0 (record { task = []; k = 3 }) ∷ Stepped 0 (by [] (Spawn two 3 [] [] true)) ∷ Stepped 1 (by [] (Spawn one 3 [] [] true)) ∷ Stepped 0 (by [] Start) ∷ Opened ∷ []
+    Rolled 0 (record { task = []; k = 3 }) ∷ Stepped 0 (by [] (Spawn (record { child = two; body = 3; args = []; items = []; deferred = true }))) ∷ Stepped 1 (by [] (Spawn (record { child = one; body = 3; args = []; items = []; deferred = true }))) ∷ Stepped 0 (by [] Start) ∷ Opened ∷ []
 
 journal_sound : Sound free journal
 journal_sound = (
@@ -264,7 +264,7 @@ what_it_did : path_of journal ≡ steps_of (ready []) ++ undo_spawn ∷ []
 what_it_did = refl
 
 -- a rollback of the first spawn: the starts of both tasks, the second spawn and it
-rollback_undoes : undos spawn_one both ≡ inverse second ∷ inverse first ∷ undo_spawn ∷ Undo spawn_one (Spawn one 3 [] [] true) ∷ []
+rollback_undoes : undos spawn_one both ≡ inverse second ∷ inverse first ∷ undo_spawn ∷ Undo spawn_one (Spawn (record { child = one; body = 3; args = []; items = []; deferred = true })) ∷ []
 rollback_undoes = refl
 
 -- ---- two tasks that exclude each other

@@ -26,7 +26,7 @@ module _ (w : Key → Bool) where
   -- ---- what an action gives
 
   spawn_gives : (t : Name) (a : Action) → w (Task t) ≡ true → is_spawn_of t a ≡ true → action_gives w a ≡ true
-  spawn_gives t (Spawn u body args items deferred) k h = subst (λ s. w (Task s) ≡ true) (sym (same_true u t h)) k
+  spawn_gives t (Spawn spawn) k h = subst (λ s. w (Task s) ≡ true) (sym (same_true spawn.child t h)) k
   spawn_gives t _ k h = absurd (false≢true h)
 
   store_gives : (c : ℕ) (a : Action) → (w (Stored c) || w (Touched c)) ≡ true → is_store_to c a ≡ true → action_gives w a ≡ true
@@ -127,7 +127,7 @@ module _ (w : Key → Bool) where
     action_given H t (Print x) k h = printed_given k (plainly H t (Print x) refl h)
     action_given H t (Wait items) k h = wait_given H t items k (sym (ap (λ b. (has_no_items items && f (Parent t)) || b) (waits_so t items)) ∙ h)
     action_given H t (Let r x) k h = absurd (false≢true (plainly H t (Let r x) refl h))
-    action_given H t (Spawn v body args items deferred) k h = absurd (false≢true (plainly H t (Spawn v body args items deferred) refl h))
+    action_given H t (Spawn s) k h = absurd (false≢true (plainly H t (Spawn s) refl h))
     action_given H t Open k h = absurd (false≢true (plainly H t Open refl h))
     action_given H t (Test y) k h = absurd (false≢true (plainly H t (Test y) refl h))
     action_given H t End k h = absurd (false≢true (plainly H t End refl h))

@@ -136,7 +136,7 @@ module _ (T : (Key → Bool) → Bool) (same : (f g : Key → Bool) → ((k : Ke
     point g = sym (asked g)
 
     action : (a : Action) → T (action_key a) ≡ action_gives w a
-    action (Spawn u body args items deferred) = one (action_key (Spawn u body args items deferred)) (Task u) (spawn_one u (Spawn u body args items deferred) (λ s. refl) (λ c. refl) (λ c. refl) refl)
+    action (Spawn spawn) = one (action_key (Spawn spawn)) (Task spawn.child) (spawn_one spawn.child (Spawn spawn) (λ s. refl) (λ c. refl) (λ c. refl) refl)
     action (Load r c x) = one (action_key (Load r c x)) (Touched c) (load_one r c (Load r c x) (λ s. refl) (λ d. refl) (λ d. refl) refl)
     action (Store c x) =
         two (action_key (Store c x)) (λ k. same_key k (Stored c)) (λ k. same_key k (Touched c)) (store_two c (Store c x) (λ s. refl) (λ d. refl) (λ d. refl) refl)

@@ -1,8 +1,8 @@
 -- A scan of a task's actions from the newest, for a child of its innermost open group that passes a test.
-use Rattle.std.proofs.Common.{◌≡◌, ◌≢◌, ◌-◌, arith, ℕ, zero, suc, List, [], ◌∷◌, Bool, true, false, ◌&&◌, ◌||◌, refl, sym, ap, ◌∙◌, drop, map, ℤ, ◌≤◌, length, take, get_or}
+use Rattle.std.proofs.Common.{◌≡◌, ◌≢◌, ◌-◌, arith, ℕ, zero, suc, List, [], ◌∷◌, Bool, true, false, ◌&&◌, ◌||◌, refl, sym, ap, ◌∙◌, drop, map, ◌≤◌, length, take, get_or}
 use Rattle.std.specs.List.{list_any}
-use Rattle.tb_model.specs.declared.item.Item.{Item}
 use Rattle.tb_model.specs.declared.action.Action.{Action}
+use Rattle.tb_model.specs.declared.spawn.Spawn.{Spawn as TheSpawn}
 use Rattle.tb_model.specs.declared.action.Action.TheVariants.{Spawn, Open, Close}
 use Rattle.tb_model.specs.Names.{Name}
 use Rattle.tb_model.specs.Facts.{groups, innermost, is_of, own}
@@ -56,12 +56,12 @@ or_false false = refl
 pub at_open : (found : Bool) (acts : List Action) (f : Name → Bool) → member_behind 0 found (Open ∷ acts) f ≡ found
 at_open found acts f = or_false found
 
-at_spawn : (closed : ℕ) (found : Bool) (u : Name) (body : ℕ) (args : List ℤ) (items : List Item) (deferred : Bool) (acts : List Action) (f : Name → Bool)
-    → member_behind closed found (Spawn u body args items deferred ∷ acts) f ≡ member_behind closed (found || f u) acts f
-at_spawn closed found u body args items deferred acts f =
+at_spawn : (closed : ℕ) (found : Bool) (s : TheSpawn) (acts : List Action) (f : Name → Bool)
+    → member_behind closed found (Spawn s ∷ acts) f ≡ member_behind closed (found || f s.child) acts f
+at_spawn closed found s acts f =
     ap (λ gs. member_of_first found gs f) (drop-map closed (groups acts)) ∙ more (drop closed (groups acts))
   where
-    drop-map : (k : ℕ) (gs : List (List Name)) → drop k (map (λ us. u ∷ us) gs) ≡ map (λ us. u ∷ us) (drop k gs)
+    drop-map : (k : ℕ) (gs : List (List Name)) → drop k (map (λ us. s.child ∷ us) gs) ≡ map (λ us. s.child ∷ us) (drop k gs)
     drop-map zero gs = refl
     drop-map (suc k) [] = refl
     drop-map (suc k) (us ∷ gs) = drop-map k gs
@@ -70,9 +70,9 @@ at_spawn closed found u body args items deferred acts f =
     regroup true b c = refl
     regroup false b c = refl
 
-    more : (gs : List (List Name)) → member_of_first found (map (λ us. u ∷ us) gs) f ≡ member_of_first (found || f u) gs f
+    more : (gs : List (List Name)) → member_of_first found (map (λ us. s.child ∷ us) gs) f ≡ member_of_first (found || f s.child) gs f
     more [] = refl
-    more (us ∷ gs) = regroup found (f u) (list_any f us)
+    more (us ∷ gs) = regroup found (f s.child) (list_any f us)
 
 -- one open more
 at_open_inside : (closed : ℕ) (found : Bool) (acts : List Action) (f : Name → Bool) → closed ≢ 0 → member_behind closed found (Open ∷ acts) f ≡ member_behind (closed - 1) found acts f
@@ -92,30 +92,30 @@ module _ (t : Name) (f : Name → Bool) (rest : List Entry) (e : Entry) (some : 
       sym (ap (λ acts. member_behind closed found acts f) (own_newest t rest e Open some here mine is) ∙ at_open_inside closed found older f inside)
 
   -- it generated one that m is within
-  pub behind_member : (closed : ℕ) (found : Bool) (u : Name) (body : ℕ) (args : List ℤ) (items : List Item) (deferred : Bool) → e.event.action ≡ Spawn u body args items deferred
-      → f u ≡ true → member_behind closed true older f ≡ member_behind closed found (own t (history_of rest)) f
-  behind_member closed found u body args items deferred is within =
+  pub behind_member : (closed : ℕ) (found : Bool) (s : TheSpawn) → e.event.action ≡ Spawn s
+      → f s.child ≡ true → member_behind closed true older f ≡ member_behind closed found (own t (history_of rest)) f
+  behind_member closed found s is within =
       sym
-      (ap (λ acts. member_behind closed found acts f) (own_newest t rest e (Spawn u body args items deferred) some here mine is)
-      ∙ at_spawn closed found u body args items deferred older f
+      (ap (λ acts. member_behind closed found acts f) (own_newest t rest e (Spawn s) some here mine is)
+      ∙ at_spawn closed found s older f
       ∙ ap (λ b. member_behind closed b older f) (ap (λ b. found || b) within ∙ or_true found))
 
   -- or another
-  pub behind_other : (closed : ℕ) (found : Bool) (u : Name) (body : ℕ) (args : List ℤ) (items : List Item) (deferred : Bool) → e.event.action ≡ Spawn u body args items deferred
-      → f u ≡ false → member_behind closed found older f ≡ member_behind closed found (own t (history_of rest)) f
-  behind_other closed found u body args items deferred is within =
+  pub behind_other : (closed : ℕ) (found : Bool) (s : TheSpawn) → e.event.action ≡ Spawn s
+      → f s.child ≡ false → member_behind closed found older f ≡ member_behind closed found (own t (history_of rest)) f
+  behind_other closed found s is within =
       sym
-      (ap (λ acts. member_behind closed found acts f) (own_newest t rest e (Spawn u body args items deferred) some here mine is)
-      ∙ at_spawn closed found u body args items deferred older f
+      (ap (λ acts. member_behind closed found acts f) (own_newest t rest e (Spawn s) some here mine is)
+      ∙ at_spawn closed found s older f
       ∙ ap (λ b. member_behind closed b older f) (ap (λ b. found || b) within ∙ or_false found))
 
   -- it generated one, whatever that one is
-  pub behind_spawn : (closed : ℕ) (found : Bool) (u : Name) (body : ℕ) (args : List ℤ) (items : List Item) (deferred : Bool) → e.event.action ≡ Spawn u body args items deferred
-      → member_behind closed (found || f u) older f ≡ member_behind closed found (own t (history_of rest)) f
-  behind_spawn closed found u body args items deferred is =
+  pub behind_spawn : (closed : ℕ) (found : Bool) (s : TheSpawn) → e.event.action ≡ Spawn s
+      → member_behind closed (found || f s.child) older f ≡ member_behind closed found (own t (history_of rest)) f
+  behind_spawn closed found s is =
       sym
-      (ap (λ acts. member_behind closed found acts f) (own_newest t rest e (Spawn u body args items deferred) some here mine is)
-      ∙ at_spawn closed found u body args items deferred older f)
+      (ap (λ acts. member_behind closed found acts f) (own_newest t rest e (Spawn s) some here mine is)
+      ∙ at_spawn closed found s older f)
 
 -- ---- a group that is open
 

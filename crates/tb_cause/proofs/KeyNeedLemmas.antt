@@ -1,5 +1,5 @@
 -- An event needs an earlier one where it takes a key of it.
-use Rattle.std.proofs.Common.{◌≡◌, ℕ, ◌+◌, ◌==◌, List, [], ◌∷◌, Bool, true, false, ◌&&◌, ◌||◌, not, refl, sym, ap, ap₂, ◌∙◌}
+use Rattle.std.proofs.Common.{◌≡◌, ℕ, ◌+◌, ◌==◌, List, [], ◌∷◌, Bool, true, false, ◌&&◌, ◌||◌, not, cond, Some, None, refl, sym, ap, ap₂, ◌∙◌}
 use Rattle.std.specs.List.{list_any, AllByRecursion}
 use Rattle.tb_model.specs.declared.action.Action.{Action}
 use Rattle.tb_model.specs.declared.action.Action.TheVariants.{Start, Load, Store, Print, Spawn, Wait, Close}
@@ -170,8 +170,11 @@ module _ (I : Name → List AnItem) (H : History) (v u : Event) where
 
   held_key : (acts : List Action) → held_any (gives I u) (held_by acts) ≡ (E && holds acts u.task)
   held_key [] = sym (and_none E)
-  held_key (Spawn w body args items true ∷ acts) = sym (and_none E)
-  held_key (Spawn w body args items false ∷ acts) = ap (λ b. E && b) (or_none (same_name u.task w) ∙ same_turned u.task w)
+  held_key (Spawn s ∷ acts) = by s.deferred
+    where
+      by : (d : Bool) → held_any (gives I u) (cond d None (Some s.child)) ≡ (E && (not d && same_name s.child u.task))
+      by true = sym (and_none E)
+      by false = ap (λ b. E && b) (or_none (same_name u.task s.child) ∙ same_turned u.task s.child)
   held_key (_ ∷ acts) = sym (and_none E)
 
   no_more : (b : Bool) → (b || (E && false)) ≡ (b || false)

@@ -16,8 +16,7 @@ use Rattle.tb_cause.proofs.ConeLemmas.{some_same, there}
 
 -- only the newest action counts
 newest_counts : (a : Action) (acts : List Action) → held_by (a ∷ acts) ≡ held_by (a ∷ [])
-newest_counts (Spawn w body args items true) acts = refl
-newest_counts (Spawn w body args items false) acts = refl
+newest_counts (Spawn s) acts = refl
 newest_counts _ acts = refl
 
 module _ (entries : List Entry) (at : ℕ) (e : Entry) (within : at < length entries) (here : e ≡ get_or entries at e) where

@@ -46,7 +46,7 @@ new_items_key p starts items _ = false
 
 -- that an action gives
 abbrev pub action_gives : (Key → Bool) → Action → Bool
-action_gives f (Spawn w body args items deferred) = f (Task w)
+action_gives f (Spawn s) = f (Task s.child)
 action_gives f (Load r c x) = f (Touched c)
 action_gives f (Store c x) = f (Stored c) || f (Touched c)
 action_gives f (Print x) = f Printed

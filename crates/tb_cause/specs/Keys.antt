@@ -1,6 +1,6 @@
 -- The keys of events: an event needs an earlier one where it takes a key that the earlier one gives, or where it comes behind
 -- that one's end by depend items.
-use Rattle.std.specs.Prelude.{◌≡◌, ℕ, ◌+◌, List, [], ◌∷◌, Bool, true, false, ◌&&◌, ◌||◌, nat_eq, Option, Some, None}
+use Rattle.std.specs.Prelude.{◌≡◌, if◌then◌else◌, ℕ, ◌+◌, List, [], ◌∷◌, Bool, true, false, ◌&&◌, ◌||◌, nat_eq, Option, Some, None}
 use Rattle.std.specs.List.{list_any}
 use Rattle.indexmap.specs.IndexSet.{contains}
 use Rattle.tb_model.specs.declared.action.Action.{Action}
@@ -83,7 +83,7 @@ gives I u k = own_key u.task k || (action_key u.action k || (is_end u.action && 
 
 -- the undeferred child that the newest of these actions generated
 abbrev pub held_by : List Action → Option Name
-held_by (Spawn w body args items false ∷ acts) = Some w
+held_by (Spawn s ∷ acts) = if s.deferred then None else Some s.child
 held_by _ = None
 
 -- some key passes the test that is taken behind the end of this child

@@ -40,7 +40,7 @@ fn give_action(keys: &mut Keys, action: &Action) -> Result<(), AllocError>
     ensures { OnOk result ((k : Key) → has keys.new k ≡ (action_key action.now k || has keys.old k)) }
 {
     match action {
-        Action::Spawn { child, .. } => put(&mut keys.tasks, child),
+        Action::Spawn(spawned) => put(&mut keys.tasks, &spawned.get().child),
         Action::Load { cell, .. } => put_cell(&mut keys.touched, *cell),
         Action::Store { cell, .. } => {
             put_cell(&mut keys.stored, *cell)?;
@@ -166,7 +166,7 @@ fn gives_by_action(keys: &Keys, action: &Action) -> bool
     ensures { result ≡ action_gives (has keys.now) action.now }
 {
     match action {
-        Action::Spawn { child, .. } => keys.tasks.contains(child),
+        Action::Spawn(spawned) => keys.tasks.contains(&spawned.get().child),
         Action::Load { cell, .. } => keys.touched.contains(cell),
         Action::Store { cell, .. } => keys.stored.contains(cell) || keys.touched.contains(cell),
         Action::Print { .. } => keys.printed,

@@ -144,7 +144,7 @@ fn items_at(entries: &[Entry], at: usize) -> &[Item]
     ensures { result.now ≡ items_placed entries.now at }
 {
     match &entries[at].event.action {
-        Action::Spawn { items, .. } => items.as_slice(),
+        Action::Spawn(spawned) => spawned.get().items.as_slice(),
         _ => &[],
     }
 }

@@ -126,7 +126,7 @@ fn note_group(
                     closed -= 1;
                 }
                 Action::Close => closed += 1,
-                Action::Spawn { child, .. } => put(set, child)?,
+                Action::Spawn(spawned) => put(set, &spawned.get().child)?,
                 _ => {}
             }
         }

@@ -34,7 +34,7 @@ fn spawned(action: &Action) -> Option<&TaskName>
     ensures { (t : Name) → is_spawn_of t action.now ≡ is_spawned_child t (option_copied result) }
 {
     match action {
-        Action::Spawn { child, .. } => Some(child),
+        Action::Spawn(spawned) => Some(&spawned.get().child),
         _ => None,
     }
 }

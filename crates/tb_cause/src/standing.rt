@@ -48,14 +48,10 @@ fn pass(
         (if same_name event.now.task t then held_by (event.now.action ∷ []) else get same_name standing.old t)) }
 {
     let left = leave(standing, &event.task);
-    if let Action::Spawn {
-        child,
-        deferred,
-        ..
-    } = &event.action
-    {
-        if !*deferred {
-            standing.insert(event.task.clone()?, child.clone()?)?;
+    if let Action::Spawn(spawned) = &event.action {
+        let spawn = spawned.get();
+        if !spawn.deferred {
+            standing.insert(event.task.clone()?, spawn.child.clone()?)?;
         }
     }
     Ok(left)

@@ -91,8 +91,8 @@ fn takes_of_group(set: &IndexSet<TaskName>, front: &[Entry], task: &TaskName) ->
                     closed -= 1;
                 }
                 Action::Close => closed += 1,
-                Action::Spawn { child, .. } => {
-                    if set.contains(child) {
+                Action::Spawn(spawned) => {
+                    if set.contains(&spawned.get().child) {
                         found = true;
                     }
                 }

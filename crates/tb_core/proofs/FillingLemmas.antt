@@ -1,19 +1,19 @@
--- Names that can be used again, and the next child.
+-- What can be used again of an event, and the next child.
 use Rattle.std.proofs.Common.{◌≡◌, ◌≢◌, ℤ, ◌≤◌, ◌↔◌, ℕ, suc, List, [], ◌∷◌, Bool, true, false, cond, length, refl, sym, ap, ap₂, ◌∙◌, arith, Option, Some, None, IsTrue, unwrap_or, ◌+◌, if◌then◌else◌, IfOk, Result, Ok, Err}
 use Rattle.std.specs.Prelude.{slice_get}
 use Rattle.std.proofs.lemmas.Bool.{true≢false}
 use Rattle.std.proofs.lemmas.List.{length-map}
-use Rattle.tb_model.specs.declared.item.Item.{Item}
 use Rattle.tb_model.specs.declared.action.Action.{Action}
 use Rattle.tb_model.specs.declared.action.Action.TheVariants.{Spawn, Load}
 use Rattle.tb_model.specs.declared.event.Event.{Event}
+use Rattle.tb_model.specs.declared.spawn.Spawn.{Spawn as TheSpawn}
 use Rattle.tb_model.specs.Names.{Name, same_name, is_child, child}
 use Rattle.tb_model.specs.Facts.{History, own, last, IsSpawned, is_spawned, is_of, prepend_if}
 use Rattle.tb_model.specs.Legal.{Cells, first_number, spawn_count}
 use Rattle.tb_model.specs.Lines.{Departure, events_of}
 use Rattle.tb_model.proofs.TestLemmas.{same_true, same_refl}
 use Rattle.tb_undo.specs.State.{Seen as Tables, IsState}
-use Rattle.tb_core.specs.Filling.{IsRunOf, IsNextChild, IsWhole, Fills, completed, child_in}
+use Rattle.tb_core.specs.Filling.{IsRunOf, IsNextSpawn, IsWhole, Fills, completed, spawn_in}
 
 pub same_spare : (spare name : Name) (b : Bool) → b ≡ same_name spare name → IsTrue b → spare ≡ name
 same_spare spare name b e t = same_true spare name (sym e ∙ t)
@@ -38,7 +38,7 @@ spawns_within [] = omega arith
 spawns_within (a ∷ acts) = more a (spawns_within acts)
   where
     more : (a : Action) → spawn_count acts ≤ length acts → spawn_count (a ∷ acts) ≤ suc (length acts)
-    more (Spawn u body args items deferred) h = omega arith
+    more (Spawn s) h = omega arith
     more _ h = omega arith
 
 few_children : (s : Tables) (t : Name) (r : IsRunOf s t) → spawn_count (own t (events_of r.steps)) ≤ 1000000
@@ -57,20 +57,20 @@ module _ (s : Tables) (t : Name) (o : Option ℕ) (n : ℕ) (c : IsCount s t o) 
   pub few : IsRunOf s t → n ≤ 1000000
   few r = omega (arith, counted r.first r.root_line r.steps r.state r.spawned, few_children s t r)
 
-  pub next_found : (x : Name) → x ≡ child t (n + 1) → IsNextChild s t x
-  next_found x is first root_line D k h =
+  pub next_found : (a b : TheSpawn) → b ≡ record a { child = child t (n + 1) } → IsNextSpawn s t a b
+  next_found a b is first root_line D k h =
       let one : n + 1 ≡ suc (spawn_count (own t (events_of D))) = omega (arith, counted first root_line D k h) in
-      is ∙ ap (child t) one
+      is ∙ ap (λ m. record a { child = child t m }) one
 
-  pub next_made : {E : Type 0} (r : Result Name E) → IfOk r (λ x. x ≡ child t (n + 1)) → IfOk r (IsNextChild s t)
-  next_made (Ok x) is = next_found x is
-  next_made (Err w) is = tt
+  pub next_made : {E : Type 0} (a : TheSpawn) (r : Result TheSpawn E) → IfOk r (λ b. b ≡ record a { child = child t (n + 1) }) → IfOk r (IsNextSpawn s t a)
+  next_made a (Ok b) is = next_found a b is
+  next_made a (Err w) is = tt
 
-  -- a spare name that isn't the nth child's isn't the next child's
-  pub not_next : (spare : Option Name) (x y : Name) (b : Bool) → IsRunOf s t → spare ≡ Some x → IsTrue b ↔ (x ≡ child t (n + 1)) → b ≡ false → IsNextChild s t y → spare ≡ Some y → ⊥
-  not_next spare x y b r is w f next h =
+  -- a spare spawn that isn't the nth child's isn't the next child's
+  pub not_next : (spare : Option TheSpawn) (a x y : TheSpawn) (b : Bool) → IsRunOf s t → spare ≡ Some x → IsTrue b ↔ (x ≡ record a { child = child t (n + 1) }) → b ≡ false → IsNextSpawn s t a y → spare ≡ Some y → ⊥
+  not_next spare a x y b r is w f next h =
       let same : x ≡ y = ap (λ m. unwrap_or m y) (sym is ∙ h) in
-      let made = next_found (child t (n + 1)) refl r.first r.root_line r.steps r.state r.spawned in
+      let made = next_found a (record a { child = child t (n + 1) }) refl r.first r.root_line r.steps r.state r.spawned in
       true≢false (sym (w.1 (same ∙ next r.first r.root_line r.steps r.state r.spawned ∙ sym made)) ∙ f)
 
 -- ---- the nth child of a task
@@ -98,32 +98,32 @@ pub load_filled : (s : Tables) (t : Name) (a b : Action) (r c : ℕ) (x y : ℤ)
 load_filled s t a b r c x y reads is made first root_line D k h =
     ap (λ e. event t e) (made ∙ ap (Load r c) (reads first root_line D k) ∙ ap (completed first (events_of D) t) (sym is))
 
-module _ (s : Tables) (t : Name) (a : Action) (u : Name) (line : ℕ) (args : List ℤ) (items : List Item) (deferred : Bool) (is : a ≡ Spawn u line args items deferred) where
+module _ (s : Tables) (t : Name) (a : Action) (p : TheSpawn) (is : a ≡ Spawn p) where
   -- a spawn names the next child
-  pub spawn_filled : (b : Action) (x : Name) → IsNextChild s t x → b ≡ Spawn x line args items deferred → Fills s t a (record { task = t; action = b })
-  spawn_filled b x next made first root_line D k h =
-      ap (λ e. event t e) (made ∙ ap (λ y. Spawn y line args items deferred) (next first root_line D k h) ∙ ap (completed first (events_of D) t) (sym is))
+  pub spawn_filled : (b : Action) (q : TheSpawn) → IsNextSpawn s t p q → b ≡ Spawn q → Fills s t a (record { task = t; action = b })
+  spawn_filled b q next made first root_line D k h =
+      ap (λ e. event t e) (made ∙ ap (λ y. Spawn y) (next first root_line D k h) ∙ ap (completed first (events_of D) t) (sym is))
 
-  child_filled : (v : Event) → Fills s t a v → (first : Cells) (root_line : ℕ) (D : List Departure) → IsState first root_line D s → IsSpawned (events_of D) t → child_in v.action ≡ Some (child t (suc (spawn_count (own t (events_of D)))))
-  child_filled v f first root_line D k h =
-      ap (λ (w : Event). child_in w.action) (f first root_line D k h) ∙ ap (λ b. child_in (completed first (events_of D) t b)) is
+  spawn_named : (v : Event) → Fills s t a v → (first : Cells) (root_line : ℕ) (D : List Departure) → IsState first root_line D s → IsSpawned (events_of D) t → spawn_in v.action ≡ Some (record p { child = child t (suc (spawn_count (own t (events_of D)))) })
+  spawn_named v f first root_line D k h =
+      ap (λ (w : Event). spawn_in w.action) (f first root_line D k h) ∙ ap (λ b. spawn_in (completed first (events_of D) t b)) is
 
-  -- so the child of its event is that
-  pub next_of_event : (R : Type 0) (v : Event) (spare : Option Name) → IsRunOf s t → Fills s t a v → spare ≡ child_in v.action → ((x : Name) → IsNextChild s t x → spare ≡ Some x → R) → R
+  -- so the spawn of its event is that
+  pub next_of_event : (R : Type 0) (v : Event) (spare : Option TheSpawn) → IsRunOf s t → Fills s t a v → spare ≡ spawn_in v.action → ((q : TheSpawn) → IsNextSpawn s t p q → spare ≡ Some q → R) → R
   next_of_event R v spare r f e use_it =
-      let x = child t (suc (spawn_count (own t (events_of r.steps)))) in
-      let named = child_filled v f r.first r.root_line r.steps r.state r.spawned in
-      use_it x (λ first root_line D k h. ap (λ o. unwrap_or o x) (sym named ∙ child_filled v f first root_line D k h)) (e ∙ named)
+      let q : TheSpawn = record p { child = child t (suc (spawn_count (own t (events_of r.steps)))) } in
+      let named = spawn_named v f r.first r.root_line r.steps r.state r.spawned in
+      use_it q (λ first root_line D k h. ap (λ o. unwrap_or o q) (sym named ∙ spawn_named v f first root_line D k h)) (e ∙ named)
 
 -- any other action is as it was planned
-pub completed_other : (first : Cells) (H : History) (t : Name) (a : Action) → ((r c : ℕ) (x : ℤ) → a ≢ Load r c x) → ((u : Name) (line : ℕ) (args : List ℤ) (items : List Item) (deferred : Bool) → a ≢ Spawn u line args items deferred) → completed first H t a ≡ a
+pub completed_other : (first : Cells) (H : History) (t : Name) (a : Action) → ((r c : ℕ) (x : ℤ) → a ≢ Load r c x) → ((q : TheSpawn) → a ≢ Spawn q) → completed first H t a ≡ a
 completed_other first H t (Load r c x) l s = absurd (l r c x refl)
-completed_other first H t (Spawn u line args items deferred) l s = absurd (s u line args items deferred refl)
+completed_other first H t (Spawn q) l s = absurd (s q refl)
 completed_other first H t _ l s = refl
 
 pub whole_named : (s : Tables) (t name : Name) (a : Action) → name ≡ t → IsWhole a → Fills s t a (record { task = name; action = a })
 whole_named s t name a same whole first root_line D k h = ap₂ (λ u b. event u b) same (sym (whole first (events_of D) t))
 
-pub other_filled : (s : Tables) (t : Name) (a b : Action) → ((r c : ℕ) (x : ℤ) → a ≢ Load r c x) → ((u : Name) (line : ℕ) (args : List ℤ) (items : List Item) (deferred : Bool) → a ≢ Spawn u line args items deferred) → b ≡ a → Fills s t a (record { task = t; action = b })
+pub other_filled : (s : Tables) (t : Name) (a b : Action) → ((r c : ℕ) (x : ℤ) → a ≢ Load r c x) → ((q : TheSpawn) → a ≢ Spawn q) → b ≡ a → Fills s t a (record { task = t; action = b })
 other_filled s t a b l n same first root_line D k h =
     ap (λ e. event t e) (same ∙ sym (completed_other first (events_of D) t a l n))

@@ -1,8 +1,8 @@
 -- A scan of a task's actions from the newest, for the members of its innermost open group.
-use Rattle.std.proofs.Common.{◌≡◌, ◌≢◌, ◌-◌, arith, ℕ, zero, suc, List, [], ◌∷◌, Bool, true, false, ◌&&◌, ◌||◌, refl, sym, ap, ◌∙◌, drop, map, ℤ, ◌≤◌, length, take, get_or}
+use Rattle.std.proofs.Common.{◌≡◌, ◌≢◌, ◌-◌, arith, ℕ, zero, suc, List, [], ◌∷◌, Bool, true, false, ◌&&◌, ◌||◌, refl, sym, ap, ◌∙◌, drop, map, ◌≤◌, length, take, get_or}
 use Rattle.std.specs.List.{list_any}
-use Rattle.tb_model.specs.declared.item.Item.{Item}
 use Rattle.tb_model.specs.declared.action.Action.{Action}
+use Rattle.tb_model.specs.declared.spawn.Spawn.{Spawn as TheSpawn}
 use Rattle.tb_model.specs.declared.action.Action.TheVariants.{Spawn, Open, Close}
 use Rattle.tb_model.specs.Names.{Name, is_within}
 use Rattle.tb_model.specs.Facts.{groups, innermost, is_member, is_of, own}
@@ -56,12 +56,12 @@ or_false false = refl
 pub at_open : (found : Bool) (acts : List Action) (m : Name) → member_behind 0 found (Open ∷ acts) m ≡ found
 at_open found acts m = or_false found
 
-at_spawn : (closed : ℕ) (found : Bool) (u : Name) (body : ℕ) (args : List ℤ) (items : List Item) (deferred : Bool) (acts : List Action) (m : Name)
-    → member_behind closed found (Spawn u body args items deferred ∷ acts) m ≡ member_behind closed (found || is_within u m) acts m
-at_spawn closed found u body args items deferred acts m =
+at_spawn : (closed : ℕ) (found : Bool) (s : TheSpawn) (acts : List Action) (m : Name)
+    → member_behind closed found (Spawn s ∷ acts) m ≡ member_behind closed (found || is_within s.child m) acts m
+at_spawn closed found s acts m =
     ap (λ gs. member_of_first found gs m) (drop-map closed (groups acts)) ∙ more (drop closed (groups acts))
   where
-    drop-map : (k : ℕ) (gs : List (List Name)) → drop k (map (λ us. u ∷ us) gs) ≡ map (λ us. u ∷ us) (drop k gs)
+    drop-map : (k : ℕ) (gs : List (List Name)) → drop k (map (λ us. s.child ∷ us) gs) ≡ map (λ us. s.child ∷ us) (drop k gs)
     drop-map zero gs = refl
     drop-map (suc k) [] = refl
     drop-map (suc k) (us ∷ gs) = drop-map k gs
@@ -70,9 +70,9 @@ at_spawn closed found u body args items deferred acts m =
     regroup true b c = refl
     regroup false b c = refl
 
-    more : (gs : List (List Name)) → member_of_first found (map (λ us. u ∷ us) gs) m ≡ member_of_first (found || is_within u m) gs m
+    more : (gs : List (List Name)) → member_of_first found (map (λ us. s.child ∷ us) gs) m ≡ member_of_first (found || is_within s.child m) gs m
     more [] = refl
-    more (us ∷ gs) = regroup found (is_within u m) (list_any (λ c. is_within c m) us)
+    more (us ∷ gs) = regroup found (is_within s.child m) (list_any (λ c. is_within c m) us)
 
 -- one open more
 at_open_inside : (closed : ℕ) (found : Bool) (acts : List Action) (m : Name) → closed ≢ 0 → member_behind closed found (Open ∷ acts) m ≡ member_behind (closed - 1) found acts m
@@ -92,19 +92,19 @@ module _ (t m : Name) (rest : List Entry) (e : Entry) (some : 1 ≤ length rest)
       sym (ap (λ acts. member_behind closed found acts m) (own_newest t rest e Open some here mine is) ∙ at_open_inside closed found older m inside)
 
   -- it generated one that m is within
-  pub behind_member : (closed : ℕ) (found : Bool) (u : Name) (body : ℕ) (args : List ℤ) (items : List Item) (deferred : Bool) → e.event.action ≡ Spawn u body args items deferred
-      → is_within u m ≡ true → member_behind closed true older m ≡ member_behind closed found (own t (history_of rest)) m
-  behind_member closed found u body args items deferred is within =
+  pub behind_member : (closed : ℕ) (found : Bool) (s : TheSpawn) → e.event.action ≡ Spawn s
+      → is_within s.child m ≡ true → member_behind closed true older m ≡ member_behind closed found (own t (history_of rest)) m
+  behind_member closed found s is within =
       sym
-      (ap (λ acts. member_behind closed found acts m) (own_newest t rest e (Spawn u body args items deferred) some here mine is)
-      ∙ at_spawn closed found u body args items deferred older m
+      (ap (λ acts. member_behind closed found acts m) (own_newest t rest e (Spawn s) some here mine is)
+      ∙ at_spawn closed found s older m
       ∙ ap (λ b. member_behind closed b older m) (ap (λ b. found || b) within ∙ or_true found))
 
   -- or another
-  pub behind_other : (closed : ℕ) (found : Bool) (u : Name) (body : ℕ) (args : List ℤ) (items : List Item) (deferred : Bool) → e.event.action ≡ Spawn u body args items deferred
-      → is_within u m ≡ false → member_behind closed found older m ≡ member_behind closed found (own t (history_of rest)) m
-  behind_other closed found u body args items deferred is within =
+  pub behind_other : (closed : ℕ) (found : Bool) (s : TheSpawn) → e.event.action ≡ Spawn s
+      → is_within s.child m ≡ false → member_behind closed found older m ≡ member_behind closed found (own t (history_of rest)) m
+  behind_other closed found s is within =
       sym
-      (ap (λ acts. member_behind closed found acts m) (own_newest t rest e (Spawn u body args items deferred) some here mine is)
-      ∙ at_spawn closed found u body args items deferred older m
+      (ap (λ acts. member_behind closed found acts m) (own_newest t rest e (Spawn s) some here mine is)
+      ∙ at_spawn closed found s older m
       ∙ ap (λ b. member_behind closed b older m) (ap (λ b. found || b) within ∙ or_false found))

@@ -33,7 +33,7 @@ names_counted cells [] l = (tt, tt)
 names_counted cells (v ∷ H) l = at v.action l.1.own (names_counted cells H l.0)
   where
     at : (a : Action) → Continues cells v.task (own v.task H) a → AllByRecursion IsCounted (spawned_names H) → AllByRecursion IsCounted (with_child a (spawned_names H))
-    at (Spawn u body args items deferred) k all = (subst IsCounted (sym k.1) (omega arith), all)
+    at (Spawn s) k all = (subst IsCounted (sym k.1) (omega arith), all)
     at _ k all = all
 
 lesser_counted : (t : Name) (o : Option Name) → IsCounted t → IsCountedIf o → IsCounted (lesser_name t o)

@@ -103,7 +103,7 @@ running (Let r x ∷ acts) o n = refl
 running (Load r c x ∷ acts) o n = refl
 running (Store c x ∷ acts) o n = refl
 running (Print x ∷ acts) o n = refl
-running (Spawn u body args items deferred ∷ acts) o n = refl
+running (Spawn s ∷ acts) o n = refl
 running (Wait items ∷ acts) o n = refl
 running (Open ∷ acts) o n = refl
 running (Close ∷ acts) o n = refl
@@ -118,9 +118,9 @@ continues cells H t (Load r c x) p o s g =
     (running (own t H) o (λ e. false≢true (s.1 e)), grind (arith, nat_tests, q.0), grind (arith, nat_tests, q.1))
 continues cells H t (Store c x) p o s g = (running (own t H) o (λ e. false≢true (s.1 e)), grind (arith, nat_tests))
 continues cells H t (Print x) p o s g = running (own t H) o (λ e. false≢true (s.1 e))
-continues cells H t (Spawn u line args items deferred) p o s g =
-    let q = and_parts (nat_le (length args) 16) (list_all (is_placed (length cells)) items) p in
-    (running (own t H) o (λ e. false≢true (s.1 e)), refl, grind (arith, nat_tests, q.0), placed_all cells items q.1)
+continues cells H t (Spawn spawn) p o s g =
+    let q = and_parts (nat_le (length spawn.args) 16) (list_all (is_placed (length cells)) spawn.items) p in
+    (running (own t H) o (λ e. false≢true (s.1 e)), refl, grind (arith, nat_tests, q.0), placed_all cells spawn.items q.1)
 continues cells H t (Wait items) p o s g = (running (own t H) o (λ e. false≢true (s.1 e)), placed_all cells items p)
 continues cells H t Open p o s g = running (own t H) o (λ e. false≢true (s.1 e))
 continues cells H t Close p o s g = (running (own t H) o (λ e. false≢true (s.1 e)), g refl)
@@ -131,7 +131,7 @@ continues cells H t Fault p o s g = running (own t H) o (λ e. false≢true (s.1
 -- what is filled in keeps nothing from the action
 same_way : (cells : Cells) (H : History) (t : Name) (a : Action) → in_the_way H t (completed cells H t a) ≡ in_the_way H t a
 same_way cells H t (Load r c x) = refl
-same_way cells H t (Spawn u line args items deferred) = refl
+same_way cells H t (Spawn s) = refl
 same_way cells H t Start = refl
 same_way cells H t (Let r x) = refl
 same_way cells H t (Store c x) = refl
@@ -145,7 +145,7 @@ same_way cells H t Fault = refl
 
 reads : (cells : Cells) (H : History) (t : Name) (a : Action) → loaded (completed cells H t a) ≡ number_read cells H (completed cells H t a)
 reads cells H t (Load r c x) = refl
-reads cells H t (Spawn u line args items deferred) = refl
+reads cells H t (Spawn s) = refl
 reads cells H t Start = refl
 reads cells H t (Let r x) = refl
 reads cells H t (Store c x) = refl

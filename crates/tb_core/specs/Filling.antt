@@ -3,6 +3,7 @@ use Rattle.std.specs.Prelude.{◌≡◌, ◌≤◌, ℕ, suc, List, Option, Some
 use Rattle.tb_model.specs.declared.action.Action.{Action}
 use Rattle.tb_model.specs.declared.action.Action.TheVariants.{Spawn, Load}
 use Rattle.tb_model.specs.declared.event.Event.{Event}
+use Rattle.tb_model.specs.declared.spawn.Spawn.{Spawn as TheSpawn}
 use Rattle.tb_model.specs.Names.{Name, child}
 use Rattle.tb_model.specs.Facts.{History, own, last, IsSpawned}
 use Rattle.tb_model.specs.Legal.{Cells, Legal, first_number, spawn_count}
@@ -12,7 +13,7 @@ use Rattle.tb_undo.specs.State.{Seen as Tables, IsState}
 -- the action, with the number that a load reads and the number of a spawned child
 abbrev pub completed : Cells → History → Name → Action → Action
 completed cells H t (Load r c x) = Load r c (last (first_number cells c) c H)
-completed cells H t (Spawn u line args items deferred) = Spawn (child t (suc (spawn_count (own t H)))) line args items deferred
+completed cells H t (Spawn s) = Spawn (record s { child = child t (suc (spawn_count (own t H))) })
 completed cells H t a = a
 
 -- nothing is filled in
@@ -29,24 +30,24 @@ pub record IsRunOf (s : Tables) (t : Name) : Type 0 where
   pub few : length steps ≤ 1000000
   pub spawned : IsSpawned (events_of steps) t
 
--- whatever run that is, this is the task's next child
-abbrev pub IsNextChild : Tables → Name → Name → Type 0
-IsNextChild s t c = (first : Cells) (root_line : ℕ) (D : List Departure) → IsState first root_line D s → IsSpawned (events_of D) t → c ≡ child t (suc (spawn_count (own t (events_of D))))
+-- whatever run that is, the second is the first with the name of the task's next child
+abbrev pub IsNextSpawn : Tables → Name → TheSpawn → TheSpawn → Type 0
+IsNextSpawn s t a b = (first : Cells) (root_line : ℕ) (D : List Departure) → IsState first root_line D s → IsSpawned (events_of D) t → b ≡ record a { child = child t (suc (spawn_count (own t (events_of D)))) }
 
 -- and this the event of the action
 abbrev pub Fills : Tables → Name → Action → Event → Type 0
 Fills s t a v =
     (first : Cells) (root_line : ℕ) (D : List Departure) → IsState first root_line D s → IsSpawned (events_of D) t → v ≡ record { task = t; action = completed first (events_of D) t a }
 
--- the names of an event that can be used again
+-- what can be used again of an event
 abbrev pub spare_task : Option Event → Option Name
 spare_task None = None
 spare_task (Some v) = Some v.task
 
-abbrev pub child_in : Action → Option Name
-child_in (Spawn u line args items deferred) = Some u
-child_in _ = None
+abbrev pub spawn_in : Action → Option TheSpawn
+spawn_in (Spawn s) = Some s
+spawn_in _ = None
 
-abbrev pub spare_child : Option Event → Option Name
-spare_child None = None
-spare_child (Some v) = child_in v.action
+abbrev pub spare_spawn : Option Event → Option TheSpawn
+spare_spawn None = None
+spare_spawn (Some v) = spawn_in v.action

@@ -17,5 +17,5 @@ is_unended_among H t group u = is_among (own t H) t group u && is_unended H u
 
 -- the action generates m, or one that m descends from
 abbrev pub makes_member : Action → Name → Bool
-makes_member (Spawn u body args items deferred) m = is_within u m
+makes_member (Spawn s) m = is_within s.child m
 makes_member _ m = false

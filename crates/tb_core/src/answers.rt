@@ -4,8 +4,9 @@ ghost use Rattle.std.specs.Prelude.{◌≡◌, ◌<◌, ◌↔◌, IfOk, IsTrue}
 ghost use Rattle.tb_undo.specs.Obstacles.{hindrance_by, sibling};
 ghost use Rattle.tb_core.specs.Naming.{config_with, IsStaleAnswer, IsNamed, IsNumbered};
 
+use crate::elsewhere::Elsewhere;
 use crate::step_refusal::StepRefusal;
-use std::alloc::AllocError;
+use std::alloc::{AllocError, Global};
 use tb_model::TaskName;
 use tb_read::Config;
 use tb_undo::{Obstacle, Standing};
@@ -39,15 +40,24 @@ fn are_same(a: &[i64; 16], b: &[i64; 16]) -> bool
 }
 
 /// The task stands so now.
-pub fn stale(task: &TaskName, standing: &Standing<'_>) -> StepRefusal
+pub fn stale(alloc: Global, task: &TaskName, standing: &Standing<'_>) -> StepRefusal
     ensures { IsStaleAnswer (config_with task.now standing.now) result }
 {
-    match task.clone() {
-        Ok(task) => StepRefusal::Stale {
-            now: config(task, standing),
-        },
+    match elsewhere(alloc, task, standing) {
+        Ok(now) => StepRefusal::Stale { now },
         Err(_) => StepRefusal::Memory,
     }
+}
+
+/// A task that stands so, on the heap.
+pub fn elsewhere(
+    alloc: Global,
+    task: &TaskName,
+    standing: &Standing<'_>,
+) -> Result<Elsewhere, AllocError>
+    ensures { IfOk result (λ now. now ≡ config_with task.now standing.now) }
+{
+    Elsewhere::new(alloc, config(task.clone()?, standing))
 }
 
 /// What keeps the task from its action, by name.

@@ -2,23 +2,24 @@
 
 ghost use Rattle.std.specs.Prelude.{◌≡◌, ◌<◌, ◌↔◌, ℕ, List, IfOk, IsOk, IsTrue, Some, None, length};
 ghost use Rattle.tb_model.specs.declared.event.Event.{Event as AnEvent};
-ghost use Rattle.tb_model.specs.Names.{Name, child};
+ghost use Rattle.tb_model.specs.declared.spawn.Spawn.{Spawn as ASpawn};
+ghost use Rattle.tb_model.specs.Names.{child};
 ghost use Rattle.tb_read.specs.Plans.{names_allowed};
-ghost use Rattle.tb_core.specs.Filling.{spare_task, spare_child, Fills, IsNextChild, IsRunOf, IsWhole};
+ghost use Rattle.tb_core.specs.Filling.{spare_task, spare_spawn, Fills, IsNextSpawn, IsRunOf, IsWhole};
 
 use std::alloc::AllocError;
-use tb_model::{Action, Event, TaskName};
+use tb_model::{Action, Event, Spawned, TaskName};
 use tb_read::Plan;
 use tb_undo::Tables;
 
-/// The names of an event that isn't wanted any longer: its task's, and its child's.
-pub fn spare_names(event: Option<Event>) -> (Option<TaskName>, Option<TaskName>)
+/// What can be used again of an event that isn't wanted any longer: its task's name, and its spawn.
+pub fn spares(event: Option<Event>) -> (Option<TaskName>, Option<Spawned>)
     ensures task { result.0 ≡ spare_task event }
-    ensures child { result.1 ≡ spare_child event }
+    ensures spawn { result.1 ≡ spare_spawn event }
 {
     match event {
         Some(Event { task, action }) => match action {
-            Action::Spawn { child, .. } => (Some(task), Some(child)),
+            Action::Spawn(spawned) => (Some(task), Some(spawned)),
             _ => (Some(task), None),
         },
         None => (None, None),
@@ -71,6 +72,7 @@ pub fn planned(tables: &Tables, plan: &Plan) -> Result<Event, AllocError>
 }
 
 /// The event of an action of the task.
+#[inline(always)]
 pub fn event_for(tables: &Tables, task: &TaskName, action: Action) -> Result<Event, AllocError>
     requires allowed { IsTrue (names_allowed (length tables.now.store.cells) action) }
     requires run { IsRunOf tables.now task.now }
@@ -89,7 +91,7 @@ fn is_whole(action: &Action) -> bool
     ensures { IsTrue result → IsWhole action.now }
 {
     match action {
-        Action::Load { .. } | Action::Spawn { .. } => false,
+        Action::Load { .. } | Action::Spawn(_) => false,
         _ => true,
     }
 }
@@ -109,12 +111,12 @@ pub fn fill_in(
     tables: &Tables,
     task: TaskName,
     action: Action,
-    spare: Option<TaskName>,
+    spare: Option<Spawned>,
 ) -> Result<Event, AllocError>
     requires allowed { IsTrue (names_allowed (length tables.now.store.cells) action) }
     requires run { IsRunOf tables.now task }
     ensures ok { IfOk result (Fills tables.now task action) }
-    ensures room { (v : AnEvent) → Fills tables.now task action v → spare ≡ spare_child (Some v) → IsOk result }
+    ensures room { (v : AnEvent) → Fills tables.now task action v → spare ≡ spare_spawn (Some v) → IsOk result }
 {
     let action = match action {
         Action::Load {
@@ -126,45 +128,50 @@ pub fn fill_in(
             cell,
             value: tables.get(cell),
         },
-        Action::Spawn {
-            child: _first,
-            body,
-            args,
-            items,
-            deferred,
-        } => Action::Spawn {
-            child: next_child(tables, &task, spare)?,
-            body,
-            args,
-            items,
-            deferred,
-        },
+        Action::Spawn(spawned) => Action::Spawn(next_spawn(tables, &task, spawned, spare)?),
         other => other,
     };
     Ok(Event { task, action })
 }
 
-/// The name of the task's next child: the spare one, where that is the same.
-fn next_child(
+/// The spawn with the name of the task's next child: the spare one, where that is the same.
+fn next_spawn(
     tables: &Tables,
     task: &TaskName,
-    spare: Option<TaskName>,
-) -> Result<TaskName, AllocError>
+    spawned: Spawned,
+    spare: Option<Spawned>,
+) -> Result<Spawned, AllocError>
     requires { IsRunOf tables.now task.now }
-    ensures ok { IfOk result (IsNextChild tables.now task.now) }
-    ensures room { (c : Name) → IsNextChild tables.now task.now c → spare ≡ Some c → IsOk result }
+    ensures ok { IfOk result (IsNextSpawn tables.now task.now spawned) }
+    ensures room { (s : ASpawn) → IsNextSpawn tables.now task.now spawned s → spare ≡ Some s → IsOk result }
 {
     let n = tables.children(task).unwrap_or(0) + 1;
     match spare {
         Some(spare) => {
-            if is_nth_child(&spare, task, n) {
+            if is_nth_spawn(&spare, &spawned, task, n) {
                 Ok(spare)
             } else {
-                task.child(n)
+                with_nth_child(spawned, task, n)
             }
         }
-        None => task.child(n),
+        None => with_nth_child(spawned, task, n),
     }
+}
+
+/// The spawn with the name of the task's nth child.
+fn with_nth_child(spawned: Spawned, task: &TaskName, n: u32) -> Result<Spawned, AllocError>
+    requires { 0 < n }
+    ensures { IfOk result (λ s. s ≡ record spawned { child = child task.now n }) }
+{
+    spawned.with_child(task.child(n)?)
+}
+
+/// Whether the one spawn is the other with the name of the task's nth child.
+fn is_nth_spawn(spare: &Spawned, spawned: &Spawned, task: &TaskName, n: u32) -> bool
+    ensures { IsTrue result ↔ (spare.now ≡ record spawned.now { child = child task.now n }) }
+{
+    let spare = spare.get();
+    spare.is_like(spawned.get()) && is_nth_child(&spare.child, task, n)
 }
 
 fn is_nth_child(name: &TaskName, parent: &TaskName, n: u32) -> bool

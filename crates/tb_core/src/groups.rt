@@ -111,7 +111,7 @@ fn makes_member(action: &Action, m: &TaskName) -> bool
     ensures { result ≡ makes_member action.now m.now }
 {
     match action {
-        Action::Spawn { child, .. } => m.is_within(child),
+        Action::Spawn(spawned) => m.is_within(&spawned.get().child),
         _ => false,
     }
 }

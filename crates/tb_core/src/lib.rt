@@ -2,6 +2,7 @@
 #![tactic(auto)]
 
 mod answers;
+mod elsewhere;
 mod entry;
 mod filling;
 mod groups;
@@ -16,6 +17,7 @@ mod step_refusal;
 mod undo_refusal;
 mod unwinding;
 
+pub use elsewhere::Elsewhere;
 pub use entry::Entry;
 pub use needing::{first_needer, is_apart, is_before, is_covered, needs};
 pub use places::{ordinal_of, place_of, step_at};

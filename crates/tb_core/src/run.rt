@@ -21,7 +21,7 @@ ghost use Rattle.tb_core.specs.Scans.{AreLegal};
 
 use crate::answers::{config, named, stale, stands_so};
 use crate::entry::Entry;
-use crate::filling::{copy_event, copy_of, event_for, fill_in, forget, planned, spare_names};
+use crate::filling::{copy_event, copy_of, event_for, fill_in, forget, planned, spares};
 use crate::needing::first_needer;
 use crate::places::{is_number_of, place_in, step_among};
 use crate::removed::Removed;
@@ -161,7 +161,7 @@ impl Core {
     }
 
     /// Whether nothing keeps a task that goes on from the action. It takes no memory.
-    #[inline]
+    #[inline(always)]
     pub fn is_clear(&self, task: &TaskName, action: &Action) -> bool
         requires there { IsTrue (is_spawned (history self.now.run) task.now) }
         requires going { IsFalse (has_ended self.now.run task.now) }
@@ -197,7 +197,7 @@ impl Core {
             return Some(StepRefusal::Ended);
         }
         if !stands_so(&plan.config, &standing) {
-            return Some(stale(name, &standing));
+            return Some(stale(self.alloc, name, &standing));
         }
         if let Some(hindrance) = self.hindrance(name, &plan.action) {
             return Some(hindrance);
@@ -299,7 +299,7 @@ impl Core {
     }
 
     /// Takes an event that may follow the others.
-    #[inline]
+    #[inline(always)]
     fn append(&mut self, event: Event, to: u32) -> Result<(), AllocError>
         requires may { MayFollow self.old.run.cells (history self.old.run) event }
         requires room { length self.old.run.steps < self.old.run.limit }
@@ -353,9 +353,9 @@ impl Core {
             config,
             action,
         } = plan;
-        let (its_name, its_child) = spare_names(self.reserved.take());
+        let (its_name, its_spawn) = spares(self.reserved.take());
         let task = copy_of(&config.task, its_name)?;
-        let event = fill_in(&self.tables, config.task, action, its_child)?;
+        let event = fill_in(&self.tables, config.task, action, its_spawn)?;
         self.entries.reserve(1)?;
         self.places.reserve(&event)?;
         let replaced = self.tables.apply(&event, to)?;

@@ -24,7 +24,12 @@ fn named_items<'a>(front: &'a [Entry], t: &TaskName) -> &'a [Item]
     let mut rest = front;
     'back: while let [older @ .., newest] = rest {
         match &newest.event.action {
-            Action::Spawn { child, items, .. } if child == t => return items.as_slice(),
+            Action::Spawn(spawned) => {
+                let spawn = spawned.get();
+                if spawn.child == *t {
+                    return spawn.items.as_slice();
+                }
+            }
             _ => {}
         }
         rest = older;
@@ -59,11 +64,10 @@ fn is_undeferred(action: &Action, u: &TaskName) -> bool
     ensures { (acts : List Action) → result ≡ Facts.holds (action.now ∷ acts) u.now }
 {
     match action {
-        Action::Spawn {
-            child,
-            deferred,
-            ..
-        } => !*deferred && child == u,
+        Action::Spawn(spawned) => {
+            let spawn = spawned.get();
+            !spawn.deferred && spawn.child == *u
+        }
         _ => false,
     }
 }
@@ -94,8 +98,8 @@ fn is_in_innermost(front: &[Entry], t: &TaskName, m: &TaskName) -> bool
                     closed -= 1;
                 }
                 Action::Close => closed += 1,
-                Action::Spawn { child, .. } => {
-                    if m.is_within(child) {
+                Action::Spawn(spawned) => {
+                    if m.is_within(&spawned.get().child) {
                         found = true;
                     }
                 }

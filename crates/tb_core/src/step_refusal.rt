@@ -3,8 +3,8 @@
 ghost use Rattle.std.specs.Prelude.{◌≡◌};
 ghost use Rattle.tb_core.specs.Refusals.{step_number};
 
+use crate::elsewhere::Elsewhere;
 use tb_model::TaskName;
-use tb_read::Config;
 
 /// Why a task doesn't take the step that was planned for it.
 #[derive(Debug, Drop)]
@@ -26,7 +26,7 @@ pub enum StepRefusal {
     /// The history has as many events as it may have.
     Full,
     /// The task stands elsewhere now than the plan took for granted.
-    Stale { now: Config },
+    Stale { now: Elsewhere },
     /// The undeferred child at which it stands hasn't ended.
     Undeferred { child: TaskName },
 }

@@ -4,7 +4,7 @@ use std::alloc::AllocGlobal;
 use std::mem;
 use std::process::Abort;
 use tb_core::{Entry, first_needer, place_of, step_at};
-use tb_model::{Action, Args, Event, Item, Items, Kind, Place, StepId, TaskName};
+use tb_model::{Action, Args, Event, Item, Items, Kind, Place, Spawn, Spawned, StepId, TaskName};
 use tb_store::Replaced;
 
 fn name(rt: &(impl Abort + AllocGlobal), text: &str) -> TaskName {
@@ -34,13 +34,14 @@ fn items(rt: &(impl Abort + AllocGlobal), words: &[&str]) -> Items {
 }
 
 fn spawn(rt: &(impl Abort + AllocGlobal), child: &str, words: &[&str], deferred: bool) -> Action {
-    Action::Spawn {
+    let spawn = Spawn {
         child: name(rt, child),
         body: 2,
         args: Args::new(rt.alloc()),
         items: items(rt, words),
         deferred,
-    }
+    };
+    Action::Spawn(Spawned::new(rt.alloc(), spawn).expect(rt, "memory is there"))
 }
 
 fn action(rt: &(impl Abort + AllocGlobal), words: &[&str]) -> Action {

@@ -52,22 +52,22 @@ take_added siblings items =
 
 pub length_spawned : (acts : List Action) → length (spawned_items acts) ≡ spawn_count acts
 length_spawned [] = refl
-length_spawned (Spawn u body args items deferred ∷ acts) =
-    let rest = length_spawned acts in omega (arith, rest, length-append (spawned_items acts) (items ∷ []))
+length_spawned (Spawn s ∷ acts) =
+    let rest = length_spawned acts in omega (arith, rest, length-append (spawned_items acts) (s.items ∷ []))
 length_spawned (_ ∷ acts) = length_spawned acts
 
 pub items_spawned : (acts : List Action) (n : ℕ) → items_at (spawned_items acts) n ≡ nth_items n acts
 items_spawned [] zero = refl
 items_spawned [] (suc k) = refl
-items_spawned (Spawn u body args items deferred ∷ acts) n = at (n == suc (spawn_count acts)) refl (items_spawned acts n)
+items_spawned (Spawn s ∷ acts) n = at (n == suc (spawn_count acts)) refl (items_spawned acts n)
   where
-    last : n ≡ suc (length (spawned_items acts)) → items_at (spawned_items acts ++ items ∷ []) n ≡ items
-    last e = ap (items_at (spawned_items acts ++ items ∷ [])) e ∙ items_behind (spawned_items acts) items
+    last : n ≡ suc (length (spawned_items acts)) → items_at (spawned_items acts ++ s.items ∷ []) n ≡ s.items
+    last e = ap (items_at (spawned_items acts ++ s.items ∷ [])) e ∙ items_behind (spawned_items acts) s.items
 
-    behind : (n ≤ length (spawned_items acts)) ⊎ (suc (length (spawned_items acts)) < n) → items_at (spawned_items acts ++ items ∷ []) n ≡ items_at (spawned_items acts) n
-    behind (inl h) = items_front (spawned_items acts) items n h
+    behind : (n ≤ length (spawned_items acts)) ⊎ (suc (length (spawned_items acts)) < n) → items_at (spawned_items acts ++ s.items ∷ []) n ≡ items_at (spawned_items acts) n
+    behind (inl h) = items_front (spawned_items acts) s.items n h
     behind (inr h) =
-        items_past (spawned_items acts ++ items ∷ []) n (omega (arith, length-append (spawned_items acts) (items ∷ [])))
+        items_past (spawned_items acts ++ s.items ∷ []) n (omega (arith, length-append (spawned_items acts) (s.items ∷ [])))
         ∙ sym (items_past (spawned_items acts) n (omega arith))
 
     side : (n == suc (spawn_count acts)) ≡ false → (n ≤ length (spawned_items acts)) ⊎ (suc (length (spawned_items acts)) < n)
@@ -82,7 +82,7 @@ items_spawned (Spawn u body args items deferred ∷ acts) n = at (n == suc (spaw
     ]
 
     at : (b : Bool) → (n == suc (spawn_count acts)) ≡ b → items_at (spawned_items acts) n ≡ nth_items n acts
-        → items_at (spawned_items acts ++ items ∷ []) n ≡ cond b items (nth_items n acts)
+        → items_at (spawned_items acts ++ s.items ∷ []) n ≡ cond b s.items (nth_items n acts)
     at true e rest = last (eqb-true n (suc (spawn_count acts)) e ∙ ap suc (sym (length_spawned acts)))
     at false e rest = behind (side e) ∙ rest
 items_spawned (_ ∷ acts) n = items_spawned acts n

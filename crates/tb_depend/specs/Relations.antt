@@ -41,5 +41,5 @@ covered_by siblings items = numbers_where (is_covered siblings items) (length si
 -- the items of a task's children in the order of spawning, read off its own actions, the newest first
 abbrev pub spawned_items : List Action → List (List Item)
 spawned_items [] = []
-spawned_items (Spawn u body args items deferred ∷ acts) = spawned_items acts ++ items ∷ []
+spawned_items (Spawn s ∷ acts) = spawned_items acts ++ s.items ∷ []
 spawned_items (_ ∷ acts) = spawned_items acts

@@ -57,6 +57,7 @@ impl Draft {
     }
 
     /// Appends a text.
+    #[inline(always)]
     pub fn push_str(&mut self, text: &str) -> Result<(), AllocError>
         ensures ok { OnOk result (self.new ≡ self.old ++ text.now) }
         ensures err { OnErr result (self.new ≡ self.old) }
@@ -89,6 +90,7 @@ impl Draft {
     }
 
     /// Appends a name.
+    #[inline(always)]
     pub fn push_name(&mut self, name: &TaskName) -> Result<(), AllocError>
         ensures ok { OnOk result (self.new ≡ self.old ++ name_text name.now) }
         ensures err { OnErr result (self.new ≡ self.old) }
@@ -112,6 +114,7 @@ impl Draft {
     }
 
     /// Appends the name of the kth step of a task, as `0.1#3`. Where memory runs out a part of it may stand.
+    #[inline(always)]
     pub fn push_step(&mut self, task: &TaskName, k: u32) -> Result<(), AllocError>
         ensures { OnOk result (self.new ≡ self.old ++ step_id_text (record { task = task.now; k = k })) }
     {

@@ -177,7 +177,7 @@ end_starts Start e = absurd (false≢true e)
 end_starts _ e = refl
 
 pub end_items : (t : Name) (a : Action) → is_end a ≡ true → items_for t a ≡ []
-end_items t (Spawn u body args items deferred) e = absurd (false≢true e)
+end_items t (Spawn s) e = absurd (false≢true e)
 end_items t _ e = refl
 
 running_begun : (acts : List Action) → IsRunning acts → has_begun (status_of acts) ≡ true

@@ -31,7 +31,7 @@ is_turn workers e = is_step e && (nat_le 1 (seat_of e) && nat_le (seat_of e) wor
 
 -- the action has a name or a list of its own
 abbrev pub is_long : Action → Bool
-is_long (Spawn u body args items deferred) = true
+is_long (Spawn s) = true
 is_long (Wait []) = false
 is_long (Wait items) = true
 is_long _ = false

@@ -60,6 +60,7 @@ impl Journal {
     }
 
     /// Room for one more entry. Where it is refused, what room there was stays.
+    #[inline(always)]
     pub fn reserve(&mut self) -> Result<(), AllocError>
         ensures items { self.new.items ≡ self.old.items }
         ensures room { OnOk result (0 < self.new.room) }

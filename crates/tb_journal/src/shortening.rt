@@ -23,7 +23,7 @@ fn is_long(action: &Action) -> bool
     ensures { result ≡ is_long action.now }
 {
     match action {
-        Action::Spawn { .. } => true,
+        Action::Spawn(_) => true,
         Action::Wait { items } => !items.as_slice().is_empty(),
         _ => false,
     }
@@ -93,6 +93,6 @@ pub(crate) fn short_action(seat: u8, task: TaskName, action: &Action) -> Compact
         Action::Test { yes } => Compact::Tested { yes, seat, task },
         Action::End => Compact::Ended { seat, task },
         Action::Fault => Compact::Faulted { seat, task },
-        Action::Spawn { .. } => unreachable!(),
+        Action::Spawn(_) => unreachable!(),
     }
 }

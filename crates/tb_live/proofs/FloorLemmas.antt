@@ -209,7 +209,7 @@ module _ (P : Program) (v : Event) (H : History) (l : LegalFor P (v ∷ H)) (u :
   untimely_still (Load r c x) h = absurd (false≢true h)
   untimely_still (Store c x) h = absurd (false≢true h)
   untimely_still (Print x) h = absurd (false≢true h)
-  untimely_still (Spawn w body args items deferred) h = absurd (false≢true h)
+  untimely_still (Spawn s) h = absurd (false≢true h)
   untimely_still Open h = absurd (false≢true h)
   untimely_still (Test b) h = absurd (false≢true h)
   untimely_still End h = absurd (false≢true h)

@@ -50,7 +50,7 @@ registers_config P line args (Test false ∷ acts) = registers_config P line arg
 registers_config P line args (Start ∷ acts) = registers_config P line args acts
 registers_config P line args (Store c x ∷ acts) = registers_config P line args acts
 registers_config P line args (Print x ∷ acts) = registers_config P line args acts
-registers_config P line args (Spawn u body more items deferred ∷ acts) = registers_config P line args acts
+registers_config P line args (Spawn s ∷ acts) = registers_config P line args acts
 registers_config P line args (Wait items ∷ acts) = registers_config P line args acts
 registers_config P line args (Open ∷ acts) = registers_config P line args acts
 registers_config P line args (Close ∷ acts) = registers_config P line args acts
@@ -59,7 +59,7 @@ registers_config P line args (Fault ∷ acts) = registers_config P line args act
 
 called_args : (root_line : ℕ) (o : Option Action) → (called_by root_line o).args ≡ args_in o
 called_args root_line None = refl
-called_args root_line (Some (Spawn u line args items deferred)) = refl
+called_args root_line (Some (Spawn s)) = refl
 called_args root_line (Some Start) = refl
 called_args root_line (Some (Let r x)) = refl
 called_args root_line (Some (Load r c x)) = refl
@@ -85,8 +85,8 @@ holds_registers P run t =
 -- ---- the action that was planned, and the one that is taken
 
 -- what doesn't look at a child's name is the same whatever the child's number
-module _ {B : Type 0} (f : Action → B) (cells : Cells) (t : Name) (n m : ℕ) (regs : List ℤ) (x : ℤ) (alike : (body : ℕ) (args : List ℤ) (items : List Item) (deferred : Bool) → f (Spawn (child t n) body args items deferred) ≡ f (Spawn (child t m) body args items deferred)) where
-  spawns_alike : (body : ℕ) (args : List ℤ) (deferred : Bool) (o : Option (List Item)) → f (items_or_fault o (λ is. Spawn (child t n) body args is deferred)) ≡ f (items_or_fault o (λ is. Spawn (child t m) body args is deferred))
+module _ {B : Type 0} (f : Action → B) (cells : Cells) (t : Name) (n m : ℕ) (regs : List ℤ) (x : ℤ) (alike : (body : ℕ) (args : List ℤ) (items : List Item) (deferred : Bool) → f (Spawn (record { child = child t n; body = body; args = args; items = items; deferred = deferred })) ≡ f (Spawn (record { child = child t m; body = body; args = args; items = items; deferred = deferred }))) where
+  spawns_alike : (body : ℕ) (args : List ℤ) (deferred : Bool) (o : Option (List Item)) → f (items_or_fault o (λ is. Spawn (record { child = child t n; body = body; args = args; items = is; deferred = deferred }))) ≡ f (items_or_fault o (λ is. Spawn (record { child = child t m; body = body; args = args; items = is; deferred = deferred })))
   spawns_alike body args deferred None = refl
   spawns_alike body args deferred (Some is) = alike body args is deferred
 
@@ -120,7 +120,7 @@ module _ (cells : Cells) (H : History) (t : Name) where
   store_taken x None = refl
   store_taken x (Some c) = refl
 
-  spawn_taken : (body : ℕ) (args : List ℤ) (deferred : Bool) (o : Option (List Item)) → taken (items_or_fault o (λ is. Spawn (child t 1) body args is deferred)) ≡ items_or_fault o (λ is. Spawn (child t next_number) body args is deferred)
+  spawn_taken : (body : ℕ) (args : List ℤ) (deferred : Bool) (o : Option (List Item)) → taken (items_or_fault o (λ is. Spawn (record { child = child t 1; body = body; args = args; items = is; deferred = deferred }))) ≡ items_or_fault o (λ is. Spawn (record { child = child t next_number; body = body; args = args; items = is; deferred = deferred }))
   spawn_taken body args deferred None = refl
   spawn_taken body args deferred (Some is) = refl
 
@@ -168,7 +168,7 @@ module _ (cells : Cells) (H : History) (t : Name) where
   moved_taken i c (Load r d x) = refl
   moved_taken i c (Store d x) = refl
   moved_taken i c (Print x) = refl
-  moved_taken i c (Spawn u body args items deferred) = refl
+  moved_taken i c (Spawn s) = refl
   moved_taken i c (Wait items) = refl
   moved_taken i c Open = refl
   moved_taken i c Close = refl
@@ -246,7 +246,7 @@ close_only (Let r x) h = absurd (false≢true h)
 close_only (Load r c x) h = absurd (false≢true h)
 close_only (Store c x) h = absurd (false≢true h)
 close_only (Print x) h = absurd (false≢true h)
-close_only (Spawn u body args items deferred) h = absurd (false≢true h)
+close_only (Spawn s) h = absurd (false≢true h)
 close_only (Wait items) h = absurd (false≢true h)
 close_only Open h = absurd (false≢true h)
 close_only Close h = refl
@@ -256,7 +256,7 @@ close_only Fault h = absurd (false≢true h)
 
 -- the action that was planned differs from the definitions' by a child's name alone
 pub planned_alike : {B : Type 0} (g : Action → B) (P : Program) (run : Seen) (p : Plan) → Fits P run → IsPlan P run p → p.instr.cells ≡ length P.cells
-    → ((n m : ℕ) (body : ℕ) (args : List ℤ) (items : List Item) (deferred : Bool) → g (Spawn (child p.config.task n) body args items deferred) ≡ g (Spawn (child p.config.task m) body args items deferred))
+    → ((n m : ℕ) (body : ℕ) (args : List ℤ) (items : List Item) (deferred : Bool) → g (Spawn (record { child = child p.config.task n; body = body; args = args; items = items; deferred = deferred })) ≡ g (Spawn (record { child = child p.config.task m; body = body; args = args; items = items; deferred = deferred })))
     → g p.action ≡ g (planned P (history run) p.config.task zero_ℤ)
 planned_alike g P run p f i n alike =
     let H = history run in
@@ -354,7 +354,7 @@ module _ (P : Program) (f : IsFollowed P) (i : Instr) (c : Place) (t : Name) (n 
   goes_on (DoStore a b) p q h = store_goes (value c.regs b) (cell_at P.cells (value c.regs a)) (p refl) h
   goes_on (DoPrint a) p q h = p refl
   goes_on (DoTask body args depends k) p q h =
-      items_go (λ is. Spawn (child t n) body (map (value c.regs) args) is (is_deferred c.regs k)) (items_at P.cells c.regs depends) (λ is z. p refl) h
+      items_go (λ is. Spawn (record { child = child t n; body = body; args = map (value c.regs) args; items = is; deferred = is_deferred c.regs k })) (items_at P.cells c.regs depends) (λ is z. p refl) h
   goes_on (DoTaskwait depends) p q h = items_go Wait (items_at P.cells c.regs depends) (λ is z. p refl) h
   goes_on DoTaskgroup p q h = p refl
   goes_on DoEndTaskgroup p q h = p refl

@@ -160,9 +160,9 @@ module _ (H : History) (t : Name) where
   clear_by cells n regs x (DoPrint a) = same_way (Print (value regs a)) Open refl
   clear_by cells n regs x (DoTask body args depends c) = at (items_at cells regs depends)
     where
-      at : (o : Option (List Item)) → IsClearBy (items_or_fault o (λ is. Spawn (child t n) body (map (value regs) args) is (is_deferred regs c))) Open false
+      at : (o : Option (List Item)) → IsClearBy (items_or_fault o (λ is. Spawn (record { child = child t n; body = body; args = map (value regs) args; items = is; deferred = is_deferred regs c }))) Open false
       at None = same_way Fault Open refl
-      at (Some is) = same_way (Spawn (child t n) body (map (value regs) args) is (is_deferred regs c)) Open refl
+      at (Some is) = same_way (Spawn (record { child = child t n; body = body; args = map (value regs) args; items = is; deferred = is_deferred regs c })) Open refl
   clear_by cells n regs x (DoTaskwait depends) = at (items_at cells regs depends)
     where
       at : (o : Option (List Item)) → IsClearBy (items_or_fault o Wait) Open (holds_up H t o)

@@ -37,7 +37,7 @@ fn stale(core: &Core, task: &TaskName) -> StepRefusal
     requires there { IsTrue (is_spawned (history core.now.run) task.now) }
     ensures { IsStaleAnswer core.now.run task.now result }
 {
-    match core.config(task) {
+    match core.elsewhere(task) {
         Ok(Some(now)) => StepRefusal::Stale { now },
         Ok(None) => unreachable!(),
         Err(_) => StepRefusal::Memory,

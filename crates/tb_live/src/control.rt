@@ -20,6 +20,7 @@ pub struct Control {
 impl Control {
     /// A step was taken, whose task stood at this line: the claim on the task ends, and the mode
     /// counts the step.
+    #[inline(always)]
     pub fn step_taken(&mut self, line: u32, event: &Event)
         ensures { self.new ≡ behind_step line event.now self.old }
     {

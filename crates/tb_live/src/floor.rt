@@ -50,7 +50,7 @@ impl Floor {
     }
 
     /// Takes the task in place of the former one. Where memory for its name is refused, none is known.
-    #[inline]
+    #[inline(always)]
     pub fn raise(&mut self, task: &TaskName)
         ensures { IsRaised task.now self.new }
     {
@@ -95,7 +95,7 @@ impl Floor {
     /// Follows the newest step, and takes no memory. Only an end lets other tasks go on: its task's
     /// parent and siblings, and ancestors whose groups it leaves, but these only where the parent has
     /// ended too.
-    #[inline]
+    #[inline(always)]
     pub fn step_taken(&mut self, core: &Core)
         ensures { IsCarried (history core.now.run) self.old self.new }
     {

@@ -20,7 +20,7 @@ use tb_model::TaskName;
 use tb_read::Program;
 
 /// What the task does next, where it can.
-#[inline]
+#[inline(always)]
 fn clear_coming(
     alloc: Global,
     program: &Program,
@@ -79,6 +79,7 @@ fn told(refusal: StepRefusal) -> Result<Option<StepRefusal>, AllocError>
 
 /// The least task that can step, with what it does. The tasks that haven't ended are asked in the order
 /// of their names, from the floor on.
+#[inline(always)]
 pub fn least_coming(
     alloc: Global,
     program: &Program,
@@ -100,7 +101,7 @@ pub fn least_coming(
 }
 
 /// What the task does next, with a copy of its name.
-#[inline]
+#[inline(always)]
 fn named(task: &TaskName, coming: Coming) -> Result<Option<(TaskName, Coming)>, AllocError>
     ensures { IfOk result (λ found. found ≡ Some (task.now, coming)) }
 {

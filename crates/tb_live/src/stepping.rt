@@ -96,6 +96,7 @@ pub fn enter_readied(
 
 /// Takes what a task does next, from which nothing keeps it, and enters it for the seat: nothing is asked
 /// again but whether the journal has a place. What was prepared is given up, but where it has none.
+#[inline(always)]
 pub fn enter_clear(
     core: &mut Core,
     journal: &mut Journal,

@@ -6,7 +6,9 @@ use std::alloc::{AllocError, AllocGlobal, Global};
 use std::mem;
 use std::process::Abort;
 use tb_journal::{Journal, copy_of, seat_of, stands_apart};
-use tb_model::{Action, Args, Entry, Event, Item, Items, Kind, Place, StepId, TaskName};
+use tb_model::{
+    Action, Args, Entry, Event, Item, Items, Kind, Place, Spawn, Spawned, StepId, TaskName,
+};
 
 /// A step of a task that is five levels deep.
 fn step(rt: &(impl Abort + AllocGlobal), seat: u32, action: Action) -> Entry {
@@ -32,13 +34,14 @@ fn items(rt: &impl Abort, alloc: Global, two: bool) -> Items {
 fn spawn(rt: &(impl Abort + AllocGlobal)) -> Action {
     let mut args = Args::new(rt.alloc());
     assert!(rt; args.push(-4).is_ok());
-    Action::Spawn {
+    let spawn = Spawn {
         child: TaskName::parse(rt.alloc(), b"0.1.2.3.4.7").expect(rt, "a name"),
         body: 12,
         args,
         items: items(rt, rt.alloc(), true),
         deferred: false,
-    }
+    };
+    Action::Spawn(Spawned::new(rt.alloc(), spawn).expect(rt, "memory is there"))
 }
 
 fn has_same_text(rt: &impl AllocGlobal, left: &Entry, right: &Entry) -> Result<bool, AllocError> {

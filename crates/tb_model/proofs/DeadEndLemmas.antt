@@ -49,7 +49,7 @@ elder_number (m ∷ u) (n ∷ t) h = ltb-true m n (and_parts (nat_lt m n) (same_
 
 -- no spawned name is longer than this
 name_length : Action → ℕ
-name_length (Spawn u body args items deferred) = length u
+name_length (Spawn s) = length s.child
 name_length _ = 0
 
 deepest : History → ℕ
@@ -58,7 +58,7 @@ deepest (v ∷ H) = name_length v.action + deepest H
 
 name_bound : (t : Name) (a : Action) → is_spawn_of t a ≡ true → length t ≤ name_length a
 unfolding name_length
-name_bound t (Spawn u body args items deferred) h = omega (arith, ap length (same_true u t h))
+name_bound t (Spawn s) h = omega (arith, ap length (same_true s.child t h))
 name_bound t Start h = absurd (false≢true h)
 name_bound t (Let r x) h = absurd (false≢true h)
 name_bound t (Load r c x) h = absurd (false≢true h)

@@ -41,7 +41,7 @@ on k p = record { kind = k; place = p }
 -- the root generates 0.1 and 0.2; 0.1 loads cell 0, and 0.2 stores to it
 abbrev race : History
 race =
-    by two (Store 0 (ℤ.pos 9)) ∷ by two (Let 0 (ℤ.pos 1)) ∷ by two Start ∷ by one (Load 0 0 (ℤ.pos 5)) ∷ by one Start ∷ by [] (Spawn two 8 [] [] true) ∷ by [] (Spawn one 5 [] [] true) ∷ by [] Start ∷ []
+    by two (Store 0 (ℤ.pos 9)) ∷ by two (Let 0 (ℤ.pos 1)) ∷ by two Start ∷ by one (Load 0 0 (ℤ.pos 5)) ∷ by one Start ∷ by [] (Spawn (record { child = two; body = 8; args = []; items = []; deferred = true })) ∷ by [] (Spawn (record { child = one; body = 5; args = []; items = []; deferred = true })) ∷ by [] Start ∷ []
 
 -- the store needs the load, so both go
 load_takes_store : removed (record { task = one; k = 2 }) race ≡ by two (Store 0 (ℤ.pos 9)) ∷ by one (Load 0 0 (ℤ.pos 5)) ∷ []
@@ -79,10 +79,10 @@ journal_history = refl
 -- 0.2 is `out` where 0.1 is `in`; 0.3 and 0.4 exclude each other
 abbrev siblings : History
 siblings =
-    by [] (Spawn (4 ∷ []) 5 [] (on Mutexinoutset (Cell 1) ∷ []) true)
-    ∷ by [] (Spawn (3 ∷ []) 5 [] (on Mutexinoutset (Cell 1) ∷ []) true)
-    ∷ by [] (Spawn two 5 [] (on Out (Cell 0) ∷ []) true)
-    ∷ by [] (Spawn one 5 [] (on In (Cell 0) ∷ []) true) ∷ by [] Start ∷ []
+    by [] (Spawn (record { child = 4 ∷ []; body = 5; args = []; items = on Mutexinoutset (Cell 1) ∷ []; deferred = true }))
+    ∷ by [] (Spawn (record { child = 3 ∷ []; body = 5; args = []; items = on Mutexinoutset (Cell 1) ∷ []; deferred = true }))
+    ∷ by [] (Spawn (record { child = two; body = 5; args = []; items = on Out (Cell 0) ∷ []; deferred = true }))
+    ∷ by [] (Spawn (record { child = one; body = 5; args = []; items = on In (Cell 0) ∷ []; deferred = true })) ∷ by [] Start ∷ []
 
 out_behind_in : before siblings one two ≡ true
 out_behind_in = refl
@@ -98,7 +98,7 @@ excluding = refl
 
 -- two groups, of which the inner one is closed again; 0.1 was generated in front of them
 abbrev grouped : List Action
-grouped = Spawn two 5 [] [] true ∷ Close ∷ Open ∷ Open ∷ Spawn one 5 [] [] true ∷ Start ∷ []
+grouped = Spawn (record { child = two; body = 5; args = []; items = []; deferred = true }) ∷ Close ∷ Open ∷ Open ∷ Spawn (record { child = one; body = 5; args = []; items = []; deferred = true }) ∷ Start ∷ []
 
 -- a member's child is a member; a child of before the group isn't
 grandchild : is_member grouped (7 ∷ two) ≡ true
@@ -117,7 +117,7 @@ outer_children = refl
 
 -- the root generates 0.1 undeferred, which stores and ends; then the root prints
 abbrev stood : History
-stood = by [] (Spawn one 6 (ℤ.pos 1 ∷ []) [] false) ∷ by [] Start ∷ []
+stood = by [] (Spawn (record { child = one; body = 6; args = ℤ.pos 1 ∷ []; items = []; deferred = false })) ∷ by [] Start ∷ []
 
 abbrev undeferred : History
 undeferred = by [] (Print (ℤ.pos 9)) ∷ by one End ∷ by one (Store 0 (ℤ.pos 1)) ∷ by one Start ∷ stood
@@ -131,7 +131,7 @@ stands_at_it = refl
 -- a deferred one isn't waited for
 abbrev deferred : History
 deferred =
-    by [] (Print (ℤ.pos 9)) ∷ by one End ∷ by one Start ∷ by [] (Spawn one 6 [] [] true) ∷ by [] Start ∷ []
+    by [] (Print (ℤ.pos 9)) ∷ by one End ∷ by one Start ∷ by [] (Spawn (record { child = one; body = 6; args = []; items = []; deferred = true })) ∷ by [] Start ∷ []
 
 print_is_free : removed (record { task = one; k = 2 }) deferred ≡ by one End ∷ []
 print_is_free = refl
@@ -139,7 +139,7 @@ print_is_free = refl
 -- 0.1 is `out` of cell 0, 0.2 of cell 1; a wait with `in` of cell 1 covers 0.2 alone
 abbrev pair : History
 pair =
-    by [] (Spawn two 6 [] (on Out (Cell 1) ∷ []) true) ∷ by [] (Spawn one 6 [] (on Out (Cell 0) ∷ []) true) ∷ by [] Start ∷ []
+    by [] (Spawn (record { child = two; body = 6; args = []; items = on Out (Cell 1) ∷ []; deferred = true })) ∷ by [] (Spawn (record { child = one; body = 6; args = []; items = on Out (Cell 0) ∷ []; deferred = true })) ∷ by [] Start ∷ []
 
 two_covered : covers pair [] (on In (Cell 1) ∷ []) two ≡ true
 two_covered = refl
@@ -170,9 +170,9 @@ end_of_uncovered = refl
 -- `in` of cell 0, `out` of all memory, `inoutset` of cell 1: the second comes behind the first and the third behind the second
 abbrev memory : History
 memory =
-    by [] (Spawn (3 ∷ []) 6 [] (on Inoutset (Cell 1) ∷ []) true)
-    ∷ by [] (Spawn two 6 [] (on Out All ∷ []) true)
-    ∷ by [] (Spawn one 6 [] (on In (Cell 0) ∷ []) true) ∷ by [] Start ∷ []
+    by [] (Spawn (record { child = 3 ∷ []; body = 6; args = []; items = on Inoutset (Cell 1) ∷ []; deferred = true }))
+    ∷ by [] (Spawn (record { child = two; body = 6; args = []; items = on Out All ∷ []; deferred = true }))
+    ∷ by [] (Spawn (record { child = one; body = 6; args = []; items = on In (Cell 0) ∷ []; deferred = true })) ∷ by [] Start ∷ []
 
 all_behind : before memory one two ≡ true
 all_behind = refl
@@ -196,11 +196,11 @@ lines =
 abbrev program : Program
 program = record { cells = ℤ.pos 0 ∷ []; bodies = []; lines = lines; root_line = 0 }
 
-spawn_undeferred : planned program (by [] Start ∷ []) [] (ℤ.pos 0) ≡ Spawn one 0 (ℤ.pos 1 ∷ []) [] false
+spawn_undeferred : planned program (by [] Start ∷ []) [] (ℤ.pos 0) ≡ Spawn (record { child = one; body = 0; args = ℤ.pos 1 ∷ []; items = []; deferred = false })
 spawn_undeferred = refl
 
 abbrev spawned : History
-spawned = by [] (Spawn one 0 (ℤ.pos 1 ∷ []) [] false) ∷ by [] Start ∷ []
+spawned = by [] (Spawn (record { child = one; body = 0; args = ℤ.pos 1 ∷ []; items = []; deferred = false })) ∷ by [] Start ∷ []
 
 wait_on : planned program spawned [] (ℤ.pos 0) ≡ Wait (on In (Cell 0) ∷ on Out All ∷ [])
 wait_on = refl

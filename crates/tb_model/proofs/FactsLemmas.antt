@@ -21,7 +21,7 @@ own_other t v H e = ap (λ b. prepend_if b v.action (own t H)) e
 
 -- a spawn names the next child of its task
 pub spawn_names : (cells : Cells) (t u : Name) (acts : List Action) (a : Action) → Continues cells t acts a → is_spawn_of u a ≡ true → u ≡ suc (spawn_count acts) ∷ t
-spawn_names cells t u acts (Spawn w body args items deferred) h e = sym (same_true w u e) ∙ h.1
+spawn_names cells t u acts (Spawn s) h e = sym (same_true s.child u e) ∙ h.1
 spawn_names cells t u acts Start h e = absurd (false≢true e)
 spawn_names cells t u acts (Let r x) h e = absurd (false≢true e)
 spawn_names cells t u acts (Load r c x) h e = absurd (false≢true e)
@@ -37,11 +37,11 @@ spawn_names cells t u acts Fault h e = absurd (false≢true e)
 -- ---- children are numbered
 
 count_grows : (a : Action) (acts : List Action) → spawn_count acts ≤ spawn_count (a ∷ acts)
-count_grows (Spawn u body args items deferred) acts = omega arith
+count_grows (Spawn s) acts = omega arith
 count_grows _ acts = omega arith
 
 count_spawn : (u : Name) (a : Action) (acts : List Action) → is_spawn_of u a ≡ true → spawn_count (a ∷ acts) ≡ suc (spawn_count acts)
-count_spawn u (Spawn w body args items deferred) acts e = refl
+count_spawn u (Spawn s) acts e = refl
 count_spawn u Start acts e = absurd (false≢true e)
 count_spawn u (Let r x) acts e = absurd (false≢true e)
 count_spawn u (Load r c x) acts e = absurd (false≢true e)
@@ -102,7 +102,7 @@ begun cells t acts (Let r x) h = inr h.0
 begun cells t acts (Load r c x) h = inr h.0
 begun cells t acts (Store c x) h = inr h.0
 begun cells t acts (Print x) h = inr h
-begun cells t acts (Spawn u body args items deferred) h = inr h.0
+begun cells t acts (Spawn s) h = inr h.0
 begun cells t acts (Wait items) h = inr h.0
 begun cells t acts Open h = inr h
 begun cells t acts Close h = inr h.0
@@ -184,7 +184,7 @@ held_child cells [] t u l h = absurd (false≢true h)
 held_child cells (v ∷ H) t u l h = at (held_child cells H t u l.0) (is_of t v) refl h
   where
     spawned_by : (a : Action) (acts : List Action) → holds (a ∷ acts) u ≡ true → is_spawn_of u a ≡ true
-    spawned_by (Spawn w body args items deferred) acts h = (and_parts (not deferred) (same_name w u) h).1
+    spawned_by (Spawn s) acts h = (and_parts (not s.deferred) (same_name s.child u) h).1
     spawned_by Start acts h = absurd (false≢true h)
     spawned_by (Let r x) acts h = absurd (false≢true h)
     spawned_by (Load r c x) acts h = absurd (false≢true h)
@@ -218,12 +218,12 @@ groups_step cells t acts Close h g = drop_first (groups acts) g
     drop_first : (gs : List (List Name)) → AllByRecursion (AreChildren t) gs → AllByRecursion (AreChildren t) (drop 1 gs)
     drop_first [] g = tt
     drop_first (us ∷ gs) g = g.1
-groups_step cells t acts (Spawn u body args items deferred) h g = put_each (groups acts) g
+groups_step cells t acts (Spawn s) h g = put_each (groups acts) g
   where
-    mine : is_child t u ≡ true
+    mine : is_child t s.child ≡ true
     mine = subst (λ w. is_child t w ≡ true) (sym h.1) (same_refl t)
 
-    put_each : (gs : List (List Name)) → AllByRecursion (AreChildren t) gs → AllByRecursion (AreChildren t) (map (λ us. u ∷ us) gs)
+    put_each : (gs : List (List Name)) → AllByRecursion (AreChildren t) gs → AllByRecursion (AreChildren t) (map (λ us. s.child ∷ us) gs)
     put_each [] g = tt
     put_each (us ∷ gs) g = ((mine, g.0), put_each gs g.1)
 groups_step cells t acts _ h g = g
@@ -264,7 +264,7 @@ spawned_by (n ∷ t) H h = h
 
 -- what doesn't generate u gives it no items
 pub items_none : (u : Name) (a : Action) → is_spawn_of u a ≡ false → items_for u a ≡ []
-items_none u (Spawn w body args items deferred) h = ap (λ b. cond b items []) h
+items_none u (Spawn s) h = ap (λ b. cond b s.items []) h
 items_none u _ h = refl
 
 module _ (cells : Cells) (H : History) (l : Legal cells H) (f : Event) (mf : MayFollow cells H f) where

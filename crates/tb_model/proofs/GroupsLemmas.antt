@@ -42,8 +42,8 @@ groups_since (Open ∷ acts) =
 groups_since (Close ∷ acts) =
     ap (drop 1) (groups_since acts ∙ sym (since_more Close acts (open_groups acts) (opened_up_to acts)))
     ∙ drop-map (λ k. children_since k (Close ∷ acts)) 1 (open_groups acts)
-groups_since (Spawn u body args items deferred ∷ acts) =
-    ap (map (λ us. u ∷ us)) (groups_since acts)
-    ∙ map-map (λ us. u ∷ us) (λ k. children_since k acts) (open_groups acts)
-    ∙ sym (since_more (Spawn u body args items deferred) acts (open_groups acts) (opened_up_to acts))
+groups_since (Spawn s ∷ acts) =
+    ap (map (λ us. s.child ∷ us)) (groups_since acts)
+    ∙ map-map (λ us. s.child ∷ us) (λ k. children_since k acts) (open_groups acts)
+    ∙ sym (since_more (Spawn s) acts (open_groups acts) (opened_up_to acts))
 groups_since (a ∷ acts) = groups_since acts ∙ sym (since_more a acts (open_groups acts) (opened_up_to acts))

@@ -44,8 +44,8 @@ by_parent = refl
 -- 0.1 and 0.2 are `in`, 0.3 is `out`, and 0.4 is behind it
 abbrev chain : History
 chain =
-    by [] (Spawn four 5 [] (on In) true) ∷ by [] (Spawn three 5 [] (on Out) true) ∷ by [] (Spawn two 5 [] (on In) true)
-    ∷ by [] (Spawn one 5 [] (on In) true) ∷ by [] Start ∷ []
+    by [] (Spawn (record { child = four; body = 5; args = []; items = on In; deferred = true })) ∷ by [] (Spawn (record { child = three; body = 5; args = []; items = on Out; deferred = true })) ∷ by [] (Spawn (record { child = two; body = 5; args = []; items = on In; deferred = true }))
+    ∷ by [] (Spawn (record { child = one; body = 5; args = []; items = on In; deferred = true })) ∷ by [] Start ∷ []
 
 first_reader_is_free : in_the_way chain one Start ≡ None
 first_reader_is_free = refl
@@ -70,7 +70,7 @@ print_is_free = refl
 -- 0.1 and 0.2 exclude each other; who hasn't started excludes nobody
 abbrev exclusive : History
 exclusive =
-    by [] (Spawn two 5 [] (on Mutexinoutset) true) ∷ by [] (Spawn one 5 [] (on Mutexinoutset) true) ∷ by [] Start ∷ []
+    by [] (Spawn (record { child = two; body = 5; args = []; items = on Mutexinoutset; deferred = true })) ∷ by [] (Spawn (record { child = one; body = 5; args = []; items = on Mutexinoutset; deferred = true })) ∷ by [] Start ∷ []
 
 free_to_start : in_the_way exclusive one Start ≡ None
 free_to_start = refl
@@ -84,8 +84,8 @@ free_behind_the_end = refl
 -- 0.1 is generated in front of the group, 0.2 in it; its child is a member too
 abbrev grouped : History
 grouped =
-    by two (Spawn (1 ∷ two) 5 [] [] true) ∷ by two Start ∷ by [] (Spawn two 5 [] [] true) ∷ by [] Open
-    ∷ by [] (Spawn one 5 [] [] true) ∷ by [] Start ∷ []
+    by two (Spawn (record { child = 1 ∷ two; body = 5; args = []; items = []; deferred = true })) ∷ by two Start ∷ by [] (Spawn (record { child = two; body = 5; args = []; items = []; deferred = true })) ∷ by [] Open
+    ∷ by [] (Spawn (record { child = one; body = 5; args = []; items = []; deferred = true })) ∷ by [] Start ∷ []
 
 member_first : in_the_way grouped [] Close ≡ Some (Group two)
 member_first = refl
@@ -95,7 +95,7 @@ its_child_then = refl
 
 -- the undeferred child comes first, whatever the action is
 abbrev undeferred : History
-undeferred = by [] (Spawn two 5 [] [] false) ∷ by [] (Spawn one 5 [] [] true) ∷ by [] Start ∷ []
+undeferred = by [] (Spawn (record { child = two; body = 5; args = []; items = []; deferred = false })) ∷ by [] (Spawn (record { child = one; body = 5; args = []; items = []; deferred = true })) ∷ by [] Start ∷ []
 
 stands_at_child : in_the_way undeferred [] End ≡ Some (Undeferred two)
 stands_at_child = refl
@@ -125,7 +125,7 @@ program = record {
 }
 
 abbrev spawned : History
-spawned = by [] (Spawn one 5 [] [] true) ∷ by [] Start ∷ []
+spawned = by [] (Spawn (record { child = one; body = 5; args = []; items = []; deferred = true })) ∷ by [] Start ∷ []
 
 abbrev worked : History
 worked = by one End ∷ by one Start ∷ spawned

@@ -39,12 +39,12 @@ apart_spawned H u t h =
 
 -- whether an action generates an undeferred child
 is_undeferred : Action → Bool
-is_undeferred (Spawn u body args items deferred) = not deferred
+is_undeferred (Spawn s) = not s.deferred
 is_undeferred _ = false
 
 held_by : (a : Action) (acts : List Action) (u : Name) → holds (a ∷ acts) u ≡ (is_undeferred a && is_spawn_of u a)
 unfolding is_undeferred
-held_by (Spawn w body args items deferred) acts u = refl
+held_by (Spawn s) acts u = refl
 held_by _ acts u = refl
 
 held_spawned : (H : History) (t u : Name) → holds (own t H) u ≡ true → list_any (spawns u) H ≡ true

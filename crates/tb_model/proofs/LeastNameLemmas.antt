@@ -123,7 +123,7 @@ same_back : (t u : Name) → same_name t u ≡ true → same_name u t ≡ true
 same_back t u h = subst (λ w. same_name w t ≡ true) (same_true t u h) (same_refl t)
 
 in_child : (t : Name) (a : Action) (ts : List Name) → list_any (same_name t) (with_child a ts) ≡ (is_spawn_of t a || list_any (same_name t) ts)
-in_child t (Spawn u body args items deferred) ts = ap (λ b. b || list_any (same_name t) ts) (both (same_name t u) (same_name u t) (same_back t u) (same_back u t))
+in_child t (Spawn s) ts = ap (λ b. b || list_any (same_name t) ts) (both (same_name t s.child) (same_name s.child t) (same_back t s.child) (same_back s.child t))
   where
     both : (b c : Bool) → (b ≡ true → c ≡ true) → (c ≡ true → b ≡ true) → b ≡ c
     both true c f g = sym (f refl)

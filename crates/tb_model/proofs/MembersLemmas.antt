@@ -57,7 +57,7 @@ children_up_to k [] = omega arith
 children_up_to k (a ∷ acts) = at (nat_le k (length acts)) (children_up_to k acts)
   where
     more : (a : Action) → spawn_count acts ≤ spawn_count (a ∷ acts)
-    more (Spawn u body args items deferred) = omega arith
+    more (Spawn s) = omega arith
     more _ = omega arith
 
     at : (b : Bool) → children_at k acts ≤ spawn_count acts → cond b (children_at k acts) (spawn_count (a ∷ acts)) ≤ spawn_count (a ∷ acts)
@@ -68,7 +68,7 @@ since_more : (cells : Cells) (t : Name) (k : ℕ) (m : Name) (acts : List Action
 since_more cells t k m acts a c e = at (nat_le k (length acts))
   where
     added : (a : Action) → Continues cells t acts a → list_any (λ c. is_within c m) (with_child a (children_since k acts)) ≡ is_between t (children_at k acts) (spawn_count (a ∷ acts)) m
-    added (Spawn u body args items deferred) h =
+    added (Spawn s) h =
         ap₂ (λ w b. is_within w m || b) h.1 e ∙ sym (one_more t (children_at k acts) (spawn_count acts) m (children_up_to k acts))
     added _ h = e
 

@@ -53,9 +53,9 @@ reads cells t n regs (DoStore a b) = at (cell_at cells (value regs a))
     at (Some c) = inl (record { action = Store c (value regs b); same = λ x. refl; reads = λ cs H. refl; zero = refl })
 reads cells t n regs (DoSpawn line args items q) = at (items_at cells regs items)
   where
-    at : (o : Option (List Item)) → Reads (λ x. items_or_fault o (λ is. Spawn (child t n) line (map (value regs) args) is (is_deferred regs q)))
+    at : (o : Option (List Item)) → Reads (λ x. items_or_fault o (λ is. Spawn (record { child = child t n; body = line; args = map (value regs) args; items = is; deferred = is_deferred regs q })))
     at None = inl (record { action = Fault; same = λ x. refl; reads = λ cs H. refl; zero = refl })
-    at (Some is) = inl (record { action = Spawn (child t n) line (map (value regs) args) is (is_deferred regs q); same = λ x. refl; reads = λ cs H. refl; zero = refl })
+    at (Some is) = inl (record { action = Spawn (record { child = child t n; body = line; args = map (value regs) args; items = is; deferred = is_deferred regs q }); same = λ x. refl; reads = λ cs H. refl; zero = refl })
 reads cells t n regs (DoWait items) = at (items_at cells regs items)
   where
     at : (o : Option (List Item)) → Reads (λ x. items_or_fault o Wait)

@@ -71,15 +71,15 @@ groups_more t acts Close H g = drop_first (groups acts) g
     drop_first : (gs : List (List Name)) → AllByRecursion (AreSpawned (record { task = t; action = Close } ∷ H)) gs → AllByRecursion (AreSpawned (record { task = t; action = Close } ∷ H)) (drop 1 gs)
     drop_first [] g = tt
     drop_first (us ∷ gs) g = g.1
-groups_more t acts (Spawn u body args items deferred) H g = put_each (groups acts) g
+groups_more t acts (Spawn s) H g = put_each (groups acts) g
   where
     G : History
-    G = record { task = t; action = Spawn u body args items deferred } ∷ H
+    G = record { task = t; action = Spawn s } ∷ H
 
-    mine : list_any (spawns u) G ≡ true
-    mine = or_left (same_name u u) _ (same_refl u)
+    mine : list_any (spawns s.child) G ≡ true
+    mine = or_left (same_name s.child s.child) _ (same_refl s.child)
 
-    put_each : (gs : List (List Name)) → AllByRecursion (AreSpawned G) gs → AllByRecursion (AreSpawned G) (map (λ us. u ∷ us) gs)
+    put_each : (gs : List (List Name)) → AllByRecursion (AreSpawned G) gs → AllByRecursion (AreSpawned G) (map (λ us. s.child ∷ us) gs)
     put_each [] g = tt
     put_each (us ∷ gs) g = ((mine, g.0), put_each gs g.1)
 groups_more t acts _ H g = g

@@ -26,19 +26,19 @@ and_true true = refl
 and_true false = refl
 
 own_items : (cells : Cells) (n : ℕ) (p : Name) (a : Action) (acts : List Action) (old : List Item) → Continues cells p acts a → (n ≡ suc (spawn_count acts) → old ≡ []) → old ≡ nth_items n acts → items_for (n ∷ p) a ++ old ≡ nth_items n (a ∷ acts)
-own_items cells n p (Spawn u body args items deferred) acts old h fresh e = at (n == c) refl
+own_items cells n p (Spawn spawn) acts old h fresh e = at (n == c) refl
   where
     c : ℕ
     c = suc (spawn_count acts)
 
-    at : (b : Bool) → (n == c) ≡ b → cond (same_name u (n ∷ p)) items [] ++ old ≡ cond b items (nth_items n acts)
+    at : (b : Bool) → (n == c) ≡ b → cond (same_name spawn.child (n ∷ p)) spawn.items [] ++ old ≡ cond b spawn.items (nth_items n acts)
     at true q =
         let k = eqb-true n c q in
-        let same : same_name u (n ∷ p) ≡ true = subst (λ w. same_name w (n ∷ p) ≡ true) (sym (h.1 ∙ ap (λ m. m ∷ p) (sym k))) (same_refl (n ∷ p)) in
-        ap₂ (λ b o. cond b items [] ++ o) same (fresh k) ∙ append-nil items
+        let same : same_name spawn.child (n ∷ p) ≡ true = subst (λ w. same_name w (n ∷ p) ≡ true) (sym (h.1 ∙ ap (λ m. m ∷ p) (sym k))) (same_refl (n ∷ p)) in
+        ap₂ (λ b o. cond b spawn.items [] ++ o) same (fresh k) ∙ append-nil spawn.items
     at false q =
-        let other : same_name u (n ∷ p) ≡ false = false_from_ne_true (same_name u (n ∷ p)) (λ s. both_ways (n == c) q (eq-eqb n c (cons_head (sym (same_true u (n ∷ p) s) ∙ h.1)))) in
-        ap (λ b. cond b items [] ++ old) other ∙ e
+        let other : same_name spawn.child (n ∷ p) ≡ false = false_from_ne_true (same_name spawn.child (n ∷ p)) (λ s. both_ways (n == c) q (eq-eqb n c (cons_head (sym (same_true spawn.child (n ∷ p) s) ∙ h.1)))) in
+        ap (λ b. cond b spawn.items [] ++ old) other ∙ e
 own_items cells n p _ acts old h fresh e = e
 
 -- a child's items are those that its parent named

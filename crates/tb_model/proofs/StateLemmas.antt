@@ -86,7 +86,7 @@ spawned_positive cells (v ∷ H) n t l h =
 
 -- an action that generates nothing, or the next child
 counted : (cells : Cells) (t : Name) (acts : List Action) (a : Action) → Continues cells t acts a → (spawn_count (a ∷ acts) ≡ spawn_count acts) ⊎ ((spawn_count (a ∷ acts) ≡ suc (spawn_count acts)) × (is_spawn_of (suc (spawn_count acts) ∷ t) a ≡ true))
-counted cells t acts (Spawn u body args items deferred) c =
+counted cells t acts (Spawn s) c =
     inr (refl, subst (λ w. same_name w (suc (spawn_count acts) ∷ t) ≡ true) (sym c.1) (same_refl (suc (spawn_count acts) ∷ t)))
 counted cells t acts _ c = inl refl
 
@@ -118,7 +118,7 @@ children_numbered cells H t n l =
 -- ---- a task is generated once
 
 items_named : (t : Name) (a : Action) → is_spawn_of t a ≡ true → items_for t a ++ [] ≡ items_in (Some a)
-items_named t (Spawn u body args items deferred) h = ap (λ b. cond b items [] ++ []) h ∙ append-nil items
+items_named t (Spawn s) h = ap (λ b. cond b s.items [] ++ []) h ∙ append-nil s.items
 items_named t Start h = absurd (false≢true h)
 items_named t (Let r x) h = absurd (false≢true h)
 items_named t (Load r c x) h = absurd (false≢true h)

@@ -85,7 +85,7 @@ module _ (P : Program) (depth : ℕ → ℕ) (t : Name) (acts : List Action) (r 
   fits x (DoPrint a) n w = r
   fits x (DoSpawn body args items c) n w = at (items_at P.cells regs items) (items_fit P.cells regs items)
     where
-      at : (o : Option (List Item)) → ItemsFit P.cells o → Continues P.cells t acts (items_or_fault o (λ is. Spawn (child t (suc (spawn_count acts))) body (map (value regs) args) is (Rattle.tb_model.specs.Program.is_deferred regs c)))
+      at : (o : Option (List Item)) → ItemsFit P.cells o → Continues P.cells t acts (items_or_fault o (λ is. Spawn (record { child = child t (suc (spawn_count acts)); body = body; args = map (value regs) args; items = is; deferred = Rattle.tb_model.specs.Program.is_deferred regs c })))
       at None h = r
       at (Some is) h = (r, refl, omega (arith, w.1, length-map args (value regs)), h)
   fits x (DoWait items) n w = at (items_at P.cells regs items) (items_fit P.cells regs items)
@@ -119,7 +119,7 @@ module _ (P : Program) (depth : ℕ → ℕ) (t : Name) (acts : List Action) (k 
   lands x (DoPrint a) n w = λ e. w
   lands x (DoSpawn body args items q) n w = at (items_at P.cells c.regs items)
     where
-      at : (o : Option (List Item)) → Lands (items_or_fault o (λ is. Spawn (child t k) body (map (value c.regs) args) is (Rattle.tb_model.specs.Program.is_deferred c.regs q)))
+      at : (o : Option (List Item)) → Lands (items_or_fault o (λ is. Spawn (record { child = child t k; body = body; args = map (value c.regs) args; items = is; deferred = Rattle.tb_model.specs.Program.is_deferred c.regs q })))
       at None = λ e. absurd (false≢true (sym e))
       at (Some is) = λ e. subst (λ m. Inside P depth m i.next) (sym (length-map (groups acts) (λ us. child t k ∷ us))) w.2
   lands x (DoWait items) n w = at (items_at P.cells c.regs items)
@@ -174,7 +174,7 @@ module _ (P : Program) (w : WellFormed P) where
   spawned_begins : (depth : ℕ → ℕ) (t : Name) (k groups next otherwise : ℕ) (regs : List ℤ) (x : ℤ) (s : Statement) → WellAt P depth groups next otherwise s → Begins P (called_by P.root_line (Some (action_of P.cells t k regs x s))).line
   spawned_begins depth t k g m o regs x (DoSpawn body args items q) h = at (items_at P.cells regs items)
     where
-      at : (o : Option (List Item)) → Begins P (called_by P.root_line (Some (items_or_fault o (λ is. Spawn (child t k) body (map (value regs) args) is (Rattle.tb_model.specs.Program.is_deferred regs q))))).line
+      at : (o : Option (List Item)) → Begins P (called_by P.root_line (Some (items_or_fault o (λ is. Spawn (record { child = child t k; body = body; args = map (value regs) args; items = is; deferred = Rattle.tb_model.specs.Program.is_deferred regs q }))))).line
       at None = w.root
       at (Some is) = h.0
   spawned_begins depth t k g m o regs x (DoWait items) h = at (items_at P.cells regs items)
@@ -294,7 +294,7 @@ module _ (P : Program) (w : WellFormed P) where
       at (Some n) = record { reads = λ r c x e. cc e; says = refl }
   reading H t k regs (DoSpawn body args items q) = at (items_at P.cells regs items)
     where
-      at : (o : Option (List Item)) → Reading H (λ x. items_or_fault o (λ is. Spawn (child t k) body (map (value regs) args) is (Rattle.tb_model.specs.Program.is_deferred regs q)))
+      at : (o : Option (List Item)) → Reading H (λ x. items_or_fault o (λ is. Spawn (record { child = child t k; body = body; args = map (value regs) args; items = is; deferred = Rattle.tb_model.specs.Program.is_deferred regs q })))
       at None = record { reads = λ r c x e. cc e; says = refl }
       at (Some is) = record { reads = λ r c x e. cc e; says = refl }
   reading H t k regs (DoWait items) = at (items_at P.cells regs items)

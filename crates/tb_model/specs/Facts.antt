@@ -41,7 +41,7 @@ touches c _ = false
 
 -- it generates task t
 abbrev pub is_spawn_of : Name → Action → Bool
-is_spawn_of t (Spawn u body args items deferred) = same_name u t
+is_spawn_of t (Spawn s) = same_name s.child t
 is_spawn_of t _ = false
 
 -- the event is one of task t
@@ -104,7 +104,7 @@ last first c (v ∷ H) = stored_or c v.action (last first c H)
 
 -- the items that the action gives to t
 abbrev pub items_for : Name → Action → List Item
-items_for t (Spawn u body args items deferred) = if same_name u t then items else []
+items_for t (Spawn s) = if same_name s.child t then s.items else []
 items_for t _ = []
 
 -- the depend items of t
@@ -133,7 +133,7 @@ abbrev pub groups : List Action → List (List Name)
 groups [] = []
 groups (Open ∷ acts) = [] ∷ groups acts
 groups (Close ∷ acts) = drop 1 (groups acts)
-groups (Spawn u body args items deferred ∷ acts) = map (λ us. u ∷ us) (groups acts)
+groups (Spawn s ∷ acts) = map (λ us. s.child ∷ us) (groups acts)
 groups (_ ∷ acts) = groups acts
 
 -- the children of the innermost open group
@@ -149,5 +149,5 @@ is_member acts m = list_any (λ c. is_within c m) (innermost (groups acts))
 
 -- the newest of these actions generated the undeferred child u
 abbrev pub holds : List Action → Name → Bool
-holds (Spawn w body args items deferred ∷ acts) u = not deferred && same_name w u
+holds (Spawn s ∷ acts) u = not s.deferred && same_name s.child u
 holds _ u = false

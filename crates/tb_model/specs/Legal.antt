@@ -26,7 +26,7 @@ IsRunning (a ∷ acts) = IsTrue (not (is_end a))
 -- how many children these actions generated
 abbrev pub spawn_count : List Action → ℕ
 spawn_count [] = 0
-spawn_count (Spawn u body args items deferred ∷ acts) = suc (spawn_count acts)
+spawn_count (Spawn s ∷ acts) = suc (spawn_count acts)
 spawn_count (_ ∷ acts) = spawn_count acts
 
 -- a storage location that an item may name: a cell of the program, or all memory
@@ -42,8 +42,8 @@ Continues cells t acts (Let r x) = IsRunning acts × (r < 16)
 Continues cells t acts (Load r c x) = IsRunning acts × (r < 16) × (c < length cells)
 Continues cells t acts (Store c x) = IsRunning acts × (c < length cells)
 Continues cells t acts (Print x) = IsRunning acts
-Continues cells t acts (Spawn u body args items deferred) =
-    IsRunning acts × (u ≡ child t (suc (spawn_count acts))) × (length args ≤ 16) × AllByRecursion (λ (i : Item). IsPlace cells i.place) items
+Continues cells t acts (Spawn s) =
+    IsRunning acts × (s.child ≡ child t (suc (spawn_count acts))) × (length s.args ≤ 16) × AllByRecursion (λ (i : Item). IsPlace cells i.place) s.items
 Continues cells t acts (Wait items) = IsRunning acts × AllByRecursion (λ (i : Item). IsPlace cells i.place) items
 Continues cells t acts Open = IsRunning acts
 Continues cells t acts Close = IsRunning acts × (groups acts ≢ [])

@@ -124,7 +124,7 @@ action_of cells t n regs x (DoCompute r a o b) = Let r (computed o (value regs a
 action_of cells t n regs x (DoLoad r a) = or_fault (cell_at cells (value regs a)) (λ c. Load r c x)
 action_of cells t n regs x (DoStore a b) = or_fault (cell_at cells (value regs a)) (λ c. Store c (value regs b))
 action_of cells t n regs x (DoPrint a) = Print (value regs a)
-action_of cells t n regs x (DoSpawn line args items c) = items_or_fault (items_at cells regs items) (λ is. Spawn (child t n) line (map (value regs) args) is (is_deferred regs c))
+action_of cells t n regs x (DoSpawn line args items c) = items_or_fault (items_at cells regs items) (λ is. Spawn (record { child = child t n; body = line; args = map (value regs) args; items = is; deferred = is_deferred regs c }))
 action_of cells t n regs x (DoWait items) = items_or_fault (items_at cells regs items) Wait
 action_of cells t n regs x DoOpen = Open
 action_of cells t n regs x DoClose = Close

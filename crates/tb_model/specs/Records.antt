@@ -10,7 +10,7 @@ use Rattle.tb_model.specs.Legal.{Cells, first_number}
 
 -- the arguments that a spawn passes; the root has none
 abbrev pub args_in : Option Action → List ℤ
-args_in (Some (Spawn u line args items deferred)) = args
+args_in (Some (Spawn s)) = s.args
 args_in _ = []
 
 -- the number of the last `let` or `load` to the register, else the argument, else 0

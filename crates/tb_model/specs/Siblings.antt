@@ -10,7 +10,7 @@ use Rattle.tb_model.specs.Legal.{spawn_count}
 -- the items of the nth child
 abbrev pub nth_items : ℕ → List Action → List Item
 nth_items n [] = []
-nth_items n (Spawn u body args items deferred ∷ acts) = if n == suc (spawn_count acts) then items else nth_items n acts
+nth_items n (Spawn s ∷ acts) = if n == suc (spawn_count acts) then s.items else nth_items n acts
 nth_items n (_ ∷ acts) = nth_items n acts
 
 -- the nth child depends on the mth

@@ -65,12 +65,12 @@ pub record Called : Type 0 where
 
 -- as the spawn says; the root has the body at root_line, and no arguments
 abbrev pub called_by : ℕ → Option Action → Called
-called_by root_line (Some (Spawn u line args items deferred)) = record { line = line; args = args }
+called_by root_line (Some (Spawn s)) = record { line = s.body; args = s.args }
 called_by root_line _ = record { line = root_line; args = [] }
 
 -- the items that a spawn names
 abbrev pub items_in : Option Action → List Item
-items_in (Some (Spawn u line args items deferred)) = items
+items_in (Some (Spawn s)) = s.items
 items_in _ = []
 
 -- ---- open groups
@@ -88,7 +88,7 @@ open_groups_of t H = map (λ k. record { task = t; k = k }) (open_groups (own t 
 
 -- these children, with the one that the action generates
 abbrev pub with_child : Action → List Name → List Name
-with_child (Spawn u body args items deferred) us = u ∷ us
+with_child (Spawn s) us = s.child ∷ us
 with_child _ us = us
 
 -- the children that the actions behind the kth generated, the newest first

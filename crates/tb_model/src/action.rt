@@ -4,9 +4,9 @@ ghost use Rattle.std.specs.Prelude.{◌≡◌};
 ghost use Rattle.tb_model.specs.Facts;
 ghost use Rattle.tb_model.specs.Needs;
 
-use crate::args::Args;
 use crate::items::Items;
 use crate::name::TaskName;
+use crate::spawned::Spawned;
 
 /// What one step of a task did, with the numbers that it read, wrote, printed or passed.
 #[derive(Clone, Debug, Drop)]
@@ -14,45 +14,23 @@ pub enum Action {
     /// The task began.
     Start,
     /// A register was given a number.
-    Let {
-        reg: u8,
-        value: i64,
-    },
+    Let { reg: u8, value: i64 },
     /// A register was given the number of a cell.
-    Load {
-        reg: u8,
-        cell: u32,
-        value: i64,
-    },
+    Load { reg: u8, cell: u32, value: i64 },
     /// A cell was given a number.
-    Store {
-        cell: u32,
-        value: i64,
-    },
+    Store { cell: u32, value: i64 },
     /// A number was printed.
-    Print {
-        value: i64,
-    },
-    /// A child was generated. An undeferred one has to end before its parent goes on.
-    Spawn {
-        child: TaskName,
-        body: u32,
-        args: Args,
-        items: Items,
-        deferred: bool,
-    },
+    Print { value: i64 },
+    /// A child was generated.
+    Spawn(Spawned),
     /// A `taskwait` was passed.
-    Wait {
-        items: Items,
-    },
+    Wait { items: Items },
     /// A `taskgroup` was entered.
     Open,
     /// The end of a `taskgroup` was passed.
     Close,
     /// A test of an `if` or a `while` was made.
-    Test {
-        yes: bool,
-    },
+    Test { yes: bool },
     /// The task completed.
     End,
     /// An address was none of the cells': the task is over, and did nothing else.
@@ -79,7 +57,7 @@ impl Action {
         ensures { result ≡ Facts.is_spawn_of t.now self.now }
     {
         match self {
-            Action::Spawn { child, .. } => child == t,
+            Action::Spawn(spawned) => spawned.get().child == *t,
             _ => false,
         }
     }

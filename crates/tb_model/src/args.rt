@@ -1,6 +1,6 @@
 //! The arguments of a task.
 
-ghost use Rattle.std.specs.Prelude.{◌≡◌, [], OnOk, OnErr, ◌++◌, ◌∷◌};
+ghost use Rattle.std.specs.Prelude.{◌≡◌, ◌↔◌, [], OnOk, OnErr, IsTrue, ◌++◌, ◌∷◌};
 
 use crate::boxed_list::BoxedList;
 use std::alloc::{AllocError, Global};
@@ -44,6 +44,13 @@ impl Args {
         ensures { result.now ≡ self.now }
     {
         self.list.as_slice()
+    }
+
+    /// Whether both have the same numbers.
+    pub fn is_same(&self, other: &Args) -> bool
+        ensures { IsTrue result ↔ (self.now ≡ other.now) }
+    {
+        self.as_slice() == other.as_slice()
     }
 }
 

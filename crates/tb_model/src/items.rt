@@ -1,9 +1,10 @@
 //! The items of a depend clause.
 
-ghost use Rattle.std.specs.Prelude.{◌≡◌, [], OnOk, OnErr, ◌++◌, ◌∷◌};
+ghost use Rattle.std.specs.Prelude.{◌≡◌, ◌↔◌, [], OnOk, OnErr, IsTrue, ◌++◌, ◌∷◌};
 
 use crate::boxed_list::BoxedList;
 use crate::item::Item;
+use crate::place::Place;
 use std::alloc::{AllocError, Global};
 use std::fmt;
 use std::marker::Model;
@@ -46,6 +47,43 @@ impl Items {
         ensures { result.now ≡ self.now }
     {
         self.list.as_slice()
+    }
+
+    /// Whether both have the same items.
+    pub fn is_same(&self, other: &Items) -> bool
+        ensures { IsTrue result ↔ (self.now ≡ other.now) }
+    {
+        are_same_lists(self.as_slice(), other.as_slice())
+    }
+}
+
+fn are_same_lists(a: &[Item], b: &[Item]) -> bool
+    ensures { IsTrue result ↔ (a.now ≡ b.now) }
+{
+    if a.len() != b.len() {
+        return false;
+    }
+    for at in 0..a.len() {
+        if !is_same_item(&a[at], &b[at]) {
+            return false;
+        }
+    }
+    true
+}
+
+fn is_same_item(a: &Item, b: &Item) -> bool
+    ensures { IsTrue result ↔ (a.now ≡ b.now) }
+{
+    a.kind == b.kind && is_same_place(&a.place, &b.place)
+}
+
+fn is_same_place(a: &Place, b: &Place) -> bool
+    ensures { IsTrue result ↔ (a.now ≡ b.now) }
+{
+    match (a, b) {
+        (Place::Cell(c), Place::Cell(d)) => c == d,
+        (Place::All, Place::All) => true,
+        _ => false,
     }
 }
 

@@ -68,6 +68,7 @@ impl PartialEq for TaskName {
 
     ghost laws = { same_name_partial };
 
+    #[inline(always)]
     fn eq(&self, other: &TaskName) -> bool {
         self.numbers.is_same(&other.numbers)
     }

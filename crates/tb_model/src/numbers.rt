@@ -133,6 +133,7 @@ impl Numbers {
     }
 
     /// Whether the numbers are the same.
+    #[inline]
     pub fn is_same(&self, other: &Numbers) -> bool
         ensures { result ≡ same_name self.now other.now }
     {
@@ -143,6 +144,17 @@ impl Numbers {
             (Stored::Three([a, b, c]), Stored::Three([k, l, m])) => {
                 *a == *k && *b == *l && *c == *m
             }
+            _ => self.is_same_at_length(other),
+        }
+    }
+
+    /// The same where they aren't of one length up to three. It stands apart, so that most comparisons
+    /// don't pay for its room.
+    #[inline(never)]
+    fn is_same_at_length(&self, other: &Numbers) -> bool
+        ensures { result ≡ same_name self.now other.now }
+    {
+        match (&self.stored, &other.stored) {
             (Stored::Shared(numbers), Stored::Shared(others)) => {
                 are_same(numbers.as_slice(), others.as_slice())
             }

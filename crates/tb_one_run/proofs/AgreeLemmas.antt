@@ -22,7 +22,7 @@ abbrev pub Reaches : History → History → Type 0
 Reaches A B = (t : Name) → Older (own t A) (own t B)
 
 more_spawns : (a : Action) (acts : List Action) → spawn_count acts ≤ spawn_count (a ∷ acts)
-more_spawns (Spawn u body args items deferred) acts = omega arith
+more_spawns (Spawn s) acts = omega arith
 more_spawns _ acts = omega arith
 
 count_older : (later acts : List Action) → spawn_count acts ≤ spawn_count (later ++ acts)
@@ -30,8 +30,8 @@ count_older [] acts = omega arith
 count_older (a ∷ later) acts = omega (arith, more_spawns a (later ++ acts), count_older later acts)
 
 one_older : (n : ℕ) (a : Action) (acts : List Action) → n ≤ spawn_count acts → nth_items n (a ∷ acts) ≡ nth_items n acts
-one_older n (Spawn u body args items deferred) acts h =
-    ap (λ b. cond b items (nth_items n acts)) (ne_eqb n (suc (spawn_count acts)) (λ e. omega (arith, e, h)))
+one_older n (Spawn s) acts h =
+    ap (λ b. cond b s.items (nth_items n acts)) (ne_eqb n (suc (spawn_count acts)) (λ e. omega (arith, e, h)))
 one_older n _ acts h = refl
 
 nth_older : (n : ℕ) (later acts : List Action) → n ≤ spawn_count acts → nth_items n (later ++ acts) ≡ nth_items n acts
@@ -43,23 +43,23 @@ nth_older n (a ∷ later) acts h =
 
 nth_spawn : ℕ → List Action → Option Action
 nth_spawn n [] = None
-nth_spawn n (Spawn u body args items deferred ∷ acts) = cond (n == suc (spawn_count acts)) (Some (Spawn u body args items deferred)) (nth_spawn n acts)
+nth_spawn n (Spawn s ∷ acts) = cond (n == suc (spawn_count acts)) (Some (Spawn s)) (nth_spawn n acts)
 nth_spawn n (_ ∷ acts) = nth_spawn n acts
 
 own_spawn : (cells : Cells) (n : ℕ) (p : Name) (a : Action) (acts : List Action) → Continues cells p acts a → spawn_or (n ∷ p) a (nth_spawn n acts) ≡ nth_spawn n (a ∷ acts)
 unfolding nth_spawn
-own_spawn cells n p (Spawn u body args items deferred) acts h = at (n == c) refl
+own_spawn cells n p (Spawn spawn) acts h = at (n == c) refl
   where
     c : ℕ
     c = suc (spawn_count acts)
 
-    at : (b : Bool) → (n == c) ≡ b → cond (same_name u (n ∷ p)) (Some (Spawn u body args items deferred)) (nth_spawn n acts) ≡ cond (n == c) (Some (Spawn u body args items deferred)) (nth_spawn n acts)
+    at : (b : Bool) → (n == c) ≡ b → cond (same_name spawn.child (n ∷ p)) (Some (Spawn spawn)) (nth_spawn n acts) ≡ cond (n == c) (Some (Spawn spawn)) (nth_spawn n acts)
     at true q =
-        let same : same_name u (n ∷ p) ≡ true = subst (λ w. same_name w (n ∷ p) ≡ true) (sym (h.1 ∙ ap (λ m. m ∷ p) (sym (eqb-true n c q)))) (same_refl (n ∷ p)) in
-        ap (λ b. cond b (Some (Spawn u body args items deferred)) (nth_spawn n acts)) (same ∙ sym q)
+        let same : same_name spawn.child (n ∷ p) ≡ true = subst (λ w. same_name w (n ∷ p) ≡ true) (sym (h.1 ∙ ap (λ m. m ∷ p) (sym (eqb-true n c q)))) (same_refl (n ∷ p)) in
+        ap (λ b. cond b (Some (Spawn spawn)) (nth_spawn n acts)) (same ∙ sym q)
     at false q =
-        let other : same_name u (n ∷ p) ≡ false = false_from_ne_true (same_name u (n ∷ p)) (λ s. both_ways (n == c) q (eq-eqb n c (cons_head (sym (same_true u (n ∷ p) s) ∙ h.1)))) in
-        ap (λ b. cond b (Some (Spawn u body args items deferred)) (nth_spawn n acts)) (other ∙ sym q)
+        let other : same_name spawn.child (n ∷ p) ≡ false = false_from_ne_true (same_name spawn.child (n ∷ p)) (λ s. both_ways (n == c) q (eq-eqb n c (cons_head (sym (same_true spawn.child (n ∷ p) s) ∙ h.1)))) in
+        ap (λ b. cond b (Some (Spawn spawn)) (nth_spawn n acts)) (other ∙ sym q)
 own_spawn cells n p _ acts h = refl
 
 spawn_at : (cells : Cells) (H : History) (n : ℕ) (p : Name) → Legal cells H → spawn_of (n ∷ p) H ≡ nth_spawn n (own p H)
@@ -77,8 +77,8 @@ spawn_at cells (v ∷ H) n p l = at (is_of p v) refl (spawn_at cells H n p l.0)
 
 one_spawn : (n : ℕ) (a : Action) (acts : List Action) → n ≤ spawn_count acts → nth_spawn n (a ∷ acts) ≡ nth_spawn n acts
 unfolding nth_spawn
-one_spawn n (Spawn u body args items deferred) acts h =
-    ap (λ b. cond b (Some (Spawn u body args items deferred)) (nth_spawn n acts)) (ne_eqb n (suc (spawn_count acts)) (λ e. omega (arith, e, h)))
+one_spawn n (Spawn s) acts h =
+    ap (λ b. cond b (Some (Spawn s)) (nth_spawn n acts)) (ne_eqb n (suc (spawn_count acts)) (λ e. omega (arith, e, h)))
 one_spawn n _ acts h = refl
 
 spawn_older : (n : ℕ) (later acts : List Action) → n ≤ spawn_count acts → nth_spawn n (later ++ acts) ≡ nth_spawn n acts

@@ -66,7 +66,7 @@ go l v c e = step program well l v c e
 
 abbrev generated : History
 generated =
-    by [] (Spawn (3 ∷ []) 9 [] [] true) ∷ by [] (Spawn (2 ∷ []) 6 [] [] true) ∷ by [] (Spawn (1 ∷ []) 4 [] [] true) ∷ by [] Start ∷ []
+    by [] (Spawn (record { child = 3 ∷ []; body = 9; args = []; items = []; deferred = true })) ∷ by [] (Spawn (record { child = 2 ∷ []; body = 6; args = []; items = []; deferred = true })) ∷ by [] (Spawn (record { child = 1 ∷ []; body = 4; args = []; items = []; deferred = true })) ∷ by [] Start ∷ []
 
 abbrev stores : Event
 stores = by (1 ∷ []) (Store 0 (ℤ.pos 1))
@@ -94,7 +94,7 @@ front = by (3 ∷ []) Start ∷ earlier ∷ loaded
 
 loaded_run : LegalFor program loaded
 loaded_run =
-    go (go (go (go (go (go (go (go (tt, tt) (by [] Start) refl refl) (by [] (Spawn (1 ∷ []) 4 [] [] true)) refl refl) (by [] (Spawn (2 ∷ []) 6 [] [] true)) refl refl) (by [] (Spawn (3 ∷ []) 9 [] [] true)) refl refl)
+    go (go (go (go (go (go (go (go (tt, tt) (by [] Start) refl refl) (by [] (Spawn (record { child = 1 ∷ []; body = 4; args = []; items = []; deferred = true }))) refl refl) (by [] (Spawn (record { child = 2 ∷ []; body = 6; args = []; items = []; deferred = true }))) refl refl) (by [] (Spawn (record { child = 3 ∷ []; body = 9; args = []; items = []; deferred = true }))) refl refl)
     (by (1 ∷ []) Start) refl refl) (by (1 ∷ []) (Store 0 (ℤ.pos 1))) refl refl) (by (2 ∷ []) Start) refl refl) (by (2 ∷ []) (Load 0 0 (ℤ.pos 1))) refl refl
 
 whole_run : LegalFor program (later ∷ front)

@@ -65,7 +65,7 @@ go cs l v c e = step (program cs) (well cs) l v c e
 -- both tasks were generated, and the root has ended
 abbrev ready : List Item → History
 ready is =
-    by [] End ∷ by [] (Spawn two 5 [] is true) ∷ by [] (Spawn one 3 [] is true) ∷ by [] Start ∷ []
+    by [] End ∷ by [] (Spawn (record { child = two; body = 5; args = []; items = is; deferred = true })) ∷ by [] (Spawn (record { child = one; body = 3; args = []; items = is; deferred = true })) ∷ by [] Start ∷ []
 
 abbrev all_of : Name → ℤ → History → History
 all_of t x H = by t End ∷ by t (Store 0 x) ∷ by t Start ∷ H
@@ -93,7 +93,7 @@ record BothFinished (cs : List Clause) (is : List Item) : Type 0 where
 
 free_ready : LegalFor (program []) (ready [])
 free_ready =
-    go [] (go [] (go [] (go [] (tt, tt) (by [] Start) refl refl) (by [] (Spawn one 3 [] [] true)) refl refl) (by [] (Spawn two 5 [] [] true)) refl refl) (by [] End) refl refl
+    go [] (go [] (go [] (go [] (tt, tt) (by [] Start) refl refl) (by [] (Spawn (record { child = one; body = 3; args = []; items = []; deferred = true }))) refl refl) (by [] (Spawn (record { child = two; body = 5; args = []; items = []; deferred = true }))) refl refl) (by [] End) refl refl
 
 -- a race, and two outcomes
 free_half : LegalFor (program []) (all_of one (ℤ.pos 1) (ready []))
@@ -139,7 +139,7 @@ items = record { kind = Mutexinoutset; place = Cell 0 } ∷ []
 exclusive_runs : BothFinished clauses items
 exclusive_runs =
     let r : LegalFor (program clauses) (ready items) =
-    go clauses (go clauses (go clauses (go clauses (tt, tt) (by [] Start) refl refl) (by [] (Spawn one 3 [] items true)) refl refl) (by [] (Spawn two 5 [] items true)) refl refl) (by [] End) refl refl
+    go clauses (go clauses (go clauses (go clauses (tt, tt) (by [] Start) refl refl) (by [] (Spawn (record { child = one; body = 3; args = []; items = items; deferred = true }))) refl refl) (by [] (Spawn (record { child = two; body = 5; args = []; items = items; deferred = true }))) refl refl) (by [] End) refl refl
     in
     let l : LegalFor (program clauses) (one_first items) =
     go clauses (go clauses (go clauses (go clauses (go clauses (go clauses r (by one Start) refl refl) (by one (Store 0 (ℤ.pos 1))) refl refl) (by one End) refl refl) (by two Start) refl refl) (by two (Store 0 (ℤ.pos 2))) refl refl) (by two End) refl refl
@@ -176,7 +176,7 @@ ordered_items = record { kind = Out; place = Cell 0 } ∷ []
 ordered_run : LegalFor (program ordering) (one_first ordered_items)
 ordered_run =
     let r : LegalFor (program ordering) (ready ordered_items) =
-    go ordering (go ordering (go ordering (go ordering (tt, tt) (by [] Start) refl refl) (by [] (Spawn one 3 [] ordered_items true)) refl refl) (by [] (Spawn two 5 [] ordered_items true)) refl refl) (by [] End) refl refl
+    go ordering (go ordering (go ordering (go ordering (tt, tt) (by [] Start) refl refl) (by [] (Spawn (record { child = one; body = 3; args = []; items = ordered_items; deferred = true }))) refl refl) (by [] (Spawn (record { child = two; body = 5; args = []; items = ordered_items; deferred = true }))) refl refl) (by [] End) refl refl
     in
     go ordering (go ordering (go ordering (go ordering (go ordering (go ordering r (by one Start) refl refl) (by one (Store 0 (ℤ.pos 1))) refl refl) (by one End) refl refl) (by two Start) refl refl) (by two (Store 0 (ℤ.pos 2))) refl refl) (by two End) refl refl
 

@@ -58,7 +58,7 @@ cells = ℤ.pos 0 ∷ []
 
 abbrev ready : History
 ready =
-    by [] End ∷ by [] (Spawn two 5 [] items true) ∷ by [] (Spawn one 3 [] items true) ∷ by [] Start ∷ []
+    by [] End ∷ by [] (Spawn (record { child = two; body = 5; args = []; items = items; deferred = true })) ∷ by [] (Spawn (record { child = one; body = 3; args = []; items = items; deferred = true })) ∷ by [] Start ∷ []
 
 root_may : MayFollow cells [] (by [] Start)
 root_may = record { own = refl; resumed = λ u h. absurd (false≢true h); timely = record { spawned = refl; behind = λ u h. absurd (nobody u h); alone = λ u h s. absurd (false≢true s) } }

@@ -42,7 +42,7 @@ with_number_given cells t n regs x y (DoStore a b) = at (cell_at cells (value re
     at (Some c) = refl
 with_number_given cells t n regs x y (DoSpawn line args items q) = at (items_at cells regs items)
   where
-    at : (o : Option (List Item)) → with_number x (items_or_fault o (λ is. Spawn (child t n) line (map (value regs) args) is (is_deferred regs q))) ≡ items_or_fault o (λ is. Spawn (child t n) line (map (value regs) args) is (is_deferred regs q))
+    at : (o : Option (List Item)) → with_number x (items_or_fault o (λ is. Spawn (record { child = child t n; body = line; args = map (value regs) args; items = is; deferred = is_deferred regs q }))) ≡ items_or_fault o (λ is. Spawn (record { child = child t n; body = line; args = map (value regs) args; items = is; deferred = is_deferred regs q }))
     at None = refl
     at (Some is) = refl
 with_number_given cells t n regs x y (DoWait items) = at (items_at cells regs items)
@@ -92,7 +92,7 @@ no_end_shared (Print x) End r h = refl
 no_end_shared (Print x) Fault r h = refl
 no_end_shared Start b r h = refl
 no_end_shared (Let k x) b r h = refl
-no_end_shared (Spawn u body args items deferred) b r h = refl
+no_end_shared (Spawn s) b r h = refl
 no_end_shared (Wait items) b r h = refl
 no_end_shared Open b r h = refl
 no_end_shared Close b r h = refl
@@ -104,7 +104,7 @@ no_end_shared a (Let k x) r h = absurd (false≢true h)
 no_end_shared a (Load k c x) r h = absurd (false≢true h)
 no_end_shared a (Store c x) r h = absurd (false≢true h)
 no_end_shared a (Print x) r h = absurd (false≢true h)
-no_end_shared a (Spawn u body args items deferred) r h = absurd (false≢true h)
+no_end_shared a (Spawn s) r h = absurd (false≢true h)
 no_end_shared a (Wait items) r h = absurd (false≢true h)
 no_end_shared a Open r h = absurd (false≢true h)
 no_end_shared a Close r h = absurd (false≢true h)
@@ -142,7 +142,7 @@ under_way cells t acts (Load k c x) b r s h = h.0
 under_way cells t acts (Print x) b r s h = h
 under_way cells t acts Start b r s h = cc
 under_way cells t acts (Let k x) b r s h = cc
-under_way cells t acts (Spawn u body args items deferred) b r s h = cc
+under_way cells t acts (Spawn spawn) b r s h = cc
 under_way cells t acts (Wait items) b r s h = cc
 under_way cells t acts Open b r s h = cc
 under_way cells t acts Close b r s h = cc
@@ -157,7 +157,7 @@ may_go_on cells G t (Load k c x) b r s h m = record { own = h; resumed = m.resum
 may_go_on cells G t (Print x) b r s h m = record { own = h; resumed = m.resumed; timely = tt }
 may_go_on cells G t Start b r s h m = cc
 may_go_on cells G t (Let k x) b r s h m = cc
-may_go_on cells G t (Spawn u body args items deferred) b r s h m = cc
+may_go_on cells G t (Spawn spawn) b r s h m = cc
 may_go_on cells G t (Wait items) b r s h m = cc
 may_go_on cells G t Open b r s h m = cc
 may_go_on cells G t Close b r s h m = cc

@@ -106,7 +106,7 @@ module _ (cells : Cells) (H K : History) (lh : Legal cells H) (lk : Legal cells 
     awaited (Load r c x) m st u su h = absurd (false≢true h)
     awaited (Store c x) m st u su h = absurd (false≢true h)
     awaited (Print x) m st u su h = absurd (false≢true h)
-    awaited (Spawn v body args items deferred) m st u su h = absurd (false≢true h)
+    awaited (Spawn s) m st u su h = absurd (false≢true h)
     awaited Open m st u su h = absurd (false≢true h)
     awaited (Test y) m st u su h = absurd (false≢true h)
     awaited End m st u su h = absurd (false≢true h)

@@ -116,7 +116,7 @@ fn note_spawn(
     ensures { OnOk result (AreNewest entries.now (at + 1) newest.new.entries) }
 {
     match &entries[at].event.action {
-        Action::Spawn { child, .. } => put(newest, child, at + 1),
+        Action::Spawn(spawned) => put(newest, &spawned.get().child, at + 1),
         _ => Ok(()),
     }
 }

@@ -53,7 +53,7 @@ fn holds_some(action: &Action) -> bool
     ensures { IsFalse result → (acts : List Action) (u : Name) → Facts.holds (action.now ∷ acts) u ≡ false }
 {
     match action {
-        Action::Spawn { deferred, .. } => !*deferred,
+        Action::Spawn(spawned) => !spawned.get().deferred,
         _ => false,
     }
 }
@@ -75,11 +75,10 @@ fn is_undeferred(action: &Action, u: &TaskName) -> bool
     ensures { (acts : List Action) → result ≡ Facts.holds (action.now ∷ acts) u.now }
 {
     match action {
-        Action::Spawn {
-            child,
-            deferred,
-            ..
-        } => !*deferred && child == u,
+        Action::Spawn(spawned) => {
+            let spawn = spawned.get();
+            !spawn.deferred && spawn.child == *u
+        }
         _ => false,
     }
 }
@@ -232,7 +231,7 @@ fn action_items(action: &Action) -> &[Item]
     ensures { result.now ≡ items_in (Some action.now) }
 {
     match action {
-        Action::Spawn { items, .. } => items.as_slice(),
+        Action::Spawn(spawned) => spawned.get().items.as_slice(),
         _ => &[],
     }
 }

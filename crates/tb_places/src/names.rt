@@ -30,17 +30,27 @@ impl Names {
     }
 
     /// The number of the task.
+    #[inline]
     pub fn number(&self, task: &TaskName) -> Option<usize>
         ensures { result ≡ number_of self.now.keys.keys task.now }
     {
         if self.is_last(task) {
             Some(self.last)
         } else {
-            self.keys.get_index_of(task)
+            self.number_by_hash(task)
         }
     }
 
+    /// The same, looked for among all. It stands apart, so that most calls don't pay for its room.
+    #[inline(never)]
+    fn number_by_hash(&self, task: &TaskName) -> Option<usize>
+        ensures { result ≡ number_of self.now.keys.keys task.now }
+    {
+        self.keys.get_index_of(task)
+    }
+
     /// The number of the task, which is the first to be asked for in the next search.
+    #[inline(always)]
     pub fn find(&mut self, task: &TaskName) -> Option<usize>
         ensures number { result ≡ number_of self.old.keys.keys task.now }
         ensures same { self.new.keys ≡ self.old.keys }

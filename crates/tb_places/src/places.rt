@@ -62,6 +62,7 @@ impl Places {
     }
 
     /// Makes room for the event's places.
+    #[inline(always)]
     pub fn reserve(&mut self, event: &Event) -> Result<(), AllocError>
         ensures same { (events : List AnEvent) → IsIndexOf events self.old →
             IsIndexOf events self.new }

@@ -33,6 +33,7 @@ impl Rows {
     }
 
     /// Makes room for one more place in the row, where there is one.
+    #[inline(always)]
     pub fn reserve_at(&mut self, n: Option<usize>) -> Result<(), AllocError>
         ensures same { (k : ℕ) → row_of self.new k ≡ row_of self.old k }
         ensures ok { OnOk result (HasRoomAt self.new n) }

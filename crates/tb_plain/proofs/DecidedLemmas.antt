@@ -61,7 +61,7 @@ all_from test [] h = refl
 all_from test (w ∷ us) h = and_from (test w) (list_all test us) (h w) (all_from test us h)
 
 still_listed : (u : Name) (a : Action) (us : List Name) → is_listed u us ≡ true → is_listed u (with_child a us) ≡ true
-still_listed u (Spawn w body args items deferred) us h = or_right (same_name u w) (is_listed u us) h
+still_listed u (Spawn s) us h = or_right (same_name u s.child) (is_listed u us) h
 still_listed u Start us h = h
 still_listed u (Let r x) us h = h
 still_listed u (Load r c x) us h = h
@@ -79,8 +79,8 @@ root_listed [] = refl
 root_listed (v ∷ H) = still_listed [] v.action (everyone H) (root_listed H)
 
 child_listed : (u : Name) (a : Action) (us : List Name) (rest : Bool) → (is_spawn_of u a || rest) ≡ true → (rest ≡ true → is_listed u us ≡ true) → is_listed u (with_child a us) ≡ true
-child_listed u (Spawn w body args items deferred) us rest h f =
-    ⊎_elim (λ e. or_left (same_name u w) (is_listed u us) (same_sym u w ∙ e)) (λ r. or_right (same_name u w) (is_listed u us) (f r)) (or_cases (same_name w u) rest h)
+child_listed u (Spawn s) us rest h f =
+    ⊎_elim (λ e. or_left (same_name u s.child) (is_listed u us) (same_sym u s.child ∙ e)) (λ r. or_right (same_name u s.child) (is_listed u us) (f r)) (or_cases (same_name s.child u) rest h)
 child_listed u Start us rest h f = f h
 child_listed u (Let r x) us rest h f = f h
 child_listed u (Load r c x) us rest h f = f h
@@ -106,9 +106,9 @@ neither true b h = absurd (false≢true (sym h))
 neither false b h = (refl, h)
 
 no_items_by : (u : Name) (a : Action) (us : List Name) (items : List Item) → is_listed u (with_child a us) ≡ false → (is_listed u us ≡ false → items ≡ []) → items_for u a ++ items ≡ []
-no_items_by u (Spawn w body args own_items deferred) us items h f =
-    let o = neither (same_name u w) (is_listed u us) h in
-    let e : same_name w u ≡ false = same_sym w u ∙ o.0 in
+no_items_by u (Spawn s) us items h f =
+    let o = neither (same_name u s.child) (is_listed u us) h in
+    let e : same_name s.child u ≡ false = same_sym s.child u ∙ o.0 in
     rw e (f o.1)
 no_items_by u Start us items h f = f h
 no_items_by u (Let r x) us items h f = f h
@@ -229,11 +229,11 @@ continues_to cells t acts (Store c x) h =
     let o = and_parts (is_running acts) (nat_lt c (length cells)) h in
     (running_to acts o.0, lt_to c (length cells) o.1)
 continues_to cells t acts (Print x) h = running_to acts h
-continues_to cells t acts (Spawn u body args items deferred) h =
-    let o = and_parts (is_running acts) ((is_child t u && is_behind u (spawn_count acts)) && (nat_le (length args) 16 && are_places cells items)) h in
-    let p = and_parts (is_child t u && is_behind u (spawn_count acts)) (nat_le (length args) 16 && are_places cells items) o.1 in
-    let q = and_parts (nat_le (length args) 16) (are_places cells items) p.1 in
-    (running_to acts o.0, child_to t u (spawn_count acts) p.0, le_to (length args) 16 q.0, places_to cells items q.1)
+continues_to cells t acts (Spawn s) h =
+    let o = and_parts (is_running acts) ((is_child t s.child && is_behind s.child (spawn_count acts)) && (nat_le (length s.args) 16 && are_places cells s.items)) h in
+    let p = and_parts (is_child t s.child && is_behind s.child (spawn_count acts)) (nat_le (length s.args) 16 && are_places cells s.items) o.1 in
+    let q = and_parts (nat_le (length s.args) 16) (are_places cells s.items) p.1 in
+    (running_to acts o.0, child_to t s.child (spawn_count acts) p.0, le_to (length s.args) 16 q.0, places_to cells s.items q.1)
 continues_to cells t acts (Wait items) h =
     let o = and_parts (is_running acts) (are_places cells items) h in
     (running_to acts o.0, places_to cells items o.1)
@@ -251,8 +251,8 @@ continues_from cells t acts (Let r x) h = and_from _ _ (running_from acts h.0) (
 continues_from cells t acts (Load r c x) h = and_from _ _ (running_from acts h.0) (and_from _ _ (lt_from r 16 h.1) (lt_from c (length cells) h.2))
 continues_from cells t acts (Store c x) h = and_from _ _ (running_from acts h.0) (lt_from c (length cells) h.1)
 continues_from cells t acts (Print x) h = running_from acts h
-continues_from cells t acts (Spawn u body args items deferred) h =
-    and_from _ _ (running_from acts h.0) (and_from _ _ (child_from t u (spawn_count acts) h.1) (and_from _ _ (le_from (length args) 16 h.2) (places_from cells items h.3)))
+continues_from cells t acts (Spawn s) h =
+    and_from _ _ (running_from acts h.0) (and_from _ _ (child_from t s.child (spawn_count acts) h.1) (and_from _ _ (le_from (length s.args) 16 h.2) (places_from cells s.items h.3)))
 continues_from cells t acts (Wait items) h = and_from _ _ (running_from acts h.0) (places_from cells items h.1)
 continues_from cells t acts Open h = running_from acts h
 continues_from cells t acts Close h = and_from _ _ (running_from acts h.0) (some_from (groups acts) h.1)
@@ -293,7 +293,7 @@ timely_to cells H t Close h = ended_to H (is_member (own t H)) h
 timely_to cells H t (Let r x) h = tt
 timely_to cells H t (Store c x) h = tt
 timely_to cells H t (Print x) h = tt
-timely_to cells H t (Spawn u body args items deferred) h = tt
+timely_to cells H t (Spawn s) h = tt
 timely_to cells H t Open h = tt
 timely_to cells H t (Test answer) h = tt
 timely_to cells H t End h = tt
@@ -307,7 +307,7 @@ timely_from cells H t Close h = ended_from H (is_member (own t H)) h
 timely_from cells H t (Let r x) h = refl
 timely_from cells H t (Store c x) h = refl
 timely_from cells H t (Print x) h = refl
-timely_from cells H t (Spawn u body args items deferred) h = refl
+timely_from cells H t (Spawn s) h = refl
 timely_from cells H t Open h = refl
 timely_from cells H t (Test answer) h = refl
 timely_from cells H t End h = refl
@@ -315,8 +315,11 @@ timely_from cells H t Fault h = refl
 
 resumed_to : (H : History) (acts : List Action) → is_resumed H acts ≡ true → (u : Name) → holds acts u ≡ true → has_ended H u ≡ true
 resumed_to H [] h u p = absurd (false≢true p)
-resumed_to H (Spawn w body args items true ∷ acts) h u p = absurd (false≢true p)
-resumed_to H (Spawn w body args items false ∷ acts) h u p = subst (λ t. has_ended H t ≡ true) (same_true w u p) h
+resumed_to H (Spawn s ∷ acts) h u p = by s.deferred h p
+  where
+    by : (d : Bool) → (d || has_ended H s.child) ≡ true → (not d && same_name s.child u) ≡ true → has_ended H u ≡ true
+    by true k q = absurd (false≢true q)
+    by false k q = subst (λ t. has_ended H t ≡ true) (same_true s.child u q) k
 resumed_to H (Start ∷ acts) h u p = absurd (false≢true p)
 resumed_to H ((Let r x) ∷ acts) h u p = absurd (false≢true p)
 resumed_to H ((Load r c x) ∷ acts) h u p = absurd (false≢true p)
@@ -331,8 +334,11 @@ resumed_to H (Fault ∷ acts) h u p = absurd (false≢true p)
 
 resumed_from : (H : History) (acts : List Action) → ((u : Name) → holds acts u ≡ true → has_ended H u ≡ true) → is_resumed H acts ≡ true
 resumed_from H [] h = refl
-resumed_from H (Spawn w body args items true ∷ acts) h = refl
-resumed_from H (Spawn w body args items false ∷ acts) h = h w (same_refl w)
+resumed_from H (Spawn s ∷ acts) h = by s.deferred h
+  where
+    by : (d : Bool) → ((u : Name) → (not d && same_name s.child u) ≡ true → has_ended H u ≡ true) → (d || has_ended H s.child) ≡ true
+    by true k = refl
+    by false k = k s.child (same_refl s.child)
 resumed_from H (Start ∷ acts) h = refl
 resumed_from H ((Let r x) ∷ acts) h = refl
 resumed_from H ((Load r c x) ∷ acts) h = refl

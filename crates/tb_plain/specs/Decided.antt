@@ -41,8 +41,8 @@ continues cells t acts (Let r x) = is_running acts && nat_lt r 16
 continues cells t acts (Load r c x) = is_running acts && (nat_lt r 16 && nat_lt c (length cells))
 continues cells t acts (Store c x) = is_running acts && nat_lt c (length cells)
 continues cells t acts (Print x) = is_running acts
-continues cells t acts (Spawn u body args items deferred) =
-    is_running acts && ((is_child t u && is_behind u (spawn_count acts)) && (nat_le (length args) 16 && are_places cells items))
+continues cells t acts (Spawn s) =
+    is_running acts && ((is_child t s.child && is_behind s.child (spawn_count acts)) && (nat_le (length s.args) 16 && are_places cells s.items))
 continues cells t acts (Wait items) = is_running acts && are_places cells items
 continues cells t acts Open = is_running acts
 continues cells t acts Close = is_running acts && not (is_empty (groups acts))
@@ -88,7 +88,7 @@ is_timely cells H t _ = true
 
 -- the undeferred child that the newest action generated has ended
 abbrev pub is_resumed : History → List Action → Bool
-is_resumed H (Spawn w body args items deferred ∷ acts) = deferred || has_ended H w
+is_resumed H (Spawn s ∷ acts) = s.deferred || has_ended H s.child
 is_resumed H _ = true
 
 abbrev pub may_follow : Cells → History → Event → Bool

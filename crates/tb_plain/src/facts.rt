@@ -107,9 +107,10 @@ fn items_for(alloc: Global, t: &TaskName, action: &Action) -> Result<Vec<Item>, 
     ensures { IfOk result (λ items. items.items ≡ Facts.items_for t.now action.now) }
 {
     match action {
-        Action::Spawn { child, items, .. } => {
-            if child == t {
-                Vec::from_slice(alloc, items.as_slice())
+        Action::Spawn(spawned) => {
+            let spawn = spawned.get();
+            if spawn.child == *t {
+                Vec::from_slice(alloc, spawn.items.as_slice())
             } else {
                 Ok(Vec::new(alloc))
             }

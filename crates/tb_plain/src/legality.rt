@@ -27,7 +27,7 @@ fn everyone(alloc: Global, history: &[Event]) -> Result<Names, AllocError>
         [newest, front @ ..] => {
             let mut names = everyone(alloc, front)?;
             match &newest.action {
-                Action::Spawn { child, .. } => names.push_front(child.clone()?)?,
+                Action::Spawn(spawned) => names.push_front(spawned.get().child.clone()?)?,
                 _ => {}
             }
             Ok(names)
@@ -146,11 +146,10 @@ fn is_resumed(history: &[Event], acts: &[Action]) -> bool
     match acts {
         [] => true,
         [newest, ..] => match newest {
-            Action::Spawn {
-                child,
-                deferred,
-                ..
-            } => *deferred || has_ended(history, child),
+            Action::Spawn(spawned) => {
+                let spawn = spawned.get();
+                spawn.deferred || has_ended(history, &spawn.child)
+            }
             _ => true,
         },
     }

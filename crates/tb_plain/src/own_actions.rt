@@ -30,7 +30,7 @@ pub fn groups(alloc: Global, acts: &[Action]) -> Result<Vec<Names>, AllocError>
                     }
                     Ok(all)
                 }
-                Action::Spawn { child, .. } => with_child(alloc, all.as_slice(), child),
+                Action::Spawn(spawned) => with_child(alloc, all.as_slice(), &spawned.get().child),
                 _ => Ok(all),
             }
         }
@@ -102,7 +102,7 @@ pub fn children_since(alloc: Global, k: usize, acts: &[Action]) -> Result<Names,
             }
             let mut children = children_since(alloc, k, front)?;
             match newest {
-                Action::Spawn { child, .. } => children.push_front(child.clone()?)?,
+                Action::Spawn(spawned) => children.push_front(spawned.get().child.clone()?)?,
                 _ => {}
             }
             Ok(children)
@@ -129,11 +129,10 @@ pub fn holds(acts: &[Action], u: &TaskName) -> bool
     match acts {
         [] => false,
         [newest, ..] => match newest {
-            Action::Spawn {
-                child,
-                deferred,
-                ..
-            } => !*deferred && child == u,
+            Action::Spawn(spawned) => {
+                let spawn = spawned.get();
+                !spawn.deferred && spawn.child == *u
+            }
             _ => false,
         },
     }
@@ -149,7 +148,7 @@ pub fn spawn_count(acts: &[Action]) -> usize
         [newest, front @ ..] => {
             let count = spawn_count(front);
             match newest {
-                Action::Spawn { .. } => count + 1,
+                Action::Spawn(_) => count + 1,
                 _ => count,
             }
         }

@@ -66,16 +66,15 @@ pub(crate) fn continues(
             Ok(is_running(acts) && (*reg < 16 && (*cell as usize) < cells.len()))
         }
         Action::Store { cell, .. } => Ok(is_running(acts) && (*cell as usize) < cells.len()),
-        Action::Spawn {
-            child,
-            args,
-            items,
-            ..
-        } => Ok(
-            is_running(acts)
-                && (is_next_child(t, acts, child)
-                    && (args.as_slice().len() <= 16 && are_places(cells, items.as_slice()))),
-        ),
+        Action::Spawn(spawned) => {
+            let spawn = spawned.get();
+            Ok(
+                is_running(acts)
+                    && (is_next_child(t, acts, &spawn.child)
+                        && (spawn.args.as_slice().len() <= 16
+                            && are_places(cells, spawn.items.as_slice()))),
+            )
+        }
         Action::Wait { items } => Ok(is_running(acts) && are_places(cells, items.as_slice())),
         Action::Close => {
             let opened = groups(alloc, acts)?;

@@ -37,7 +37,7 @@ fn args_in(spawn: Option<&Action>) -> &[i64]
     ensures { result.now ≡ Records.args_in (option_copied spawn.entry) }
 {
     match spawn {
-        Some(Action::Spawn { args, .. }) => args.as_slice(),
+        Some(Action::Spawn(spawned)) => spawned.get().args.as_slice(),
         _ => &[],
     }
 }

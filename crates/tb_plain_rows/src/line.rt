@@ -1,7 +1,7 @@
 //! Lines of steps, read.
 
 use std::alloc::{AllocError, Global};
-use tb_model::{Action, Args, Event, Item, Items, Kind, Place, StepId, TaskName};
+use tb_model::{Action, Args, Event, Item, Items, Kind, Place, Spawn, Spawned, StepId, TaskName};
 
 /// A step's number and what it did, or nothing where the words are no step's line. A body is known
 /// by its first letter.
@@ -85,13 +85,14 @@ fn spawn(
     let Some(clauses) = clauses_of(alloc, clauses)? else {
         return Ok(None);
     };
-    Ok(Some(Action::Spawn {
+    let spawn = Spawn {
         child,
         body: u32::from(*first),
         args: clauses.args,
         items: clauses.items,
         deferred: clauses.deferred,
-    }))
+    };
+    Ok(Some(Action::Spawn(Spawned::new(alloc, spawn)?)))
 }
 
 #[derive(Drop)]

@@ -179,8 +179,8 @@ impl Run {
         event: &Event,
     ) -> Result<(), AllocError> {
         let mut body = String::new(self.alloc);
-        if let Action::Spawn { body: letter, .. } = &event.action {
-            body.push(char::from_u32(*letter).unwrap_or('?'))?;
+        if let Action::Spawn(spawned) = &event.action {
+            body.push(char::from_u32(spawned.get().body).unwrap_or('?'))?;
         }
         let k = self.number(front, event)?;
         let mut line = Draft::new(self.alloc);

@@ -3,6 +3,8 @@
 ghost use Rattle.std.specs.Prelude.{◌≡◌, ℕ, ℤ, List, length, map, IfOk, IfSome, IsTrue, ◌<◌, ◌≤◌};
 ghost use Rattle.std.specs.List.{list_all};
 ghost use Rattle.tb_model.specs.Program.{value, computed, compared, is_met, is_deferred, cell_at, place_at, items_at, action_of, zero_ℤ};
+ghost use Rattle.tb_model.specs.Names.{child};
+ghost use Rattle.tb_model.specs.declared.action.Action.TheVariants.{Spawn as AsSpawn};
 ghost use Rattle.tb_model.specs.declared.statement.Statement.TheVariants.{Load as AsLoad, Store as AsStore, Taskwait as AsTaskwait};
 ghost use Rattle.tb_read.specs.Statements.{is_sound};
 ghost use Rattle.tb_read.specs.Plans.{is_place, is_placed, names_allowed, line_behind, IsActionOf};
@@ -14,7 +16,7 @@ use crate::planned::Plan;
 use std::alloc::{AllocError, Global};
 use tb_model::{
     Action, Address, Args, Clause, Comparison, Condition, Item, Items, Operand, Operator, Place,
-    Statement, TaskName,
+    Spawn, Spawned, Statement, TaskName,
 };
 
 /// The number of an operand.
@@ -182,6 +184,27 @@ fn wait_action(
     })
 }
 
+/// A spawn of the task's first child.
+fn spawn_action(
+    alloc: Global,
+    task: &TaskName,
+    body: u32,
+    args: Args,
+    items: Items,
+    deferred: bool,
+) -> Result<Action, AllocError>
+    ensures { IfOk result (λ a. a ≡ AsSpawn (record { child = child task.now 1; body = body; args = args; items = items; deferred = deferred })) }
+{
+    let spawn = Spawn {
+        child: task.child(1)?,
+        body,
+        args,
+        items,
+        deferred,
+    };
+    Ok(Action::Spawn(Spawned::new(alloc, spawn)?))
+}
+
 /// The action that a statement makes for a task with these registers.
 fn action(
     alloc: Global,
@@ -217,13 +240,17 @@ fn action(
             depends,
             condition,
         } => match items_at(alloc, cells, regs, depends.as_slice())? {
-            Some(items) => Ok(Action::Spawn {
-                child: task.child(1)?,
-                body: *body,
-                args: args_at(alloc, regs, args.as_slice())?,
-                items,
-                deferred: is_deferred(regs, *condition),
-            }),
+            Some(items) => {
+                let args = args_at(alloc, regs, args.as_slice())?;
+                spawn_action(
+                    alloc,
+                    task,
+                    *body,
+                    args,
+                    items,
+                    is_deferred(regs, *condition),
+                )
+            }
             None => Ok(Action::Fault),
         },
         Statement::Taskwait { depends } => wait_action(alloc, cells, regs, depends.as_slice()),
@@ -237,6 +264,7 @@ fn action(
 }
 
 /// The action that the statement of an instruction makes for a task with these registers.
+#[inline(always)]
 pub fn evaluate(
     alloc: Global,
     instr: &Instr,

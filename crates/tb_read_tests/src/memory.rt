@@ -55,19 +55,13 @@ fn a_refused_growth_of_plan_leaves_its_answer(rt: HostRuntime) -> Result<(), Fai
         Ok(planned) => planned,
         Err(_) => plan(rt.alloc(), instr, &config)?,
     };
-    let Action::Spawn {
-        body,
-        args,
-        items,
-        deferred,
-        ..
-    } = &planned.action
-    else {
+    let Action::Spawn(spawned) = &planned.action else {
         return Err(Fail::from("no spawn"));
     };
-    assert_eq!(rt; (*body, *deferred), (10, true));
-    assert_eq!(rt; args.as_slice(), [1, 7].as_slice());
-    assert_eq!(rt; items.as_slice().len(), 2);
+    let spawn = spawned.get();
+    assert_eq!(rt; (spawn.body, spawn.deferred), (10, true));
+    assert_eq!(rt; spawn.args.as_slice(), [1, 7].as_slice());
+    assert_eq!(rt; spawn.items.as_slice().len(), 2);
     assert_eq!(rt; planned.to(), 9);
     Ok(())
 }

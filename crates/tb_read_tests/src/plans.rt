@@ -2,7 +2,7 @@
 
 use std::process::Abort;
 use std::test::Fail;
-use tb_model::{Action, TaskName};
+use tb_model::{Action, Spawn, TaskName};
 use tb_read::{Config, Plan, plan, read};
 
 /// The plan of a line of a program with two cells and this statement on line 3, for task `0`. Its
@@ -136,13 +136,14 @@ fn a_body_starts_and_a_group_closes(rt: HostRuntime) -> Result<(), Fail> {
 /// The spawn of a `task` line: its body, its arguments, its items, whether it is deferred.
 fn spawn(rt: &(impl Abort + AllocGlobal), statement: &str) -> Result<String, Fail> {
     match &planned(rt, statement, 3)?.action {
-        Action::Spawn {
-            child,
-            body,
-            args,
-            items,
-            deferred,
-        } => {
+        Action::Spawn(spawned) => {
+            let Spawn {
+                child,
+                body,
+                args,
+                items,
+                deferred,
+            } = spawned.get();
             assert!(rt; child.ordinal() == Some(1), "the first child");
             let (args, items) = (args.as_slice(), items.as_slice());
             Ok(format!(in rt.alloc(); "{body} {args:?} {items:?} {deferred}")?)

@@ -57,13 +57,13 @@ removed_each ts w u = at (same_name w u) refl
 
 changed : (t : Name) (a : Action) (old new : Table) → ((w : Name) → is_spawn_of w a ≡ true → mark_of old w ≡ None) → MarkedBy t a old new → (u : Name)
     → mark_of new u ≡ cond (is_spawn_of u a) (Some true) (marked_if (is_end a) (same_name t u) false (mark_of old u))
-changed t (Spawn w body args items deferred) old new n h u = ap (λ ts. mark_of ts u) h ∙ spawned_each old w u (n w (same_refl w))
+changed t (Spawn s) old new n h u = ap (λ ts. mark_of ts u) h ∙ spawned_each old s.child u (n s.child (same_refl s.child))
 changed t End old new n h u = ap (λ ts. mark_of ts u) h ∙ marked_each old t false u
 changed t Fault old new n h u = ap (λ ts. mark_of ts u) h ∙ marked_each old t false u
 changed t _ old new n h u = ap (λ ts. mark_of ts u) h
 
 changed_back : (t : Name) (a : Action) (old new : Table) → MarkedBackBy t a old new → (u : Name) → mark_of new u ≡ cond (is_spawn_of u a) None (marked_if (is_end a) (same_name t u) true (mark_of old u))
-changed_back t (Spawn w body args items deferred) old new h u = ap (λ ts. mark_of ts u) h ∙ removed_each old w u
+changed_back t (Spawn s) old new h u = ap (λ ts. mark_of ts u) h ∙ removed_each old s.child u
 changed_back t End old new h u = ap (λ ts. mark_of ts u) h ∙ marked_each old t true u
 changed_back t Fault old new h u = ap (λ ts. mark_of ts u) h ∙ marked_each old t true u
 changed_back t _ old new h u = ap (λ ts. mark_of ts u) h

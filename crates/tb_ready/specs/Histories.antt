@@ -17,14 +17,14 @@ AreMarks H tasks = (t : Name) → mark_of tasks t ≡ mark_behind H t
 
 -- what the calls for this action of the task change: a generated task is added and marked, and one that ended unmarked
 abbrev pub MarkedBy : Name → Action → List (Name × Bool) → List (Name × Bool) → Type 0
-MarkedBy t (Spawn u body args items deferred) old new = new ≡ with_mark (with_name old u) u true
+MarkedBy t (Spawn s) old new = new ≡ with_mark (with_name old s.child) s.child true
 MarkedBy t End old new = new ≡ with_mark old t false
 MarkedBy t Fault old new = new ≡ with_mark old t false
 MarkedBy t _ old new = new ≡ old
 
 -- and those that take the action back
 abbrev pub MarkedBackBy : Name → Action → List (Name × Bool) → List (Name × Bool) → Type 0
-MarkedBackBy t (Spawn u body args items deferred) old new = new ≡ without_name old u
+MarkedBackBy t (Spawn s) old new = new ≡ without_name old s.child
 MarkedBackBy t End old new = new ≡ with_mark old t true
 MarkedBackBy t Fault old new = new ≡ with_mark old t true
 MarkedBackBy t _ old new = new ≡ old

@@ -1,4 +1,3 @@
 pub mod Refusals
 pub mod Outcomes
 pub mod Comparing
-pub mod Spawns

@@ -1,10 +1,10 @@
 -- What a step changes, and what taking it back changes, put together from what the tables' calls change.
 use Rattle.std.proofs.Common.{◌≡◌, ℕ, suc, List, ◌∷◌, Bool, true, false, cond, Option, Some, None, refl, sym, ap, ap₂, ◌∙◌, subst, ℤ, arith, length}
 use Rattle.std.specs.Option.{option_map, option_or}
-use Rattle.tb_model.specs.declared.item.Item.{Item}
 use Rattle.tb_model.specs.declared.action.Action.{Action}
 use Rattle.tb_model.specs.declared.action.Action.TheVariants.{Start, Let, Load, Store, Print, Spawn, Wait, Open, Close, Test, End, Fault}
 use Rattle.tb_model.specs.declared.event.Event.{Event}
+use Rattle.tb_model.specs.declared.spawn.Spawn.{Spawn as TheSpawn}
 use Rattle.tb_model.specs.Names.{Name, same_name}
 use Rattle.tb_model.specs.Facts.{is_of}
 use Rattle.tb_store.specs.declared.replaced.Replaced.{Replaced}
@@ -55,22 +55,22 @@ not_own_child n p = at (same_name (n ∷ p) p) refl
     at false e = refl
     at true e = let same = ap length (same_true (n ∷ p) p e) in absurd (omega (arith, same))
 
-pub acted_spawn : (v : Event) (old new : Seen) (u : Name) (body : ℕ) (args : List ℤ) (items : List Item) (deferred : Bool) → v.action ≡ Spawn u body args items deferred
+pub acted_spawn : (v : Event) (old new : Seen) (s : TheSpawn) → v.action ≡ Spawn s
     → CanChange old v → HasRoomFor old v
-    → new.store ≡ old.store → Adds old.waits.tasks v.task u new.waits.tasks → new.marks.tasks ≡ with_mark (with_name old.marks.tasks u) u true
-    → Comes old.rows u (fresh_task v.task body args) new.rows
+    → new.store ≡ old.store → Adds old.waits.tasks v.task s.child new.waits.tasks → new.marks.tasks ≡ with_mark (with_name old.marks.tasks s.child) s.child true
+    → Comes old.rows s.child (fresh_task v.task s.body s.args) new.rows
     → Acted v old new
-acted_spawn v old new u body args items deferred q can room store waits marks comes =
-    let next : IsNextSpawn old v.task (Spawn u body args items deferred) = subst (IsNextSpawn old v.task) q can.spawn in
-    let has : HasSpawnRoom old v.task u items deferred = subst (λ a. HasRoomFor old (as_by v.task a)) q room in
-    let other : same_name u v.task ≡ false = ap (λ x. same_name x v.task) next.0.2 ∙ not_own_child (suc next.0.0.children) v.task in
+acted_spawn v old new s q can room store waits marks comes =
+    let next : IsNextSpawn old v.task (Spawn s) = subst (IsNextSpawn old v.task) q can.spawn in
+    let has : HasSpawnRoom old v.task s.child s.items s.deferred = subst (λ a. HasRoomFor old (as_by v.task a)) q room in
+    let other : same_name s.child v.task ≡ false = ap (λ x. same_name x v.task) next.0.2 ∙ not_own_child (suc next.0.0.children) v.task in
     subst (λ a. Acted (as_by v.task a) old new) (sym q) (record {
       store = store;
       waits = waits;
       marks = marks;
       tasks = comes.tasks;
       holders = comes.founds;
-      own = comes.tasks v.task ∙ ap (λ b. cond b (Some (fresh_task v.task body args)) (task old.rows v.task)) other;
+      own = comes.tasks v.task ∙ ap (λ b. cond b (Some (fresh_task v.task s.body s.args)) (task old.rows v.task)) other;
       room = λ r h. has.child r (sym (comes.rest v.task other) ∙ h);
     })
 
@@ -81,7 +81,7 @@ one_number Start cells regs = refl
 one_number (Let r x) cells regs = refl
 one_number (Load r c x) cells regs = refl
 one_number (Print x) cells regs = refl
-one_number (Spawn u body args items deferred) cells regs = refl
+one_number (Spawn s) cells regs = refl
 one_number (Wait items) cells regs = refl
 one_number Open cells regs = refl
 one_number Close cells regs = refl
@@ -100,8 +100,8 @@ module _ (old mid new : Rows) (same : (p : Name) → holders_of new p ≡ holder
   holders_on t Start g = holds_on t (number_of t) g
   holders_on t End g = holds_on t None g
   holders_on t Fault g = holds_on t None g
-  holders_on t (Spawn u body args items deferred) g =
-      record { others = λ p c. same p ∙ g.others p c; parent = λ x e. g.parent x (sym (same u) ∙ e); free = λ x p e. g.free x p (sym (same u) ∙ e) }
+  holders_on t (Spawn s) g =
+      record { others = λ p c. same p ∙ g.others p c; parent = λ x e. g.parent x (sym (same s.child) ∙ e); free = λ x p e. g.free x p (sym (same s.child) ∙ e) }
   holders_on t (Let r x) g = λ p. same p ∙ g p
   holders_on t (Load r c x) g = λ p. same p ∙ g p
   holders_on t (Store c x) g = λ p. same p ∙ g p
@@ -115,7 +115,7 @@ module _ (old mid new : Rows) (same : (p : Name) → holders_of new p ≡ holder
   holders_back_on t Start g = holds_on t None g
   holders_back_on t End g = holds_on t (number_of t) g
   holders_back_on t Fault g = holds_on t (number_of t) g
-  holders_back_on t (Spawn u body args items deferred) g = λ p. same p ∙ g p
+  holders_back_on t (Spawn s) g = λ p. same p ∙ g p
   holders_back_on t (Let r x) g = λ p. same p ∙ g p
   holders_back_on t (Load r c x) g = λ p. same p ∙ g p
   holders_back_on t (Store c x) g = λ p. same p ∙ g p

@@ -1,5 +1,5 @@
 -- Who holds what behind a step, and in front of it again.
-use Rattle.std.proofs.Common.{◌≡◌, ℕ, zero, suc, List, [], ◌∷◌, Bool, true, false, cond, ◌&&◌, refl, sym, ap, ◌∙◌, subst, ℤ, arith, Option, Some, None, is_some, nat_eq, unwrap_or}
+use Rattle.std.proofs.Common.{◌≡◌, ℕ, zero, suc, List, [], ◌∷◌, Bool, true, false, cond, ◌&&◌, refl, sym, ap, ◌∙◌, subst, arith, Option, Some, None, is_some, nat_eq, unwrap_or}
 use Rattle.std.specs.List.{list_any}
 use Rattle.std.specs.Map.{lookup}
 use Rattle.std.proofs.lemmas.Bool.{false≢true, and_parts, and_from}
@@ -9,6 +9,7 @@ use Rattle.tb_model.specs.declared.place.Place.TheVariants.{Cell, All}
 use Rattle.tb_model.specs.declared.action.Action.{Action}
 use Rattle.tb_model.specs.declared.action.Action.TheVariants.{Start, Let, Load, Store, Print, Spawn, Wait, Open, Close, Test, End, Fault}
 use Rattle.tb_model.specs.declared.event.Event.{Event}
+use Rattle.tb_model.specs.declared.spawn.Spawn.{Spawn as TheSpawn}
 use Rattle.tb_model.specs.Names.{Name, same_name, is_child}
 use Rattle.tb_model.specs.Facts.{History, is_of, is_start, is_end, starts, ends, own, items_of, is_spawned}
 use Rattle.tb_model.specs.Legal.{Cells, Legal, spawn_count}
@@ -137,47 +138,47 @@ module _ (first : Cells) (root_line : ℕ) (D : List Departure) (t : Name) (old 
         holds
 
   -- among the children of a task that comes nothing is held
-  spawn_more : (u : Name) (body : ℕ) (args : List ℤ) (items : List Item) (deferred : Bool) → Legal first (by (Spawn u body args items deferred) ∷ H)
-      → ((p : Name) (h : Holders) → holders_of old p ≡ Some h → AreHolders H p h) → Founds old u new
-      → (p : Name) (h : Holders) → holders_of new p ≡ Some h → AreHolders (by (Spawn u body args items deferred) ∷ H) p h
-  spawn_more u body args items deferred legal kept founds p h e = at (same_name u p) refl
+  spawn_more : (s : TheSpawn) → Legal first (by (Spawn s) ∷ H)
+      → ((p : Name) (h : Holders) → holders_of old p ≡ Some h → AreHolders H p h) → Founds old s.child new
+      → (p : Name) (h : Holders) → holders_of new p ≡ Some h → AreHolders (by (Spawn s) ∷ H) p h
+  spawn_more s legal kept founds p h e = at (same_name s.child p) refl
     where
       v : Event
-      v = by (Spawn u body args items deferred)
+      v = by (Spawn s)
 
-      new_name : (own_other_task : same_name t u ≡ false) → own u (v ∷ H) ≡ []
-      new_name o = own_other u v H o ∙ unacted_in first H legal.0 u (absent (is_spawned H u) refl)
+      new_name : (own_other_task : same_name t s.child ≡ false) → own s.child (v ∷ H) ≡ []
+      new_name o = own_other s.child v H o ∙ unacted_in first H legal.0 s.child (absent (is_spawned H s.child) refl)
         where
-          absent : (b : Bool) → is_spawned H u ≡ b → b ≡ false
+          absent : (b : Bool) → is_spawned H s.child ≡ b → b ≡ false
           absent false q = refl
-          absent true q = absurd (false≢true (sym (not_again first H legal.0 v legal.1 u q) ∙ same_refl u))
+          absent true q = absurd (false≢true (sym (not_again first H legal.0 v legal.1 s.child q) ∙ same_refl s.child))
 
-      other : same_name t u ≡ false
-      other = ap (same_name t) (spawn_names first t u (own t H) (Spawn u body args items deferred) legal.1.own (same_refl u)) ∙ not_child t (suc (spawn_count (own t H)))
+      other : same_name t s.child ≡ false
+      other = ap (same_name t) (spawn_names first t s.child (own t H) (Spawn s) legal.1.own (same_refl s.child)) ∙ not_child t (suc (spawn_count (own t H)))
 
-      unstarted : (n : ℕ) → list_any (starts (n ∷ u)) (v ∷ H) ≡ false
-      unstarted n = at (list_any (starts (n ∷ u)) (v ∷ H)) refl
+      unstarted : (n : ℕ) → list_any (starts (n ∷ s.child)) (v ∷ H) ≡ false
+      unstarted n = at (list_any (starts (n ∷ s.child)) (v ∷ H)) refl
         where
-          at : (b : Bool) → list_any (starts (n ∷ u)) (v ∷ H) ≡ b → b ≡ false
+          at : (b : Bool) → list_any (starts (n ∷ s.child)) (v ∷ H) ≡ b → b ≡ false
           at false q = refl
-          at true q = absurd (not_started (n ∷ u) (v ∷ H) (starts (n ∷ u)) (λ w s. (and_parts (is_of (n ∷ u) w) (is_start w.action) s).0) (no_acts (own (n ∷ u) (v ∷ H)) refl) q)
+          at true q = absurd (not_started (n ∷ s.child) (v ∷ H) (starts (n ∷ s.child)) (λ w k. (and_parts (is_of (n ∷ s.child) w) (is_start w.action) k).0) (no_acts (own (n ∷ s.child) (v ∷ H)) refl) q)
             where
-              no_acts : (acts : List Action) → own (n ∷ u) (v ∷ H) ≡ acts → own (n ∷ u) (v ∷ H) ≡ []
+              no_acts : (acts : List Action) → own (n ∷ s.child) (v ∷ H) ≡ acts → own (n ∷ s.child) (v ∷ H) ≡ []
               no_acts [] z = z
               no_acts (a ∷ acts) z =
-                  let there = acted_spawned first (v ∷ H) (n ∷ u) legal (λ w. cons a acts (sym z ∙ w)) in
-                  let bound = (children_numbered first (v ∷ H) u n legal).0 there in
+                  let there = acted_spawned first (v ∷ H) (n ∷ s.child) legal (λ w. cons a acts (sym z ∙ w)) in
+                  let bound = (children_numbered first (v ∷ H) s.child n legal).0 there in
                   absurd (omega (arith, bound.0, bound.1, ap spawn_count (new_name other)))
                 where
                   cons : (a : Action) (acts : List Action) → a ∷ acts ≡ [] → ⊥
                   cons a acts w = cc
 
-      at : (b : Bool) → same_name u p ≡ b → AreHolders (v ∷ H) p h
+      at : (b : Bool) → same_name s.child p ≡ b → AreHolders (v ∷ H) p h
       at true q =
-          let same = same_true u p q in
+          let same = same_true s.child p q in
           let here = ap (λ x. holders_of new x) same ∙ e in
-          subst (λ x. AreHolders (v ∷ H) x h) same (law.first (v ∷ H) u h (founds.parent h here) (λ place. founds.free h place here) unstarted)
-      at false q = stays_more (Spawn u body args items deferred) legal kept p (founds.others p q) (λ n. falsely (same_name t (n ∷ p))) (λ n. falsely (same_name t (n ∷ p))) h e
+          subst (λ x. AreHolders (v ∷ H) x h) same (law.first (v ∷ H) s.child h (founds.parent h here) (λ place. founds.free h place here) unstarted)
+      at false q = stays_more (Spawn s) legal kept p (founds.others p q) (λ n. falsely (same_name t (n ∷ p))) (λ n. falsely (same_name t (n ∷ p))) h e
 
   quiet_more : (a : Action) → is_start a ≡ false → is_end a ≡ false → Legal first (by a ∷ H) → ((p : Name) (h : Holders) → holders_of old p ≡ Some h → AreHolders H p h)
       → ((p : Name) → holders_of new p ≡ holders_of old p) → (p : Name) (h : Holders) → holders_of new p ≡ Some h → AreHolders (by a ∷ H) p h
@@ -189,7 +190,7 @@ module _ (first : Cells) (root_line : ℕ) (D : List Departure) (t : Name) (old 
   holders_more Start legal tasks kept k = start_more legal.0 tasks legal kept k
   holders_more End legal tasks kept k = end_more legal.0 tasks End refl refl legal kept k
   holders_more Fault legal tasks kept k = end_more legal.0 tasks Fault refl refl legal kept k
-  holders_more (Spawn u body args items deferred) legal tasks kept k = spawn_more u body args items deferred legal kept k
+  holders_more (Spawn s) legal tasks kept k = spawn_more s legal kept k
   holders_more (Let r x) legal tasks kept k = quiet_more (Let r x) refl refl legal kept k
   holders_more (Load r c x) legal tasks kept k = quiet_more (Load r c x) refl refl legal kept k
   holders_more (Store c x) legal tasks kept k = quiet_more (Store c x) refl refl legal kept k
@@ -245,7 +246,7 @@ module _ (first : Cells) (root_line : ℕ) (D : List Departure) (t : Name) (old 
   holders_less to Start legal tasks kept k = start_less to Start legal tasks kept refl k
   holders_less to End legal tasks kept k = end_less to End legal tasks kept refl (λ n p. refl) k
   holders_less to Fault legal tasks kept k = end_less to Fault legal tasks kept refl (λ n p. refl) k
-  holders_less to (Spawn u body args items deferred) legal tasks kept k = spawn_less to (Spawn u body args items deferred) legal tasks kept u refl refl k
+  holders_less to (Spawn s) legal tasks kept k = spawn_less to (Spawn s) legal tasks kept s.child refl refl k
   holders_less to (Let r x) legal tasks kept k = quiet_less to (Let r x) legal tasks kept refl refl k
   holders_less to (Load r c x) legal tasks kept k = quiet_less to (Load r c x) legal tasks kept refl refl k
   holders_less to (Store c x) legal tasks kept k = quiet_less to (Store c x) legal tasks kept refl refl k

@@ -41,7 +41,7 @@ unstored Start c x e = refl
 unstored (Let r y) c x e = refl
 unstored (Load r d y) c x e = refl
 unstored (Print y) c x e = refl
-unstored (Spawn u body args items deferred) c x e = refl
+unstored (Spawn s) c x e = refl
 unstored (Wait items) c x e = refl
 unstored Open c x e = refl
 unstored Close c x e = refl
@@ -63,7 +63,7 @@ module _ (first : Cells) (root_line : ℕ) (D : List Departure) (e : Departure) 
   number_kept (Load r c x) n = ap Some (register_kept r)
   number_kept Start n = refl
   number_kept (Print x) n = refl
-  number_kept (Spawn u body args items deferred) n = refl
+  number_kept (Spawn s) n = refl
   number_kept (Wait items) n = refl
   number_kept Open n = refl
   number_kept Close n = refl

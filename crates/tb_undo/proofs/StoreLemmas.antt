@@ -30,7 +30,7 @@ registers_config P line args (Test false ∷ acts) = registers_config P line arg
 registers_config P line args (Start ∷ acts) = registers_config P line args acts
 registers_config P line args (Store c x ∷ acts) = registers_config P line args acts
 registers_config P line args (Print x ∷ acts) = registers_config P line args acts
-registers_config P line args (Spawn u body more items deferred ∷ acts) = registers_config P line args acts
+registers_config P line args (Spawn s ∷ acts) = registers_config P line args acts
 registers_config P line args (Wait items ∷ acts) = registers_config P line args acts
 registers_config P line args (Open ∷ acts) = registers_config P line args acts
 registers_config P line args (Close ∷ acts) = registers_config P line args acts
@@ -56,7 +56,7 @@ cells_more first H t Start cells l = record { count = l.count; number = l.number
 cells_more first H t (Let r x) cells l = record { count = l.count; number = l.number }
 cells_more first H t (Load r c x) cells l = record { count = l.count; number = l.number }
 cells_more first H t (Print x) cells l = record { count = l.count; number = l.number }
-cells_more first H t (Spawn u line args items deferred) cells l = record { count = l.count; number = l.number }
+cells_more first H t (Spawn s) cells l = record { count = l.count; number = l.number }
 cells_more first H t (Wait items) cells l = record { count = l.count; number = l.number }
 cells_more first H t Open cells l = record { count = l.count; number = l.number }
 cells_more first H t Close cells l = record { count = l.count; number = l.number }
@@ -70,7 +70,7 @@ output_more H t Start = refl
 output_more H t (Let r x) = refl
 output_more H t (Load r c x) = refl
 output_more H t (Store c x) = refl
-output_more H t (Spawn u line args items deferred) = refl
+output_more H t (Spawn s) = refl
 output_more H t (Wait items) = refl
 output_more H t Open = refl
 output_more H t Close = refl
@@ -100,7 +100,7 @@ cells_less first H t Start number cells l e = record { count = l.count; number =
 cells_less first H t (Let r x) number cells l e = record { count = l.count; number = l.number }
 cells_less first H t (Load r c x) number cells l e = record { count = l.count; number = l.number }
 cells_less first H t (Print x) number cells l e = record { count = l.count; number = l.number }
-cells_less first H t (Spawn u line args items deferred) number cells l e = record { count = l.count; number = l.number }
+cells_less first H t (Spawn s) number cells l e = record { count = l.count; number = l.number }
 cells_less first H t (Wait items) number cells l e = record { count = l.count; number = l.number }
 cells_less first H t Open number cells l e = record { count = l.count; number = l.number }
 cells_less first H t Close number cells l e = record { count = l.count; number = l.number }
@@ -117,7 +117,7 @@ output_less H t Start = refl
 output_less H t (Let r x) = refl
 output_less H t (Load r c x) = refl
 output_less H t (Store c x) = refl
-output_less H t (Spawn u line args items deferred) = refl
+output_less H t (Spawn s) = refl
 output_less H t (Wait items) = refl
 output_less H t Open = refl
 output_less H t Close = refl
@@ -137,7 +137,7 @@ number_right first H t (Load r c x) cells k l = ap Some (register_kept (args_in 
 number_right first H t (Store c x) cells k l = ap Some (l.number c k.1)
 number_right first H t Start cells k l = refl
 number_right first H t (Print x) cells k l = refl
-number_right first H t (Spawn u line args items deferred) cells k l = refl
+number_right first H t (Spawn s) cells k l = refl
 number_right first H t (Wait items) cells k l = refl
 number_right first H t Open cells k l = refl
 number_right first H t Close cells k l = refl
@@ -155,7 +155,7 @@ registers_less first H t (Load r c x) number k e =
 registers_less first H t Start number k e = refl
 registers_less first H t (Store c x) number k e = refl
 registers_less first H t (Print x) number k e = refl
-registers_less first H t (Spawn u line args items deferred) number k e = refl
+registers_less first H t (Spawn s) number k e = refl
 registers_less first H t (Wait items) number k e = refl
 registers_less first H t Open number k e = refl
 registers_less first H t Close number k e = refl

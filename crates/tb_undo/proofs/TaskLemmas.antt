@@ -25,7 +25,7 @@ use Rattle.tb_undo.proofs.StoreLemmas.{registers_less}
 -- ---- what a task's own step changes of it
 
 undeferred_more : (a : Action) (acts : List Action) → undeferred_at (a ∷ acts) ≡ with_undeferred a (suc (length acts)) (undeferred_at acts)
-undeferred_more (Spawn u body args items deferred) acts = refl
+undeferred_more (Spawn s) acts = refl
 undeferred_more Start acts = refl
 undeferred_more (Let r x) acts = refl
 undeferred_more (Load r c x) acts = refl
@@ -39,7 +39,7 @@ undeferred_more End acts = refl
 undeferred_more Fault acts = refl
 
 children_more : (a : Action) (acts : List Action) → spawned_items (a ∷ acts) ≡ with_child a (spawned_items acts)
-children_more (Spawn u body args items deferred) acts = refl
+children_more (Spawn s) acts = refl
 children_more Start acts = refl
 children_more (Let r x) acts = refl
 children_more (Load r c x) acts = refl
@@ -53,8 +53,11 @@ children_more End acts = refl
 children_more Fault acts = refl
 
 undeferred_less : (a : Action) (k : ℕ) (ks : List ℕ) → without_undeferred a (with_undeferred a k ks) ≡ ks
-undeferred_less (Spawn u body args items true) k ks = refl
-undeferred_less (Spawn u body args items false) k ks = refl
+undeferred_less (Spawn s) k ks = by s.deferred
+  where
+    by : (d : Bool) → cond d (cond d ks (k ∷ ks)) (drop 1 (cond d ks (k ∷ ks))) ≡ ks
+    by true = refl
+    by false = refl
 undeferred_less Start k ks = refl
 undeferred_less (Let r x) k ks = refl
 undeferred_less (Load r c x) k ks = refl
@@ -68,7 +71,7 @@ undeferred_less End k ks = refl
 undeferred_less Fault k ks = refl
 
 children_less : (a : Action) (children : List (List Item)) → without_child a (with_child a children) ≡ children
-children_less (Spawn u body args items deferred) children = take_added children items
+children_less (Spawn s) children = take_added children s.items
 children_less Start children = refl
 children_less (Let r x) children = refl
 children_less (Load r c x) children = refl
@@ -143,10 +146,10 @@ line_unbegun body t (d ∷ D) e = at (is_of t d.event) refl (line_unbegun body t
 
 fresh_known : (root_line : ℕ) (t p : Name) (n : ℕ) (a : Action) → t ≡ n ∷ p → is_spawn_of t a ≡ true
     → known_from root_line t (Some a) [] (called_by root_line (Some a)).line ≡ spawned_task p a
-fresh_known root_line t p n (Spawn u body args items deferred) e s = ap (λ (x : Name). made (drop 1 x)) e
+fresh_known root_line t p n (Spawn spawn) e s = ap (λ (x : Name). made (drop 1 x)) e
   where
     made : Name → Task
-    made x = fresh_task x body args
+    made x = fresh_task x spawn.body spawn.args
 fresh_known root_line t p n Start e s = absurd (false≢true s)
 fresh_known root_line t p n (Let r x) e s = absurd (false≢true s)
 fresh_known root_line t p n (Load r c x) e s = absurd (false≢true s)
@@ -161,7 +164,7 @@ fresh_known root_line t p n Fault e s = absurd (false≢true s)
 
 -- the tasks with the one that is generated, by the test
 with_test : (p : Name) (a : Action) (f : Name → Option Task) (u : Name) → with_task p a f u ≡ cond (is_spawn_of u a) (Some (spawned_task p a)) (f u)
-with_test p (Spawn w body args items deferred) f u = refl
+with_test p (Spawn s) f u = refl
 with_test p Start f u = refl
 with_test p (Let r x) f u = refl
 with_test p (Load r c x) f u = refl
@@ -175,7 +178,7 @@ with_test p End f u = refl
 with_test p Fault f u = refl
 
 without_test : (a : Action) (f : Name → Option Task) (u : Name) → without_task a f u ≡ cond (is_spawn_of u a) None (f u)
-without_test (Spawn w body args items deferred) f u = refl
+without_test (Spawn s) f u = refl
 without_test Start f u = refl
 without_test (Let r x) f u = refl
 without_test (Load r c x) f u = refl

@@ -142,7 +142,7 @@ register first t acts (Load r c x) k = k.1
 register first t acts Start k = tt
 register first t acts (Store c x) k = tt
 register first t acts (Print x) k = tt
-register first t acts (Spawn u body args items deferred) k = tt
+register first t acts (Spawn s) k = tt
 register first t acts (Wait items) k = tt
 register first t acts Open k = tt
 register first t acts Close k = tt
@@ -156,7 +156,7 @@ cell first t acts Start count e k = tt
 cell first t acts (Let r x) count e k = tt
 cell first t acts (Load r c x) count e k = tt
 cell first t acts (Print x) count e k = tt
-cell first t acts (Spawn u body args items deferred) count e k = tt
+cell first t acts (Spawn s) count e k = tt
 cell first t acts (Wait items) count e k = tt
 cell first t acts Open count e k = tt
 cell first t acts Close count e k = tt
@@ -165,8 +165,8 @@ cell first t acts End count e k = tt
 cell first t acts Fault count e k = tt
 
 next_spawn : (first : Cells) (H : History) (s : Seen) (t : Name) (a : Action) → Legal first (record { task = t; action = a } ∷ H) → AreKin H s.waits.tasks → IsNextSpawn s t a
-next_spawn first H s t (Spawn u body args items deferred) l k = (
-  waits.spawn_next first H (record { task = t; action = Spawn u body args items deferred }) s.waits.tasks l u body args items deferred refl k,
+next_spawn first H s t (Spawn spawn) l k = (
+  waits.spawn_next first H (record { task = t; action = Spawn spawn }) s.waits.tasks l spawn refl k,
   sym (ap (drop 1) l.1.own.1),
   l.1.own.2,
 )
@@ -183,7 +183,7 @@ next_spawn first H s t End l k = tt
 next_spawn first H s t Fault l k = tt
 
 last_spawn : (first : Cells) (H : History) (s : Seen) (t : Name) (a : Action) → Legal first (record { task = t; action = a } ∷ H) → AreKin (record { task = t; action = a } ∷ H) s.waits.tasks → IsLastSpawn s t a
-last_spawn first H s t (Spawn u body args items deferred) l k = waits.spawn_last first H (record { task = t; action = Spawn u body args items deferred }) s.waits.tasks l u body args items deferred refl k
+last_spawn first H s t (Spawn spawn) l k = waits.spawn_last first H (record { task = t; action = Spawn spawn }) s.waits.tasks l spawn refl k
 last_spawn first H s t Start l k = tt
 last_spawn first H s t (Let r x) l k = tt
 last_spawn first H s t (Load r c x) l k = tt
@@ -219,7 +219,7 @@ end_room_for first root_line D to t (Let r x) s l k = tt
 end_room_for first root_line D to t (Load r c x) s l k = tt
 end_room_for first root_line D to t (Store c x) s l k = tt
 end_room_for first root_line D to t (Print x) s l k = tt
-end_room_for first root_line D to t (Spawn u body args items deferred) s l k = tt
+end_room_for first root_line D to t (Spawn spawn) s l k = tt
 end_room_for first root_line D to t (Wait items) s l k = tt
 end_room_for first root_line D to t Open s l k = tt
 end_room_for first root_line D to t Close s l k = tt

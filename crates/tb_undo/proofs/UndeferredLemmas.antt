@@ -1,5 +1,5 @@
 -- The undeferred child at which a task stands: where it is told, and that it is the last child.
-use Rattle.std.proofs.Common.{◌≡◌, ◌<◌, ◌≤◌, ◌-◌, ◌==◌, ℕ, suc, List, [], ◌∷◌, Bool, true, false, not, Option, Some, None, option_map, length, refl, sym, ap, ap₂, ◌∙◌, subst, arith, eq-eqb, eqb-true}
+use Rattle.std.proofs.Common.{◌≡◌, ◌<◌, ◌≤◌, ◌-◌, ◌==◌, ℕ, suc, List, [], ◌∷◌, Bool, true, false, not, ◌&&◌, cond, Option, Some, None, option_map, length, refl, sym, ap, ap₂, ◌∙◌, subst, arith, eq-eqb, eqb-true}
 use Rattle.std.specs.List.{list_any}
 use Rattle.std.proofs.lemmas.Bool.{and_parts, and_from, both_ways, false≢true}
 use Rattle.tb_model.specs.declared.action.Action.{Action}
@@ -26,12 +26,15 @@ use Rattle.tb_undo.specs.Obstacles.{is_first, IsKnown}
 -- no step behind the last generated one
 none_beyond : (acts : List Action) (n : ℕ) → length acts < n → is_first n (undeferred_at acts) ≡ false
 none_beyond [] n l = refl
-none_beyond (Spawn u body args items true ∷ acts) n l = none_beyond acts n (omega (arith, l))
-none_beyond (Spawn u body args items false ∷ acts) n l = at (suc (length acts) == n) refl
+none_beyond (Spawn s ∷ acts) n l = by s.deferred (none_beyond acts n (omega (arith, l)))
   where
     at : (b : Bool) → (suc (length acts) == n) ≡ b → b ≡ false
     at false e = refl
     at true e = let same = eqb-true (suc (length acts)) n e in absurd (omega (arith, same, l))
+
+    by : (d : Bool) → is_first n (undeferred_at acts) ≡ false → is_first n (cond d (undeferred_at acts) (suc (length acts) ∷ undeferred_at acts)) ≡ false
+    by true h = h
+    by false h = at (suc (length acts) == n) refl
 none_beyond (a ∷ acts) n l = none_beyond acts n (omega (arith, l))
 
 -- the newest action generated an undeferred child
@@ -41,21 +44,25 @@ record IsHeld (acts : List Action) : Type 0 where
 
 held : (acts : List Action) → is_first (length acts) (undeferred_at acts) ≡ true → IsHeld acts
 held [] h = absurd (false≢true h)
-held (Spawn u body args items false ∷ acts) h = record { child = u; holds = same_refl u }
-held (Spawn u body args items true ∷ acts) h =
-    absurd (both_ways (is_first (suc (length acts)) (undeferred_at acts)) (none_beyond acts (suc (length acts)) (omega arith)) h)
+held (Spawn s ∷ acts) h = by s.deferred refl h
+  where
+    by : (d : Bool) → s.deferred ≡ d → is_first (suc (length acts)) (cond d (undeferred_at acts) (suc (length acts) ∷ undeferred_at acts)) ≡ true → IsHeld (Spawn s ∷ acts)
+    by false e k = record { child = s.child; holds = ap (λ d. not d && same_name s.child s.child) e ∙ same_refl s.child }
+    by true e k = absurd (both_ways (is_first (suc (length acts)) (undeferred_at acts)) (none_beyond acts (suc (length acts)) (omega arith)) k)
 held (a ∷ acts) h =
     absurd (both_ways (is_first (suc (length acts)) (undeferred_at acts)) (none_beyond acts (suc (length acts)) (omega arith)) h)
 
 not_held : (acts : List Action) (u : Name) → is_first (length acts) (undeferred_at acts) ≡ false → holds acts u ≡ false
 not_held [] u h = refl
-not_held (Spawn w body args items false ∷ acts) u h =
-    absurd (both_ways (suc (length acts) == suc (length acts)) h (eq-eqb (suc (length acts)) (suc (length acts)) refl))
-not_held (Spawn w body args items true ∷ acts) u h = refl
+not_held (Spawn s ∷ acts) u h = by s.deferred h
+  where
+    by : (d : Bool) → is_first (suc (length acts)) (cond d (undeferred_at acts) (suc (length acts) ∷ undeferred_at acts)) ≡ false → (not d && same_name s.child u) ≡ false
+    by false k = absurd (both_ways (suc (length acts) == suc (length acts)) k (eq-eqb (suc (length acts)) (suc (length acts)) refl))
+    by true k = refl
 not_held (a ∷ acts) u h = refl
 
 held_names : (cells : Cells) (t u : Name) (a : Action) (acts : List Action) → Continues cells t acts a → holds (a ∷ acts) u ≡ true → u ≡ spawn_count (a ∷ acts) ∷ t
-held_names cells t u (Spawn w body args items deferred) acts k h = sym (same_true w u (and_parts (not deferred) (same_name w u) h).1) ∙ k.1
+held_names cells t u (Spawn s) acts k h = sym (same_true s.child u (and_parts (not s.deferred) (same_name s.child u) h).1) ∙ k.1
 held_names cells t u a acts k h = absurd (false≢true h)
 
 -- it is the last one

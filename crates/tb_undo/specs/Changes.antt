@@ -57,12 +57,12 @@ replaced_in a cells k = record { number = number_over a cells k.regs; reg = regi
 
 -- the task that the action of p generates
 abbrev pub spawned_task : Name → Action → Task
-spawned_task p (Spawn w body args items deferred) = fresh_task p body args
+spawned_task p (Spawn s) = fresh_task p s.body s.args
 spawned_task p _ = fresh_task p 0 []
 
 -- the tasks with it
 abbrev pub with_task : Name → Action → (Name → Option Task) → Name → Option Task
-with_task p (Spawn w body args items deferred) f u = if same_name w u then Some (fresh_task p body args) else f u
+with_task p (Spawn s) f u = if same_name s.child u then Some (fresh_task p s.body s.args) else f u
 with_task p _ f u = f u
 
 -- the tasks behind the event, which leaves its task at this line
@@ -71,7 +71,7 @@ task_by v to f u = if is_of u v then option_map (advanced v.action to) (with_tas
 
 -- the tasks without that one
 abbrev pub without_task : Action → (Name → Option Task) → Name → Option Task
-without_task (Spawn w body args items deferred) f u = if same_name w u then None else f u
+without_task (Spawn s) f u = if same_name s.child u then None else f u
 without_task _ f u = f u
 
 -- the tasks in front of it, by what it replaced
@@ -86,7 +86,7 @@ abbrev pub HoldersFor : Name → Action → Rows → Rows → Type 0
 HoldersFor t Start old new = Holds old t (number_of t) new
 HoldersFor t End old new = Holds old t None new
 HoldersFor t Fault old new = Holds old t None new
-HoldersFor t (Spawn u body args items deferred) old new = Founds old u new
+HoldersFor t (Spawn s) old new = Founds old s.child new
 HoldersFor t _ old new = (p : Name) → holders_of new p ≡ holders_of old p
 
 -- an undone start frees what it took, an undone end takes it again, and of an undone spawn's child nothing is kept
@@ -94,7 +94,7 @@ abbrev pub HoldersBack : Name → Action → Rows → Rows → Type 0
 HoldersBack t Start old new = Holds old t None new
 HoldersBack t End old new = Holds old t (number_of t) new
 HoldersBack t Fault old new = Holds old t (number_of t) new
-HoldersBack t (Spawn u body args items deferred) old new = (p : Name) → holders_of new p ≡ (if same_name u p then None else holders_of old p)
+HoldersBack t (Spawn s) old new = (p : Name) → holders_of new p ≡ (if same_name s.child p then None else holders_of old p)
 HoldersBack t _ old new = (p : Name) → holders_of new p ≡ holders_of old p
 
 -- ---- all tables
@@ -163,7 +163,7 @@ pub record HasSpawnRoom (s : Seen) (p u : Name) (items : List Item) (deferred : 
 abbrev pub HasRoomOf : Seen → Name → Action → Type 0
 HasRoomOf s t Start = HasSetRoom s.rows t
 HasRoomOf s t (Print x) = 0 < s.store.room
-HasRoomOf s t (Spawn u body args items deferred) = HasSpawnRoom s t u items deferred
+HasRoomOf s t (Spawn spawn) = HasSpawnRoom s t spawn.child spawn.items spawn.deferred
 HasRoomOf s t Open = HasGroupRoom s.waits.tasks t
 HasRoomOf s t _ = ⊤
 
@@ -180,7 +180,7 @@ IsCell count _ = ⊤
 
 -- a spawn is that of the task's next child, and passes at most 16 arguments
 abbrev pub IsNextSpawn : Seen → Name → Action → Type 0
-IsNextSpawn s p (Spawn u body args items deferred) = IsNext s.waits.tasks p u × (p ≡ drop 1 u) × (length args ≤ 16)
+IsNextSpawn s p (Spawn spawn) = IsNext s.waits.tasks p spawn.child × (p ≡ drop 1 spawn.child) × (length spawn.args ≤ 16)
 IsNextSpawn s p _ = ⊤
 
 -- what the tables ask for where the event is taken
@@ -193,7 +193,7 @@ pub record CanChange (s : Seen) (v : Event) : Type 0 where
 
 -- the spawn that is taken back was the task's last
 abbrev pub IsLastSpawn : Seen → Name → Action → Type 0
-IsLastSpawn s p (Spawn u body args items deferred) = IsLast s.waits.tasks p u
+IsLastSpawn s p (Spawn spawn) = IsLast s.waits.tasks p spawn.child
 IsLastSpawn s p _ = ⊤
 
 -- what the end of the task freed has its room

@@ -41,7 +41,7 @@ registers args (a ∷ acts) = written a (registers args acts)
 -- at which of its steps a task generated an undeferred child, the newest first
 abbrev pub undeferred_at : List Action → List ℕ
 undeferred_at [] = []
-undeferred_at (Spawn u body args items deferred ∷ acts) = if deferred then undeferred_at acts else suc (length acts) ∷ undeferred_at acts
+undeferred_at (Spawn s ∷ acts) = if s.deferred then undeferred_at acts else suc (length acts) ∷ undeferred_at acts
 undeferred_at (_ ∷ acts) = undeferred_at acts
 
 -- a task that was generated

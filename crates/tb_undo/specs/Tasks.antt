@@ -53,12 +53,12 @@ written _ regs = regs
 
 -- the steps that generated an undeferred child, with this one, where it does
 abbrev pub with_undeferred : Action → ℕ → List ℕ → List ℕ
-with_undeferred (Spawn u body args items deferred) k ks = if deferred then ks else k ∷ ks
+with_undeferred (Spawn s) k ks = if s.deferred then ks else k ∷ ks
 with_undeferred _ k ks = ks
 
 -- the items of the children, with those of the child that the action generates
 abbrev pub with_child : Action → List (List Item) → List (List Item)
-with_child (Spawn u body args items deferred) children = children ++ items ∷ []
+with_child (Spawn s) children = children ++ s.items ∷ []
 with_child _ children = children
 
 -- the task behind its own action, which leaves it at this line
@@ -83,12 +83,12 @@ registers_back _ number regs = regs
 
 -- the steps that generated an undeferred child, without the newest, where that is this action
 abbrev pub without_undeferred : Action → List ℕ → List ℕ
-without_undeferred (Spawn u body args items deferred) ks = if deferred then ks else drop 1 ks
+without_undeferred (Spawn s) ks = if s.deferred then ks else drop 1 ks
 without_undeferred _ ks = ks
 
 -- the items of the children, without those of the child that the action generated
 abbrev pub without_child : Action → List (List Item) → List (List Item)
-without_child (Spawn u body args items deferred) children = take (length children - 1) children
+without_child (Spawn s) children = take (length children - 1) children
 without_child _ children = children
 
 -- the task in front of its newest action, by what that replaced
@@ -122,7 +122,7 @@ pub record HasChildRoom (r : Row) (items : List Item) (deferred : Bool) : Type 0
 
 -- and for this step of its task
 abbrev pub HasRowRoom : Row → Action → Type 0
-HasRowRoom r (Spawn u body args items deferred) = HasChildRoom r items deferred
+HasRowRoom r (Spawn s) = HasChildRoom r s.items s.deferred
 HasRowRoom r _ = ⊤
 
 -- the row of t has the room for such a child, where it is there

@@ -13,12 +13,21 @@ use tb_model::TaskName;
 /// The place of the task's row. The place `near`, and the one behind it, are tried before the name's
 /// hash is taken: mostly the task that took the last step is asked of again, or the one that was
 /// generated after it. A place counts only where the very name stands, so any place does.
+#[inline]
 pub fn find(rows: &IndexMap<TaskName, Row>, near: usize, name: &TaskName) -> Option<usize>
     ensures index { result ≡ position (same_name name.now) (keys_of rows.now.entries) }
 {
     if stands_at(rows, near, name) {
         return Some(near);
     }
+    find_elsewhere(rows, near, name)
+}
+
+/// The same where it isn't at the place `near`. It stands apart, so that most calls don't pay for its room.
+#[inline(never)]
+fn find_elsewhere(rows: &IndexMap<TaskName, Row>, near: usize, name: &TaskName) -> Option<usize>
+    ensures index { result ≡ position (same_name name.now) (keys_of rows.now.entries) }
+{
     let next = near.saturating_add(1);
     if stands_at(rows, next, name) {
         return Some(next);
@@ -36,6 +45,7 @@ pub fn get<'a>(rows: &'a IndexMap<TaskName, Row>, near: usize, name: &TaskName) 
 }
 
 /// Whether the task's row is at the place.
+#[inline(always)]
 fn stands_at(rows: &IndexMap<TaskName, Row>, at: usize, name: &TaskName) -> bool
     ensures { IsTrue result → position (same_name name.now) (keys_of rows.now.entries) ≡ Some at }
 {

@@ -81,13 +81,10 @@ impl Row {
             Action::Let { reg, value } | Action::Load { reg, value, .. } => {
                 self.regs[*reg as usize] = *value;
             }
-            Action::Spawn {
-                items,
-                deferred,
-                ..
-            } => {
-                self.children.add_reserved(items.as_slice());
-                if !*deferred {
+            Action::Spawn(spawned) => {
+                let spawn = spawned.get();
+                self.children.add_reserved(spawn.items.as_slice());
+                if !spawn.deferred {
                     self.undeferred.push_reserved(self.steps);
                 }
             }
@@ -154,9 +151,9 @@ impl Row {
                     self.regs[*reg as usize] = number;
                 }
             }
-            Action::Spawn { deferred, .. } => {
+            Action::Spawn(spawned) => {
                 self.children.drop_last();
-                if !*deferred {
+                if !spawned.get().deferred {
                     let _step = self.undeferred.pop();
                 }
             }

@@ -65,6 +65,7 @@ impl Tables {
     }
 
     /// Makes the room that `apply` needs for this event, and changes nothing else.
+    #[inline(always)]
     pub fn reserve_apply(&mut self, event: &Event) -> Result<(), AllocError>
         requires { IsAhead self.old event.now }
         ensures same { AreSame self.old self.new }
@@ -75,12 +76,10 @@ impl Tables {
         match &event.action {
             Action::Start => self.reserve_start(name),
             Action::Print { .. } => self.store.reserve_say(),
-            Action::Spawn {
-                child,
-                items,
-                deferred,
-                ..
-            } => self.reserve_spawn(name, child, items.as_slice(), *deferred),
+            Action::Spawn(spawned) => {
+                let spawn = spawned.get();
+                self.reserve_spawn(name, &spawn.child, spawn.items.as_slice(), spawn.deferred)
+            }
             Action::Open => self.waits.reserve_opened(name),
             _ => Ok(()),
         }
@@ -88,6 +87,7 @@ impl Tables {
 
     /// Takes the event, which leaves its task at this line, and tells what it replaced. The history
     /// of the tables with this event behind it is legal.
+    #[inline(always)]
     pub fn apply(&mut self, event: &Event, to: u32) -> Result<Replaced, AllocError>
         requires { IsAhead self.old event.now }
         ensures applied { OnOk result (IsBehind self.old event.now to self.new) }
@@ -235,12 +235,10 @@ impl Tables {
         let name = &event.task;
         match &event.action {
             Action::Start => self.hold(name, true),
-            Action::Spawn {
-                child,
-                body,
-                args,
-                ..
-            } => self.spawn(name, child, *body, args.as_slice()),
+            Action::Spawn(spawned) => {
+                let spawn = spawned.get();
+                self.spawn(name, &spawn.child, spawn.body, spawn.args.as_slice());
+            }
             Action::Open => self.waits.opened(name).unwrap(),
             Action::Close => self.waits.closed(name),
             Action::End | Action::Fault => self.end(name),
@@ -360,7 +358,7 @@ impl Tables {
         let name = &event.task;
         match &event.action {
             Action::Start => self.hold(name, false),
-            Action::Spawn { child, .. } => self.unspawn(name, child),
+            Action::Spawn(spawned) => self.unspawn(name, &spawned.get().child),
             Action::Open => self.waits.unopened(name),
             Action::Close => self.waits.unclosed(name),
             Action::End | Action::Fault => self.unend(name),

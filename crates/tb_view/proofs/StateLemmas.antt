@@ -47,7 +47,7 @@ module _ (cells : Cells) (t : Name) (n : ℕ) (regs : List ℤ) (x : ℤ) where
   ends_at (DoStore a b) h = cell_ends (DoStore a b) (λ c. Store c (value regs b)) (cell_at cells (value regs a)) refl (λ c. refl) h
   ends_at (DoPrint a) h = absurd (false≢true h)
   ends_at (DoTask body args depends k) h =
-      items_end (DoTask body args depends k) (λ is. Spawn (n ∷ t) body (map (value regs) args) is (is_deferred regs k)) (items_at cells regs depends) refl (λ is. refl) h
+      items_end (DoTask body args depends k) (λ is. Spawn (record { child = n ∷ t; body = body; args = map (value regs) args; items = is; deferred = is_deferred regs k })) (items_at cells regs depends) refl (λ is. refl) h
   ends_at (DoTaskwait depends) h = items_end (DoTaskwait depends) Wait (items_at cells regs depends) refl (λ is. refl) h
   ends_at DoTaskgroup h = absurd (false≢true h)
   ends_at DoEndTaskgroup h = absurd (false≢true h)
@@ -73,7 +73,7 @@ under_way (Let r x) acts o = refl
 under_way (Load r c x) acts o = refl
 under_way (Store c x) acts o = refl
 under_way (Print x) acts o = refl
-under_way (Spawn u line args items deferred) acts o = refl
+under_way (Spawn s) acts o = refl
 under_way (Wait items) acts o = refl
 under_way Open acts o = refl
 under_way Close acts o = refl
@@ -88,7 +88,7 @@ stays i k (Let r x) h = absurd (false≢true h)
 stays i k (Load r c x) h = absurd (false≢true h)
 stays i k (Store c x) h = absurd (false≢true h)
 stays i k (Print x) h = absurd (false≢true h)
-stays i k (Spawn u line args items deferred) h = absurd (false≢true h)
+stays i k (Spawn s) h = absurd (false≢true h)
 stays i k (Wait items) h = absurd (false≢true h)
 stays i k Open h = absurd (false≢true h)
 stays i k Close h = absurd (false≢true h)

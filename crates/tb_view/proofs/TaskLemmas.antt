@@ -11,9 +11,9 @@ use Rattle.tb_view.specs.Tasks.{Named, named_tasks, with_spawned}
 
 -- the body's line by an action, where the line in front of it is that of an earlier one
 line_by : (root_line : ℕ) (t : Name) (a : Action) (o : Option Action) → (called_by (called_by root_line o).line (spawn_or t a None)).line ≡ (called_by root_line (spawn_or t a o)).line
-line_by root_line t (Spawn u line args items deferred) o = at (same_name u t)
+line_by root_line t (Spawn s) o = at (same_name s.child t)
   where
-    at : (b : Bool) → (called_by (called_by root_line o).line (cond b (Some (Spawn u line args items deferred)) None)).line ≡ (called_by root_line (cond b (Some (Spawn u line args items deferred)) o)).line
+    at : (b : Bool) → (called_by (called_by root_line o).line (cond b (Some (Spawn s)) None)).line ≡ (called_by root_line (cond b (Some (Spawn s)) o)).line
     at true = refl
     at false = refl
 line_by root_line t Start o = refl

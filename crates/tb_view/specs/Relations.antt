@@ -17,7 +17,7 @@ relation_lines H t u = line_where (before H u t) u (codes " before") ++ line_whe
 
 -- the relations of t to the task that the action generates
 abbrev pub spawned_lines : History → Name → Action → List (List ℕ)
-spawned_lines H t (Spawn u body args items deferred) = relation_lines H t u
+spawned_lines H t (Spawn s) = relation_lines H t s.child
 spawned_lines H t _ = []
 
 -- those to the tasks that were generated in K, in the order of spawning: siblings come by rising numbers

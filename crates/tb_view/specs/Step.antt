@@ -52,8 +52,8 @@ action_text body (Let r x) = codes "let r" ++ decimal r ++ codes " " ++ signed_d
 action_text body (Load r c x) = codes "load r" ++ decimal r ++ codes " " ++ decimal c ++ codes " " ++ signed_decimal x
 action_text body (Store c x) = codes "store " ++ decimal c ++ codes " " ++ signed_decimal x
 action_text body (Print x) = codes "print " ++ signed_decimal x
-action_text body (Spawn u line args items deferred) =
-    codes "spawn " ++ name_text u ++ codes " " ++ body ++ args_text args ++ items_text items ++ deferred_text deferred
+action_text body (Spawn s) =
+    codes "spawn " ++ name_text s.child ++ codes " " ++ body ++ args_text s.args ++ items_text s.items ++ deferred_text s.deferred
 action_text body (Wait items) = codes "wait" ++ items_text items
 action_text body Open = codes "open"
 action_text body Close = codes "close"
@@ -74,5 +74,5 @@ name_at (b ∷ bodies) line = if b.line == line then b.name else name_at bodies 
 
 -- the name of the body of the child that an action spawns
 abbrev pub spawned_name : Program → Action → List ℕ
-spawned_name P (Spawn u line args items deferred) = name_at P.bodies line
+spawned_name P (Spawn s) = name_at P.bodies s.body
 spawned_name P _ = []

@@ -22,7 +22,7 @@ Named = Name × ℕ
 
 -- one task more, at its place in the order of names, where the action generates one
 abbrev pub with_spawned : Action → List Named → List Named
-with_spawned (Spawn u body args items deferred) tasks = insert_entry name_cmp tasks u body
+with_spawned (Spawn s) tasks = insert_entry name_cmp tasks s.child s.body
 with_spawned _ tasks = tasks
 
 -- the root and all that were generated, in the order of names

@@ -7,7 +7,7 @@ ghost use Rattle.tb_view.specs.Step.{kind_text, place_text, item_text, items_tex
 
 use std::alloc::AllocError;
 use tb_draft::Draft;
-use tb_model::{Action, Args, Item, Items, Kind, Place, TaskName};
+use tb_model::{Action, Item, Items, Kind, Place, Spawn};
 
 /// Appends what was done; `body` is the name of the body that a spawn names.
 pub(crate) fn append_action(text: &mut Draft, body: &str, action: &Action) -> Result<(), AllocError>
@@ -19,13 +19,7 @@ pub(crate) fn append_action(text: &mut Draft, body: &str, action: &Action) -> Re
         Action::Load { reg, cell, value } => append_load(text, *reg, *cell, *value),
         Action::Store { cell, value } => append_store(text, *cell, *value),
         Action::Print { value } => append_print(text, *value),
-        Action::Spawn {
-            child,
-            body: _,
-            args,
-            items,
-            deferred,
-        } => append_spawn(text, child, body, args, items, *deferred),
+        Action::Spawn(spawned) => append_spawn(text, body, spawned.get()),
         Action::Wait { items } => append_wait(text, items),
         Action::Open => text.push_str("open"),
         Action::Close => text.push_str("close"),
@@ -78,23 +72,16 @@ fn append_wait(text: &mut Draft, items: &Items) -> Result<(), AllocError>
     append_items(text, items.as_slice())
 }
 
-fn append_spawn(
-    text: &mut Draft,
-    child: &TaskName,
-    body: &str,
-    args: &Args,
-    items: &Items,
-    deferred: bool,
-) -> Result<(), AllocError>
-    ensures { OnOk result (text.new ≡ text.old ++ (codes "spawn " ++ name_text child.now ++ codes " " ++ body.now ++ args_text args.now ++ items_text items.now ++ deferred_text deferred)) }
+fn append_spawn(text: &mut Draft, body: &str, spawn: &Spawn) -> Result<(), AllocError>
+    ensures { OnOk result (text.new ≡ text.old ++ (codes "spawn " ++ name_text spawn.now.child ++ codes " " ++ body.now ++ args_text spawn.now.args ++ items_text spawn.now.items ++ deferred_text spawn.now.deferred)) }
 {
     text.push_str("spawn ")?;
-    text.push_name(child)?;
+    text.push_name(&spawn.child)?;
     text.push(' ')?;
     text.push_str(body)?;
-    append_args(text, args.as_slice())?;
-    append_items(text, items.as_slice())?;
-    text.push_str(last_word(deferred))
+    append_args(text, spawn.args.as_slice())?;
+    append_items(text, spawn.items.as_slice())?;
+    text.push_str(last_word(spawn.deferred))
 }
 
 /// Appends each number behind a blank.

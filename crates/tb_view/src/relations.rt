@@ -1,16 +1,16 @@
 //! How a task stands to its siblings, as text.
 
-ghost use Rattle.std.specs.Prelude.{◌≡◌, ◌≤◌, ◌++◌, ◌||◌, IfOk, IfSome, IfNone, OnOk, IsFalse, drop, length};
-ghost use Rattle.tb_model.specs.Names.{child, is_elder};
+ghost use Rattle.std.specs.Prelude.{◌≡◌, ◌<◌, ◌≤◌, ◌++◌, IfOk, OnOk, drop, length};
+ghost use Rattle.tb_model.specs.Names.{child};
 ghost use Rattle.tb_core.specs.Seen.{history};
 ghost use Rattle.tb_view.specs.Listing.{joined};
-ghost use Rattle.tb_view.specs.Relations.{line_where, relation_lines, spawned_lines, deps_text};
+ghost use Rattle.tb_view.specs.Relations.{line_where, relation_lines, lines_among, deps_text};
 
 use crate::listing::headed;
 use std::alloc::{AllocError, Global};
 use tb_core::Core;
 use tb_draft::Draft;
-use tb_model::{Action, TaskName};
+use tb_model::TaskName;
 
 /// Appends the name with the word, where the relation holds, and tells how many lines that took.
 fn append_where(
@@ -33,63 +33,64 @@ fn append_where(
     Ok(1)
 }
 
-/// Whether the two are children of one task, and not one task.
-fn are_siblings(other: &TaskName, task: &TaskName) -> bool
-    ensures { result ≡ (is_elder other.now task.now || is_elder task.now other.now) }
-{
-    other.is_elder_of(task) || task.is_elder_of(other)
-}
-
-/// The number of a sibling of the task.
-fn sibling_number(other: &TaskName, task: &TaskName) -> Option<u32>
-    ensures some { IfSome result (λ n. other.now ≡ child (drop 1 task.now) n) }
-    ensures none { IfNone result
-        (IsFalse (is_elder other.now task.now || is_elder task.now other.now)) }
-{
-    if !are_siblings(other, task) {
-        return None;
-    }
-    other.ordinal()
-}
-
-/// Appends whether the other is before the task and whether the two are apart, and tells how many
-/// lines that took.
+/// Appends whether the parent's nth child is before the task and whether the two are apart, and returns
+/// how many lines that took.
 fn append_relations(
     text: &mut Draft,
     core: &Core,
     task: &TaskName,
-    other: &TaskName,
+    parent: &TaskName,
+    n: u32,
 ) -> Result<usize, AllocError>
+    requires from_one { 0 < n }
+    requires parent { parent.now ≡ drop 1 task.now }
     ensures text { OnOk result (text.new ≡ text.old
-        ++ joined (relation_lines (history core.now.run) task.now other.now)) }
+        ++ joined (relation_lines (history core.now.run) task.now (child parent.now n))) }
     ensures count { IfOk result
-        (λ n. n ≡ length (relation_lines (history core.now.run) task.now other.now)) }
-    ensures few { IfOk result (λ n. n ≤ 2) }
+        (λ k. k ≡ length (relation_lines (history core.now.run) task.now (child parent.now n))) }
+    ensures few { IfOk result (λ k. k ≤ 2) }
 {
-    let Some(number) = sibling_number(other, task) else {
-        return Ok(0);
-    };
-    let first = append_where(text, core.is_before(number, task), other, " before")?;
-    let second = append_where(text, core.is_apart(number, task), other, " apart")?;
+    let is_before = core.is_before(n, task);
+    let is_apart = core.is_apart(n, task);
+    let sibling = parent.child(n)?;
+    let first = append_where(text, is_before, &sibling, " before")?;
+    let second = append_where(text, is_apart, &sibling, " apart")?;
     Ok(first + second)
 }
 
-/// Appends the relations to the task that the action spawns, where it spawns one.
-fn append_spawned(
+/// Appends the relations to the parent's children, and returns how many lines that took.
+fn append_siblings(
     text: &mut Draft,
     core: &Core,
     task: &TaskName,
-    action: &Action,
+    parent: &TaskName,
 ) -> Result<usize, AllocError>
+    requires parent { parent.now ≡ drop 1 task.now }
     ensures text { OnOk result (text.new ≡ text.old
-        ++ joined (spawned_lines (history core.now.run) task.now action.now)) }
+        ++ joined (lines_among (history core.now.run) task.now (history core.now.run))) }
     ensures count { IfOk result
-        (λ n. n ≡ length (spawned_lines (history core.now.run) task.now action.now)) }
-    ensures few { IfOk result (λ n. n ≤ 2) }
+        (λ k. k ≡ length (lines_among (history core.now.run) task.now (history core.now.run))) }
 {
-    match action {
-        Action::Spawn { child, .. } => append_relations(text, core, task, child),
-        _ => Ok(0),
+    core.history_is_legal();
+    let children = core.children(parent).unwrap_or(0);
+    let mut count = 0;
+    'children: for n in 0..children {
+        count += append_relations(text, core, task, parent, n + 1)?;
+    }
+    Ok(count)
+}
+
+/// Appends the relations to the siblings of the task, and returns how many lines that took.
+fn append_related(text: &mut Draft, core: &Core, task: &TaskName) -> Result<usize, AllocError>
+    ensures text { OnOk result (text.new ≡ text.old
+        ++ joined (lines_among (history core.now.run) task.now (history core.now.run))) }
+    ensures count { IfOk result
+        (λ k. k ≡ length (lines_among (history core.now.run) task.now (history core.now.run))) }
+{
+    core.history_is_legal();
+    match task.parent()? {
+        Some(parent) => append_siblings(text, core, task, &parent),
+        None => Ok(0),
     }
 }
 
@@ -97,11 +98,7 @@ fn append_spawned(
 pub(crate) fn deps_text(alloc: Global, core: &Core, task: &TaskName) -> Result<Draft, AllocError>
     ensures { IfOk result (λ text. text ≡ deps_text (history core.now.run) task.now) }
 {
-    let entries = core.legal_entries();
     let mut text = Draft::new(alloc);
-    let mut count = 0;
-    'entries: for entry in entries {
-        count += append_spawned(&mut text, core, task, &entry.event.action)?;
-    }
+    let count = append_related(&mut text, core, task)?;
     headed(alloc, "deps", count, text)
 }

@@ -26,12 +26,13 @@ fn spawned_name<'a>(program: &'a Program, action: &Action) -> &'a str
     ensures { result.now ≡ spawned_name program.now action.now }
 {
     match action {
-        Action::Spawn { body, .. } => body_name(program, *body),
+        Action::Spawn(spawned) => body_name(program, spawned.get().body),
         _ => "",
     }
 }
 
 /// Appends the line of the kth step of a task. Where memory runs out a part of it may stand.
+#[inline(always)]
 pub fn append_line(
     text: &mut Draft,
     program: &Program,

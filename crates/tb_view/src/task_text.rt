@@ -36,7 +36,14 @@ fn spawned_line(action: &Action, task: &TaskName, line: u32) -> u32
     ensures { result ≡ (called_by line (spawn_or task.now action.now None)).line }
 {
     match action {
-        Action::Spawn { child, body, .. } if child == task => *body,
+        Action::Spawn(spawned) => {
+            let spawn = spawned.get();
+            if spawn.child == *task {
+                spawn.body
+            } else {
+                line
+            }
+        }
         _ => line,
     }
 }

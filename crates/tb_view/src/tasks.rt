@@ -22,8 +22,9 @@ fn insert_spawned(tasks: &mut BTreeMap<TaskName, u32>, action: &Action) -> Resul
     ensures { OnOk result (tasks.new.entries ≡ with_spawned action.now tasks.old.entries) }
 {
     match action {
-        Action::Spawn { child, body, .. } => {
-            tasks.insert(child.clone()?, *body)?;
+        Action::Spawn(spawned) => {
+            let spawn = spawned.get();
+            tasks.insert(spawn.child.clone()?, spawn.body)?;
             Ok(())
         }
         _ => Ok(()),

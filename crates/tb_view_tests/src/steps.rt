@@ -5,7 +5,9 @@ use std::hash::{DefaultHasher, Hash, Hasher};
 use std::mem;
 use std::process::Abort;
 use tb_draft::Draft;
-use tb_model::{Action, Args, Item, Items, Kind, NameRefusal, Place, StepId, TaskName};
+use tb_model::{
+    Action, Args, Item, Items, Kind, NameRefusal, Place, Spawn, Spawned, StepId, TaskName,
+};
 use tb_view::write_step;
 
 fn name(rt: &(impl Abort + AllocGlobal), text: &str) -> TaskName {
@@ -195,13 +197,14 @@ fn spawn(
     for number in numbers {
         args.push(*number).expect(rt, "memory is there");
     }
-    Action::Spawn {
+    let spawn = Spawn {
         child: name(rt, child),
         body: 7,
         args,
         items: items(rt, used),
         deferred,
-    }
+    };
+    Action::Spawn(Spawned::new(rt.alloc(), spawn).expect(rt, "memory is there"))
 }
 
 fn items(rt: &(impl Abort + AllocGlobal), used: &[Item]) -> Items {

@@ -1,12 +1,12 @@
 -- A step leads from the table of a history to that of the history with it, and taking it back leads back.
-use Rattle.std.proofs.Common.{◌≡◌, ◌≢◌, ℕ, suc, ◌-◌, List, [], ◌∷◌, Bool, true, false, cond, ◌&&◌, ◌||◌, Option, Some, None, option_map, refl, sym, ap, ap₂, ◌∙◌, subst, length, drop, arith, ℤ}
+use Rattle.std.proofs.Common.{◌≡◌, ◌≢◌, ℕ, suc, ◌-◌, List, [], ◌∷◌, Bool, true, false, cond, ◌&&◌, ◌||◌, Option, Some, None, option_map, refl, sym, ap, ap₂, ◌∙◌, subst, length, drop, arith}
 use Rattle.std.specs.List.{list_any}
 use Rattle.std.proofs.lemmas.Bool.{both_ways, false_from_ne_true, or_left}
 use Rattle.std.proofs.lemmas.List.{length-map}
-use Rattle.tb_model.specs.declared.item.Item.{Item}
 use Rattle.tb_model.specs.declared.action.Action.{Action}
 use Rattle.tb_model.specs.declared.action.Action.TheVariants.{Spawn, Open, Close, End, Fault}
 use Rattle.tb_model.specs.declared.event.Event.{Event}
+use Rattle.tb_model.specs.declared.spawn.Spawn.{Spawn as TheSpawn}
 use Rattle.tb_model.specs.Names.{Name, same_name}
 use Rattle.tb_model.specs.Facts.{History, own, prepend_if, groups, is_of, is_end, ends, is_spawn_of, is_spawned, spawns, IsSpawned}
 use Rattle.tb_model.specs.Legal.{Cells, Legal, Continues, IsRunning, spawn_count}
@@ -22,7 +22,7 @@ use Rattle.tb_wait.specs.Histories.{kin_by, kin_from, kin_of, AreKin, ChangesBy,
 
 pub counted : (acts : List Action) → (kin_from acts).children ≡ spawn_count acts
 counted [] = refl
-counted (Spawn u body args items deferred ∷ acts) = ap suc (counted acts)
+counted (Spawn s ∷ acts) = ap suc (counted acts)
 counted (_ ∷ acts) = counted acts
 
 shorter : {A : Type 0} (xs : List ℕ) (ys : List A) → length xs ≡ length ys → length (rest_of xs) ≡ length (drop 1 ys)
@@ -33,7 +33,7 @@ shorter (x ∷ xs) (y ∷ ys) e = omega (arith, e)
 
 pub depth : (acts : List Action) → length (kin_from acts).groups ≡ length (groups acts)
 depth [] = refl
-depth (Spawn u body args items deferred ∷ acts) = depth acts ∙ sym (length-map (groups acts) (λ us. u ∷ us))
+depth (Spawn s ∷ acts) = depth acts ∙ sym (length-map (groups acts) (λ us. s.child ∷ us))
 depth (Open ∷ acts) = ap suc (depth acts)
 depth (Close ∷ acts) = shorter (kin_from acts).groups (groups acts) (depth acts)
 depth (_ ∷ acts) = depth acts
@@ -63,7 +63,7 @@ alive cells H t l r = over_from H t ∙ false_from_ne_true (list_any (ends t) H)
 -- ---- an action, and taking it back
 
 abbrev kin_back : Action → Kin → Kin
-kin_back (Spawn u body args items deferred) k = one_less k
+kin_back (Spawn s) k = one_less k
 kin_back Open k = unopened_kin k
 kin_back Close k = unclosed_kin k
 kin_back End k = with_over false k
@@ -81,7 +81,7 @@ group_back b n [] ss h = absurd (h refl)
 group_back b n (g ∷ gs) ss h = refl
 
 back_again : (cells : Cells) (t : Name) (acts : List Action) (a : Action) → Continues cells t acts a → (IsRunning acts → (kin_from acts).over ≡ false) → kin_back a (kin_by a (kin_from acts)) ≡ kin_from acts
-back_again cells t acts (Spawn u body args items deferred) h o = one_back (kin_from acts)
+back_again cells t acts (Spawn s) h o = one_back (kin_from acts)
 back_again cells t acts Close h o =
     let k = kin_from acts in group_back k.over k.children k.groups k.shut (some_group k.groups (groups acts) (depth acts) h.1)
 back_again cells t acts End h o = alive_back (kin_from acts) (o h)
@@ -96,7 +96,7 @@ same_kin true (Some k) = refl
 same_kin false o = refl
 
 changed : (t : Name) (a : Action) (old new : Tasks) → ChangesBy t a old new → (u : Name) → kin new u ≡ cond (is_spawn_of u a) (Some fresh) (cond (same_name t u) (option_map (kin_by a) (kin old u)) (kin old u))
-changed t (Spawn w body args items deferred) old new h u = h u
+changed t (Spawn s) old new h u = h u
 changed t Open old new h u = h u
 changed t Close old new h u = h u
 changed t End old new h u = h u
@@ -104,7 +104,7 @@ changed t Fault old new h u = h u
 changed t _ old new h u = h u ∙ same_kin (same_name t u) (kin old u)
 
 changed_back : (t : Name) (a : Action) (old new : Tasks) → ChangesBackBy t a old new → (u : Name) → kin new u ≡ cond (is_spawn_of u a) None (cond (same_name t u) (option_map (kin_back a) (kin old u)) (kin old u))
-changed_back t (Spawn w body args items deferred) old new h u = h u
+changed_back t (Spawn s) old new h u = h u
 changed_back t Open old new h u = h u
 changed_back t Close old new h u = h u
 changed_back t End old new h u = h u
@@ -204,25 +204,25 @@ kept_alike G H tasks a st t = st t ∙ ap₂ (λ b acts. cond b (Some (kin_from 
 -- ---- what the calls require
 
 module _ (cells : Cells) (H : History) (v : Event) (tasks : Tasks) (l : Legal cells (v ∷ H)) where
-  module _ (u : Name) (body : ℕ) (args : List ℤ) (items : List Item) (deferred : Bool) (is : v.action ≡ Spawn u body args items deferred) where
-    next_name : u ≡ suc (spawn_count (own v.task H)) ∷ v.task
+  module _ (s : TheSpawn) (is : v.action ≡ Spawn s) where
+    next_name : s.child ≡ suc (spawn_count (own v.task H)) ∷ v.task
     next_name = let c = subst (Continues cells v.task (own v.task H)) is l.1.own in c.1
 
-    pub spawn_next : AreKin H tasks → IsNext tasks v.task u
+    pub spawn_next : AreKin H tasks → IsNext tasks v.task s.child
     spawn_next st = (
       kin_from (own v.task H),
       st v.task ∙ mine_in_front cells H v l,
       next_name ∙ ap (λ n. suc n ∷ v.task) (sym (counted (own v.task H))),
     )
 
-    pub spawn_last : AreKin (v ∷ H) tasks → IsLast tasks v.task u
+    pub spawn_last : AreKin (v ∷ H) tasks → IsLast tasks v.task s.child
     spawn_last st = (
       one_more (kin_from (own v.task H)),
       spawn_count (own v.task H),
       st v.task ∙ mine_behind cells H v l ∙ ap (λ a. Some (kin_by a (kin_from (own v.task H)))) is,
       ap suc (counted (own v.task H)),
       next_name,
-      st u ∙ new_kin cells H v l u (ap (is_spawn_of u) is ∙ same_refl u),
+      st s.child ∙ new_kin cells H v l s.child (ap (is_spawn_of s.child) is ∙ same_refl s.child),
     )
 
   pub close_group : v.action ≡ Close → AreKin H tasks → HasOpenGroup tasks v.task

@@ -8,7 +8,7 @@ use Rattle.tb_wait.specs.Kin.{Kin, Tasks, kin, fresh, with_over, one_more, opene
 
 -- what an action changes of what is kept of its own task
 abbrev pub kin_by : Action → Kin → Kin
-kin_by (Spawn u body args items deferred) k = one_more k
+kin_by (Spawn s) k = one_more k
 kin_by Open k = opened_kin k
 kin_by Close k = closed_kin k
 kin_by End k = with_over true k
@@ -30,7 +30,7 @@ AreKin H tasks = (t : Name) → kin tasks t ≡ kin_of H t
 
 -- what the calls for this action of the task change
 abbrev pub ChangesBy : Name → Action → Tasks → Tasks → Type 0
-ChangesBy t (Spawn u body args items deferred) old new = Adds old t u new
+ChangesBy t (Spawn s) old new = Adds old t s.child new
 ChangesBy t Open old new = Changes old t opened_kin new
 ChangesBy t Close old new = Changes old t closed_kin new
 ChangesBy t End old new = Changes old t (with_over true) new
@@ -39,7 +39,7 @@ ChangesBy t _ old new = IsSame old new
 
 -- and those that take the action back
 abbrev pub ChangesBackBy : Name → Action → Tasks → Tasks → Type 0
-ChangesBackBy t (Spawn u body args items deferred) old new = Drops old t u new
+ChangesBackBy t (Spawn s) old new = Drops old t s.child new
 ChangesBackBy t Open old new = Changes old t unopened_kin new
 ChangesBackBy t Close old new = Changes old t unclosed_kin new
 ChangesBackBy t End old new = Changes old t (with_over false) new

@@ -1,10 +1,10 @@
 //! Laws of the table's definitions: what it holds of a history, listed from its newest event.
 
-ghost use Rattle.std.specs.Prelude.{◌≡◌, ◌∷◌, ◌↔◌, [], ℕ, ℤ, List, Bool, Some, None, IsTrue, length, if◌then◌else◌};
+ghost use Rattle.std.specs.Prelude.{◌≡◌, ◌∷◌, ◌↔◌, [], ℕ, Some, None, IsTrue, length, if◌then◌else◌};
 ghost use Rattle.std.specs.List.{list_any};
 ghost use Rattle.tb_model.specs.declared.action.Action.TheVariants.{Spawn, Open, Close};
 ghost use Rattle.tb_model.specs.declared.event.Event.{Event};
-ghost use Rattle.tb_model.specs.declared.item.Item.{Item};
+ghost use Rattle.tb_model.specs.declared.spawn.Spawn.{Spawn as TheSpawn};
 ghost use Rattle.tb_model.specs.Names.{Name, same_name};
 ghost use Rattle.tb_model.specs.Facts.{History, own, ends, groups};
 ghost use Rattle.tb_model.specs.State.{is_unended, is_unended_child, is_unended_member};
@@ -45,14 +45,14 @@ pub fn alike()
 pub fn conditions()
     ensures spawned { (cells : Cells) (H : History) (v : Event) (tasks : Tasks) →
         Legal cells (v ∷ H) →
-        (u : Name) (body : ℕ) (args : List ℤ) (items : List Item) (deferred : Bool) →
-        v.action ≡ Spawn u body args items deferred →
-        AreKin H tasks → IsNext tasks v.task u }
+        (s : TheSpawn) →
+        v.action ≡ Spawn s →
+        AreKin H tasks → IsNext tasks v.task s.child }
     ensures unspawned { (cells : Cells) (H : History) (v : Event) (tasks : Tasks) →
         Legal cells (v ∷ H) →
-        (u : Name) (body : ℕ) (args : List ℤ) (items : List Item) (deferred : Bool) →
-        v.action ≡ Spawn u body args items deferred →
-        AreKin (v ∷ H) tasks → IsLast tasks v.task u }
+        (s : TheSpawn) →
+        v.action ≡ Spawn s →
+        AreKin (v ∷ H) tasks → IsLast tasks v.task s.child }
     ensures closed { (cells : Cells) (H : History) (v : Event) (tasks : Tasks) →
         Legal cells (v ∷ H) → v.action ≡ Close → AreKin H tasks → HasOpenGroup tasks v.task }
     ensures unopened { (cells : Cells) (H : History) (v : Event) (tasks : Tasks) →

@@ -18,6 +18,7 @@ pub struct Near {
 
 impl Near {
     /// The place of a name.
+    #[inline]
     pub fn find(&self, names: &IndexSet<TaskName>, name: &TaskName) -> Option<usize>
         ensures index { result ≡ position (same_name name.now) names.now.keys }
         ensures found { is_some result ≡ list_any (same_name name.now) names.now.keys }
@@ -26,6 +27,17 @@ impl Near {
         if stands_at(names, self.own, name) {
             return Some(self.own);
         }
+        self.find_elsewhere(names, name)
+    }
+
+    /// The same where it isn't the task's own place. It stands apart, so that most calls don't pay for
+    /// its room.
+    #[inline(never)]
+    fn find_elsewhere(&self, names: &IndexSet<TaskName>, name: &TaskName) -> Option<usize>
+        ensures index { result ≡ position (same_name name.now) names.now.keys }
+        ensures found { is_some result ≡ list_any (same_name name.now) names.now.keys }
+        ensures within { IfSome result (λ i. i < length names.now.keys) }
+    {
         if stands_at(names, self.above, name) {
             return Some(self.above);
         }
@@ -38,6 +50,7 @@ impl Near {
 }
 
 /// Whether the name stands at the place.
+#[inline(always)]
 fn stands_at(names: &IndexSet<TaskName>, at: usize, name: &TaskName) -> bool
     ensures index { IsTrue result → position (same_name name.now) names.now.keys ≡ Some at }
     ensures found { IsTrue result → list_any (same_name name.now) names.now.keys ≡ true }

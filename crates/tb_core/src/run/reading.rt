@@ -1,17 +1,22 @@
 //! What a core tells of its tasks, of the cells, of the output and of the places of steps.
 
-ghost use Rattle.std.specs.Prelude.{◌≡◌, length, reverse};
+ghost use Rattle.std.specs.Prelude.{◌≡◌, IfOk, Some, None, length, reverse, if◌then◌else◌};
 ghost use Rattle.std.specs.Option.{option_copied};
 ghost use Rattle.tb_places.specs.Where.{places_where};
-ghost use Rattle.tb_model.specs.Facts.{is_of, is_print, touches, own, items_of, before, apart};
+ghost use Rattle.tb_model.specs.Facts.{is_of, is_print, is_spawned, touches, own, items_of, before, apart};
+ghost use Rattle.tb_model.specs.Legal.{spawn_count};
 ghost use Rattle.tb_model.specs.LeastNames.{IsLeastName};
 ghost use Rattle.tb_model.specs.State.{printed, open_groups};
 ghost use Rattle.tb_undo.specs.Obstacles.{sibling};
 ghost use Rattle.tb_undo.specs.Readings.{IsUnendedBehind};
 ghost use Rattle.tb_undo.specs.State.{AreLast};
 ghost use Rattle.tb_core.specs.Seen.{history};
+ghost use Rattle.tb_core.specs.Situation.{config_of};
 
 use super::Core;
+use crate::answers::elsewhere;
+use crate::elsewhere::Elsewhere;
+use std::alloc::AllocError;
 use tb_model::{Item, TaskName};
 
 impl Core {
@@ -41,6 +46,23 @@ impl Core {
         ensures { result ≡ length (open_groups (own task.now (history self.now.run))) }
     {
         self.tables.groups(task)
+    }
+
+    /// How many children a task that is there has generated.
+    pub fn children(&self, task: &TaskName) -> Option<u32>
+        ensures { result ≡ (if is_spawned (history self.now.run) task.now then Some (spawn_count (own task.now (history self.now.run))) else None) }
+    {
+        self.tables.children(task)
+    }
+
+    /// Where a task stands that is there, as a refusal says it.
+    pub fn elsewhere(&self, task: &TaskName) -> Result<Option<Elsewhere>, AllocError>
+        ensures { IfOk result (λ o. o ≡ (if is_spawned (history self.now.run) task.now then Some (config_of self.now.run task.now) else None)) }
+    {
+        match self.tables.standing(task) {
+            Some(standing) => Ok(Some(elsewhere(self.alloc, task, &standing)?)),
+            None => Ok(None),
+        }
     }
 
     /// The depend items of the task.

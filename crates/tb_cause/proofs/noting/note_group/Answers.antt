@@ -1,5 +1,6 @@
 use Rattle.std.proofs.Common.{true, sym, ap, ◌∙◌, rules, ◌-◌, length, take}
 use Rattle.indexmap.specs.IndexSet.{contains}
+use Rattle.tb_model.specs.declared.action.Action.TheVariants.{Spawn}
 use Rattle.tb_model.specs.Names.{same_name}
 use Rattle.tb_model.specs.Facts.{own}
 use Rattle.tb_core.specs.Scans.{history_of}
@@ -22,14 +23,15 @@ back-preserved-else-closed-eq0 c =
 pub back-preserved-in_ok-put-in-Spawn : goal.back-preserved-in_ok-put-in-Spawn
 back-preserved-in_ok-put-in-Spawn c =
     let l = c.back in
-    let s = c.in-Spawn in
+    let s = c.get.result.now in
+    let is = c.in-Spawn.is ∙ ap (λ x. Spawn x) (sym c.get.ensures) in
     let mine = sym c.eq.ensures ∙ c.if-eq.true in
     record {
       put = λ q.
           ap (λ b. member_behind l.closed b (own c.args.task.now (history_of (take (length l.rest.now - 1) l.rest.now))) (λ x. same_name x q))
           (c.in_ok-put-in-Spawn.ensures q ∙ or_turned (same_name s.child q) (contains same_name l.set q))
-          ∙ behind_spawn c.args.task.now (λ x. same_name x q) l.rest.now c.newest-item.result c.in-len1-up.len_at_least c.newest-item.is mine l.closed (contains same_name l.set q) s.child s.body s.args s.items s.deferred s.is
+          ∙ behind_spawn c.args.task.now (λ x. same_name x q) l.rest.now c.newest-item.result c.in-len1-up.len_at_least c.newest-item.is mine l.closed (contains same_name l.set q) s is
           ∙ l.invariant.put q;
-      stays = behind_spawn c.args.task.now (λ x. true) l.rest.now c.newest-item.result c.in-len1-up.len_at_least c.newest-item.is mine l.closed true s.child s.body s.args s.items s.deferred s.is ∙ l.invariant.stays;
+      stays = behind_spawn c.args.task.now (λ x. true) l.rest.now c.newest-item.result c.in-len1-up.len_at_least c.newest-item.is mine l.closed true s is ∙ l.invariant.stays;
       fits = search rules;
     }

@@ -1,4 +1,5 @@
-use Rattle.std.proofs.Common.{sym, ◌∙◌, rules}
+use Rattle.std.proofs.Common.{sym, ap, ◌∙◌, rules}
+use Rattle.tb_model.specs.declared.action.Action.TheVariants.{Spawn}
 use Rattle.tb_core.proofs.MemberLemmas.{behind_open, behind_member, behind_other}
 use Rattle.tb_core.proofs.scans.is_in_innermost.Goals as goal
 
@@ -14,22 +15,20 @@ back-preserved-else-closed-eq0 c =
 
 pub back-preserved-then-is_within : goal.back-preserved-then-is_within
 back-preserved-then-is_within c =
-    let s = c.in-Spawn in
     record {
       found =
           behind_member c.args.t.now c.args.m.now c.back.rest.now c.newest-item.result c.in-len1-up.len_at_least c.newest-item.is (sym c.eq.ensures ∙ c.if-eq.true) c.back.closed c.back.found
-          s.child s.body s.args s.items s.deferred s.is (sym c.is_within.ensures ∙ c.if-is_within.true)
+          c.get.result.now (c.in-Spawn.is ∙ ap (λ x. Spawn x) (sym c.get.ensures)) (sym c.is_within.ensures ∙ c.if-is_within.true)
           ∙ c.back.invariant.found;
       fits = search rules;
     }
 
 pub back-preserved-else-is_within : goal.back-preserved-else-is_within
 back-preserved-else-is_within c =
-    let s = c.in-Spawn in
     record {
       found =
           behind_other c.args.t.now c.args.m.now c.back.rest.now c.newest-item.result c.in-len1-up.len_at_least c.newest-item.is (sym c.eq.ensures ∙ c.if-eq.true) c.back.closed c.back.found
-          s.child s.body s.args s.items s.deferred s.is (sym c.is_within.ensures ∙ c.if-is_within.false)
+          c.get.result.now (c.in-Spawn.is ∙ ap (λ x. Spawn x) (sym c.get.ensures)) (sym c.is_within.ensures ∙ c.if-is_within.false)
           ∙ c.back.invariant.found;
       fits = search rules;
     }

@@ -3,7 +3,7 @@ use Rattle.std.specs.Result.{IsOk}
 use Rattle.std.proofs.lemmas.Bool.{false≢true}
 use Rattle.tb_core.specs.Soundness.{departure}
 use Rattle.tb_core.specs.Seen.{Held}
-use Rattle.tb_core.specs.Filling.{spare_child}
+use Rattle.tb_core.specs.Filling.{spare_spawn}
 use Rattle.tb_core.proofs.ShownLemmas.{open_takes, takes_steps}
 use Rattle.tb_core.proofs.TakenLemmas.{none_reserved, ahead, filled, fills, follows, sound_same, few_steps, appended, takes_so, index_same, index_added}
 use Rattle.tb_core.proofs.run.Core.take.Goals as goal
@@ -13,7 +13,7 @@ returns-in_err-event-clause-room c reserved =
     let i = c.self.inside in
     let is = ap (λ (h : Held). h.run) c.self.view_is in
     let held = ap (λ (h : Held). h.reserved) c.self.view_is ∙ reserved in
-    let spare = c.spare_names-its_name.ensures.child ∙ ap spare_child (c.take.ensures.value ∙ held) in
+    let spare = c.spares-its_name.ensures.spawn ∙ ap spare_spawn (c.take.ensures.value ∙ held) in
     absurd (false≢true (subst IsOk c.in_err-event.was (c.fill_in.ensures.room _
     (fills i.first.items i.root_line i.limit i.entries.items i.tables c.self.invariant.0 c.args.self.now.run is c.args.plan.config.task c.args.plan.action (open_takes c.args.self.now.run c.args.plan c.requires.fits c.requires.ready) _ refl) spare)))
 

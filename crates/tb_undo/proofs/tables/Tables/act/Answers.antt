@@ -1,4 +1,5 @@
-use Rattle.std.proofs.Common.{subst}
+use Rattle.std.proofs.Common.{subst, sym, ap, ◌∙◌}
+use Rattle.tb_model.specs.declared.action.Action.TheVariants.{Spawn}
 use Rattle.tb_undo.specs.Tasks.{fresh_task}
 use Rattle.tb_undo.specs.Sets.{Comes}
 use Rattle.tb_undo.proofs.ActLemmas.{acted_start, acted_spawn}
@@ -10,5 +11,6 @@ returns-in-Start c =
 
 pub returns-in-Spawn : goal.returns-in-Spawn
 returns-in-Spawn c =
-    acted_spawn c.args.event.now c.args.self.now c.spawn.new.self _ _ _ _ _ c.in-Spawn.is c.requires.can c.requires.room
-    c.spawn.ensures.store c.spawn.ensures.waits c.spawn.ensures.marks (subst (λ xs. Comes c.args.self.now.rows c.in-Spawn.child (fresh_task c.args.event.now.task c.in-Spawn.body xs) c.spawn.new.self.rows) c.as_slice.ensures c.spawn.ensures.rows)
+    let s = c.get-spawn.result.now in
+    acted_spawn c.args.event.now c.args.self.now c.spawn.new.self s (c.in-Spawn.is ∙ ap (λ x. Spawn x) (sym c.get-spawn.ensures)) c.requires.can c.requires.room
+    c.spawn.ensures.store c.spawn.ensures.waits c.spawn.ensures.marks (subst (λ xs. Comes c.args.self.now.rows s.child (fresh_task c.args.event.now.task s.body xs) c.spawn.new.self.rows) c.as_slice.ensures c.spawn.ensures.rows)

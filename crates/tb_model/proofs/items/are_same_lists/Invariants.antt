@@ -1,5 +1,5 @@
 use Rattle.std.proofs.Common.{◌≡◌, take}
-use Rattle.tb_roll.proofs.same_action.are_same_lists.Given as goal
+use Rattle.tb_model.proofs.items.are_same_lists.Given as goal
 
 abbrev pub invariant-loop-at : goal.invariant-loop-at
 invariant-loop-at l = take l.at l.a ≡ take l.at l.b
