@@ -6,6 +6,7 @@ use Rattle.tb_model.proofs.UndoLemmas.{AreFree}
 use Rattle.tb_undo.specs.Steps.{replaced_for}
 use Rattle.tb_undo.proofs.MiddleLemmas.{record_left}
 use Rattle.tb_core.specs.declared.entry.Entry.{Entry}
+use Rattle.tb_core.specs.Packing.{replaced_in}
 use Rattle.tb_core.specs.Soundness.{departure}
 use Rattle.tb_core.specs.Soundness.{AreRecords}
 
@@ -25,6 +26,6 @@ records_left first root_line (w ∷ later) front e r f = (
 )
 
 -- so is that of the step itself
-pub record_at : (first : Cells) (root_line : ℕ) (later front : List Entry) (e : Entry) → AreRecords first root_line (later ++ e ∷ front) → e.replaced ≡ replaced_for first root_line (map departure front) e.event
+pub record_at : (first : Cells) (root_line : ℕ) (later front : List Entry) (e : Entry) → AreRecords first root_line (later ++ e ∷ front) → replaced_in e ≡ replaced_for first root_line (map departure front) e.event
 record_at first root_line [] front e r = r.1
 record_at first root_line (w ∷ later) front e r = record_at first root_line later front e r.0

@@ -22,6 +22,7 @@ use Rattle.tb_core.specs.declared.entry.Entry.{Entry}
 use Rattle.tb_core.specs.declared.removed.Removed.{Removed}
 use Rattle.tb_core.specs.Rolled.{removed_places, removed_steps, removals, RollsBack}
 use Rattle.tb_core.specs.Seen.{Seen}
+use Rattle.tb_core.specs.Packing.{replaced_in}
 use Rattle.tb_core.specs.Soundness.{departure, seen, IsSound}
 use Rattle.tb_core.specs.Unwinding.{events, kept_entries, gone_entries, AreTied, StayTied, Unwinds, Unwound}
 use Rattle.tb_core.proofs.MiddleLemmas.{departures_append, records_left, record_at}
@@ -53,7 +54,7 @@ module _ (first : Cells) (root_line limit : ℕ) (later front : List Entry) (u :
   whole_events : events_of whole ≡ events later ++ u.event ∷ events front
   whole_events = map_events (map departure later) (departure u ∷ map departure front)
 
-  precedes : Precedes first root_line (map departure later) (map departure front) (departure u) u.replaced tables
+  precedes : Precedes first root_line (map departure later) (map departure front) (departure u) (replaced_in u) tables
   precedes = record {
     legal = subst (λ D. Legal first (events_of D)) parts sound.legal;
     unneeded = subst (IsUnneeded (step_of (events front) u.event)) (sym whole_events) free;
@@ -61,10 +62,10 @@ module _ (first : Cells) (root_line limit : ℕ) (later front : List Entry) (u :
     state = subst (λ D. IsState first root_line D tables) parts sound.state;
   }
 
-  front_tied : Stands tables u.event u.replaced
+  front_tied : Stands tables u.event (replaced_in u)
   front_tied = (first, root_line, map departure later, map departure front, u.to, precedes)
 
-  front_sound : (new : Tables) → IsWithout tables u.event u.replaced new → IsSound first root_line limit (later ++ front) new
+  front_sound : (new : Tables) → IsWithout tables u.event (replaced_in u) new → IsSound first root_line limit (later ++ front) new
   front_sound new w = record {
     legal =
         subst (Legal first) (undone (events later) (events front) u.event free ∙ sym (events_append later front))
@@ -247,11 +248,11 @@ module _ (e : StepId) (old es es' : List Entry) (o : Option Entry) (u : Entry) (
         subst (λ K. IsUnneeded (step_of (events front) u.event) (K ++ u.event ∷ events front)) (sym (ap events stay_here ∙ events_kept e later (u ∷ front)))
         (one_unneeded e (events later) u.event (events front) tells'.0)
 
-    pub goes_tied : (before tables : Tables) → AreTied (reverse old) before → StayTied (reverse old) before (kept ++ reverse es) tables → Stands tables u.event u.replaced
+    pub goes_tied : (before tables : Tables) → AreTied (reverse old) before → StayTied (reverse old) before (kept ++ reverse es) tables → Stands tables u.event (replaced_in u)
     goes_tied before tables (first, root_line, limit, s) t =
         front_tied first root_line limit kept front u tables (subst (λ X. IsSound first root_line limit (kept ++ X) tables) newest (t first root_line limit s)) alone
 
-    pub gone_tied : (before tables new : Tables) → StayTied (reverse old) before (kept ++ reverse es) tables → IsWithout tables u.event u.replaced new → StayTied (reverse old) before (kept ++ reverse es') new
+    pub gone_tied : (before tables new : Tables) → StayTied (reverse old) before (kept ++ reverse es) tables → IsWithout tables u.event (replaced_in u) new → StayTied (reverse old) before (kept ++ reverse es') new
     gone_tied before tables new t w first root_line limit s =
         front_sound first root_line limit kept front u tables (subst (λ X. IsSound first root_line limit (kept ++ X) tables) newest (t first root_line limit s)) alone new w
 

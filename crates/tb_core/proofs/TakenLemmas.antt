@@ -21,9 +21,10 @@ use Rattle.tb_wait.specs.Histories.{kin_from}
 use Rattle.tb_wait.proofs.HistoryLemmas.{counted, kin_stands}
 use Rattle.tb_undo.specs.State.{Seen as Tables, IsState}
 use Rattle.tb_undo.specs.Changes.{AreSame, HasRoomFor}
-use Rattle.tb_undo.specs.Steps.{Follows, IsAhead, IsBehind, IsRecord}
+use Rattle.tb_undo.specs.Steps.{Follows, IsAhead, IsBehind, IsRecord, replaced_for}
 use Rattle.tb_undo.proofs.StateLemmas.{state_same}
 use Rattle.tb_core.specs.declared.entry.Entry.{Entry}
+use Rattle.tb_core.specs.Packing.{packed, replaced_in}
 use Rattle.tb_core.specs.Soundness.{departure}
 use Rattle.tb_core.specs.Seen.{Seen, history}
 use Rattle.tb_core.specs.Filling.{completed, IsRunOf, Fills}
@@ -132,6 +133,25 @@ sound_same first root_line limit es tables sound es' tables' e same =
     subst (λ (x : List Entry). IsSound first root_line limit (reverse x) tables') (sym e)
     (record { legal = sound.legal; records = sound.records; state = state_same first root_line (map departure (reverse es)) tables tables' same sound.state; within = sound.within; bound = sound.bound })
 
+-- ---- what was replaced stays, as it stands in an entry
+
+packed_back : (first : Cells) (root_line : ℕ) (D : List Departure) (t : Name) (a : Action) (to : ℕ) → replaced_in (packed (record { task = t; action = a }) to (replaced_for first root_line D (record { task = t; action = a }))) ≡ replaced_for first root_line D (record { task = t; action = a })
+packed_back first root_line D t (Let r x) to = refl
+packed_back first root_line D t (Load r c x) to = refl
+packed_back first root_line D t (Store c x) to = refl
+packed_back first root_line D t Start to = refl
+packed_back first root_line D t (Print x) to = refl
+packed_back first root_line D t (Spawn s) to = refl
+packed_back first root_line D t (Wait items) to = refl
+packed_back first root_line D t Open to = refl
+packed_back first root_line D t Close to = refl
+packed_back first root_line D t (Test b) to = refl
+packed_back first root_line D t End to = refl
+packed_back first root_line D t Fault to = refl
+
+packed_right : (v : Event) (to : ℕ) (r : Replaced) (first : Cells) (root_line : ℕ) (D : List Departure) → r ≡ replaced_for first root_line D v → replaced_in (packed v to r) ≡ replaced_for first root_line D v
+packed_right v to r first root_line D is = ap (λ x. replaced_in (packed v to x)) is ∙ packed_back first root_line D v.task v.action to
+
 -- ---- an event that may follow the others
 
 module _ (first : Cells) (root_line limit : ℕ) (es : List Entry) (tables : Tables) (sound : IsSound first root_line limit (reverse es) tables)
@@ -157,15 +177,15 @@ module _ (first : Cells) (root_line limit : ℕ) (es : List Entry) (tables : Tab
     pub sound' : IsSound first root_line limit (reverse es') new
     pub now : seen first root_line limit (reverse es') ≡ grown_by v to s
 
-  pub appended : (to : ℕ) (r : Replaced) (mid es' : List Entry) (new : Tables) → mid ≡ es → es' ≡ mid ++ record { event = v; to = to; replaced = r } ∷ [] → IsBehind tables v to new → IsRecord tables v r → Appended to es' new
+  pub appended : (to : ℕ) (r : Replaced) (mid es' : List Entry) (new : Tables) → mid ≡ es → es' ≡ mid ++ packed v to r ∷ [] → IsBehind tables v to new → IsRecord tables v r → Appended to es' new
   appended to r mid es' new kept more behind told =
-      let entry : Entry = record { event = v; to = to; replaced = r } in
+      let entry : Entry = packed v to r in
       let all : reverse es' ≡ entry ∷ reverse es = ap reverse (more ∙ ap (λ xs. xs ++ entry ∷ []) kept) ∙ reverse-append es (entry ∷ []) in
       let f = behind_them in
       record {
         sound' = subst (λ (x : List Entry). IsSound first root_line limit x new) (sym all) (record {
           legal = f.legal;
-          records = (sound.records, told first root_line front f);
+          records = (sound.records, packed_right v to r first root_line front (told first root_line front f));
           state = behind first root_line front f;
           within = omega (arith, place, length-map (reverse es) departure);
           bound = sound.bound;

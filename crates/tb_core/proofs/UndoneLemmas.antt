@@ -23,6 +23,7 @@ use Rattle.tb_undo.specs.Steps.{Precedes, Stands, IsWithout}
 use Rattle.tb_undo.proofs.TieLemmas.{map_events}
 use Rattle.tb_undo.proofs.MiddleLemmas.{lines_kept}
 use Rattle.tb_core.specs.declared.entry.Entry.{Entry}
+use Rattle.tb_core.specs.Packing.{replaced_in}
 use Rattle.tb_core.specs.Soundness.{departure}
 use Rattle.tb_core.specs.Scans.{AreLegal, history_of, step_behind, step_at}
 use Rattle.tb_core.specs.declared.removed.Removed.{Removed}
@@ -190,7 +191,7 @@ module _ (first : Cells) (root_line limit : ℕ) (es : List Entry) (tables : Tab
   records : AreRecords first root_line (later ++ e ∷ front)
   records = subst (AreRecords first root_line) (entries_cut es at e within here) sound.records
 
-  precedes : Precedes first root_line (map departure later) (map departure front) (departure e) e.replaced tables
+  precedes : Precedes first root_line (map departure later) (map departure front) (departure e) (replaced_in e) tables
   precedes = record {
     legal = subst (λ D. Legal first (events_of D)) parts sound.legal;
     unneeded = alone;
@@ -199,7 +200,7 @@ module _ (first : Cells) (root_line limit : ℕ) (es : List Entry) (tables : Tab
   }
 
   -- the tables may take it back
-  pub stands_there : Stands tables e.event e.replaced
+  pub stands_there : Stands tables e.event (replaced_in e)
   stands_there = (first, root_line, map departure later, map departure front, e.to, precedes)
 
   module _ (left : List Entry) (rest : left ≡ remove es at) where
@@ -223,7 +224,7 @@ module _ (first : Cells) (root_line limit : ℕ) (es : List Entry) (tables : Tab
         (taken_out (with_task e.event.task) (ap with_task (ap (λ (j : StepId). j.task) step)))
 
     -- what is left is sound
-    pub left_sound : (new : Tables) → IsWithout tables e.event e.replaced new → IsSound first root_line limit (reverse left) new
+    pub left_sound : (new : Tables) → IsWithout tables e.event (replaced_in e) new → IsSound first root_line limit (reverse left) new
     left_sound new w = record {
       legal = subst (Legal first) (sym (taken_out (gone first root_line limit i (departure e)) refl).rest) (removal first i (events_of (map departure (reverse es))) sound.legal);
       records = subst (AreRecords first root_line) (sym entries_left) (records_left first root_line later front e records none_needs);

@@ -4,6 +4,7 @@ pub mod Situation
 pub mod Filling
 pub mod Naming
 pub mod Outcomes
+pub mod Packing
 pub mod Soundness
 pub mod Scans
 pub mod Listed

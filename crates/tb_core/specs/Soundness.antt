@@ -9,6 +9,7 @@ use Rattle.tb_undo.specs.Changes.{HasRoomFor}
 use Rattle.tb_places.specs.declared.places.Places.{Places}
 use Rattle.tb_places.specs.Places.{HasRoomFor as HasRoomForPlaces}
 use Rattle.tb_core.specs.declared.entry.Entry.{Entry}
+use Rattle.tb_core.specs.Packing.{replaced_in}
 use Rattle.tb_core.specs.Seen.{Seen}
 
 abbrev pub departure : Entry → Departure
@@ -21,7 +22,7 @@ seen first root_line limit entries = record { cells = first; root_line = root_li
 -- each record says what its event replaced, by what stands in front of it
 abbrev pub AreRecords : Cells → ℕ → List Entry → Type 0
 AreRecords first root_line [] = ⊤
-AreRecords first root_line (e ∷ entries) = AreRecords first root_line entries × (e.replaced ≡ replaced_for first root_line (map departure entries) e.event)
+AreRecords first root_line (e ∷ entries) = AreRecords first root_line entries × (replaced_in e ≡ replaced_for first root_line (map departure entries) e.event)
 
 -- the entries, the newest first: their history is legal, their records are right, and the tables are its state
 pub record IsSound (first : Cells) (root_line limit : ℕ) (entries : List Entry) (tables : Tables) : Type 0 where

@@ -312,11 +312,7 @@ impl Core {
         self.places.reserve(&event)?;
         let replaced = self.tables.apply(&event, to)?;
         self.places.push_reserved(&event, at);
-        self.entries.push_reserved(Entry {
-            event,
-            to,
-            replaced,
-        });
+        self.entries.push_reserved(Entry::new(event, to, replaced));
         Ok(())
     }
 
@@ -360,11 +356,7 @@ impl Core {
         self.places.reserve(&event)?;
         let replaced = self.tables.apply(&event, to)?;
         self.places.push_reserved(&event, at);
-        self.entries.push_reserved(Entry {
-            event,
-            to,
-            replaced,
-        });
+        self.entries.push_reserved(Entry::new(event, to, replaced));
         Ok(StepId {
             task,
             k: config.steps + 1,
@@ -379,11 +371,9 @@ impl Core {
     {
         self.reserved = None;
         renumber(&mut self.places, self.entries.as_slice(), &[at as u32]);
-        let Entry {
-            event,
-            to: _,
-            replaced,
-        } = self.entries.remove(at);
+        let entry = self.entries.remove(at);
+        let replaced = entry.replaced();
+        let event = entry.event;
         self.tables.revert(&event, replaced);
         Removed {
             id: StepId {
@@ -480,6 +470,7 @@ fn name_every_field(core: &Core, entry: &Entry) {
     let Entry {
         event: _,
         to: _,
-        replaced: _,
+        at: _,
+        number: _,
     } = entry;
 }

@@ -37,11 +37,8 @@ pub fn unwind(
     'back: while let Some(at) = next {
         let entry = entries.pop().unwrap();
         if entries.len() == at as usize {
-            let Entry {
-                event,
-                to: _,
-                replaced,
-            } = entry;
+            let replaced = entry.replaced();
+            let event = entry.event;
             tables.revert(&event, replaced);
             removed.push_reserved(told(steps.pop().unwrap(), event));
             next = places.pop();

@@ -5,7 +5,6 @@ use std::mem;
 use std::process::Abort;
 use tb_core::{Entry, first_needer, place_of, step_at};
 use tb_model::{Action, Args, Event, Item, Items, Kind, Place, Spawn, Spawned, StepId, TaskName};
-use tb_store::Replaced;
 
 fn name(rt: &(impl Abort + AllocGlobal), text: &str) -> TaskName {
     TaskName::parse(rt.alloc(), text.as_bytes()).expect(rt, text)
@@ -86,11 +85,8 @@ fn entry(rt: &(impl Abort + AllocGlobal), line: &str) -> Entry {
             action: action(rt, does),
         },
         to: 0,
-        replaced: Replaced {
-            number: None,
-            reg: None,
-            at: 0,
-        },
+        at: 0,
+        number: 0,
     }
 }
 

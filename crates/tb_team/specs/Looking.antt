@@ -21,7 +21,7 @@ use Rattle.tb_team.specs.Turns.{why_idle}
 
 -- the step met a breakpoint, by its own record of the line at which its task stood
 abbrev pub is_met : List Breakpoint → Step → Bool
-is_met points step = is_some (met step.replaced.at step.event points)
+is_met points step = is_some (met step.at step.event points)
 
 -- ---- the same by the history
 

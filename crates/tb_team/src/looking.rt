@@ -15,7 +15,7 @@ fn is_met(points: &[Breakpoint], step: &Step) -> bool
     ensures { result ≡ is_met points.now step.now }
 {
     for point in points {
-        if point.at.meets(step.replaced.at, &step.event) {
+        if point.at.meets(step.at, &step.event) {
             return true;
         }
     }

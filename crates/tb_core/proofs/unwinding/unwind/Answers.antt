@@ -1,14 +1,16 @@
-use Rattle.std.proofs.Common.{rules, ◌++◌, length, arith, [], ◌∷◌, ap, ◌∙◌}
+use Rattle.std.proofs.Common.{rules, ◌++◌, length, sym, subst, arith, [], ◌∷◌, ap, ◌∙◌}
 use Rattle.std.specs.Option.{option_to_list}
 use Rattle.std.proofs.lemmas.List.{length-append}
+use Rattle.tb_undo.specs.Steps.{Stands, IsWithout}
 use Rattle.tb_core.proofs.RolledLemmas.{stays, stays_behind, stays_tied, goes, goes_tied, gone_tied, some_step, unwound, next_room, room_left, room_stays, none_next}
 use Rattle.tb_core.proofs.unwinding.unwind.Goals as goal
 
 pub revert-requires : goal.revert-requires
 revert-requires c =
     let b = c.back in
-    goes_tied c.args.rollback.step c.args.entries.now.items b.entries.items c.pop.new.self.items c.pop.result c.unwrap-entry.result c.pop.ensures.items c.unwrap-entry.ensures b.kept.items b.places.items b.next c.in-Some.at c.in-Some.is b.steps.items b.removed.items b.invariant.unwinds
-    (omega (arith, c.len.ensures, c.if-len-at.true)) c.args.tables.now b.tables c.requires.tied b.invariant.tied
+    subst (λ r. Stands b.tables c.unwrap-entry.result.event r) (sym c.replaced-replaced.ensures)
+    (goes_tied c.args.rollback.step c.args.entries.now.items b.entries.items c.pop.new.self.items c.pop.result c.unwrap-entry.result c.pop.ensures.items c.unwrap-entry.ensures b.kept.items b.places.items b.next c.in-Some.at c.in-Some.is b.steps.items b.removed.items b.invariant.unwinds
+    (omega (arith, c.len.ensures, c.if-len-at.true)) c.args.tables.now b.tables c.requires.tied b.invariant.tied)
 
 pub unwrap-requires : goal.unwrap-requires
 unwrap-requires c =
@@ -27,7 +29,7 @@ back-preserved-then-len-at c =
           (places.new.self.items ++ option_to_list places.result) places.ensures.items;
       tied =
           gone_tied c.args.rollback.step c.args.entries.now.items b.entries.items c.pop.new.self.items c.pop.result c.unwrap-entry.result c.pop.ensures.items c.unwrap-entry.ensures b.kept.items b.places.items b.next c.in-Some.at c.in-Some.is b.steps.items b.removed.items b.invariant.unwinds
-          (omega (arith, c.len.ensures, c.if-len-at.true)) c.args.tables.now b.tables c.revert.new.self b.invariant.tied c.revert.ensures;
+          (omega (arith, c.len.ensures, c.if-len-at.true)) c.args.tables.now b.tables c.revert.new.self b.invariant.tied (subst (λ r. IsWithout b.tables c.unwrap-entry.result.event r c.revert.new.self) c.replaced-replaced.ensures c.revert.ensures);
       count = omega (arith, b.invariant.count, c.pop.ensures.len);
       capacity = c.pop.ensures.capacity ∙ b.invariant.capacity;
       kept_room = room_left _ _ b.places.items _ b.next c.in-Some.at c.in-Some.is places.ensures.items b.invariant.kept_room;

@@ -1,4 +1,4 @@
-use Rattle.std.proofs.Common.{◌∙◌, map, reverse, sym, ap}
+use Rattle.std.proofs.Common.{◌∙◌, map, reverse, sym, ap, ◌++◌, [], ◌∷◌}
 use Rattle.tb_core.specs.Seen.{Held}
 use Rattle.tb_core.specs.Soundness.{departure}
 use Rattle.tb_core.proofs.TakenLemmas.{none_reserved, ahead, sound_same, appended, index_same, index_added}
@@ -23,10 +23,10 @@ invariant_of-self-2 c =
     let i = c.self.inside in
     let is = ap (λ (h : Held). h.run) c.self.view_is in (
       (appended i.first.items i.root_line i.limit i.entries.items i.tables c.self.invariant.0 c.args.self.now.run is c.args.event c.requires.may c.requires.room c.args.to c.in_ok-replaced.replaced c.reserve.new.self.items c.push_reserved-2.new.self.items c.apply.new.self
-          c.reserve.ensures.items c.push_reserved-2.ensures.items c.in_ok-replaced.ensures.applied c.in_ok-replaced.ensures.replaced).sound',
+          c.reserve.ensures.items (c.push_reserved-2.ensures.items ∙ ap (λ e. c.reserve.new.self.items ++ e ∷ []) c.new.ensures) c.in_ok-replaced.ensures.applied c.in_ok-replaced.ensures.replaced).sound',
       none_reserved _ _ _ _ c.forget.ensures,
       index_added c.reserve.new.self.items c.push_reserved-2.new.self.items _ c.count-at.result c.args.self.now.run.steps c.reserve-2.new.self c.push_reserved.new.self
-          (sym (ap (λ (h : Held). h.run.steps) c.self.view_is) ∙ ap (λ l. map departure (reverse l)) (sym c.reserve.ensures.items)) c.count-at.ensures.count c.push_reserved-2.ensures.items c.push_reserved.ensures.pushed
+          (sym (ap (λ (h : Held). h.run.steps) c.self.view_is) ∙ ap (λ l. map departure (reverse l)) (sym c.reserve.ensures.items)) c.count-at.ensures.count (c.push_reserved-2.ensures.items ∙ ap (λ e. c.reserve.new.self.items ++ e ∷ []) c.new.ensures) c.push_reserved.ensures.pushed
           (index_same i.entries.items c.reserve.new.self.items i.places c.reserve-2.new.self c.reserve.ensures.items c.reserve-2.ensures.same c.self.invariant.2),
     )
 
@@ -35,4 +35,4 @@ returns-clause-ok c =
     let i = c.self.inside in
     let is = ap (λ (h : Held). h.run) c.self.view_is in
     (appended i.first.items i.root_line i.limit i.entries.items i.tables c.self.invariant.0 c.args.self.now.run is c.args.event c.requires.may c.requires.room c.args.to c.in_ok-replaced.replaced c.reserve.new.self.items c.push_reserved-2.new.self.items c.apply.new.self
-    c.reserve.ensures.items c.push_reserved-2.ensures.items c.in_ok-replaced.ensures.applied c.in_ok-replaced.ensures.replaced).now
+    c.reserve.ensures.items (c.push_reserved-2.ensures.items ∙ ap (λ e. c.reserve.new.self.items ++ e ∷ []) c.new.ensures) c.in_ok-replaced.ensures.applied c.in_ok-replaced.ensures.replaced).now

@@ -1,4 +1,4 @@
-use Rattle.std.proofs.Common.{◌∙◌, refl, sym, ap, subst, arith, Some, map, reverse}
+use Rattle.std.proofs.Common.{◌∙◌, refl, sym, ap, subst, arith, Some, map, reverse, ◌++◌, [], ◌∷◌}
 use Rattle.std.specs.Result.{IsOk}
 use Rattle.std.proofs.lemmas.Bool.{false≢true}
 use Rattle.tb_core.specs.Soundness.{departure}
@@ -66,10 +66,10 @@ invariant_of-self-2 c =
     let event = filled i.first.items i.root_line i.limit i.entries.items i.tables c.self.invariant.0 c.args.self.now.run is c.args.plan.config.task c.args.plan.action may c.in_ok-event.event c.in_ok-event.ensures.ok in (
       (appended i.first.items i.root_line i.limit i.entries.items i.tables c.self.invariant.0 c.args.self.now.run is c.in_ok-event.event (follows i.first.items i.root_line i.limit i.entries.items i.tables c.self.invariant.0 c.args.self.now.run is c.args.plan.config.task c.args.plan.action may c.in_ok-event.event event) c.requires.ready.room
           c.to-to.result c.in_ok-replaced.replaced c.reserve.new.self.items c.push_reserved-2.new.self.items c.apply.new.self c.reserve.ensures.items
-          c.push_reserved-2.ensures.items c.in_ok-replaced.ensures.applied c.in_ok-replaced.ensures.replaced).sound',
+          (c.push_reserved-2.ensures.items ∙ ap (λ e. c.reserve.new.self.items ++ e ∷ []) c.new.ensures) c.in_ok-replaced.ensures.applied c.in_ok-replaced.ensures.replaced).sound',
       none_reserved _ _ _ _ c.take.ensures.after,
       index_added c.reserve.new.self.items c.push_reserved-2.new.self.items _ c.count-at.result c.args.self.now.run.steps c.reserve-2.new.self c.push_reserved.new.self
-          (sym (ap (λ (h : Held). h.run.steps) c.self.view_is) ∙ ap (λ l. map departure (reverse l)) (sym c.reserve.ensures.items)) c.count-at.ensures.count c.push_reserved-2.ensures.items c.push_reserved.ensures.pushed
+          (sym (ap (λ (h : Held). h.run.steps) c.self.view_is) ∙ ap (λ l. map departure (reverse l)) (sym c.reserve.ensures.items)) c.count-at.ensures.count (c.push_reserved-2.ensures.items ∙ ap (λ e. c.reserve.new.self.items ++ e ∷ []) c.new.ensures) c.push_reserved.ensures.pushed
           (index_same i.entries.items c.reserve.new.self.items i.places c.reserve-2.new.self c.reserve.ensures.items c.reserve-2.ensures.same c.self.invariant.2),
     )
 
@@ -82,7 +82,7 @@ returns-clause-ok c =
     let follow = follows i.first.items i.root_line i.limit i.entries.items i.tables c.self.invariant.0 c.args.self.now.run is c.args.plan.config.task c.args.plan.action may c.in_ok-event.event event in
     let now = (appended i.first.items i.root_line i.limit i.entries.items i.tables c.self.invariant.0 c.args.self.now.run is c.in_ok-event.event follow c.requires.ready.room
     c.to-to.result c.in_ok-replaced.replaced c.reserve.new.self.items c.push_reserved-2.new.self.items c.apply.new.self c.reserve.ensures.items
-    c.push_reserved-2.ensures.items c.in_ok-replaced.ensures.applied c.in_ok-replaced.ensures.replaced).now
+    (c.push_reserved-2.ensures.items ∙ ap (λ e. c.reserve.new.self.items ++ e ∷ []) c.new.ensures) c.in_ok-replaced.ensures.applied c.in_ok-replaced.ensures.replaced).now
     in
     takes_steps c.args.self.now.run c.args.plan c.to-to.result _ c.in_ok-event.event _ c.requires.ready.current c.requires.ready.room
     (takes_so c.args.self.now.run c.args.plan.config.task c.args.plan.action c.to-to.result _ c.in_ok-event.event event follow now) (sym c.to-to.ensures) c.in_ok-task.ensures.ok refl

@@ -1,0 +1,21 @@
+-- What a step replaced, as it stands in its entry.
+use Rattle.std.specs.Prelude.{ℕ, ℤ, Option, Some, None, unwrap_or}
+use Rattle.tb_model.specs.declared.action.Action.{Action}
+use Rattle.tb_model.specs.declared.action.Action.TheVariants.{Let, Load, Store}
+use Rattle.tb_model.specs.declared.event.Event.{Event}
+use Rattle.tb_store.specs.declared.replaced.Replaced.{Replaced}
+use Rattle.tb_undo.specs.Tasks.{register_by}
+use Rattle.tb_core.specs.declared.entry.Entry.{Entry}
+
+-- the number, where the action is one that replaces a number
+abbrev pub number_in : Action → ℤ → Option ℤ
+number_in (Let r x) n = Some n
+number_in (Load r c x) n = Some n
+number_in (Store c x) n = Some n
+number_in _ n = None
+
+abbrev pub replaced_in : Entry → Replaced
+replaced_in e = record { number = number_in e.event.action e.number; reg = register_by e.event.action; at = e.at }
+
+abbrev pub packed : Event → ℕ → Replaced → Entry
+packed v to r = record { event = v; to = to; at = r.at; number = unwrap_or r.number (ℤ.pos 0) }
