@@ -1,5 +1,5 @@
 -- A scan of a task's actions from the newest, for a child of its innermost open group that passes a test.
-use Rattle.std.proofs.Common.{◌≡◌, ◌≢◌, ◌-◌, arith, ℕ, zero, suc, List, [], ◌∷◌, Bool, true, false, ◌&&◌, ◌||◌, refl, sym, ap, ◌∙◌, drop, map, ◌≤◌, length, take, get_or}
+use Rattle.std.proofs.Common.{◌≡◌, ◌≢◌, ◌-◌, ◌+◌, arith, ℕ, zero, suc, List, [], ◌∷◌, Bool, true, false, ◌&&◌, ◌||◌, refl, sym, ap, ◌∙◌, drop, map, ◌≤◌, length, take, get_or}
 use Rattle.std.specs.List.{list_any}
 use Rattle.tb_model.specs.declared.action.Action.{Action}
 use Rattle.tb_model.specs.declared.spawn.Spawn.{Spawn as TheSpawn}
@@ -90,6 +90,15 @@ module _ (t : Name) (f : Name → Bool) (rest : List Entry) (e : Entry) (some : 
   pub behind_open : (closed : ℕ) (found : Bool) → e.event.action ≡ Open → closed ≢ 0 → member_behind (closed - 1) found older f ≡ member_behind closed found (own t (history_of rest)) f
   behind_open closed found is inside =
       sym (ap (λ acts. member_behind closed found acts f) (own_newest t rest e Open some here mine is) ∙ at_open_inside closed found older f inside)
+
+  -- it closed one
+  pub behind_close : (closed : ℕ) (found : Bool) → e.event.action ≡ Close → member_behind (closed + 1) found older f ≡ member_behind closed found (own t (history_of rest)) f
+  behind_close closed found is =
+      let one : suc closed ≡ closed + 1 = omega arith in
+      sym
+      (ap (λ acts. member_behind closed found acts f) (own_newest t rest e Close some here mine is)
+      ∙ at_close closed found older f
+      ∙ ap (λ k. member_behind k found older f) one)
 
   -- it generated one that m is within
   pub behind_member : (closed : ℕ) (found : Bool) (s : TheSpawn) → e.event.action ≡ Spawn s

@@ -4,7 +4,7 @@ use Rattle.tb_model.specs.declared.action.Action.TheVariants.{Spawn}
 use Rattle.tb_model.specs.Names.{same_name}
 use Rattle.tb_model.specs.Facts.{own}
 use Rattle.tb_core.specs.Scans.{history_of}
-use Rattle.tb_cause.proofs.GroupLemmas.{behind_open, behind_spawn, member_behind}
+use Rattle.tb_cause.proofs.GroupLemmas.{behind_open, behind_close, behind_spawn, member_behind}
 use Rattle.tb_cause.proofs.HasLemmas.{or_turned}
 use Rattle.tb_cause.proofs.noting.note_group.Goals as goal
 
@@ -17,6 +17,18 @@ back-preserved-else-closed-eq0 c =
           behind_open c.args.task.now (λ x. same_name x q) l.rest.now c.newest-item.result c.in-len1-up.len_at_least c.newest-item.is mine l.closed (contains same_name l.set q) c.in-Open.is c.if-closed-eq0.false
           ∙ l.invariant.put q;
       stays = behind_open c.args.task.now (λ x. true) l.rest.now c.newest-item.result c.in-len1-up.len_at_least c.newest-item.is mine l.closed true c.in-Open.is c.if-closed-eq0.false ∙ l.invariant.stays;
+      fits = search rules;
+    }
+
+pub back-preserved-in-Close : goal.back-preserved-in-Close
+back-preserved-in-Close c =
+    let l = c.back in
+    let mine = sym c.eq.ensures ∙ c.if-eq.true in
+    record {
+      put = λ q.
+          behind_close c.args.task.now (λ x. same_name x q) l.rest.now c.newest-item.result c.in-len1-up.len_at_least c.newest-item.is mine l.closed (contains same_name l.set q) c.in-Close.is
+          ∙ l.invariant.put q;
+      stays = behind_close c.args.task.now (λ x. true) l.rest.now c.newest-item.result c.in-len1-up.len_at_least c.newest-item.is mine l.closed true c.in-Close.is ∙ l.invariant.stays;
       fits = search rules;
     }
 
