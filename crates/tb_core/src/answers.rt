@@ -50,7 +50,7 @@ pub fn stale(alloc: Global, task: &TaskName, standing: &Standing<'_>) -> StepRef
 }
 
 /// A task that stands so, on the heap.
-pub fn elsewhere(
+fn elsewhere(
     alloc: Global,
     task: &TaskName,
     standing: &Standing<'_>,

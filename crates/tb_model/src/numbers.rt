@@ -144,14 +144,14 @@ impl Numbers {
             (Stored::Three([a, b, c]), Stored::Three([k, l, m])) => {
                 *a == *k && *b == *l && *c == *m
             }
-            _ => self.is_same_at_length(other),
+            _ => self.is_same_in_general(other),
         }
     }
 
-    /// The same where they aren't of one length up to three. It stands apart, so that most comparisons
-    /// don't pay for its room.
+    /// The same of names of any length. It stands apart, so that a comparison of two short names of one
+    /// length doesn't pay for its room.
     #[inline(never)]
-    fn is_same_at_length(&self, other: &Numbers) -> bool
+    fn is_same_in_general(&self, other: &Numbers) -> bool
         ensures { result ≡ same_name self.now other.now }
     {
         match (&self.stored, &other.stored) {

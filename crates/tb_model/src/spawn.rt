@@ -10,7 +10,7 @@ use crate::name::TaskName;
 #[derive(Clone, Debug, Drop)]
 pub struct Spawn {
     pub child: TaskName,
-    /// The line of the program that names the child's body.
+    /// The line at which the child's body begins, from 1.
     pub body: u32,
     pub args: Args,
     pub items: Items,

@@ -52,6 +52,9 @@ fn append_relations(
 {
     let is_before = core.is_before(n, task);
     let is_apart = core.is_apart(n, task);
+    if !is_before && !is_apart {
+        return Ok(0);
+    }
     let sibling = parent.child(n)?;
     let first = append_where(text, is_before, &sibling, " before")?;
     let second = append_where(text, is_apart, &sibling, " apart")?;

@@ -14,7 +14,6 @@ ghost use Rattle.tb_core.specs.Seen.{history};
 ghost use Rattle.tb_core.specs.Situation.{config_of};
 
 use super::Core;
-use crate::answers::elsewhere;
 use crate::elsewhere::Elsewhere;
 use std::alloc::AllocError;
 use tb_model::{Item, TaskName};
@@ -59,8 +58,8 @@ impl Core {
     pub fn elsewhere(&self, task: &TaskName) -> Result<Option<Elsewhere>, AllocError>
         ensures { IfOk result (λ o. o ≡ (if is_spawned (history self.now.run) task.now then Some (config_of self.now.run task.now) else None)) }
     {
-        match self.tables.standing(task) {
-            Some(standing) => Ok(Some(elsewhere(self.alloc, task, &standing)?)),
+        match self.config(task)? {
+            Some(config) => Ok(Some(Elsewhere::new(self.alloc, config)?)),
             None => Ok(None),
         }
     }
