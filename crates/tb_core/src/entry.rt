@@ -23,6 +23,7 @@ const _: () = prove!(size_of::<Entry>() == 56);
 
 impl Entry {
     /// The entry of an event that leaves its task at this line, and replaces so much.
+    #[inline(always)]
     pub fn new(event: Event, to: u32, replaced: Replaced) -> Entry
         ensures { result ≡ packed event to replaced }
     {

@@ -27,7 +27,7 @@ pub fn spares(event: Option<Event>) -> (Option<TaskName>, Option<Spawned>)
 }
 
 /// No event is kept any longer.
-#[inline]
+#[inline(always)]
 pub fn forget(place: &mut Option<Event>)
     ensures { place.new ≡ None }
 {
@@ -86,7 +86,7 @@ pub fn event_for(tables: &Tables, task: &TaskName, action: Action) -> Result<Eve
 }
 
 /// Whether nothing is filled in of the action.
-#[inline]
+#[inline(always)]
 fn is_whole(action: &Action) -> bool
     ensures { IsTrue result → IsWhole action.now }
 {

@@ -115,6 +115,7 @@ impl Core {
     }
 
     /// Whether the task has ended or faulted.
+    #[inline(always)]
     pub fn has_ended(&self, task: &TaskName) -> bool
         ensures { result ≡ has_ended self.now.run task.now }
     {
@@ -132,7 +133,7 @@ impl Core {
     }
 
     /// Where a task stands that is there.
-    #[inline]
+    #[inline(always)]
     pub fn standing(&self, task: &TaskName) -> Option<Standing<'_>>
         ensures some { IfSome result (λ k. IsTrue (is_spawned (history self.now.run) task.now) × (config_of self.now.run task.now ≡ config_with task.now k)) }
         ensures none { IfNone result (IsFalse (is_spawned (history self.now.run) task.now)) }
@@ -151,6 +152,7 @@ impl Core {
     }
 
     /// The newest event.
+    #[inline(always)]
     pub fn newest(&self) -> Option<&Event>
         ensures { option_copied result ≡ slice_get (history self.now.run) 0 }
     {
@@ -259,6 +261,7 @@ impl Core {
 
     /// Takes an action of a task from which nothing keeps it: nothing is asked again. The action
     /// leaves the task at the line `to`. The event is the newest then.
+    #[inline(always)]
     pub fn step_clear(&mut self, task: &TaskName, action: Action, to: u32) -> Result<(), AllocError>
         requires { MayTake self.old.run task.now action }
         ensures taken { OnOk result (Takes self.old.run task.now action to self.new.run
@@ -288,7 +291,7 @@ impl Core {
     }
 
     /// The event of an action from which nothing keeps the task.
-    #[inline]
+    #[inline(always)]
     fn event_of_clear(&self, task: &TaskName, action: Action) -> Result<Event, AllocError>
         requires { MayTake self.now.run task.now action }
         ensures is { IfOk result (λ v. v ≡ event_for self.now.run task.now action) }

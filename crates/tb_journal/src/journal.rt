@@ -92,7 +92,7 @@ impl Journal {
 
     /// Adds the step of a seat whose entry doesn't stand apart, and for which there is room. It takes no
     /// memory.
-    #[inline]
+    #[inline(always)]
     pub fn push_short(&mut self, seat: u32, task: TaskName, action: &Action)
         requires room { 0 < self.old.room }
         requires short { IsFalse (stands_apart seat action.now) }
@@ -102,7 +102,7 @@ impl Journal {
         self.add(Ok(short_action(seat as u8, task, action)));
     }
 
-    #[inline]
+    #[inline(always)]
     fn add(&mut self, short: Result<Compact, Entry>)
         requires room { 0 < self.old.room }
         requires short { IfOk short (StandsFor (entry_in short)) }

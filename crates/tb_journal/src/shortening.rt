@@ -10,7 +10,7 @@ use tb_model::{Action, Entry, Event, StepId, TaskName};
 
 /// Whether the entry of a step of the seat with this action stands apart: where that is a spawn or a
 /// `taskwait` with items, or a seat that no run has. The others have no memory of their own.
-#[inline]
+#[inline(always)]
 pub fn stands_apart(seat: u32, action: &Action) -> bool
     ensures { result ≡ stands_apart seat action.now }
 {
@@ -18,7 +18,7 @@ pub fn stands_apart(seat: u32, action: &Action) -> bool
 }
 
 /// Whether the action has a name or a list of its own.
-#[inline]
+#[inline(always)]
 fn is_long(action: &Action) -> bool
     ensures { result ≡ is_long action.now }
 {
@@ -60,7 +60,7 @@ pub(crate) fn short_step(seat: u32, event: Event) -> Result<Compact, Entry>
 }
 
 /// The entry of a step that doesn't stand apart.
-#[inline]
+#[inline(always)]
 pub(crate) fn short_action(seat: u8, task: TaskName, action: &Action) -> Compact
     requires { IsFalse (is_long action.now) }
     ensures { StandsFor (step seat task action.now) result }

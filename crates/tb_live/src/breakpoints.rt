@@ -77,6 +77,7 @@ impl Breakpoints {
     }
 
     /// The number of the first breakpoint that the step meets. Its task stood at this line.
+    #[inline(always)]
     pub fn met(&self, line: u32, event: &Event) -> Option<u32>
         ensures { result ≡ met line event.now self.now.standing }
     {
@@ -92,6 +93,7 @@ impl Breakpoints {
     }
 }
 
+#[inline(always)]
 fn first_met(breakpoints: &[Breakpoint], line: u32, event: &Event) -> Option<u32>
     ensures { result ≡ met line event.now breakpoints.now }
 {

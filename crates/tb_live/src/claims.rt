@@ -117,6 +117,7 @@ impl Claims {
     }
 
     /// Withdraws each claim on the task.
+    #[inline(always)]
     pub fn withdraw(&mut self, task: &TaskName)
         ensures { self.new ≡ withdrawn (same_name task.now) self.old }
     {
@@ -177,6 +178,7 @@ fn clear(rows: &mut Vec<Option<TaskName>>, end: usize)
     }
 }
 
+#[inline(always)]
 fn withdraw_task(rows: &mut Vec<Option<TaskName>>, end: usize, task: &TaskName)
     requires within { end ≤ length rows.old.items }
     requires free { AreFreeFrom end rows.old.items }

@@ -59,11 +59,12 @@ impl Floor {
         }
     }
 
+    #[inline(always)]
     fn is_at(&self, task: &TaskName) -> bool
         ensures { IsTrue result → self.now ≡ Some task.now }
     {
         match &self.task {
-            Some(floor) => floor == task,
+            Some(floor) => *floor == *task,
             None => false,
         }
     }

@@ -176,6 +176,7 @@ impl Live {
 
     /// Takes the next step of the least task that can step, for seat 0; None where all tasks have
     /// ended.
+    #[inline(always)]
     pub fn step_least(&mut self) -> Result<Option<StepId>, StepRefusal>
         ensures stepped { LeastStepsBy self.old.session self.new.session result }
         ensures kept { IfErr result (λ e. e ≢ Memory → self.new ≡ self.old) }
@@ -189,7 +190,7 @@ impl Live {
         ensures stepped { LeastStepsFor seat self.old.session self.new.session result }
         ensures kept { IfErr result (λ e. e ≢ Memory → self.new ≡ self.old) }
     {
-        let found = match least_coming(self.alloc, &self.program, &self.core, &self.floor) {
+        let found = match least_coming(self.alloc, &self.program, &self.core, &mut self.floor) {
             Ok(Some(found)) => found,
             Ok(None) => return Ok(None),
             Err(_) => {
@@ -197,7 +198,6 @@ impl Live {
                 return Err(least_wanting(&self.program, &self.core, full));
             }
         };
-        self.floor.raise(&found.0);
         match enter_clear(
             &mut self.core,
             &mut self.journal,

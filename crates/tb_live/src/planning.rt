@@ -41,7 +41,7 @@ pub fn coming_of(
 }
 
 /// Evaluates the statement at which a task stands that isn't over.
-#[inline]
+#[inline(always)]
 pub fn coming_at(
     alloc: Global,
     program: &Program,

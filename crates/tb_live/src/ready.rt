@@ -77,27 +77,50 @@ fn told(refusal: StepRefusal) -> Result<Option<StepRefusal>, AllocError>
     }
 }
 
-/// The least task that can step, with what it does. The tasks that haven't ended are asked in the order
-/// of their names, from the floor on.
+/// The least task that can step, with what it does; it becomes the floor. The tasks that haven't ended are
+/// asked in the order of their names, from the floor on.
 #[inline(always)]
 pub fn least_coming(
     alloc: Global,
     program: &Program,
     core: &Core,
-    floor: &Floor,
+    floor: &mut Floor,
 ) -> Result<Option<(TaskName, Coming)>, AllocError>
     requires fits { Fits program.now core.now.run }
-    requires floor { IsFloor program.now (history core.now.run) floor.now }
-    ensures { IfOk result (IsLeastComing program.now core.now.run) }
+    requires floor { IsFloor program.now (history core.now.run) floor.old }
+    ensures least { IfOk result (IsLeastComing program.now core.now.run) }
+    ensures floor { IsFloor program.now (history core.now.run) floor.new }
 {
     let Some(task) = floor.task() else {
-        return coming_behind(alloc, program, core, None);
+        return least_behind(alloc, program, core, floor);
     };
     match clear_coming(alloc, program, core, task) {
         Ok(Some(coming)) => named(task, coming),
-        Ok(None) => coming_behind(alloc, program, core, Some(task)),
+        Ok(None) => least_behind(alloc, program, core, floor),
         Err(_) => Err(AllocError),
     }
+}
+
+/// The same where the floor's task, if there is one, can't step. It stands apart, so that a task's step
+/// after its own doesn't pay for its room.
+#[inline(never)]
+fn least_behind(
+    alloc: Global,
+    program: &Program,
+    core: &Core,
+    floor: &mut Floor,
+) -> Result<Option<(TaskName, Coming)>, AllocError>
+    requires fits { Fits program.now core.now.run }
+    requires floor { IsFloor program.now (history core.now.run) floor.old }
+    requires passed { IsPassed program.now (history core.now.run) floor.old }
+    ensures least { IfOk result (IsLeastComing program.now core.now.run) }
+    ensures floor { IsFloor program.now (history core.now.run) floor.new }
+{
+    let found = coming_behind(alloc, program, core, floor.task())?;
+    if let Some(found) = &found {
+        floor.raise(&found.0);
+    }
+    Ok(found)
 }
 
 /// What the task does next, with a copy of its name.
@@ -152,7 +175,6 @@ pub fn free_work(
         Err(_) => return Err(AllocError),
     };
     let task = &found.0;
-    floor.raise(task);
     match claims.held_beside(seat, task) {
         Some(_) => work_behind(alloc, program, core, claims, seat, task),
         None => work_on(program, core, task),

@@ -145,6 +145,7 @@ pub fn enter_clear(
 }
 
 /// Follows the newest step, whose task stood at the line.
+#[inline(always)]
 fn follow(control: &mut Control, core: &Core, line: u32)
     ensures { (v : AnEvent) → slice_get (history core.now.run) 0 ≡ Some v →
         control.new ≡ behind_step line v control.old }
@@ -156,7 +157,7 @@ fn follow(control: &mut Control, core: &Core, line: u32)
 
 /// Takes an action from which nothing keeps the task, and enters it for the seat. Most entries are read
 /// off the history's newest event; one that stands apart is copied before the step.
-#[inline]
+#[inline(always)]
 fn take(
     core: &mut Core,
     journal: &mut Journal,

@@ -57,6 +57,7 @@ impl Clone for TaskName {
 
     // takes no memory: a name of more than three numbers has one more owner, and is refused where it
     // has nine quintillion
+    #[inline(always)]
     fn clone(&self) -> Result<TaskName, AllocError> {
         let numbers = self.numbers.copy()?;
         Ok(TaskName { numbers })

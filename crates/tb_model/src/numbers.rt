@@ -114,6 +114,7 @@ impl Numbers {
 
     /// A copy, which takes no memory. That of a list of more than three is refused where it has
     /// nine quintillion copies.
+    #[inline(always)]
     pub fn copy(&self) -> Result<Numbers, AllocError>
         ensures ok { IfOk result (λ n. n ≡ self.now) }
         ensures short { length self.now ≤ 3 → IsOk result }
@@ -133,7 +134,7 @@ impl Numbers {
     }
 
     /// Whether the numbers are the same.
-    #[inline]
+    #[inline(always)]
     pub fn is_same(&self, other: &Numbers) -> bool
         ensures { result ≡ same_name self.now other.now }
     {

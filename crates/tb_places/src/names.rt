@@ -30,7 +30,7 @@ impl Names {
     }
 
     /// The number of the task.
-    #[inline]
+    #[inline(always)]
     pub fn number(&self, task: &TaskName) -> Option<usize>
         ensures { result ≡ number_of self.now.keys.keys task.now }
     {
@@ -61,6 +61,7 @@ impl Names {
     }
 
     /// The number of the task, which gets one where it has none.
+    #[inline(always)]
     pub fn name(&mut self, task: &TaskName) -> Result<usize, AllocError>
         ensures number { IfOk result (λ n. number_of self.new.keys.keys task.now ≡ Some n) }
         ensures others { (t : Name) → is_some (number_of self.old.keys.keys t) ≡ true →
@@ -89,11 +90,12 @@ impl Names {
         }
     }
 
+    #[inline(always)]
     fn is_last(&self, task: &TaskName) -> bool
         ensures { IsTrue result → number_of self.now.keys.keys task.now ≡ Some self.now.last }
     {
         match self.keys.get_index(self.last) {
-            Some(name) => name == task,
+            Some(name) => *name == *task,
             None => false,
         }
     }

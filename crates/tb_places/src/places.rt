@@ -75,6 +75,7 @@ impl Places {
     }
 
     /// Notes the place of an event that comes after all others.
+    #[inline(always)]
     pub fn push_reserved(&mut self, event: &Event, at: u32)
         requires { HasRoomFor self.old event.now }
         ensures pushed { (events : List AnEvent) → IsIndexOf events self.old →

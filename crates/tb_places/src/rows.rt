@@ -46,6 +46,7 @@ impl Rows {
     }
 
     /// Notes the place of an event that comes after all others.
+    #[inline(always)]
     pub fn push_at(&mut self, n: Option<usize>, place: u32)
         requires { HasRoomAt self.old n }
         ensures pushed { (number : AnEvent → Option ℕ) (events : List AnEvent) (e : AnEvent) →
@@ -81,6 +82,7 @@ impl Rows {
         self.rows[n].reserve(1)
     }
 
+    #[inline(always)]
     fn push_reserved(&mut self, n: usize, place: u32)
         requires { HasRoom self.old n }
         ensures row { row_of self.new n ≡ row_of self.old n ++ place ∷ [] }
@@ -103,6 +105,7 @@ impl Rows {
     }
 
     /// Makes rows up to this one.
+    #[inline(always)]
     fn grow(&mut self, n: usize) -> Result<(), AllocError>
         ensures same { (k : ℕ) → row_of self.new k ≡ row_of self.old k }
         ensures within { OnOk result (n < length self.new.rows.items) }

@@ -20,6 +20,7 @@ use tb_model::{
 };
 
 /// The number of an operand.
+#[inline(always)]
 fn value(regs: &[i64; 16], operand: Operand) -> i64
     ensures { result ≡ value regs.now operand }
 {
@@ -29,6 +30,7 @@ fn value(regs: &[i64; 16], operand: Operand) -> i64
     }
 }
 
+#[inline(always)]
 fn computed(operator: Operator, left: i64, right: i64) -> i64
     ensures { result ≡ computed operator left right }
 {
@@ -39,12 +41,14 @@ fn computed(operator: Operator, left: i64, right: i64) -> i64
     }
 }
 
+#[inline(always)]
 fn computed_by(regs: &[i64; 16], operator: Operator, left: Operand, right: Operand) -> i64
     ensures { result ≡ computed operator (value regs.now left) (value regs.now right) }
 {
     computed(operator, value(regs, left), value(regs, right))
 }
 
+#[inline(always)]
 fn compared(comparison: Comparison, left: i64, right: i64) -> bool
     ensures { result ≡ compared comparison left right }
 {
@@ -56,6 +60,7 @@ fn compared(comparison: Comparison, left: i64, right: i64) -> bool
     }
 }
 
+#[inline(always)]
 fn is_met(regs: &[i64; 16], condition: Condition) -> bool
     ensures { result ≡ is_met regs.now condition }
 {
@@ -206,6 +211,7 @@ fn spawn_action(
 }
 
 /// The action that a statement makes for a task with these registers.
+#[inline(always)]
 fn action(
     alloc: Global,
     statement: &Statement,

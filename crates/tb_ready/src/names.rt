@@ -81,7 +81,7 @@ impl Names {
         ensures { IsTrue result → StandsAt self.now.tasks name.now at }
     {
         match self.keys.get_index(at) {
-            Some((key, _)) => key == name,
+            Some((key, _)) => *key == *name,
             None => false,
         }
     }

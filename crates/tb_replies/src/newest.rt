@@ -10,6 +10,7 @@ use tb_model::StepId;
 use tb_view::append_line;
 
 /// Appends the line of the newest event that stands, of which this is the step.
+#[inline(always)]
 pub fn append_newest(text: &mut Draft, live: &Live, id: &StepId) -> Result<(), AllocError>
     ensures { OnOk result (text.new
         ≡ text.old ++ newest_line live.now.session id.now) }

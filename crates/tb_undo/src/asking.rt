@@ -23,6 +23,7 @@ use tb_wait::Wait;
 impl Tables {
     /// What keeps the task from the action: the undeferred child at which it stands, else what the
     /// action waits for. Takes no memory.
+    #[inline(always)]
     pub fn in_the_way(&self, name: &TaskName, action: &Action) -> Option<Obstacle<'_>>
         ensures { ForUnended self.now name.now (λ H. in_the_way H name.now action.now ≡ option_map (hindrance_by name.now) result) }
     {
@@ -46,6 +47,7 @@ impl Tables {
 
     /// Whether nothing keeps the task from the action, as `in_the_way` tells what does. Takes no
     /// memory. Who is excluded is asked first, since it costs no walk over the siblings.
+    #[inline(always)]
     pub fn is_clear(&self, name: &TaskName, action: &Action) -> bool
         ensures { ForUnended self.now name.now (λ H. IsTrue result ↔ (in_the_way H name.now action.now ≡ None)) }
     {
@@ -53,6 +55,7 @@ impl Tables {
     }
 
     /// Whether the action is the first start of a task that a sibling under way excludes.
+    #[inline(always)]
     fn is_excluded(&self, name: &TaskName, action: &Action) -> bool
         ensures { ForUnended self.now name.now (λ H. IsTrue result → in_the_way H name.now action.now ≢ None) }
     {
@@ -97,6 +100,7 @@ impl Tables {
 }
 
 /// The undeferred child at which the task stands, where it isn't over: its last one.
+#[inline(always)]
 fn undeferred(waits: &Wait, name: &TaskName, row: &Row) -> Option<u32>
     ensures { (cells : Cells) (H : History) → Legal cells H → AreKin H waits.now.tasks → IsSpawned H name.now → IsKnown (own name.now H) (seen_row row.now) →
         IsLeast (is_unended_undeferred H name.now) (option_map (child name.now) result) }

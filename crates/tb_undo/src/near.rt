@@ -13,7 +13,7 @@ use tb_model::TaskName;
 /// The place of the task's row. The place `near`, and the one behind it, are tried before the name's
 /// hash is taken: mostly the task that took the last step is asked of again, or the one that was
 /// generated after it. A place counts only where the very name stands, so any place does.
-#[inline]
+#[inline(always)]
 pub fn find(rows: &IndexMap<TaskName, Row>, near: usize, name: &TaskName) -> Option<usize>
     ensures index { result ≡ position (same_name name.now) (keys_of rows.now.entries) }
 {
@@ -36,6 +36,7 @@ fn find_elsewhere(rows: &IndexMap<TaskName, Row>, near: usize, name: &TaskName) 
 }
 
 /// The task's row, which is looked for so.
+#[inline(always)]
 pub fn get<'a>(rows: &'a IndexMap<TaskName, Row>, near: usize, name: &TaskName) -> Option<&'a Row>
     ensures value { option_copied result ≡ row rows.now.entries name.now }
 {
@@ -50,7 +51,7 @@ fn stands_at(rows: &IndexMap<TaskName, Row>, at: usize, name: &TaskName) -> bool
     ensures { IsTrue result → position (same_name name.now) (keys_of rows.now.entries) ≡ Some at }
 {
     match rows.as_slice().get_index(at) {
-        Some((key, _)) => key == name,
+        Some((key, _)) => *key == *name,
         None => false,
     }
 }

@@ -28,6 +28,7 @@ impl Tables {
     }
 
     /// Whether the task is over.
+    #[inline(always)]
     pub fn has_ended(&self, name: &TaskName) -> bool
         ensures { ForHistory self.now (λ H. result ≡ list_any (ends name.now) H) }
     {
@@ -44,6 +45,7 @@ impl Tables {
     }
 
     /// Where the task stands.
+    #[inline(always)]
     pub fn standing(&self, name: &TaskName) -> Option<Standing<'_>>
         ensures { ForState self.now (λ first root_line D. result ≡ option_map standing_of (task_of root_line D name.now)) }
     {

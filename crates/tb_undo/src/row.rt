@@ -57,6 +57,7 @@ impl Row {
     }
 
     /// The number that the action writes over in the registers.
+    #[inline(always)]
     pub fn over(&self, action: &Action) -> Option<i64>
         requires { IsRegister action.now }
         ensures { result ≡ register_over action.now self.now.regs }
@@ -68,6 +69,7 @@ impl Row {
     }
 
     /// The task takes a step, which leaves it at this line.
+    #[inline(always)]
     pub fn advance(&mut self, action: &Action, to: u32)
         requires register { IsRegister action.now }
         requires few { self.old.steps < 4294967295 }

@@ -109,6 +109,7 @@ fn reserve_child(
 
 /// The task takes a step, which leaves it at this line. Tells the place of its row, the register's
 /// number that the action writes over, and where the task stood.
+#[inline(always)]
 pub fn advance(
     rows: &mut IndexMap<TaskName, Row>,
     near: usize,

@@ -24,6 +24,7 @@ impl<'a> Model for Standing<'a> {
 }
 
 impl<'a> Standing<'a> {
+    #[inline(always)]
     pub(crate) fn of(row: &'a Row) -> Standing<'a>
         ensures { result ≡ standing_of (seen_row row.now) }
     {
@@ -31,6 +32,7 @@ impl<'a> Standing<'a> {
     }
 
     /// Its line.
+    #[inline(always)]
     pub fn at(&self) -> u32
         ensures { result ≡ self.now.at }
     {
@@ -38,6 +40,7 @@ impl<'a> Standing<'a> {
     }
 
     /// How many steps it has taken.
+    #[inline(always)]
     pub fn steps(&self) -> u32
         ensures { result ≡ self.now.steps }
     {
@@ -45,6 +48,7 @@ impl<'a> Standing<'a> {
     }
 
     /// Its registers.
+    #[inline(always)]
     pub fn regs(&self) -> &'a [i64; 16]
         ensures { result.now ≡ self.now.regs }
     {

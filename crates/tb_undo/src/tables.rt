@@ -119,6 +119,7 @@ impl Tables {
     }
 
     /// The same, where the place of its row is known.
+    #[inline(always)]
     fn turn_to_place(&mut self, at: usize, name: &TaskName)
         ensures { self.new ≡ self.old }
     {
@@ -202,6 +203,7 @@ impl Tables {
     }
 
     /// Takes the event on all tables, in the room that is there.
+    #[inline(always)]
     fn change(&mut self, event: &Event, to: u32) -> Replaced
         requires can { CanChange self.old event.now }
         requires room { HasRoomFor self.old event.now }
@@ -227,6 +229,7 @@ impl Tables {
     }
 
     /// What the event changes for other tasks.
+    #[inline(always)]
     fn act(&mut self, event: &Event)
         requires can { CanChange self.old event.now }
         requires room { HasRoomFor self.old event.now }
@@ -247,6 +250,7 @@ impl Tables {
     }
 
     /// What the action stores or prints. Tells the number that it writes over in the cells.
+    #[inline(always)]
     fn write(&mut self, action: &Action) -> Option<i64>
         requires cell { IsCell (length self.old.store.cells) action.now }
         requires room { is_print action.now ≡ true → 0 < self.old.store.room }
@@ -395,6 +399,7 @@ impl Tables {
 }
 
 /// The register that the action writes.
+#[inline(always)]
 fn register(action: &Action) -> Option<u8>
     ensures { result ≡ register_by action.now }
 {

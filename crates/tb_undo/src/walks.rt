@@ -14,6 +14,7 @@ use tb_model::{Item, TaskName};
 use tb_wait::Wait;
 
 /// Whether the newest of the task's steps generated an undeferred child.
+#[inline(always)]
 pub fn is_held(row: &Row) -> bool
     ensures { result ≡ is_first row.now.steps (seen_row row.now).undeferred }
 {

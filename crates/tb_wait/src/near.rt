@@ -18,7 +18,7 @@ pub struct Near {
 
 impl Near {
     /// The place of a name.
-    #[inline]
+    #[inline(always)]
     pub fn find(&self, names: &IndexSet<TaskName>, name: &TaskName) -> Option<usize>
         ensures index { result ≡ position (same_name name.now) names.now.keys }
         ensures found { is_some result ≡ list_any (same_name name.now) names.now.keys }
@@ -57,7 +57,7 @@ fn stands_at(names: &IndexSet<TaskName>, at: usize, name: &TaskName) -> bool
     ensures within { IsTrue result → at < length names.now.keys }
 {
     match names.as_slice().get(at) {
-        Some(key) => key == name,
+        Some(key) => *key == *name,
         None => false,
     }
 }

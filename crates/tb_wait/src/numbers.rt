@@ -65,8 +65,18 @@ impl Numbers {
     pub fn has(&self, n: u32) -> bool
         ensures { result ≡ has self.now.items n }
     {
+        self.find(n).1
+    }
+
+    /// How many numbers are below n, and whether it is there itself.
+    fn find(&self, n: u32) -> (usize, bool)
+        ensures place { result.0 ≡ below n self.now.items }
+        ensures within { result.0 ≤ length self.now.items }
+        ensures there { result.1 ≡ has self.now.items n }
+    {
         let at = gap(&self.items, n as u64);
-        at < self.items.len() && number_at(&self.items, at) == n
+        let there = at < self.items.len() && number_at(&self.items, at) == n;
+        (at, there)
     }
 
     /// Puts the number in or takes it out.
@@ -85,8 +95,8 @@ impl Numbers {
         ensures set { IsPut self.old.items n true self.new.items }
         ensures bound { self.new.bound ≡ self.old.bound }
     {
-        if !self.has(n) {
-            let at = gap(&self.items, n as u64);
+        let (at, there) = self.find(n);
+        if !there {
             self.items.insert(at, n).unwrap();
         }
     }
@@ -95,8 +105,8 @@ impl Numbers {
         ensures set { IsPut self.old.items n false self.new.items }
         ensures bound { self.new.bound ≡ self.old.bound }
     {
-        if self.has(n) {
-            let at = gap(&self.items, n as u64);
+        let (at, there) = self.find(n);
+        if there {
             let _n = self.items.remove(at);
         }
     }

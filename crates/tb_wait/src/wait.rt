@@ -328,6 +328,7 @@ impl Wait {
     }
 
     /// What is kept of the task: whether it is over.
+    #[inline(always)]
     pub fn is_over(&self, task: &TaskName) -> Option<bool>
         ensures { result ≡ option_map (λ (k : Kin). k.over) (kin self.now.tasks task.now) }
     {
