@@ -7,12 +7,19 @@ ghost use Rattle.tb_team.specs.Gone.{HasSeats};
 
 use crate::halt::Halt;
 use std::alloc::Global;
+use std::mem;
 use std::sync::Wait;
 use std::thread::Threads;
 use tb_commands::Workers;
 use tb_lines::{LineEnd, LineFault, LineReader, Sink, Source};
-use tb_live::{Live, end};
+use tb_live::Live;
 use tb_replies::{Unanswered, answer};
+
+/// Leaves a run whose session ends. The process ends with it and gives all of its memory back at once, so the
+/// run isn't taken apart, for which each of its steps would be read once more.
+pub(crate) fn leave(live: Live) {
+    mem::forget(live);
+}
 
 /// Works on a line, and writes its reply.
 pub fn answer_line<R: Threads + Wait + Sync, K: Sink>(
@@ -41,7 +48,7 @@ pub fn answer_line<R: Threads + Wait + Sync, K: Sink>(
     match rest.write(sink) {
         Ok(()) => Ok(live),
         Err(_) => {
-            end(live);
+            leave(live);
             Err(Halt::Write)
         }
     }
@@ -73,11 +80,11 @@ pub fn serve<R: Threads + Wait + Sync, S: Source, K: Sink>(
         let line_end = match reader.next_line(rt, source, &mut line) {
             Ok(line_end) => line_end,
             Err(LineFault::Read) => {
-                end(live);
+                leave(live);
                 return Err(Halt::Read);
             }
             Err(LineFault::Memory) => {
-                end(live);
+                leave(live);
                 return Err(Halt::Memory);
             }
         };
@@ -88,7 +95,7 @@ pub fn serve<R: Threads + Wait + Sync, S: Source, K: Sink>(
         match line_end {
             LineEnd::Feed => {}
             LineEnd::Input => {
-                end(live);
+                leave(live);
                 return Ok(());
             }
         }

@@ -7,13 +7,13 @@ ghost use Rattle.tb_session.specs.Stages.{Begun};
 
 use crate::halt::Halt;
 use crate::opening::{gather, open};
-use crate::serving::serve;
+use crate::serving::{leave, serve};
 use std::alloc::Global;
 use std::sync::Wait;
 use std::thread::Threads;
 use tb_commands::Workers;
 use tb_lines::{LineEnd, LineFault, LineReader, Sink, Source};
-use tb_live::{Live, end};
+use tb_live::Live;
 use tb_options::Settings;
 
 /// Reads the program and opens its session, and tells what ended the program's text.
@@ -45,7 +45,8 @@ fn begin<R: Wait, S: Source>(
     }
 }
 
-/// Reads a program and its commands, and writes the reply to each before the next is read.
+/// Reads a program and its commands, and writes the reply to each before the next is read. What the session holds at
+/// its end isn't given back: the process is to end with it.
 pub fn run<R: Threads + Wait + Sync, S: Source, K: Sink>(
     rt: &R,
     alloc: Global,
@@ -71,7 +72,7 @@ pub fn run<R: Threads + Wait + Sync, S: Source, K: Sink>(
             serve(rt, alloc, workers, live, &mut reader, source, sink)
         }
         LineEnd::Input => {
-            end(live);
+            leave(live);
             Ok(())
         }
     }
