@@ -8,3 +8,4 @@ mod ListingLemmas
 mod TaskLemmas
 mod StateLemmas
 mod RelationLemmas
+mod UnendedLemmas

@@ -1,8 +1,9 @@
 -- Lines told one after another, along a list.
 use Rattle.std.proofs.Common.{◌≡◌, ◌<◌, ◌≤◌, ◌+◌, ℕ, suc, List, [], ◌∷◌, ◌++◌, length, drop, refl, sym, ap, ap₂, ◌∙◌, arith, get_or, append_assoc, append-nil, length-append, drop-cons}
+use Rattle.std.specs.Prelude.{Result, Ok, Err, IfOk, codes, decimal}
 use Rattle.std.proofs.lemmas.List.{drop_all}
 use Rattle.tb_view.specs.Lines.{line}
-use Rattle.tb_view.specs.Listing.{joined, lines_of}
+use Rattle.tb_view.specs.Listing.{joined, lines_of, listed}
 
 pub joined-append : (a b : List (List ℕ)) → joined (a ++ b) ≡ joined a ++ joined b
 joined-append [] b = refl
@@ -37,3 +38,9 @@ module _ {A : Type 0} (f : A → List (List ℕ)) where
 
   pub counted_all : (xs : List A) (i : ℕ) (count total : ℕ) → length xs ≤ i → count + length (lines_of f (drop i xs)) ≡ total → count ≡ total
   counted_all xs i count total past so_far = omega (arith, so_far, ap (λ rest. length (lines_of f rest)) (drop_all i xs past))
+
+-- the lines are those of some, which are as many and as told
+pub listed_so : {E : Type 0} (word : List ℕ) (all some : List (List ℕ)) (count : ℕ) (text : List ℕ) (r : Result (List ℕ) E) → all ≡ some → count ≡ length some → text ≡ joined some
+    → IfOk r (λ t. t ≡ line (word ++ codes " " ++ decimal count) ++ text) → IfOk r (λ t. t ≡ listed word all)
+listed_so word all some count text (Ok t) a n e h = h ∙ ap₂ (λ m l. line (word ++ codes " " ++ decimal m) ++ l) (n ∙ ap length (sym a)) (e ∙ ap joined (sym a))
+listed_so word all some count text (Err x) a n e h = tt

@@ -16,6 +16,7 @@ mod step_text;
 mod steps;
 mod task_text;
 mod tasks;
+mod unended;
 mod view;
 mod view_refusal;
 mod waits;

@@ -33,7 +33,7 @@ fn insert_spawned(tasks: &mut BTreeMap<TaskName, u32>, action: &Action) -> Resul
 
 /// The root and all tasks that were spawned, in the order of names, each with the line that begins
 /// its body.
-pub(crate) fn named_tasks(
+fn named_tasks(
     alloc: Global,
     root_line: u32,
     entries: &[Entry],

@@ -10,7 +10,7 @@ ghost use Rattle.tb_view.specs.Waits.{ready_by, wait_by, ready_text, waits_text}
 
 use crate::hindrances::append_hindrance;
 use crate::listing::headed;
-use crate::tasks::named_tasks;
+use crate::unended::unended_tasks;
 use std::alloc::{AllocError, Global};
 use tb_draft::Draft;
 use tb_live::Live;
@@ -59,14 +59,10 @@ pub(crate) fn ready_text(alloc: Global, live: &Live) -> Result<Draft, AllocError
     ensures { IfOk result (λ text. text
         ≡ ready_text live.now.session.program (history live.now.session)) }
 {
-    let tasks = named_tasks(
-        alloc,
-        live.program().root_line(),
-        live.core().legal_entries(),
-    )?;
+    let tasks = unended_tasks(alloc, live.core())?;
     let mut text = Draft::new(alloc);
     let mut count = 0;
-    'tasks: for (task, _) in &tasks {
+    'tasks: for task in &tasks {
         count += append_ready(&mut text, live, task)?;
     }
     headed(alloc, "ready", count, text)
@@ -77,14 +73,10 @@ pub(crate) fn waits_text(alloc: Global, live: &Live) -> Result<Draft, AllocError
     ensures { IfOk result (λ text. text
         ≡ waits_text live.now.session.program (history live.now.session)) }
 {
-    let tasks = named_tasks(
-        alloc,
-        live.program().root_line(),
-        live.core().legal_entries(),
-    )?;
+    let tasks = unended_tasks(alloc, live.core())?;
     let mut text = Draft::new(alloc);
     let mut count = 0;
-    'tasks: for (task, _) in &tasks {
+    'tasks: for task in &tasks {
         count += append_wait(&mut text, live, task)?;
     }
     headed(alloc, "waits", count, text)

@@ -1,13 +1,15 @@
 use Rattle.std.proofs.Common.{◌≡◌, ◌≤◌, ◌+◌, ◌++◌, drop, length}
+use Rattle.tb_model.specs.Names.{Name}
+use Rattle.tb_model.specs.Hindrances.{refusal_of}
 use Rattle.tb_live.specs.Session.{history}
 use Rattle.tb_view.specs.Listing.{joined, lines_of}
-use Rattle.tb_view.specs.Waits.{wait_line}
+use Rattle.tb_view.specs.Waits.{wait_by}
 use Rattle.tb_view.proofs.waits.waits_text.Given as goal
 
 -- the text so far, and the lines of the tasks that are left, are the whole, and so are their numbers; a task has one line at most
 abbrev pub invariant-tasks : goal.invariant-tasks
 invariant-tasks l = record {
-  text : l.text ++ joined (lines_of (wait_line l.live.session.program (history l.live.session)) (drop l.task-index l.task-items)) ≡ joined (lines_of (wait_line l.live.session.program (history l.live.session)) l.task-items);
-  count : l.count + length (lines_of (wait_line l.live.session.program (history l.live.session)) (drop l.task-index l.task-items)) ≡ length (lines_of (wait_line l.live.session.program (history l.live.session)) l.task-items);
+  text : l.text ++ joined (lines_of (λ (u : Name). wait_by u (refusal_of l.live.session.program (history l.live.session) u)) (drop l.task-index l.task-items)) ≡ joined (lines_of (λ (u : Name). wait_by u (refusal_of l.live.session.program (history l.live.session) u)) l.task-items);
+  count : l.count + length (lines_of (λ (u : Name). wait_by u (refusal_of l.live.session.program (history l.live.session) u)) (drop l.task-index l.task-items)) ≡ length (lines_of (λ (u : Name). wait_by u (refusal_of l.live.session.program (history l.live.session) u)) l.task-items);
   few : l.count ≤ l.task-index;
 }
