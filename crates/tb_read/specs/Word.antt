@@ -26,6 +26,10 @@ word_at words at = slice_index_or words at []
 abbrev pub is_numeral : List ℕ → Bool
 is_numeral digits = nat_lt 0 (length digits) && list_all is_ascii_digit digits
 
+-- the value of one or more digits, up to that of the least number
+abbrev pub magnitude_of : List ℕ → Option ℕ
+magnitude_of digits = if is_numeral digits && nat_le (digits_value 10 digits) (2 ^ 63) then Some (digits_value 10 digits) else None
+
 abbrev pub number_above : List ℕ → Option ℤ
 number_above digits = if is_numeral digits && nat_lt (digits_value 10 digits) (2 ^ 63) then Some (pos (digits_value 10 digits)) else None
 

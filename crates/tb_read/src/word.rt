@@ -1,12 +1,15 @@
 //! What a word is.
 
-ghost use Rattle.std.specs.Prelude.{◌≡◌, ◌<◌, nat_lt, length, map, slice_index, ◌&&◌, ◌==◌, IfSome, IsTrue};
+ghost use Rattle.std.specs.Prelude.{◌≡◌, ◌<◌, ◌≤◌, ◌^◌, map, pos, neg_ℤ, IfSome, IsTrue};
 ghost use Rattle.std.specs.List.{list_all};
 ghost use Rattle.std.specs.Char.{is_ascii_digit};
 ghost use Rattle.tb_read.specs.Statements.{is_sound_operand};
-ghost use Rattle.tb_read.specs.Word.{same_word, word_at, is_numeral, number_of, register_of, operand_of, operator_of, resembles_register, is_name, begins_name, continues_name, comparison_of, kind_of, is_all};
+ghost use Rattle.tb_read.specs.Word.{same_word, word_at, is_numeral, magnitude_of, number_of, register_of, operand_of, operator_of, resembles_register, is_name, begins_name, continues_name, comparison_of, kind_of, is_all};
 
 use tb_model::{Comparison, Kind, Operand, Operator};
+
+/// The least number, without its sign.
+const LEAST: u64 = 1 << 63;
 
 /// Whether two words are the same bytes.
 pub fn same_word(a: &[u8], b: &[u8]) -> bool
@@ -34,23 +37,54 @@ fn is_numeral(digits: &[u8]) -> bool
     !digits.is_empty() && are_digits(digits)
 }
 
-fn begins_with(word: &[u8], b: u8) -> bool
-    ensures { result ≡ (nat_lt 0 (length word.now) && (slice_index word.now 0 == b)) }
+/// The value of one or more digits, up to that of the least number.
+fn magnitude(digits: &[u8]) -> Option<u64>
+    ensures magnitude { result ≡ magnitude_of digits.now }
+    ensures most { IfSome result (λ value. value ≤ 2 ^ 63) }
 {
-    !word.is_empty() && word[0] == b
+    if digits.is_empty() {
+        return None;
+    }
+    let mut value = 0;
+    let mut left = digits;
+    while let [b, rest @ ..] = left {
+        if !b.is_ascii_digit() {
+            return None;
+        }
+        // More digits only make it larger.
+        if LEAST / 10 < value {
+            return None;
+        }
+        value = value * 10 + (*b - b'0') as u64;
+        left = rest;
+    }
+    if value <= LEAST { Some(value) } else { None }
+}
+
+fn negated(value: u64) -> i64
+    requires { value ≤ 2 ^ 63 }
+    ensures { result ≡ neg_ℤ (pos value) }
+{
+    if value < LEAST {
+        -(value as i64)
+    } else {
+        i64::MIN
+    }
 }
 
 /// The number that the word is.
 pub fn number(word: &[u8]) -> Option<i64>
     ensures { result ≡ number_of word.now }
 {
-    match str::from_utf8(word) {
-        Ok(text) => if begins_with(word, b'+') {
-            None
-        } else {
-            text.parse::<i64>().ok()
+    match word {
+        [b'-', digits @ ..] => match magnitude(digits) {
+            Some(value) => Some(negated(value)),
+            None => None,
         },
-        Err(_) => None,
+        _ => match magnitude(word) {
+            Some(value) if value < LEAST => Some(value as i64),
+            _ => None,
+        },
     }
 }
 
