@@ -18,3 +18,4 @@ pub mod Meaning
 pub mod Shown
 pub mod Followed
 pub mod Soundness
+pub mod Misfits

@@ -4,9 +4,10 @@ ghost use Rattle.std.specs.Prelude.{◌≡◌, ◌≤◌, false, map, length};
 ghost use Rattle.std.specs.List.{list_any};
 ghost use Rattle.tb_read.specs.Clauses.{begins_clause, argument_count, arguments, clause_words, begins_test, allows_all, three_places, test_places, is_misplaced_in_rest, is_misplaced_in_clauses, is_broken, item_count, is_misplaced_argument, is_misplaced_behind_name};
 ghost use Rattle.tb_read.specs.Grammar.{is_misplaced};
+ghost use Rattle.tb_read.specs.Misfits.{Finds};
 
-use crate::fault::FaultKind;
-use crate::place::{Place, is_misplaced, misfits};
+use crate::misfits::Misfits;
+use crate::place::Place;
 use crate::word::{same_word, word_at};
 
 fn begins_clause(word: &[u8]) -> bool
@@ -65,9 +66,9 @@ fn test_places() -> &'static [Place]
     &[Place::Operand, Place::Comparison, Place::Operand]
 }
 
-/// Whether some word of a three has the fault at its place; words may be missing at its end.
-fn is_misplaced_in_three(fault: FaultKind, on_wait: bool, kind: &[u8], three: &[&[u8]]) -> bool
-    ensures { result ≡ is_misplaced fault (three_places on_wait kind.now) (map (λ word. word.now) three.now) }
+/// Adds the faults of the words of a three at their places; words may be missing at its end.
+fn add_three(found: &mut Misfits, on_wait: bool, kind: &[u8], three: &[&[u8]])
+    ensures { Finds found.old found.new (λ fault. is_misplaced fault (three_places on_wait kind.now) (map (λ word. word.now) three.now)) }
 {
     let places = [
         Place::Depend,
@@ -76,40 +77,39 @@ fn is_misplaced_in_three(fault: FaultKind, on_wait: bool, kind: &[u8], three: &[
             allows_all: allows_all(kind),
         },
     ];
-    is_misplaced(fault, &places, three)
+    found.add_all(&places, three);
 }
 
 /// The same for what is left behind the last whole three.
-fn is_misplaced_in_rest(fault: FaultKind, on_wait: bool, words: &[&[u8]]) -> bool
-    ensures { result ≡ is_misplaced_in_rest fault on_wait (map (λ word. word.now) words.now) }
+fn add_rest(found: &mut Misfits, on_wait: bool, words: &[&[u8]])
+    ensures { Finds found.old found.new (λ fault. is_misplaced_in_rest fault on_wait (map (λ word. word.now) words.now)) }
 {
     match words {
-        [] => false,
+        [] => {}
         [word, rest @ ..] => {
             if begins_test(on_wait, word) {
-                is_misplaced(fault, test_places(), rest)
+                found.add_all(test_places(), rest);
             } else {
-                is_misplaced_in_three(fault, on_wait, word_at(rest, 0), words)
+                add_three(found, on_wait, word_at(rest, 0), words);
             }
         }
     }
 }
 
-/// Whether some word of the clauses has the fault at its place.
-pub fn is_misplaced_in_clauses(fault: FaultKind, on_wait: bool, words: &[&[u8]]) -> bool
-    ensures { result ≡ is_misplaced_in_clauses fault on_wait (map (λ word. word.now) words.now) }
+/// Adds the faults of the words of the clauses at their places.
+pub fn add_clauses(found: &mut Misfits, on_wait: bool, words: &[&[u8]])
+    ensures { Finds found.old found.new (λ fault. is_misplaced_in_clauses fault on_wait (map (λ word. word.now) words.now)) }
 {
     let mut left = words;
     while let [word, kind, address, rest @ ..] = left {
         if begins_test(on_wait, word) {
-            return is_misplaced(fault, test_places(), &left[1..]);
+            found.add_all(test_places(), &left[1..]);
+            return;
         }
-        if is_misplaced_in_three(fault, on_wait, kind, &[*word, *kind, *address]) {
-            return true;
-        }
+        add_three(found, on_wait, kind, &[*word, *kind, *address]);
         left = rest;
     }
-    is_misplaced_in_rest(fault, on_wait, left)
+    add_rest(found, on_wait, left);
 }
 
 /// Whether the last three isn't whole, or an `if` clause isn't the last four words.
@@ -142,23 +142,20 @@ pub fn item_count(on_wait: bool, words: &[&[u8]]) -> usize
     count
 }
 
-fn is_misplaced_argument(fault: FaultKind, words: &[&[u8]]) -> bool
-    ensures { result ≡ list_any (is_misplaced_argument fault) (map (λ word. word.now) words.now) }
+fn add_arguments(found: &mut Misfits, words: &[&[u8]])
+    ensures { Finds found.old found.new (λ fault. list_any (is_misplaced_argument fault) (map (λ word. word.now) words.now)) }
 {
     let mut left = words;
     while let [word, rest @ ..] = left {
-        if misfits(fault, Place::Operand, word) {
-            return true;
-        }
+        found.add(Place::Operand, word);
         left = rest;
     }
-    false
 }
 
-/// Whether some word behind a `task` line's name has the fault at its place.
-pub fn is_misplaced_behind_name(fault: FaultKind, words: &[&[u8]]) -> bool
-    ensures { result ≡ is_misplaced_behind_name fault (map (λ word. word.now) words.now) }
+/// Adds the faults of the words behind a `task` line's name at their places.
+pub fn add_behind_name(found: &mut Misfits, words: &[&[u8]])
+    ensures { Finds found.old found.new (λ fault. is_misplaced_behind_name fault (map (λ word. word.now) words.now)) }
 {
-    is_misplaced_argument(fault, arguments(words))
-        || is_misplaced_in_clauses(fault, false, clause_words(words))
+    add_arguments(found, arguments(words));
+    add_clauses(found, false, clause_words(words));
 }

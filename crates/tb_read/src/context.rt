@@ -3,7 +3,7 @@
 ghost use Rattle.std.specs.Prelude.{◌≡◌, ℕ, List, ◌++◌, ◌∷◌, [], ◌<◌, ◌≤◌, ◌==◌, drop, length, map, reverse, slice_get, Some, IfOk, OnOk, IsTrue, string_bytes};
 ghost use Rattle.std.specs.List.{list_all};
 ghost use Rattle.tb_read.specs.Text.{is_text};
-ghost use Rattle.tb_read.specs.Context.{number_at, is_below, is_above, is_some_number, cell_at, was_given, is_outside, was_headed, is_negative, bad_number, unknown_body, is_miscalled, arity, arity_behind, is_turning, no_cells, cell_range, is_open, nesting, duplicate, too_large, is_second_cells, fault_behind, fault_of, last_fault, after, start, blank_cells, with_cell, blocks_behind};
+ghost use Rattle.tb_read.specs.Context.{number_at, is_below, is_above, is_some_number, cell_at, was_given, is_outside, was_headed, is_negative, unknown_body, is_miscalled, arity, arity_behind, is_turning, no_cells, cell_range, is_open, nesting, duplicate, too_large, is_second_cells, fault_behind, fault_of, last_fault, after, start, blank_cells, with_cell, blocks_behind};
 ghost use Rattle.tb_read.specs.declared.head.Head.TheVariants.{Body as ABody};
 ghost use Rattle.tb_read.specs.Bodies.{named};
 ghost use Rattle.tb_read.specs.declared.block.Block.{Block};
@@ -13,7 +13,7 @@ use crate::block::Block;
 use crate::body::Body;
 use crate::clauses::{argument_count, clause_words, is_broken, item_count};
 use crate::fault::FaultKind;
-use crate::grammar::{has_misplaced, is_miscounted};
+use crate::grammar::{is_miscounted, misplaced};
 use crate::head::{Head, head_of};
 use crate::heading::{Heading, Headings};
 use crate::stack::{cut, put, top};
@@ -106,12 +106,6 @@ fn is_negative(head: Head, words: &[&[u8]]) -> bool
         Head::Body => is_below(number_at(words, 1), 0),
         _ => false,
     }
-}
-
-fn bad_number(head: Head, words: &[&[u8]]) -> bool
-    ensures { result ≡ bad_number head (map (λ word. word.now) words.now) }
-{
-    has_misplaced(FaultKind::BadNumber, head, words) || is_negative(head, words)
 }
 
 fn unknown_body(headings: &Headings<'_>, head: Head, words: &[&[u8]]) -> bool
@@ -332,15 +326,16 @@ impl Lines {
     ) -> Option<FaultKind>
         ensures { result ≡ fault_behind (record { line = line; heading = heading_of headings.now }) self.now (Some head) (map (λ word. word.now) words.now) }
     {
+        let found = misplaced(head, words);
         if self.is_second_cells(head) {
             Some(FaultKind::Duplicate)
         } else if self.no_cells(head) {
             Some(FaultKind::NoCells)
-        } else if bad_number(head, words) {
+        } else if found.bad_number || is_negative(head, words) {
             Some(FaultKind::BadNumber)
         } else if self.cell_range(head, words) {
             Some(FaultKind::CellRange)
-        } else if has_misplaced(FaultKind::UnknownWord, head, words) {
+        } else if found.unknown_word {
             Some(FaultKind::UnknownWord)
         } else if unknown_body(headings, head, words) {
             Some(FaultKind::UnknownBody)
@@ -350,11 +345,11 @@ impl Lines {
             Some(FaultKind::Nesting)
         } else if self.duplicate(line, headings, head, words) {
             Some(FaultKind::Duplicate)
-        } else if has_misplaced(FaultKind::Register, head, words) {
+        } else if found.register {
             Some(FaultKind::Register)
         } else if self.too_large(head, words) {
             Some(FaultKind::TooLarge)
-        } else if has_misplaced(FaultKind::DependType, head, words) {
+        } else if found.depend_type {
             Some(FaultKind::DependType)
         } else {
             None

@@ -3,11 +3,13 @@
 ghost use Rattle.std.specs.Prelude.{◌≡◌, map};
 ghost use Rattle.tb_read.specs.Grammar.{places, is_miscounted};
 ghost use Rattle.tb_read.specs.Context.{has_misplaced};
+ghost use Rattle.tb_read.specs.Misfits.{has};
+ghost use Rattle.tb_read.specs.declared.fault.FaultKind.{FaultKind};
 
-use crate::clauses::{is_misplaced_behind_name, is_misplaced_in_clauses};
-use crate::fault::FaultKind;
+use crate::clauses::{add_behind_name, add_clauses};
 use crate::head::Head;
-use crate::place::{Place, is_misplaced};
+use crate::misfits::Misfits;
+use crate::place::Place;
 
 /// The places of the words behind a head, as far as they don't depend on the words.
 fn places(head: Head) -> &'static [Place]
@@ -47,17 +49,19 @@ pub fn is_miscounted(head: Head, words: usize) -> bool
     }
 }
 
-/// Whether some word behind the head has the fault at its place.
-pub fn has_misplaced(fault: FaultKind, head: Head, words: &[&[u8]]) -> bool
-    ensures { result ≡ has_misplaced fault head (map (λ word. word.now) words.now) }
+/// The faults of the words behind the head at their places.
+pub fn misplaced(head: Head, words: &[&[u8]]) -> Misfits
+    ensures { (fault : FaultKind) → has result fault ≡ has_misplaced fault head (map (λ word. word.now) words.now) }
 {
-    is_misplaced(fault, places(head), words)
-        || match head {
-            Head::Task => match words {
-                [] => false,
-                [_, rest @ ..] => is_misplaced_behind_name(fault, rest),
-            },
-            Head::Taskwait => is_misplaced_in_clauses(fault, true, words),
-            _ => false,
-        }
+    let mut found = Misfits::none();
+    found.add_all(places(head), words);
+    match head {
+        Head::Task => match words {
+            [] => {}
+            [_, rest @ ..] => add_behind_name(&mut found, rest),
+        },
+        Head::Taskwait => add_clauses(&mut found, true, words),
+        _ => {}
+    }
+    found
 }

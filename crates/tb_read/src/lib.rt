@@ -19,6 +19,7 @@ pub mod laws;
 mod level;
 mod line;
 mod meaning;
+mod misfits;
 mod parsed;
 mod place;
 mod planned;

@@ -1,7 +1,7 @@
 //! What a word is to be at its place.
 
-ghost use Rattle.std.specs.Prelude.{◌≡◌, map, None, Some, if◌then◌else◌};
-ghost use Rattle.tb_read.specs.Grammar.{is_type, operand_misfit, misfit, is_fault, is_misplaced};
+ghost use Rattle.std.specs.Prelude.{◌≡◌, None, Some, if◌then◌else◌};
+ghost use Rattle.tb_read.specs.Grammar.{is_type, operand_misfit, misfit};
 
 use crate::fault::FaultKind;
 use crate::word::{
@@ -57,7 +57,7 @@ fn unless(fits: bool, fault: FaultKind) -> Option<FaultKind>
 }
 
 /// The fault of a word at its place.
-fn misfit(place: Place, word: &[u8]) -> Option<FaultKind>
+pub fn misfit(place: Place, word: &[u8]) -> Option<FaultKind>
     ensures { result ≡ misfit place word.now }
 {
     match place {
@@ -78,44 +78,4 @@ fn misfit(place: Place, word: &[u8]) -> Option<FaultKind>
             operand_misfit(word)
         },
     }
-}
-
-fn is_fault(fault: FaultKind, found: Option<FaultKind>) -> bool
-    ensures { result ≡ is_fault fault found }
-{
-    match (fault, found) {
-        (FaultKind::BadNumber, Some(FaultKind::BadNumber)) => true,
-        (FaultKind::UnknownWord, Some(FaultKind::UnknownWord)) => true,
-        (FaultKind::Register, Some(FaultKind::Register)) => true,
-        (FaultKind::DependType, Some(FaultKind::DependType)) => true,
-        _ => false,
-    }
-}
-
-/// Whether the word has the fault at its place.
-pub fn misfits(fault: FaultKind, place: Place, word: &[u8]) -> bool
-    ensures { result ≡ is_fault fault (misfit place word.now) }
-{
-    is_fault(fault, misfit(place, word))
-}
-
-/// Whether some word has the fault at its place.
-pub fn is_misplaced(fault: FaultKind, places: &[Place], words: &[&[u8]]) -> bool
-    ensures { result ≡ is_misplaced fault places.now (map (λ word. word.now) words.now) }
-{
-    let mut left_places = places;
-    let mut left_words = words;
-    while let [place, other_places @ ..] = left_places {
-        match left_words {
-            [] => return false,
-            [word, other_words @ ..] => {
-                if misfits(fault, *place, word) {
-                    return true;
-                }
-                left_places = other_places;
-                left_words = other_words;
-            }
-        }
-    }
-    false
 }
