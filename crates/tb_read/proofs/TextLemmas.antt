@@ -1,5 +1,6 @@
 -- The words of a line that is text are text, and text is UTF-8.
-use Rattle.std.proofs.Common.{◌≡◌, ◌<◌, ℕ, List, [], ◌∷◌, Bool, true, false, cond, refl, arith}
+use Rattle.std.proofs.Common.{◌≡◌, ◌<◌, ℕ, List, [], ◌∷◌, Bool, true, false, cond, refl, arith, Bor, map, take, drop, length, ◌-◌, subst}
+use Rattle.std.proofs.Math.Seq.{take-length}
 use Rattle.std.specs.Prelude.{filter}
 use Rattle.std.specs.List.{list_all}
 use Rattle.std.specs.Str.{IsAscii, IsUtf8}
@@ -36,6 +37,15 @@ filter_keeps p keeps (x ∷ xs) h =
 
 pub words_are_text : (line : List ℕ) → is_text line ≡ true → list_all is_text (words_of line) ≡ true
 words_are_text line h = filter_keeps is_text is_word (pieces is_blank line) (pieces_text is_blank line h)
+
+-- the words behind the first, of words that are text
+pub rest_is_text : (words : List (Bor (List ℕ))) → list_all is_text (map (λ word. word.now) words) ≡ true →
+    list_all is_text (map (λ word. word.now) (take (length words - 1) (drop 1 words))) ≡ true
+rest_is_text [] h = refl
+rest_is_text (word ∷ words) h =
+    let count : length words ≡ length (word ∷ words) - 1 = omega arith in
+    subst (λ n. list_all is_text (map (λ word. word.now) (take n words)) ≡ true) count
+    (rw (take-length words) (and_parts (is_text word.now) (list_all is_text (map (λ word. word.now) words)) h).1)
 
 byte_is_ascii : (b : ℕ) → is_text_byte b ≡ true → b < 128
 byte_is_ascii b h = grind arith

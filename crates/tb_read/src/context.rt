@@ -1,9 +1,10 @@
 //! What the lines in front of a line tell, and the fault of a line behind them.
 
-ghost use Rattle.std.specs.Prelude.{◌≡◌, ℕ, List, ◌++◌, ◌∷◌, [], ◌<◌, ◌≤◌, ◌==◌, drop, length, map, reverse, slice_get, Some, IfOk, OnOk, IsTrue, string_bytes};
+ghost use Rattle.std.specs.Prelude.{◌≡◌, ℕ, List, ◌++◌, ◌∷◌, [], ◌<◌, ◌≤◌, ◌==◌, drop, length, map, reverse, slice_get, Some, IfOk, OnOk, if◌then◌else◌, IsTrue, string_bytes};
 ghost use Rattle.std.specs.List.{list_all};
 ghost use Rattle.tb_read.specs.Text.{is_text};
-ghost use Rattle.tb_read.specs.Context.{number_at, is_below, is_above, is_some_number, cell_at, was_given, is_outside, was_headed, is_negative, unknown_body, is_miscalled, arity, arity_behind, is_turning, no_cells, cell_range, is_open, nesting, duplicate, too_large, is_second_cells, fault_behind, fault_of, last_fault, after, start, blank_cells, with_cell, blocks_behind};
+ghost use Rattle.tb_read.specs.Context.{number_at, is_below, is_above, is_some_number, cell_at, was_given, is_outside, was_headed, is_negative, unknown_body, is_miscalled, arity, arity_behind, is_turning, no_cells, cell_range, is_open, nesting, duplicate, too_large, is_second_cells, fault_behind, last_fault, taken, start, blank_cells, with_cell, blocks_behind};
+ghost use Rattle.tb_read.specs.declared.fault.FaultKind.TheVariants.{NoCells, UnknownWord};
 ghost use Rattle.tb_read.specs.declared.head.Head.TheVariants.{Body as ABody};
 ghost use Rattle.tb_read.specs.Bodies.{named};
 ghost use Rattle.tb_read.specs.declared.block.Block.{Block};
@@ -14,7 +15,7 @@ use crate::body::Body;
 use crate::clauses::{argument_count, clause_words, is_broken, item_count};
 use crate::fault::FaultKind;
 use crate::grammar::{is_miscounted, misplaced};
-use crate::head::{Head, head_of};
+use crate::head::Head;
 use crate::heading::{Heading, Headings};
 use crate::stack::{cut, put, top};
 use crate::word::{number, same_word, word_at};
@@ -316,8 +317,8 @@ impl Lines {
         }
     }
 
-    /// The first fault of a line with a known first word, by the order of the numbers.
-    fn fault_behind(
+    /// The first fault of a line with this first word, by the order of the numbers.
+    pub fn fault(
         &self,
         line: usize,
         headings: &Headings<'_>,
@@ -356,20 +357,14 @@ impl Lines {
         }
     }
 
-    /// The fault of a line with these words, behind those so far.
-    pub fn fault(&self, line: usize, headings: &Headings<'_>, words: &[&[u8]]) -> Option<FaultKind>
-        ensures { result ≡ fault_of (record { line = line; heading = heading_of headings.now }) self.now (map (λ word. word.now) words.now) }
+    /// The fault of a line whose first word is none that a line can have.
+    pub fn unknown_head(&self) -> FaultKind
+        ensures { result ≡ (if self.now.begun then UnknownWord else NoCells) }
     {
-        match words {
-            [] => None,
-            [first, rest @ ..] => match head_of(first) {
-                Some(head) => self.fault_behind(line, headings, head, rest),
-                None => Some(if self.begun {
-                    FaultKind::UnknownWord
-                } else {
-                    FaultKind::NoCells
-                }),
-            },
+        if self.begun {
+            FaultKind::UnknownWord
+        } else {
+            FaultKind::NoCells
         }
     }
 
@@ -388,29 +383,29 @@ impl Lines {
         }
     }
 
-    /// Takes a line with these words in. An `Err` may have taken a part of it.
-    pub fn accept(&mut self, alloc: Global, line: u32, words: &[&[u8]]) -> Result<(), AllocError>
+    /// Takes a line with this first word in. An `Err` may have taken a part of it.
+    pub fn accept(
+        &mut self,
+        alloc: Global,
+        line: u32,
+        head: Head,
+        words: &[&[u8]],
+    ) -> Result<(), AllocError>
         requires { IsTrue (list_all is_text (map (λ word. word.now) words.now)) }
-        ensures { OnOk result (self.new ≡ after line self.old (map (λ word. word.now) words.now)) }
+        ensures { OnOk result (self.new ≡ taken line self.old (Some head) (map (λ word. word.now) words.now)) }
     {
-        match words {
-            [] => Ok(()),
-            [first, rest @ ..] => {
-                self.begun = true;
-                match head_of(first) {
-                    Some(Head::Cells) => {
-                        self.cells = blank_cells(alloc, number_at(rest, 0))?;
-                        Ok(())
-                    }
-                    Some(Head::Cell) => {
-                        give(&mut self.cells, number_at(rest, 0), number_at(rest, 1));
-                        Ok(())
-                    }
-                    Some(Head::Body) => self.begin_body(alloc, line, word_at(rest, 0)),
-                    Some(head) => pass(&mut self.blocks, line, head),
-                    None => Ok(()),
-                }
+        self.begun = true;
+        match head {
+            Head::Cells => {
+                self.cells = blank_cells(alloc, number_at(words, 0))?;
+                Ok(())
             }
+            Head::Cell => {
+                give(&mut self.cells, number_at(words, 0), number_at(words, 1));
+                Ok(())
+            }
+            Head::Body => self.begin_body(alloc, line, word_at(words, 0)),
+            _ => pass(&mut self.blocks, line, head),
         }
     }
 

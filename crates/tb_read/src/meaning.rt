@@ -7,14 +7,14 @@ ghost use Rattle.tb_read.specs.Context.{Setting};
 ghost use Rattle.tb_read.specs.Flow.{Line as AnyLine};
 ghost use Rattle.tb_read.specs.Flow.Line.{Stands as IsStanding};
 ghost use Rattle.tb_read.specs.Headings.{heading_of};
-ghost use Rattle.tb_read.specs.Meaning.{register_at, operand_at, operator_at, let_of, test_in, line_of, task_of, end_of, line_by, line_in};
+ghost use Rattle.tb_read.specs.Meaning.{register_at, operand_at, operator_at, let_of, test_in, line_of, task_of, end_of, line_by};
 ghost use Rattle.tb_read.specs.Shown.{shown_line};
 ghost use Rattle.tb_read.specs.Statements.{is_sound, is_sound_operand, is_sound_address, is_sound_clause, is_sound_condition, is_sound_test};
 
 use crate::block::Block;
 use crate::clauses::{arguments, begins_test, clause_words};
 use crate::context::Lines;
-use crate::head::{Head, head_of};
+use crate::head::Head;
 use crate::heading::{Heading, Headings};
 use crate::line::Line;
 use crate::parsed::Parsed;
@@ -228,7 +228,7 @@ fn end_of(block: Option<Block>) -> Line
 }
 
 /// What a line with this first word is, behind those so far.
-fn line_by(
+pub fn line_by(
     alloc: Global,
     headings: &Headings<'_>,
     before: &Lines,
@@ -261,22 +261,4 @@ fn line_by(
         Head::If | Head::While => stands(test_in(words)),
         Head::Else => Line::Else,
     })
-}
-
-/// What a line with these words is, behind those so far.
-pub fn line_in(
-    alloc: Global,
-    headings: &Headings<'_>,
-    before: &Lines,
-    words: &[&[u8]],
-) -> Result<Line, AllocError>
-    ensures { IfOk result (λ l. (line : ℕ) → shown_line l ≡ line_in (record { line = line; heading = heading_of headings.now }) before.now (map (λ word. word.now) words.now)) }
-{
-    match words {
-        [] => Ok(Line::Passed),
-        [first, rest @ ..] => match head_of(first) {
-            Some(head) => line_by(alloc, headings, before, head, rest),
-            None => Ok(Line::Passed),
-        },
-    }
 }

@@ -1,29 +1,86 @@
 //! Reads a program text, line after line.
 
-ghost use Rattle.std.specs.Prelude.{◌≡◌, ◌≢◌, ◌<◌, ◌≤◌, ◌++◌, ◌∷◌, [], ℕ, List, IfOk, IfErr, OnOk, Some, None, length, map, slice_get};
+ghost use Rattle.std.specs.Prelude.{◌≡◌, ◌≢◌, ◌<◌, ◌≤◌, ◌++◌, ◌∷◌, [], ℕ, List, IfOk, IfErr, OnOk, Some, None, length, map, slice_get, IsTrue};
+ghost use Rattle.std.specs.List.{list_all};
 ghost use Rattle.tb_read.specs.Shown.{shown_line};
 ghost use Rattle.tb_read.specs.Headings.{headings_from, heading_of};
-ghost use Rattle.tb_read.specs.Meaning.{line_with, lines_in};
+ghost use Rattle.tb_read.specs.Context.{fault_behind, fault_of, taken, after};
+ghost use Rattle.tb_read.specs.Text.{is_text};
+ghost use Rattle.tb_read.specs.Meaning.{line_by, line_in, line_with, lines_in};
 ghost use Rattle.tb_read.specs.Reading.{context_at, behind, line_fault, fault_at, IsFirstFault};
 ghost use Rattle.tb_read.specs.declared.fault.FaultKind.TheVariants.{Memory};
 
 use crate::context::Lines;
 use crate::fault::{FaultKind, ReadFault};
+use crate::head::{Head, head_of};
 use crate::heading::Headings;
 use crate::line::Line;
-use crate::meaning::line_in;
-use crate::text::{before_comment, is_text, words_of};
+use crate::meaning::line_by;
+use crate::text::{before_comment, is_text, split};
 use std::alloc::Global;
 
-/// Takes a line in and adds what it is to those so far, where it is without a fault.
-#[tactic(auto, using(crate::proofs::TextLemmas::words_are_text))]
-fn read_line(
+/// Takes in a line with this first word, where it is without a fault.
+fn read_headed(
     alloc: Global,
     before: &mut Lines,
     all: &mut Vec<Line>,
     line: usize,
     headings: &Headings<'_>,
-    text: &[u8],
+    head: Head,
+    words: &[&[u8]],
+) -> Result<(), FaultKind>
+    requires few { line ≤ 65536 }
+    requires text { IsTrue (list_all is_text (map (λ word. word.now) words.now)) }
+    ensures accepted { OnOk result (fault_behind (record { line = line; heading = heading_of headings.now }) before.old (Some head) (map (λ word. word.now) words.now) ≡ None) }
+    ensures taken { OnOk result (before.new ≡ taken line before.old (Some head) (map (λ word. word.now) words.now)) }
+    ensures line { OnOk result (map shown_line all.new.items ≡ map shown_line all.old.items ++ line_by (record { line = line; heading = heading_of headings.now }) before.old (Some head) (map (λ word. word.now) words.now) ∷ []) }
+    ensures refused { IfErr result (λ kind. kind ≢ Memory → fault_behind (record { line = line; heading = heading_of headings.now }) before.old (Some head) (map (λ word. word.now) words.now) ≡ Some kind) }
+{
+    if let Some(kind) = before.fault(line, headings, head, words) {
+        return Err(kind);
+    }
+    all.push(line_by(alloc, headings, before, head, words)?)?;
+    before.accept(alloc, line as u32, head, words)?;
+    Ok(())
+}
+
+/// Takes in a line of these words, where it is without a fault.
+#[tactic(auto, using(crate::proofs::TextLemmas::rest_is_text))]
+fn read_words(
+    alloc: Global,
+    before: &mut Lines,
+    all: &mut Vec<Line>,
+    line: usize,
+    headings: &Headings<'_>,
+    words: &[&[u8]],
+) -> Result<(), FaultKind>
+    requires few { line ≤ 65536 }
+    requires text { IsTrue (list_all is_text (map (λ word. word.now) words.now)) }
+    ensures accepted { OnOk result (fault_of (record { line = line; heading = heading_of headings.now }) before.old (map (λ word. word.now) words.now) ≡ None) }
+    ensures taken { OnOk result (before.new ≡ after line before.old (map (λ word. word.now) words.now)) }
+    ensures line { OnOk result (map shown_line all.new.items ≡ map shown_line all.old.items ++ line_in (record { line = line; heading = heading_of headings.now }) before.old (map (λ word. word.now) words.now) ∷ []) }
+    ensures refused { IfErr result (λ kind. kind ≢ Memory → fault_of (record { line = line; heading = heading_of headings.now }) before.old (map (λ word. word.now) words.now) ≡ Some kind) }
+{
+    match words {
+        [] => Ok(all.push(Line::Passed)?),
+        [first, rest @ ..] => match head_of(first) {
+            Some(head) => read_headed(alloc, before, all, line, headings, head, rest),
+            None => Err(before.unknown_head()),
+        },
+    }
+}
+
+/// Takes a line in and adds what it is to those so far, where it is without a fault. `words` is
+/// room for its words.
+#[tactic(auto, using(crate::proofs::TextLemmas::words_are_text))]
+fn read_line<'a>(
+    alloc: Global,
+    before: &mut Lines,
+    all: &mut Vec<Line>,
+    words: &mut Vec<&'a [u8]>,
+    line: usize,
+    headings: &Headings<'_>,
+    text: &'a [u8],
 ) -> Result<(), FaultKind>
     ensures accepted { OnOk result (line_fault (record { line = line; heading = heading_of headings.now }) before.old (Some text.now) ≡ None) }
     ensures within { OnOk result (line ≤ 65536) }
@@ -38,13 +95,8 @@ fn read_line(
     if !is_text(code) {
         return Err(FaultKind::NotText);
     }
-    let words = words_of(alloc, code)?;
-    if let Some(kind) = before.fault(line, headings, &words) {
-        return Err(kind);
-    }
-    all.push(line_in(alloc, headings, before, &words)?)?;
-    before.accept(alloc, line as u32, &words)?;
-    Ok(())
+    split(words, code)?;
+    read_words(alloc, before, all, line, headings, words)
 }
 
 fn item<T: Copy>(items: &[T], at: usize) -> T
@@ -70,8 +122,10 @@ pub fn read_lines(
 {
     let mut before = Lines::new(alloc);
     let mut all = Vec::new(alloc);
+    let mut words = Vec::new(alloc);
     for at in 0..lines.len() {
-        match read_line(alloc, &mut before, &mut all, at, headings, item(lines, at)) {
+        let text = item(lines, at);
+        match read_line(alloc, &mut before, &mut all, &mut words, at, headings, text) {
             Ok(()) => {}
             Err(kind) => return Err(ReadFault {
                 line: at as u32,

@@ -1,6 +1,6 @@
 //! How a text falls into lines, and a line into words.
 
-ghost use Rattle.std.specs.Prelude.{◌≡◌, ◌<◌, ◌≤◌, length, IfOk, map, drop, suc};
+ghost use Rattle.std.specs.Prelude.{◌≡◌, ◌<◌, ◌≤◌, length, IfOk, OnOk, map, drop, suc};
 ghost use Rattle.std.specs.List.{position_or_len};
 ghost use Rattle.tb_read.specs.Text.{is_blank, is_line_feed, numbered, words_of, line_words, before_comment, is_text};
 
@@ -68,11 +68,11 @@ pub fn before_comment(line: &[u8]) -> &[u8]
     line
 }
 
-/// The words of a line that has no comment.
-pub fn words_of(alloc: Global, line: &[u8]) -> Result<Vec<&[u8]>, AllocError>
-    ensures { IfOk result (λ words. map (λ word. word.now) words.items ≡ words_of line.now) }
+/// Puts the words of a line that has no comment into `words`, in place of what was there.
+pub fn split<'a>(words: &mut Vec<&'a [u8]>, line: &'a [u8]) -> Result<(), AllocError>
+    ensures { OnOk result (map (λ word. word.now) words.new.items ≡ words_of line.now) }
 {
-    let mut words = Vec::new(alloc);
+    words.clear();
     let mut rest = line;
     while !rest.is_empty() {
         let at = word_len(rest);
@@ -81,7 +81,7 @@ pub fn words_of(alloc: Global, line: &[u8]) -> Result<Vec<&[u8]>, AllocError>
         }
         rest = behind(rest, at);
     }
-    Ok(words)
+    Ok(())
 }
 
 /// Whether each byte is of a text.
@@ -97,5 +97,7 @@ pub fn is_text(bytes: &[u8]) -> bool
 pub fn line_words(alloc: Global, line: &[u8]) -> Result<Vec<&[u8]>, AllocError>
     ensures { IfOk result (λ words. map (λ word. word.now) words.items ≡ line_words line.now) }
 {
-    words_of(alloc, before_comment(line))
+    let mut words = Vec::new(alloc);
+    split(&mut words, before_comment(line))?;
+    Ok(words)
 }

@@ -1,8 +1,8 @@
 use Rattle.std.proofs.Common.{arith}
 use Rattle.std.proofs.lemmas.List.{map-append}
 use Rattle.tb_read.proofs.PieceLemmas.{word_found, blank_found}
-use Rattle.tb_read.proofs.text.words_of.Goals as goal
-use Rattle.tb_read.proofs.text.words_of.Goals.{then-at-gt0+in_ok-push, else-at-gt0}
+use Rattle.tb_read.proofs.text.split.Goals as goal
+use Rattle.tb_read.proofs.text.split.Goals.{then-at-gt0+in_ok-push, else-at-gt0}
 
 pub loop-rest-preserved : goal.loop-rest-preserved
 loop-rest-preserved c =
