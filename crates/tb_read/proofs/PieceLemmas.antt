@@ -1,7 +1,7 @@
 -- A first piece, and the pieces behind it.
-use Rattle.std.proofs.Common.{◌≡◌, ℕ, suc, Bool, true, false, List, [], ◌∷◌, ◌++◌, take, drop, refl, ap, sym, ◌∙◌, append_assoc, not, cond, ◌<◌, ◌≤◌, ◌+◌, arith, zero}
+use Rattle.std.proofs.Common.{◌≡◌, ℕ, suc, Bool, true, false, List, [], ◌∷◌, ◌++◌, take, drop, refl, ap, sym, ◌∙◌, append_assoc, not, cond, ◌<◌, ◌≤◌, ◌+◌, ◌==◌, arith, zero}
 use Rattle.std.specs.List.{position_or_len, filter}
-use Rattle.tb_read.specs.Text.{pieces, onto_first, is_word, is_blank, words_of}
+use Rattle.tb_read.specs.Text.{pieces, onto_first, is_word, is_blank, uncommented, begins_comment, line_words}
 
 one_more : (n : ℕ) → 1 + n ≡ suc n
 one_more n = omega arith
@@ -34,26 +34,40 @@ piece_found ends before (b ∷ bytes) all at some e h =
     let found : pieces ends (b ∷ bytes) ≡ take at (b ∷ bytes) ∷ pieces ends (drop (suc at) (b ∷ bytes)) = rw e (pieces_front ends b bytes) in
     append_assoc before (take at (b ∷ bytes) ∷ []) (pieces ends (drop (suc at) (b ∷ bytes))) ∙ ap (λ more. before ++ more) (sym found) ∙ h
 
-cut_front : (b : ℕ) (bytes : List ℕ) (at : ℕ) → at ≡ position_or_len is_blank (b ∷ bytes) →
-    pieces is_blank (b ∷ bytes) ≡ take at (b ∷ bytes) ∷ pieces is_blank (drop (suc at) (b ∷ bytes))
-cut_front b bytes at e = rw e (pieces_front is_blank b bytes)
+-- the words of a line whose first byte doesn't begin a comment: its first piece, and those behind that, of which the next may be a comment
+cut_by : (b : ℕ) (bytes : List ℕ) →
+    onto_first b (pieces is_blank (uncommented false bytes)) ≡ take (1 + position_or_len is_blank bytes) (b ∷ bytes) ∷ pieces is_blank (uncommented true (drop (suc (1 + position_or_len is_blank bytes)) (b ∷ bytes))) →
+    pieces is_blank (b ∷ uncommented (is_blank b) bytes) ≡ take (position_or_len is_blank (b ∷ bytes)) (b ∷ bytes) ∷ pieces is_blank (uncommented true (drop (suc (position_or_len is_blank (b ∷ bytes))) (b ∷ bytes)))
+cut_by b bytes on =
+    elim (is_blank b) as (λ t. cond t ([] ∷ pieces is_blank (uncommented t bytes)) (onto_first b (pieces is_blank (uncommented t bytes)))
+    ≡ take (cond (not t) (1 + position_or_len is_blank bytes) 0) (b ∷ bytes) ∷ pieces is_blank (uncommented true (drop (suc (cond (not t) (1 + position_or_len is_blank bytes) 0)) (b ∷ bytes))))
+    [ true ↦ refl | false ↦ on ]
+
+cut_inside : (b : ℕ) (bytes : List ℕ) →
+    pieces is_blank (b ∷ uncommented (is_blank b) bytes) ≡ take (position_or_len is_blank (b ∷ bytes)) (b ∷ bytes) ∷ pieces is_blank (uncommented true (drop (suc (position_or_len is_blank (b ∷ bytes))) (b ∷ bytes)))
+cut_inside b [] = cut_by b [] refl
+cut_inside b (c ∷ bytes) = cut_by b (c ∷ bytes) (rw one_more (ap (onto_first b) (cut_inside c bytes)))
+
+cut_front : (b : ℕ) (bytes : List ℕ) (at : ℕ) → (b == 35) ≡ false → at ≡ position_or_len is_blank (b ∷ bytes) →
+    pieces is_blank (uncommented true (b ∷ bytes)) ≡ take at (b ∷ bytes) ∷ pieces is_blank (uncommented true (drop (suc at) (b ∷ bytes)))
+cut_front b bytes at code e = rw e (ap (λ t. pieces is_blank (cond t [] (b ∷ uncommented (is_blank b) bytes))) code ∙ cut_inside b bytes)
 
 -- a word, behind the words that were found before
 pub word_found : (before : List (List ℕ)) (rest : List ℕ) (all : List (List ℕ)) (at : ℕ) → 0 < at →
-    at ≡ position_or_len is_blank rest → before ++ words_of rest ≡ all →
-    (before ++ take at rest ∷ []) ++ words_of (drop (suc at) rest) ≡ all
-word_found before [] all at some e h = absurd (omega arith)
-word_found before (b ∷ bytes) all zero some e h = absurd (omega arith)
-word_found before (b ∷ bytes) all (suc n) some e h =
-    let found : words_of (b ∷ bytes) ≡ take (suc n) (b ∷ bytes) ∷ words_of (drop (suc (suc n)) (b ∷ bytes)) = ap (filter is_word) (cut_front b bytes _ e) in
-    append_assoc before (take (suc n) (b ∷ bytes) ∷ []) (words_of (drop (suc (suc n)) (b ∷ bytes))) ∙ ap (λ more. before ++ more) (sym found) ∙ h
+    begins_comment rest ≡ false → at ≡ position_or_len is_blank rest → before ++ line_words rest ≡ all →
+    (before ++ take at rest ∷ []) ++ line_words (drop (suc at) rest) ≡ all
+word_found before [] all at some code e h = absurd (omega arith)
+word_found before (b ∷ bytes) all zero some code e h = absurd (omega arith)
+word_found before (b ∷ bytes) all (suc n) some code e h =
+    let found : line_words (b ∷ bytes) ≡ take (suc n) (b ∷ bytes) ∷ line_words (drop (suc (suc n)) (b ∷ bytes)) = ap (filter is_word) (cut_front b bytes _ code e) in
+    append_assoc before (take (suc n) (b ∷ bytes) ∷ []) (line_words (drop (suc (suc n)) (b ∷ bytes))) ∙ ap (λ more. before ++ more) (sym found) ∙ h
 
 -- a blank, behind the words that were found before
 pub blank_found : (before : List (List ℕ)) (rest : List ℕ) (all : List (List ℕ)) (at : ℕ) → at ≤ 0 →
-    at ≡ position_or_len is_blank rest → before ++ words_of rest ≡ all →
-    before ++ words_of (drop (suc at) rest) ≡ all
-blank_found before [] all at none e h = h
-blank_found before (b ∷ bytes) all (suc n) none e h = absurd (omega arith)
-blank_found before (b ∷ bytes) all zero none e h =
-    let found : words_of (b ∷ bytes) ≡ words_of bytes = ap (filter is_word) (cut_front b bytes _ e) in
+    begins_comment rest ≡ false → at ≡ position_or_len is_blank rest → before ++ line_words rest ≡ all →
+    before ++ line_words (drop (suc at) rest) ≡ all
+blank_found before [] all at none code e h = h
+blank_found before (b ∷ bytes) all (suc n) none code e h = absurd (omega arith)
+blank_found before (b ∷ bytes) all zero none code e h =
+    let found : line_words (b ∷ bytes) ≡ line_words bytes = ap (filter is_word) (cut_front b bytes _ code e) in
     ap (λ more. before ++ more) (sym found) ∙ h

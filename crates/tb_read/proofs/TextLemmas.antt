@@ -1,42 +1,47 @@
 -- The words of a line that is text are text, and text is UTF-8.
-use Rattle.std.proofs.Common.{◌≡◌, ◌<◌, ℕ, List, [], ◌∷◌, Bool, true, false, cond, refl, arith, Bor, map, take, drop, length, ◌-◌, subst}
+use Rattle.std.proofs.Common.{◌≡◌, ◌<◌, ℕ, List, [], ◌∷◌, Bool, true, false, cond, refl, arith, Bor, map, take, drop, length, ◌-◌, subst, ◌&&◌, ap, ◌∙◌}
 use Rattle.std.proofs.Math.Seq.{take-length}
 use Rattle.std.specs.Prelude.{filter}
 use Rattle.std.specs.List.{list_all}
 use Rattle.std.specs.Str.{IsAscii, IsUtf8}
 use Rattle.std.proofs.lemmas.Str.{IsUtf8-from_ascii}
 use Rattle.std.proofs.lemmas.Str.Ascii.{IsAscii-nil, IsAscii-cons}
-use Rattle.std.proofs.lemmas.Bool.{and_parts, and_from}
-use Rattle.tb_read.specs.Text.{is_blank, onto_first, pieces, words_of, is_word, is_text_byte, is_text}
+use Rattle.std.proofs.lemmas.Bool.{and_parts}
+use Rattle.tb_read.specs.Text.{is_blank, onto_first, pieces, is_word, is_text_byte, is_text, before_comment, line_words}
 
-onto_first_text : (b : ℕ) (pieces : List (List ℕ)) → is_text_byte b ≡ true → list_all is_text pieces ≡ true → list_all is_text (onto_first b pieces) ≡ true
-onto_first_text b [] h k = and_from (is_text (b ∷ [])) true (and_from (is_text_byte b) true h refl) refl
-onto_first_text b (piece ∷ pieces) h k =
-    let parts = and_parts (is_text piece) (list_all is_text pieces) k in
-    and_from (is_text (b ∷ piece)) (list_all is_text pieces) (and_from (is_text_byte b) (is_text piece) h parts.0) parts.1
+onto_first_text : (b : ℕ) (pieces : List (List ℕ)) → list_all is_text (onto_first b pieces) ≡ (is_text_byte b && list_all is_text pieces)
+onto_first_text b [] = and_true (is_text_byte b)
+  where
+    and_true : (s : Bool) → ((s && true) && true) ≡ (s && true)
+    and_true true = refl
+    and_true false = refl
+onto_first_text b (piece ∷ pieces) = and_on (is_text_byte b) (is_text piece) (list_all is_text pieces)
+  where
+    and_on : (s t u : Bool) → ((s && t) && u) ≡ (s && (t && u))
+    and_on true t u = refl
+    and_on false t u = refl
 
-pieces_by : (found : Bool) (b : ℕ) (rest : List (List ℕ)) → is_text_byte b ≡ true → list_all is_text rest ≡ true → list_all is_text (cond found ([] ∷ rest) (onto_first b rest)) ≡ true
-pieces_by true b rest h k = k
-pieces_by false b rest h k = onto_first_text b rest h k
+blank_is_text : (b : ℕ) → is_blank b ≡ true → is_text_byte b ≡ true
+blank_is_text b h = rw h refl
 
-pieces_text : (ends : ℕ → Bool) (bytes : List ℕ) → is_text bytes ≡ true → list_all is_text (pieces ends bytes) ≡ true
-pieces_text ends [] h = refl
-pieces_text ends (b ∷ bytes) h =
-    let parts = and_parts (is_text_byte b) (is_text bytes) h in
-    pieces_by (ends b) b (pieces ends bytes) parts.0 (pieces_text ends bytes parts.1)
+-- pieces are text where the line is
+pieces_by : (found : Bool) (b : ℕ) (rest : List (List ℕ)) → is_blank b ≡ found →
+    list_all is_text (cond found ([] ∷ rest) (onto_first b rest)) ≡ (is_text_byte b && list_all is_text rest)
+pieces_by true b rest h = rw (blank_is_text b h) refl
+pieces_by false b rest h = onto_first_text b rest
 
-kept_by : (p : List ℕ → Bool) (keeps : Bool) (x : List ℕ) (xs : List (List ℕ)) → p x ≡ true → list_all p xs ≡ true → list_all p (cond keeps (x ∷ xs) xs) ≡ true
-kept_by p true x xs h k = and_from (p x) (list_all p xs) h k
-kept_by p false x xs h k = k
+pieces_text : (bytes : List ℕ) → list_all is_text (pieces is_blank bytes) ≡ is_text bytes
+pieces_text [] = refl
+pieces_text (b ∷ bytes) = pieces_by (is_blank b) b (pieces is_blank bytes) refl ∙ ap (λ t. is_text_byte b && t) (pieces_text bytes)
 
-filter_keeps : (p keeps : List ℕ → Bool) (xs : List (List ℕ)) → list_all p xs ≡ true → list_all p (filter keeps xs) ≡ true
-filter_keeps p keeps [] h = refl
-filter_keeps p keeps (x ∷ xs) h =
-    let parts = and_parts (p x) (list_all p xs) h in
-    kept_by p (keeps x) x (filter keeps xs) parts.0 (filter_keeps p keeps xs parts.1)
+filter_text : (pieces : List (List ℕ)) → list_all is_text (filter is_word pieces) ≡ list_all is_text pieces
+filter_text [] = refl
+filter_text ([] ∷ pieces) = filter_text pieces
+filter_text ((b ∷ piece) ∷ pieces) = ap (λ t. is_text (b ∷ piece) && t) (filter_text pieces)
 
-pub words_are_text : (line : List ℕ) → is_text line ≡ true → list_all is_text (words_of line) ≡ true
-words_are_text line h = filter_keeps is_text is_word (pieces is_blank line) (pieces_text is_blank line h)
+-- the words of a line are text just where its bytes in front of the comment are
+pub words_text : (line : List ℕ) → list_all is_text (line_words line) ≡ is_text (before_comment line)
+words_text line = filter_text (pieces is_blank (before_comment line)) ∙ pieces_text (before_comment line)
 
 -- the words behind the first, of words that are text
 pub rest_is_text : (words : List (Bor (List ℕ))) → list_all is_text (map (λ word. word.now) words) ≡ true →

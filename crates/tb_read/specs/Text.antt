@@ -30,6 +30,11 @@ abbrev pub uncommented : Bool → List ℕ → List ℕ
 uncommented starts [] = []
 uncommented starts (b ∷ bytes) = if starts && (b == 35) then [] else b ∷ uncommented (is_blank b) bytes
 
+-- a comment that begins at the first byte
+abbrev pub begins_comment : List ℕ → Bool
+begins_comment [] = false
+begins_comment (b ∷ bytes) = b == 35
+
 abbrev pub before_comment : List ℕ → List ℕ
 before_comment line = uncommented true line
 

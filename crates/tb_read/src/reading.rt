@@ -16,7 +16,7 @@ use crate::head::{Head, head_of};
 use crate::heading::Headings;
 use crate::line::Line;
 use crate::meaning::line_by;
-use crate::text::{before_comment, is_text, split};
+use crate::text::{are_text, split};
 use std::alloc::Global;
 
 /// Takes in a line with this first word, where it is without a fault.
@@ -72,7 +72,7 @@ fn read_words(
 
 /// Takes a line in and adds what it is to those so far, where it is without a fault. `words` is
 /// room for its words.
-#[tactic(auto, using(crate::proofs::TextLemmas::words_are_text))]
+#[tactic(auto, using(crate::proofs::TextLemmas::words_text))]
 fn read_line<'a>(
     alloc: Global,
     before: &mut Lines,
@@ -91,11 +91,10 @@ fn read_line<'a>(
     if 1024 < text.len() || 65536 < line {
         return Err(FaultKind::TooLarge);
     }
-    let code = before_comment(text);
-    if !is_text(code) {
+    split(words, text)?;
+    if !are_text(words) {
         return Err(FaultKind::NotText);
     }
-    split(words, code)?;
     read_words(alloc, before, all, line, headings, words)
 }
 

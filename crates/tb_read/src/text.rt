@@ -1,8 +1,8 @@
 //! How a text falls into lines, and a line into words.
 
 ghost use Rattle.std.specs.Prelude.{◌≡◌, ◌<◌, ◌≤◌, length, IfOk, OnOk, map, drop, suc};
-ghost use Rattle.std.specs.List.{position_or_len};
-ghost use Rattle.tb_read.specs.Text.{is_blank, is_line_feed, numbered, words_of, line_words, before_comment, is_text};
+ghost use Rattle.std.specs.List.{list_all, position_or_len};
+ghost use Rattle.tb_read.specs.Text.{is_blank, is_line_feed, numbered, begins_comment, line_words, before_comment, is_text};
 
 use std::alloc::{AllocError, Global};
 
@@ -68,13 +68,25 @@ pub fn before_comment(line: &[u8]) -> &[u8]
     line
 }
 
-/// Puts the words of a line that has no comment into `words`, in place of what was there.
+fn begins_comment(bytes: &[u8]) -> bool
+    ensures { result ≡ begins_comment bytes.now }
+{
+    match bytes {
+        [] => false,
+        [b, ..] => *b == b'#',
+    }
+}
+
+/// Puts the words of a line, without its comment, into `words`, in place of what was there.
 pub fn split<'a>(words: &mut Vec<&'a [u8]>, line: &'a [u8]) -> Result<(), AllocError>
-    ensures { OnOk result (map (λ word. word.now) words.new.items ≡ words_of line.now) }
+    ensures { OnOk result (map (λ word. word.now) words.new.items ≡ line_words line.now) }
 {
     words.clear();
     let mut rest = line;
     while !rest.is_empty() {
+        if begins_comment(rest) {
+            return Ok(());
+        }
         let at = word_len(rest);
         if at > 0 {
             words.push(&rest[..at])?;
@@ -90,7 +102,21 @@ pub fn is_text(bytes: &[u8]) -> bool
 {
     bytes
         .iter()
-        .all(|b| is_blank(*b) || (32 <= *b && *b <= 126))
+        .all(|b| (32 <= *b && *b <= 126) || is_blank(*b))
+}
+
+/// Whether each byte of these words is of a text.
+pub fn are_text(words: &[&[u8]]) -> bool
+    ensures { result ≡ list_all is_text (map (λ word. word.now) words.now) }
+{
+    let mut left = words;
+    while let [word, rest @ ..] = left {
+        if !is_text(word) {
+            return false;
+        }
+        left = rest;
+    }
+    true
 }
 
 /// The words of a line, without its comment.
@@ -98,6 +124,6 @@ pub fn line_words(alloc: Global, line: &[u8]) -> Result<Vec<&[u8]>, AllocError>
     ensures { IfOk result (λ words. map (λ word. word.now) words.items ≡ line_words line.now) }
 {
     let mut words = Vec::new(alloc);
-    split(&mut words, before_comment(line))?;
+    split(&mut words, line)?;
     Ok(words)
 }
