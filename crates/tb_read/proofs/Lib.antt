@@ -15,3 +15,4 @@ pub mod ReadLemmas
 pub mod ProgramLemmas
 pub mod StripLemmas
 pub mod BurstLemmas
+pub mod BeginningLemmas

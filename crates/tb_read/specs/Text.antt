@@ -55,3 +55,8 @@ is_text bytes = list_all is_text_byte bytes
 -- the words of a line, without its comment
 abbrev pub line_words : List ℕ → List (List ℕ)
 line_words line = words_of (before_comment line)
+
+-- the first byte that isn't a blank is this one
+abbrev pub begins_with : ℕ → List ℕ → Bool
+begins_with first [] = false
+begins_with first (b ∷ bytes) = if is_blank b then begins_with first bytes else b == first

@@ -5,7 +5,7 @@ ghost use Rattle.std.specs.Option.{option_to_list, option_map};
 ghost use Rattle.tb_read.specs.Headings.{params_of, is_heading, heading_in, headings_from, heading_of};
 ghost use Rattle.tb_read.specs.Text.{line_words};
 
-use crate::text::line_words;
+use crate::text::{begins_with, line_words};
 use crate::word::{is_name, number, same_word, word_at};
 use std::alloc::{AllocError, Global};
 use std::collections::HashMap;
@@ -73,6 +73,9 @@ impl<'a> Headings<'a> {
     fn add(&mut self, alloc: Global, line: usize, text: &'a [u8]) -> Result<(), AllocError>
         ensures { OnOk result ((other : List ℕ) → heading_of self.new other ≡ heading_of (self.old ++ option_to_list (heading_in line (line_words text.now))) other) }
     {
+        if !begins_with(text, b'b') {
+            return Ok(());
+        }
         match heading_in(line, &line_words(alloc, text)?) {
             Some((name, heading)) => self.insert(name, heading),
             None => Ok(()),

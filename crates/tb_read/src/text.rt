@@ -2,7 +2,7 @@
 
 ghost use Rattle.std.specs.Prelude.{◌≡◌, ◌<◌, ◌≤◌, length, IfOk, OnOk, map, drop, suc};
 ghost use Rattle.std.specs.List.{list_all, position_or_len};
-ghost use Rattle.tb_read.specs.Text.{is_blank, is_line_feed, numbered, begins_comment, line_words, before_comment, is_text};
+ghost use Rattle.tb_read.specs.Text.{is_blank, is_line_feed, numbered, begins_comment, begins_with, line_words, before_comment, is_text};
 
 use std::alloc::{AllocError, Global};
 
@@ -75,6 +75,21 @@ fn begins_comment(bytes: &[u8]) -> bool
         [] => false,
         [b, ..] => *b == b'#',
     }
+}
+
+/// Whether the first byte that isn't a blank is this one, as that of a line with a certain first
+/// word is. It tells most lines from such a line without looking for their words.
+pub fn begins_with(line: &[u8], first: u8) -> bool
+    ensures { result ≡ begins_with first line.now }
+{
+    let mut left = line;
+    while let [b, rest @ ..] = left {
+        if !is_blank(*b) {
+            return *b == first;
+        }
+        left = rest;
+    }
+    false
 }
 
 /// Puts the words of a line, without its comment, into `words`, in place of what was there.
