@@ -46,5 +46,5 @@ pub use private_line::PrivateLine;
 pub use program::Program;
 pub use reader::read;
 pub use strip::Strip;
-pub use text::{before_comment, is_text, line_words};
+pub use text::{before_comment, begins_with, is_text, line_words};
 pub use word::same_word;

@@ -4,3 +4,4 @@ pub mod RunLemmas
 pub mod ServeLemmas
 pub mod BeginLemmas
 pub mod EndLemmas
+pub mod DividerLemmas
