@@ -1,7 +1,8 @@
 -- A first piece, and the pieces behind it.
-use Rattle.std.proofs.Common.{◌≡◌, ℕ, suc, Bool, true, false, List, [], ◌∷◌, ◌++◌, take, drop, refl, ap, sym, ◌∙◌, append_assoc, not, cond, ◌<◌, ◌≤◌, ◌+◌, ◌==◌, arith, zero}
+use Rattle.std.proofs.Common.{◌≡◌, ℕ, suc, Bool, true, false, List, [], ◌∷◌, ◌++◌, take, drop, refl, ap, sym, ◌∙◌, append_assoc, not, cond, ◌<◌, ◌≤◌, ◌+◌, ◌==◌, arith, zero, length, get_or, ◌⊎◌, inl, inr}
+use Rattle.std.proofs.lemmas.Bool.Decides.{nat_tests}
 use Rattle.std.specs.List.{position_or_len, filter}
-use Rattle.tb_read.specs.Text.{pieces, onto_first, is_word, is_blank, uncommented, begins_comment, line_words}
+use Rattle.tb_read.specs.Text.{pieces, onto_first, is_word, is_blank, uncommented, begins_comment, words_of, line_words, is_printed, is_text, is_text_byte}
 
 one_more : (n : ℕ) → 1 + n ≡ suc n
 one_more n = omega arith
@@ -71,3 +72,37 @@ blank_found before (b ∷ bytes) all (suc n) none code e h = absurd (omega arith
 blank_found before (b ∷ bytes) all zero none code e h =
     let found : line_words (b ∷ bytes) ≡ line_words bytes = ap (filter is_word) (cut_front b bytes _ code e) in
     ap (λ more. before ++ more) (sym found) ∙ h
+
+comment_by : (b : ℕ) (bytes : List ℕ) → (b == 35) ≡ true → line_words (b ∷ bytes) ≡ []
+comment_by b bytes e = ap (λ t. words_of (cond t [] (b ∷ uncommented (is_blank b) bytes))) e
+
+-- a comment has no words
+pub comment_words : (rest : List ℕ) → begins_comment rest ≡ true → line_words rest ≡ []
+comment_words [] comment = refl
+comment_words (b ∷ bytes) comment = comment_by b bytes comment
+
+printed_on : (b : ℕ) (bytes : List ℕ) (n : ℕ) → is_printed b ≡ true → (n ≡ position_or_len is_blank bytes) × (is_text (take n bytes) ≡ true) →
+    (suc n ≡ position_or_len is_blank (b ∷ bytes)) × (is_text (take (suc n) (b ∷ bytes)) ≡ true)
+printed_on b bytes n h more =
+    let unblank : is_blank b ≡ false = grind (arith, nat_tests) in
+    let text : is_text_byte b ≡ true = grind (arith, nat_tests) in
+    (rw unblank (omega (arith, more.0)), rw (text, more.1) refl)
+
+printed_by : (printed : Bool) (b : ℕ) (bytes : List ℕ) (at : ℕ) → is_printed b ≡ printed → at ≡ cond (not (not printed)) (1 + position_or_len (λ b. not (is_printed b)) bytes) 0 →
+    (at ≡ length (b ∷ bytes)) ⊎ (is_blank (get_or (b ∷ bytes) at 0) ≡ true) →
+    ((at : ℕ) → at ≡ position_or_len (λ b. not (is_printed b)) bytes → (at ≡ length bytes) ⊎ (is_blank (get_or bytes at 0) ≡ true) →
+    (at ≡ position_or_len is_blank bytes) × (is_text (take at bytes) ≡ true)) →
+    (at ≡ position_or_len is_blank (b ∷ bytes)) × (is_text (take at (b ∷ bytes)) ≡ true)
+printed_by false b bytes zero h e (inl whole) on = absurd (omega arith)
+printed_by false b bytes zero h e (inr blank) on = (rw blank refl, refl)
+printed_by false b bytes (suc n) h e ends on = absurd (omega arith)
+printed_by true b bytes zero h e ends on = absurd (omega arith)
+printed_by true b bytes (suc n) h e (inl whole) on = printed_on b bytes n h (on n (omega arith) (inl (omega arith)))
+printed_by true b bytes (suc n) h e (inr blank) on = printed_on b bytes n h (on n (omega arith) (inr blank))
+
+-- printed bytes up to a blank or the end are a piece that is text
+pub printed_front : (bytes : List ℕ) (at : ℕ) → at ≡ position_or_len (λ b. not (is_printed b)) bytes → (at ≡ length bytes) ⊎ (is_blank (get_or bytes at 0) ≡ true) →
+    (at ≡ position_or_len is_blank bytes) × (is_text (take at bytes) ≡ true)
+printed_front [] zero e ends = (refl, refl)
+printed_front [] (suc n) e ends = absurd (omega arith)
+printed_front (b ∷ bytes) at e ends = printed_by (is_printed b) b bytes at refl e ends (printed_front bytes)

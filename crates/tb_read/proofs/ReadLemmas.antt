@@ -1,9 +1,5 @@
 -- Line after line.
-use Rattle.std.proofs.Common.{◌≡◌, ℕ, zero, suc, ◌+◌, List, [], ◌∷◌, ◌++◌, map, slice_get, length, Option, Bor, arith, refl, ap, sym, ◌∙◌, add-one, length-append, Some, true, false, nat_lt, ◌||◌, ◌≤◌}
-use Rattle.std.specs.List.{list_all}
-use Rattle.std.proofs.lemmas.Bool.Decides.{nat_tests}
-use Rattle.tb_read.specs.Text.{is_text, before_comment, line_words}
-use Rattle.tb_read.proofs.TextLemmas.{words_text}
+use Rattle.std.proofs.Common.{◌≡◌, ℕ, zero, suc, ◌+◌, List, [], ◌∷◌, ◌++◌, map, slice_get, length, Option, Bor, arith, refl, ap, sym, ◌∙◌, add-one, length-append}
 use Rattle.std.proofs.Math.Path.{fun_ext}
 use Rattle.std.proofs.lemmas.List.{length-map}
 use Rattle.tb_read.specs.Shown.{shown_line}
@@ -11,7 +7,7 @@ use Rattle.tb_read.specs.declared.line.Line.{Line}
 use Rattle.tb_read.specs.Flow.{Line as Shown}
 use Rattle.tb_read.specs.Word.{Word}
 use Rattle.tb_read.specs.Headings.{headings_from, heading_of}
-use Rattle.tb_read.specs.Context.{Context, Setting, fault_of}
+use Rattle.tb_read.specs.Context.{Context, Setting}
 use Rattle.tb_read.specs.Reading.{setting_at, context_at, fault_at, line_fault, behind}
 use Rattle.tb_read.specs.Meaning.{line_with, line_at, lines_until, lines_in}
 use Rattle.tb_read.specs.declared.heading.Heading.{Heading}
@@ -26,17 +22,6 @@ pub fault_here : (lines : List (List ℕ)) (at : ℕ) (text : Option (List ℕ))
     here ≡ setting_at lines at → context ≡ context_at lines at → slice_get lines at ≡ text → line_fault here context text ≡ found → fault_at lines at ≡ found
 fault_here lines at text here context found setting told same e =
     ap (λ l. line_fault (setting_at lines at) (context_at lines at) l) same ∙ ap (λ k. line_fault (setting_at lines at) k text) (sym told) ∙ ap (λ s. line_fault s context text) (sym setting) ∙ e
-
-short_enough : (length line : ℕ) → length ≤ 1024 → line ≤ 65536 → (nat_lt 1024 length || nat_lt 65536 line) ≡ false
-short_enough length line short near = grind (arith, nat_tests)
-
--- the fault of a line that isn't too long or too far down, and whose words are text
-pub fault_of_words : (here : Setting) (context : Context) (text : List ℕ) (words : List (List ℕ)) → length text ≤ 1024 → here.line ≤ 65536 →
-    true ≡ list_all is_text words → words ≡ line_words text → fault_of here context words ≡ line_fault here context (Some text)
-fault_of_words here context text words short near text_words same =
-    let is_text : is_text (before_comment text) ≡ true = sym (words_text text) ∙ ap (list_all is_text) (sym same) ∙ sym text_words in
-    let whole : line_fault here context (Some text) ≡ fault_of here context (line_words text) = rw (short_enough (length text) here.line short near, is_text) refl in
-    ap (fault_of here context) same ∙ sym whole
 
 pub told_behind : (lines : List (List ℕ)) (at : ℕ) (text : Option (List ℕ)) (context more : Context) →
     context ≡ context_at lines at → slice_get lines at ≡ text → more ≡ behind at text context → more ≡ context_at lines (at + 1)

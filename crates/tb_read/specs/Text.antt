@@ -52,6 +52,10 @@ is_text_byte b = is_blank b || (nat_le 32 b && nat_le b 126)
 abbrev pub is_text : List ℕ → Bool
 is_text bytes = list_all is_text_byte bytes
 
+-- a byte of a text that isn't a blank
+abbrev pub is_printed : ℕ → Bool
+is_printed b = nat_le 33 b && nat_le b 126
+
 -- the words of a line, without its comment
 abbrev pub line_words : List ℕ → List (List ℕ)
 line_words line = words_of (before_comment line)

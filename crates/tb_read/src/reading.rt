@@ -16,7 +16,7 @@ use crate::head::{Head, head_of};
 use crate::heading::Headings;
 use crate::line::Line;
 use crate::meaning::line_by;
-use crate::text::{are_text, split};
+use crate::text::split;
 use std::alloc::Global;
 
 /// Takes in a line with this first word, where it is without a fault.
@@ -91,8 +91,7 @@ fn read_line<'a>(
     if 1024 < text.len() || 65536 < line {
         return Err(FaultKind::TooLarge);
     }
-    split(words, text)?;
-    if !are_text(words) {
+    if !split(words, text)? {
         return Err(FaultKind::NotText);
     }
     read_words(alloc, before, all, line, headings, words)

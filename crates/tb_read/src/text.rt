@@ -1,8 +1,8 @@
 //! How a text falls into lines, and a line into words.
 
-ghost use Rattle.std.specs.Prelude.{◌≡◌, ◌<◌, ◌≤◌, length, IfOk, OnOk, map, drop, suc};
-ghost use Rattle.std.specs.List.{list_all, position_or_len};
-ghost use Rattle.tb_read.specs.Text.{is_blank, is_line_feed, numbered, begins_comment, begins_with, line_words, before_comment, is_text};
+ghost use Rattle.std.specs.Prelude.{◌≡◌, ◌<◌, ◌≤◌, length, IfOk, OnOk, map, take, drop, suc, not};
+ghost use Rattle.std.specs.List.{position_or_len};
+ghost use Rattle.tb_read.specs.Text.{is_blank, is_line_feed, numbered, is_printed, begins_comment, begins_with, line_words, before_comment, is_text};
 
 use std::alloc::{AllocError, Global};
 
@@ -92,23 +92,53 @@ pub fn begins_with(line: &[u8], first: u8) -> bool
     false
 }
 
-/// Puts the words of a line, without its comment, into `words`, in place of what was there.
-pub fn split<'a>(words: &mut Vec<&'a [u8]>, line: &'a [u8]) -> Result<(), AllocError>
-    ensures { OnOk result (map (λ word. word.now) words.new.items ≡ line_words line.now) }
+/// How many bytes lie in front of the first that isn't printed.
+fn printed_len(bytes: &[u8]) -> usize
+    ensures len { result ≡ position_or_len (λ b. not (is_printed b)) bytes.now }
+    ensures within { result ≤ length bytes.now }
+{
+    bytes.iter().take_while(|b| 33 <= **b && **b <= 126).count()
+}
+
+/// The length of what lies in front of the first blank, and whether that is text. All its bytes are
+/// printed but in a faulty line.
+fn front(bytes: &[u8]) -> (usize, bool)
+    ensures len { result.0 ≡ position_or_len is_blank bytes.now }
+    ensures within { result.0 ≤ length bytes.now }
+    ensures text { result.1 ≡ is_text (take result.0 bytes.now) }
+{
+    let printed = printed_len(bytes);
+    if printed == bytes.len() {
+        return (printed, true);
+    }
+    if is_blank(bytes[printed]) {
+        return (printed, true);
+    }
+    let at = word_len(bytes);
+    (at, is_text(&bytes[..at]))
+}
+
+/// Puts the words of a line, without its comment, into `words`, in place of what was there, and
+/// tells whether all in front of the comment is text.
+pub fn split<'a>(words: &mut Vec<&'a [u8]>, line: &'a [u8]) -> Result<bool, AllocError>
+    ensures words { OnOk result (map (λ word. word.now) words.new.items ≡ line_words line.now) }
+    ensures text { IfOk result (λ text. text ≡ is_text (before_comment line.now)) }
 {
     words.clear();
+    let mut text = true;
     let mut rest = line;
     while !rest.is_empty() {
         if begins_comment(rest) {
-            return Ok(());
+            return Ok(text);
         }
-        let at = word_len(rest);
+        let (at, is_text) = front(rest);
         if at > 0 {
             words.push(&rest[..at])?;
+            text &= is_text;
         }
         rest = behind(rest, at);
     }
-    Ok(())
+    Ok(text)
 }
 
 /// Whether each byte is of a text.
@@ -117,21 +147,7 @@ pub fn is_text(bytes: &[u8]) -> bool
 {
     bytes
         .iter()
-        .all(|b| (32 <= *b && *b <= 126) || is_blank(*b))
-}
-
-/// Whether each byte of these words is of a text.
-pub fn are_text(words: &[&[u8]]) -> bool
-    ensures { result ≡ list_all is_text (map (λ word. word.now) words.now) }
-{
-    let mut left = words;
-    while let [word, rest @ ..] = left {
-        if !is_text(word) {
-            return false;
-        }
-        left = rest;
-    }
-    true
+        .all(|b| is_blank(*b) || (32 <= *b && *b <= 126))
 }
 
 /// The words of a line, without its comment.
@@ -139,6 +155,6 @@ pub fn line_words(alloc: Global, line: &[u8]) -> Result<Vec<&[u8]>, AllocError>
     ensures { IfOk result (λ words. map (λ word. word.now) words.items ≡ line_words line.now) }
 {
     let mut words = Vec::new(alloc);
-    split(&mut words, line)?;
+    let _ = split(&mut words, line)?;
     Ok(words)
 }
