@@ -1,23 +1,28 @@
 //! The instructions of an accepted text.
 
-ghost use Rattle.std.specs.Prelude.{◌≡◌, ◌<◌, ◌≤◌, suc, length, map, slice_index, if◌then◌else◌, IfOk};
+ghost use Rattle.std.specs.Prelude.{◌≡◌, ◌<◌, ◌≤◌, ℕ, List, suc, length, map, slice_get, slice_index, Some, if◌then◌else◌, IfOk};
+ghost use Rattle.tb_read.specs.Flow.{Line as Shown};
 ghost use Rattle.tb_read.specs.Followed.{is_last};
 ghost use Rattle.tb_read.specs.Statements.{is_test};
 ghost use Rattle.tb_read.specs.Meaning.{AreInstrsOf, IsInstrAt};
 ghost use Rattle.tb_read.specs.Shown.{shown_line, shown_instr, IsPlaced, ArePlaced};
 ghost use Rattle.tb_read.specs.Ways.{AreWaysOf};
 
-use crate::follow::line_at;
 use crate::instr::Instr;
 use crate::line::Line;
 use crate::ways::Ways;
 use std::alloc::{AllocError, Global};
+use std::mem::replace;
 use tb_model::Statement;
 
-fn copy_of(statement: &Statement) -> Result<Statement, AllocError>
-    ensures { IfOk result (λ copy. copy ≡ statement.now) }
+/// Takes a line out, and leaves one in its place over which control passes.
+fn take_line(lines: &mut Vec<Line>, at: usize) -> Line
+    requires { at < length lines.old.items }
+    ensures taken { slice_get lines.old.items at ≡ Some result }
+    ensures others { (n : ℕ) → at < n → slice_get lines.new.items n ≡ slice_get lines.old.items n }
+    ensures count { length lines.new.items ≡ length lines.old.items }
 {
-    statement.clone()
+    replace(&mut lines[at], Line::Passed)
 }
 
 fn is_last(statement: &Statement) -> bool
@@ -57,48 +62,53 @@ fn otherwise_of(statement: &Statement, arrivals: &[u32], turn: u32, next: u32) -
     }
 }
 
-/// The instruction of a line.
-fn instr_at(lines: &[Line], ways: &Ways, cells: u32, at: usize) -> Result<Option<Instr>, AllocError>
-    requires at { at < length lines.now }
-    requires few { length lines.now ≤ 65537 }
-    requires ways { AreWaysOf (map shown_line lines.now) ways.now }
-    ensures instr { IfOk result (λ slot. IsInstrAt (map shown_line lines.now) at (shown_instr slot)) }
-    ensures placed { IfOk result (λ slot. IsPlaced cells at slot) }
+/// The instruction of a line at this place.
+fn instr_at(line: Line, ways: &Ways, cells: u32, at: usize) -> Option<Instr>
+    requires few { at < 65537 }
+    requires at { suc at < length ways.now.arrivals.items }
+    requires turn_at { at < length ways.now.turns.items }
+    requires turn { suc (slice_index ways.now.turns.items at) < length ways.now.arrivals.items }
+    ensures instr { (lines : List Shown) → AreWaysOf lines ways.now → at < length lines → slice_get lines at ≡ Some (shown_line line) → IsInstrAt lines at (shown_instr result) }
+    ensures placed { IsPlaced cells at result }
 {
-    match line_at(lines, at) {
+    match line {
         Line::Stands(parsed) => {
             let next = next_of(&parsed.statement, &ways.arrivals, at);
-            Ok(Some(Instr {
+            let turn = ways.turns[at];
+            let otherwise = otherwise_of(&parsed.statement, &ways.arrivals, turn, next);
+            Some(Instr {
                 line: at as u32,
-                statement: copy_of(&parsed.statement)?,
+                statement: parsed.statement,
                 next,
-                otherwise: otherwise_of(&parsed.statement, &ways.arrivals, ways.turns[at], next),
+                otherwise,
                 cells,
-            }))
+            })
         }
-        Line::Passed => Ok(None),
-        Line::Else => Ok(None),
-        Line::EndIf => Ok(None),
-        Line::EndWhile(_) => Ok(None),
+        Line::Passed => None,
+        Line::Else => None,
+        Line::EndIf => None,
+        Line::EndWhile(_) => None,
     }
 }
 
 /// The instructions of all lines.
 pub fn instrs(
     alloc: Global,
-    lines: &[Line],
+    lines: Vec<Line>,
     ways: &Ways,
     cells: u32,
 ) -> Result<Vec<Option<Instr>>, AllocError>
-    requires few { length lines.now ≤ 65537 }
-    requires ways { AreWaysOf (map shown_line lines.now) ways.now }
-    ensures count { IfOk result (λ instrs. length instrs.items ≡ length lines.now) }
-    ensures instrs { IfOk result (λ instrs. AreInstrsOf (map shown_line lines.now) (map shown_instr instrs.items)) }
+    requires few { length lines.items ≤ 65537 }
+    requires ways { AreWaysOf (map shown_line lines.items) ways.now }
+    ensures count { IfOk result (λ instrs. length instrs.items ≡ length lines.items) }
+    ensures instrs { IfOk result (λ instrs. AreInstrsOf (map shown_line lines.items) (map shown_instr instrs.items)) }
     ensures placed { IfOk result (λ instrs. ArePlaced cells instrs.items) }
 {
-    let mut instrs = Vec::with_capacity(alloc, lines.len())?;
-    for at in 0..lines.len() {
-        instrs.push(instr_at(lines, ways, cells, at)?)?;
+    let mut left = lines;
+    let mut instrs = Vec::with_capacity(alloc, left.len())?;
+    for at in 0..left.len() {
+        let line = take_line(&mut left, at);
+        instrs.push(instr_at(line, ways, cells, at))?;
     }
     Ok(instrs)
 }

@@ -32,18 +32,18 @@ fn program(
     alloc: Global,
     lines: &[&[u8]],
     before: Lines,
-    all: &[Line],
+    all: Vec<Line>,
     root_line: u32,
 ) -> Result<Program, AllocError>
     requires few { length lines.now ≤ 65537 }
     requires accepted { IsAccepted (map (λ line. line.now) lines.now) }
     requires told { before ≡ context_at (map (λ line. line.now) lines.now) (length lines.now) }
-    requires all { map shown_line all.now ≡ lines_in (map (λ line. line.now) lines.now) }
+    requires all { map shown_line all.items ≡ lines_in (map (λ line. line.now) lines.now) }
     requires root_line { root_line ≡ line_of (heading_of (headings_from 0 (map (λ line. line.now) lines.now)) (codes "main")) }
     ensures accepted { OnOk result (IsAccepted (map (λ line. line.now) lines.now)) }
     ensures program { IfOk result (λ p. IsProgramOf (map (λ line. line.now) lines.now) p) }
 {
-    let ways = ways(alloc, all)?;
+    let ways = ways(alloc, &all)?;
     let (given, bodies) = before.into_parts();
     let cells = first_numbers(alloc, &given)?;
     let instrs = instrs(alloc, all, &ways, cells.len() as u32)?;
@@ -65,7 +65,7 @@ fn read_known(alloc: Global, lines: &[&[u8]], headings: &Headings<'_>) -> Result
                 line: lines.len() as u32,
                 kind,
             }),
-            None => match program(alloc, lines, before, &all, line_of(headings.get(b"main"))) {
+            None => match program(alloc, lines, before, all, line_of(headings.get(b"main"))) {
                 Ok(program) => Ok(program),
                 Err(_) => Err(ReadFault {
                     line: lines.len() as u32,
