@@ -15,7 +15,8 @@ const LEAST: u64 = 1 << 63;
 pub fn same_word(a: &[u8], b: &[u8]) -> bool
     ensures { result ≡ same_word a.now b.now }
 {
-    a == b
+    // Most words that are compared differ in length.
+    a.len() == b.len() && a == b
 }
 
 /// The word at a place, an empty one where there is none.
