@@ -12,9 +12,9 @@ use Rattle.tb_read.proofs.PieceLemmas.{blank_found}
 blank_is_code : (b : ℕ) → is_blank b ≡ true → (b == 35) ≡ false
 blank_is_code b h = grind (arith, nat_tests)
 
--- a blank in front changes no word
-behind_blank : (b : ℕ) (bytes : List ℕ) → is_blank b ≡ true → line_words bytes ≡ line_words (b ∷ bytes)
-behind_blank b bytes h =
+-- a blank before a line changes none of its words
+after_blank : (b : ℕ) (bytes : List ℕ) → is_blank b ≡ true → line_words bytes ≡ line_words (b ∷ bytes)
+after_blank b bytes h =
     let none : 0 ≡ position_or_len is_blank (b ∷ bytes) = rw h refl in
     blank_found [] (b ∷ bytes) (line_words (b ∷ bytes)) 0 (omega arith) (blank_is_code b h) none refl
 
@@ -31,7 +31,7 @@ first_by false b first rest bytes h other = rw h (first_of b first rest (pieces 
 begun_by : (blank : Bool) (b first : ℕ) (rest bytes : List ℕ) → is_blank b ≡ blank → cond blank (begins_with first bytes) (b == first) ≡ false →
     (begins_with first bytes ≡ false → same_word (word_at (line_words bytes) 0) (first ∷ rest) ≡ false) →
     same_word (word_at (line_words (b ∷ bytes)) 0) (first ∷ rest) ≡ false
-begun_by true b first rest bytes h other on = ap (λ words. same_word (word_at words 0) (first ∷ rest)) (sym (behind_blank b bytes h)) ∙ on other
+begun_by true b first rest bytes h other on = ap (λ words. same_word (word_at words 0) (first ∷ rest)) (sym (after_blank b bytes h)) ∙ on other
 begun_by false b first rest bytes h other on = first_by (b == 35) b first rest bytes h other
 
 -- a line that doesn't begin with a word's first byte doesn't begin with the word

@@ -13,7 +13,7 @@ none_by : (numeral : Bool) (value most : ℕ) → most < value → None ≡ cond
 none_by true value most h = grind (arith, nat_tests)
 none_by false value most h = refl
 
--- one more digit makes the value too large, whatever those behind it are
+-- one more digit makes the value too large, whatever comes after it
 pub too_large : (digits left : List ℕ) (value : ℕ) → 1 ≤ length left → 922337203685477580 < value →
     digits_value_after 10 value left ≡ digits_value 10 digits → None ≡ magnitude_of digits
 too_large digits [] value some above same = absurd (omega arith)

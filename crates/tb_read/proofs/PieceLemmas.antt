@@ -35,7 +35,7 @@ piece_found ends before (b ∷ bytes) all at some e h =
     let found : pieces ends (b ∷ bytes) ≡ take at (b ∷ bytes) ∷ pieces ends (drop (suc at) (b ∷ bytes)) = rw e (pieces_front ends b bytes) in
     append_assoc before (take at (b ∷ bytes) ∷ []) (pieces ends (drop (suc at) (b ∷ bytes))) ∙ ap (λ more. before ++ more) (sym found) ∙ h
 
--- the words of a line whose first byte doesn't begin a comment: its first piece, and those behind that, of which the next may be a comment
+-- the words of a line whose first byte doesn't begin a comment: its first piece, and what comes after that, where a comment may begin
 cut_by : (b : ℕ) (bytes : List ℕ) →
     onto_first b (pieces is_blank (uncommented false bytes)) ≡ take (1 + position_or_len is_blank bytes) (b ∷ bytes) ∷ pieces is_blank (uncommented true (drop (suc (1 + position_or_len is_blank bytes)) (b ∷ bytes))) →
     pieces is_blank (b ∷ uncommented (is_blank b) bytes) ≡ take (position_or_len is_blank (b ∷ bytes)) (b ∷ bytes) ∷ pieces is_blank (uncommented true (drop (suc (position_or_len is_blank (b ∷ bytes))) (b ∷ bytes)))

@@ -52,7 +52,7 @@ pub text_more : (all text piece : Bool) (words : List (List ℕ)) (word : List �
     all ≡ list_all is_text (words ++ word ∷ [])
 text_more all text piece words word e before here = e ∙ ap (λ t. t && piece) before ∙ ap (λ t. list_all is_text words && t) here ∙ sym (text_pushed words word)
 
--- the words of a line are text just where its bytes in front of the comment are
+-- the words of a line are text just where its bytes before the comment are
 pub words_text : (line : List ℕ) → list_all is_text (line_words line) ≡ is_text (before_comment line)
 words_text line = filter_text (pieces is_blank (before_comment line)) ∙ pieces_text (before_comment line)
 
@@ -66,7 +66,7 @@ pub no_words : (rest : List ℕ) → true ≡ nat_eq (length rest) 0 → line_wo
 no_words [] h = refl
 no_words (b ∷ bytes) h = absurd (let none : length (b ∷ bytes) ≡ 0 = eqb-true _ 0 (sym h) in omega arith)
 
--- the words behind the first, of words that are text
+-- the words after the first, of words that are text
 pub rest_is_text : (words : List (Bor (List ℕ))) → list_all is_text (map (λ word. word.now) words) ≡ true →
     list_all is_text (map (λ word. word.now) (take (length words - 1) (drop 1 words))) ≡ true
 rest_is_text [] h = refl

@@ -49,7 +49,7 @@ pub fn is_miscounted(head: Head, words: usize) -> bool
     }
 }
 
-/// The faults of the words behind the head at their places.
+/// The faults of the words after the head at their places.
 pub fn misplaced(head: Head, words: &[&[u8]]) -> Misfits
     ensures { (fault : FaultKind) → has result fault ≡ has_misplaced fault head (map (λ word. word.now) words.now) }
 {

@@ -92,7 +92,7 @@ pub fn begins_with(line: &[u8], first: u8) -> bool
     false
 }
 
-/// How many bytes lie in front of the first that isn't printed.
+/// How many bytes come before the first that isn't printed.
 fn printed_len(bytes: &[u8]) -> usize
     ensures len { result ≡ position_or_len (λ b. not (is_printed b)) bytes.now }
     ensures within { result ≤ length bytes.now }
@@ -100,7 +100,7 @@ fn printed_len(bytes: &[u8]) -> usize
     bytes.iter().take_while(|b| 33 <= **b && **b <= 126).count()
 }
 
-/// The length of what lies in front of the first blank, and whether that is text. All its bytes are
+/// The length of what comes before the first blank, and whether that is text. All its bytes are
 /// printed but in a faulty line.
 fn front(bytes: &[u8]) -> (usize, bool)
     ensures len { result.0 ≡ position_or_len is_blank bytes.now }
@@ -119,7 +119,7 @@ fn front(bytes: &[u8]) -> (usize, bool)
 }
 
 /// Puts the words of a line, without its comment, into `words`, in place of what was there, and
-/// tells whether all in front of the comment is text.
+/// tells whether all before the comment is text.
 pub fn split<'a>(words: &mut Vec<&'a [u8]>, line: &'a [u8]) -> Result<bool, AllocError>
     ensures words { OnOk result (map (λ word. word.now) words.new.items ≡ line_words line.now) }
     ensures text { IfOk result (λ text. text ≡ is_text (before_comment line.now)) }
