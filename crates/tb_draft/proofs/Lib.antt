@@ -1,2 +1,4 @@
+mod ShortTextLemmas
+mod DigitLemmas
 pub mod WrittenLemmas
 pub mod PassageLemmas

@@ -1,0 +1,138 @@
+//! A short text, put together from its end.
+
+ghost use Rattle.std.specs.Prelude.{◌≡◌, ◌+◌, ◌<◌, ◌≤◌, ◌++◌, ◌∷◌, [], IfNone, IfSome, IsSome, decimal, length};
+ghost use Rattle.std.specs.Fmt.{signed_decimal};
+ghost use Rattle.tb_model.specs.Spelling.{name_text};
+
+use crate::digits::{put_digits, put_long};
+use std::marker::Model;
+use tb_model::TaskName;
+
+/// So many bytes a short text has at most.
+pub(crate) const ROOM: usize = 96;
+
+/// A name of more levels is spelled faster from its front.
+const LEVELS: usize = 16;
+
+/// A text of up to 96 bytes, put together from its end to its front, as the digits of a number come. Takes no memory.
+#[derive(Drop)]
+pub struct ShortText {
+    bytes: [u8; ROOM],
+    at: usize,
+}
+
+impl Model for ShortText {
+    ghost use Rattle.std.specs.Prelude.{List, ℕ, ◌≤◌, drop};
+    ghost use Rattle.std.specs.Str.{IsUtf8};
+
+    ghost Value = { List ℕ };
+
+    ghost view = { λ s. drop s.at s.bytes };
+
+    ghost invariant = { λ s. (s.at ≤ 96) × IsUtf8 (drop s.at s.bytes) };
+}
+
+impl ShortText {
+    /// An empty text.
+    #[inline(always)]
+    pub fn new() -> ShortText
+        ensures { result ≡ [] }
+    {
+        ShortText {
+            bytes: [0; ROOM],
+            at: ROOM,
+        }
+    }
+
+    /// The text.
+    #[inline(always)]
+    pub fn as_str(&self) -> &str
+        ensures { result.now ≡ self.now }
+    {
+        // only whole texts and digits were put there
+        unsafe { str::from_utf8_unchecked(&self.bytes[self.at..]) }
+    }
+
+    /// Puts a text in front, if there is room.
+    #[inline(always)]
+    pub fn prepend(&mut self, text: &str) -> Option<()>
+        ensures some { IfSome result (λ _. self.new ≡ text.now ++ self.old) }
+        ensures none { IfNone result (self.new ≡ self.old) }
+        ensures succeeds { length text.now + length self.old ≤ 96 → IsSome result }
+    {
+        let text = text.as_bytes();
+        if self.at < text.len() {
+            return None;
+        }
+        let at = self.at - text.len();
+        self.bytes[at..self.at].copy_from_slice(text);
+        self.at = at;
+        Some(())
+    }
+
+    /// Puts a number in front, in decimal, if there is room for ten digits.
+    #[inline(always)]
+    pub fn prepend_number(&mut self, n: u32) -> Option<()>
+        ensures some { IfSome result (λ _. self.new ≡ decimal n ++ self.old) }
+        ensures none { IfNone result (self.new ≡ self.old) }
+        ensures succeeds { length self.old + 10 ≤ 96 → IsSome result }
+    {
+        if self.at < 10 {
+            return None;
+        }
+        self.at = put_digits(&mut self.bytes, self.at, n);
+        Some(())
+    }
+
+    /// Puts a number in front, in decimal, with a minus where it is below zero, if there is room for twenty characters.
+    #[inline(always)]
+    pub fn prepend_signed(&mut self, n: i64) -> Option<()>
+        ensures some { IfSome result (λ _. self.new ≡ signed_decimal n ++ self.old) }
+        ensures none { IfNone result (self.new ≡ self.old) }
+        ensures succeeds { length self.old + 20 ≤ 96 → IsSome result }
+    {
+        if self.at < 20 {
+            return None;
+        }
+        let at = put_long(&mut self.bytes, self.at, n.unsigned_abs());
+        if n >= 0 {
+            self.at = at;
+        } else {
+            self.bytes[at - 1] = b'-';
+            self.at = at - 1;
+        }
+        Some(())
+    }
+
+    /// Puts the last level of a name in front.
+    #[inline(always)]
+    fn prepend_level(&mut self, n: u32) -> Option<()>
+        ensures some { IfSome result (λ _. self.new ≡ 46 ∷ decimal n ++ self.old) }
+        ensures short { IfSome result (λ _. length self.new ≤ length self.old + 11) }
+        ensures succeeds { length self.old + 11 ≤ 96 → IsSome result }
+    {
+        self.prepend_number(n)?;
+        self.prepend(".")
+    }
+
+    /// Puts a name in front, if it has 16 levels at most and there is room for ten digits of each. Some levels may stand
+    /// where there isn't.
+    #[inline(always)]
+    pub fn prepend_name(&mut self, name: &TaskName) -> Option<()>
+        ensures some { IfSome result (λ _. self.new ≡ name_text name.now ++ self.old) }
+        ensures root { name.now ≡ [] → length self.old < 96 → IsSome result }
+    {
+        let mut parts = name.parts();
+        let numbers = parts.take_run();
+        if numbers.len() > LEVELS {
+            return None;
+        }
+        let [] = parts.take_run() else {
+            return None;
+        };
+        'levels: for n in numbers {
+            self.prepend_level(*n)?;
+        }
+        self.prepend("0")
+    }
+}
