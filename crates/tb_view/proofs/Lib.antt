@@ -9,3 +9,4 @@ mod TaskLemmas
 mod StateLemmas
 mod RelationLemmas
 mod UnendedLemmas
+mod ShortLineLemmas

@@ -136,7 +136,7 @@ pub(crate) fn kind(kind: Kind) -> &'static str
     }
 }
 
-fn last_word(deferred: bool) -> &'static str
+pub(crate) fn last_word(deferred: bool) -> &'static str
     ensures { result.now ≡ deferred_text deferred }
 {
     if deferred { "" } else { " undeferred" }

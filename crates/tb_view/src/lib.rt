@@ -9,6 +9,7 @@ mod listing;
 mod numbers;
 mod reasons;
 mod relations;
+mod short_line;
 mod showing;
 mod states;
 mod step_line;

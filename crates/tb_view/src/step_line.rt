@@ -5,9 +5,10 @@ ghost use Rattle.tb_view.specs.Step.{spawned_name};
 ghost use Rattle.tb_view.specs.Lines.{event_line};
 ghost use Rattle.tb_view.specs.Tasks.{body_text};
 
+use crate::short_line::put_line;
 use crate::step_text::write_step;
 use std::alloc::AllocError;
-use tb_draft::Draft;
+use tb_draft::{Draft, ShortText};
 use tb_model::{Action, TaskName};
 use tb_read::Program;
 
@@ -34,6 +35,27 @@ fn spawned_name<'a>(program: &'a Program, action: &Action) -> &'a str
 /// Appends the line of the kth step of a task. Where memory runs out a part of it may stand.
 #[inline(always)]
 pub fn append_line(
+    text: &mut Draft,
+    program: &Program,
+    task: &TaskName,
+    k: u32,
+    action: &Action,
+) -> Result<(), AllocError>
+    ensures { OnOk result (text.new ≡ text.old
+        ++ event_line program.now (record { task = task.now; k = k })
+        (record { task = task.now; action = action.now })) }
+{
+    // nearly every line is short, and costs less than half as much put together from its end
+    let mut line = ShortText::new();
+    match put_line(&mut line, program, task, k, action) {
+        Some(()) => text.push_str(line.as_str()),
+        None => append_long(text, program, task, k, action),
+    }
+}
+
+/// Appends the same line, however long it is. It stands apart, so that a short line doesn't pay for it.
+#[inline(never)]
+fn append_long(
     text: &mut Draft,
     program: &Program,
     task: &TaskName,

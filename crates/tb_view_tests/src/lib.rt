@@ -8,6 +8,8 @@ mod deep_names;
 #[cfg(test)]
 mod drafts;
 #[cfg(test)]
+mod short_texts;
+#[cfg(test)]
 mod steps;
 #[cfg(test)]
 mod tasks;
