@@ -202,6 +202,7 @@ impl TaskName {
     }
 
     /// The numbers as they stand in memory.
+    #[inline(always)]
     pub fn parts(&self) -> Parts<'_>
         ensures { result ≡ self.now }
     {
