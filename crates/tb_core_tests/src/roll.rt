@@ -7,7 +7,7 @@ use std::alloc::AllocGlobal;
 use std::mem;
 use std::process::Abort;
 use tb_cause::{needed_by, needs};
-use tb_core::{Core, Removed};
+use tb_core::{Core, Removed, StepRefusal};
 use tb_model::{Action, StepId, TaskName};
 use tb_read::{Plan, Program, plan, read};
 use tb_roll::{finish, ready, roll, same_run};
@@ -116,6 +116,32 @@ fn compare_all(rt: &(impl Abort + AllocGlobal), core: &Core) {
     for (text, names, same) in RUNS {
         compare_with(rt, core, text, names, same);
     }
+}
+
+/// How many steps the task had taken where the refusal found it.
+fn steps_elsewhere(rt: &impl Abort, refusal: Option<StepRefusal>) -> u32 {
+    let Some(StepRefusal::Stale { now }) = refusal else {
+        panic!(rt; "not stale")
+    };
+    now.get().steps
+}
+
+#[test]
+fn a_plan_that_comes_late_is_stale(rt: HostRuntime) {
+    let program = read(rt.alloc(), TWICE).expect(&rt, "an accepted program");
+    let mut core = opened(&rt, &program);
+    let early = next_plan(&rt, &program, &core, "0");
+    take_steps(&rt, &program, &mut core, &["0", "0"]);
+    assert!(rt; fits(&core, &early));
+    assert_eq!(rt; steps_elsewhere(&rt, core.refusal(&early)), 2);
+    assert_eq!(rt; core.children(&early.config.task), Some(1));
+    let found = core
+        .elsewhere(&early.config.task)
+        .expect(&rt, "memory is there");
+    assert_eq!(rt; found.expect(&rt, "the root").get().steps, 2);
+    mem::forget(early);
+    mem::forget(core);
+    mem::forget(program);
 }
 
 #[test]
