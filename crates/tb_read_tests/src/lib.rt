@@ -12,3 +12,5 @@ mod memory;
 mod plans;
 #[cfg(test)]
 mod programs;
+#[cfg(test)]
+mod words;
