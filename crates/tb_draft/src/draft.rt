@@ -155,6 +155,7 @@ impl Draft {
     }
 
     /// Writes the text where much of it waits, and empties it then; its room stays.
+    #[inline(always)]
     pub fn pass_on<K: Sink>(&mut self, sink: &mut K) -> Result<(), Failed>
         requires { K.failures sink.old < 2 ^ 64 - 1 }
         ensures ok { OnOk result (Told (K.taken sink.old) (K.taken sink.new) self.new (λ all. all ≡ self.old)

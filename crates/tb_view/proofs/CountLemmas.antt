@@ -1,10 +1,16 @@
 -- The steps of each task, counted along a history.
-use Rattle.std.proofs.Common.{◌≡◌, ◌<◌, ◌≤◌, ◌+◌, ℕ, suc, List, [], ◌∷◌, Bool, true, false, cond, length, take, refl, sym, ap, ◌∙◌, subst, arith, ap₂, Some, None, get_or, unwrap_or, Result, Ok, Err, IsOk, OnOk}
-use Rattle.std.specs.Map.{lookup}
+use Rattle.std.proofs.Common.{◌≡◌, ◌<◌, ◌≤◌, ◌+◌, ℕ, suc, List, [], ◌∷◌, Bool, true, false, cond, length, take, refl, sym, ap, ◌∙◌, subst, arith, ap₂, Some, None, get_or, unwrap_or, Result, Ok, Err, IsOk, OnOk, zero, slice_get, option_map}
+use Rattle.std.specs.Map.{lookup, keys_of, values_of}
 use Rattle.std.proofs.lemmas.Bool.{false≢true}
+use Rattle.std.proofs.lemmas.Option.{slice_get-map}
+use Rattle.indexmap.specs.IndexMap.{IndexMap, IsUnique, with_value_at}
+use Rattle.indexmap.proofs.CallerLemmas.{updates-with_value_at}
+use Rattle.indexmap.proofs.MapLemmas.{Found-position, index-first}
+use Rattle.indexmap.proofs.RemoveLemmas.{own_first}
 use Rattle.tb_model.specs.declared.event.Event.{Event}
 use Rattle.tb_model.specs.Facts.{History, is_of, own, prepend_if}
 use Rattle.tb_model.specs.Names.{Name, same_name}
+use Rattle.tb_model.specs.NameLaws.{same_name_equivalence}
 use Rattle.tb_model.proofs.TestLemmas.{same_true}
 use Rattle.tb_core.specs.declared.entry.Entry.{Entry}
 use Rattle.tb_core.specs.Scans.{history_of}
@@ -59,3 +65,28 @@ pub inserts_count : (old mid new : Counts) (t name : Name) → name ≡ t → mi
 inserts_count old mid new t name same kept none writes =
     writes_count old new t 1 (ap (λ o. suc (unwrap_or o 0)) (sym none))
     (λ u. writes u ∙ ap₂ (λ n (m : Counts). cond (same_name n u) (Some 1) (lookup (same_name u) m)) same kept)
+
+-- ---- a count that stands at a place
+
+-- the name there is the task's
+pub key_in : (es : Counts) (i : ℕ) (k t : Name) (v : ℕ) → slice_get es i ≡ Some (k, v) → same_name k t ≡ true → slice_get (keys_of es) i ≡ Some t
+key_in es i k t v at same = slice_get-map (λ (e : Name × ℕ). e.0) es i ∙ ap (option_map (λ (e : Name × ℕ). e.0)) at ∙ ap Some (same_true k t same)
+
+entry_at : (es : Counts) (i : ℕ) (t : Name) (k : ℕ) → slice_get (keys_of es) i ≡ Some t → slice_get (values_of es) i ≡ Some k → slice_get es i ≡ Some (t, k)
+entry_at [] i t k a b = absurd (cc)
+entry_at (e ∷ es) zero t k a b = ap₂ (λ x y. Some (x, y)) (ap (λ o. unwrap_or o t) a) (ap (λ o. unwrap_or o k) b)
+entry_at (e ∷ es) (suc i) t k a b = entry_at es i t k a b
+
+module _ {S : Type 0} (m : IndexMap Name ℕ S) (t : Name) (i k : ℕ) (unique : IsUnique same_name m) (key : slice_get (keys_of m.entries) i ≡ Some t) (value : slice_get (values_of m.entries) i ≡ Some k) where
+  here : slice_get m.entries i ≡ Some (t, k)
+  here = entry_at m.entries i t k key value
+
+  pub count_there : count_of m.entries t ≡ k
+  count_there =
+      ap (λ o. unwrap_or o 0)
+      ((Found-position (same_name t) m.entries i (index-first (same_name t) m.entries i (own_first same_name same_name_equivalence m.entries i t k unique here))).value
+      ∙ slice_get-map (λ (e : Name × ℕ). e.1) m.entries i ∙ ap (option_map (λ (e : Name × ℕ). e.1)) here)
+
+  -- it grows there
+  pub counts_there : (w : ℕ) → w ≡ suc k → IsCounted m.entries t (with_value_at m i w).entries
+  counts_there w is = writes_count m.entries (with_value_at m i w).entries t w (is ∙ ap suc (sym count_there)) (updates-with_value_at m i w same_name_equivalence unique t k here).0

@@ -19,6 +19,7 @@ fn append_next(
     text: &mut Draft,
     program: &Program,
     counts: &mut IndexMap<TaskName, u32>,
+    near: &mut usize,
     event: &Event,
 ) -> Result<(), AllocError>
     requires { count_of counts.old.entries event.now.task < 4294967295 }
@@ -28,7 +29,7 @@ fn append_next(
     ensures counts { OnOk result
         (IsCounted counts.old.entries event.now.task counts.new.entries) }
 {
-    let k = count_step(counts, &event.task)?;
+    let k = count_step(counts, near, &event.task)?;
     append_line(text, program, &event.task, k, &event.action)
 }
 
@@ -45,8 +46,9 @@ pub(crate) fn history_text(
     let head = format!(in alloc; "hist {count}\n")?;
     let mut text = Draft::of(alloc, head);
     let mut counts = IndexMap::new(alloc);
+    let mut near = 0;
     'steps: for entry in entries {
-        append_next(&mut text, program, &mut counts, &entry.event)?;
+        append_next(&mut text, program, &mut counts, &mut near, &entry.event)?;
     }
     Ok(text)
 }
@@ -56,6 +58,7 @@ fn append_if(
     text: &mut Draft,
     program: &Program,
     counts: &mut IndexMap<TaskName, u32>,
+    near: &mut usize,
     event: &Event,
     is_told: bool,
 ) -> Result<(), AllocError>
@@ -68,9 +71,9 @@ fn append_if(
         (IsCounted counts.old.entries event.now.task counts.new.entries) }
 {
     if is_told {
-        append_next(text, program, counts, event)
+        append_next(text, program, counts, near, event)
     } else {
-        count_step(counts, &event.task)?;
+        count_step(counts, near, &event.task)?;
         Ok(())
     }
 }
@@ -90,9 +93,17 @@ pub fn append_newest(
 {
     let first = entries.len() - count;
     let mut counts = IndexMap::new(alloc);
+    let mut near = 0;
     let mut place = 0;
     'steps: for entry in entries {
-        append_if(text, program, &mut counts, &entry.event, first <= place)?;
+        append_if(
+            text,
+            program,
+            &mut counts,
+            &mut near,
+            &entry.event,
+            first <= place,
+        )?;
         place += 1;
     }
     Ok(())
@@ -115,6 +126,7 @@ fn append_chosen(
     text: &mut Draft,
     program: &Program,
     counts: &mut IndexMap<TaskName, u32>,
+    near: &mut usize,
     event: &Event,
     steps: &[StepId],
     found: usize,
@@ -134,7 +146,7 @@ fn append_chosen(
     ensures counts { OnOk result
         (IsCounted counts.old.entries event.now.task counts.new.entries) }
 {
-    let k = count_step(counts, &event.task)?;
+    let k = count_step(counts, near, &event.task)?;
     if !is_next(steps, found, &event.task, k) {
         return Ok(found);
     }
@@ -159,9 +171,18 @@ pub(crate) fn chosen_text(
     let head = format!(in alloc; "{word} {count}\n")?;
     let mut text = Draft::of(alloc, head);
     let mut counts = IndexMap::new(alloc);
+    let mut near = 0;
     let mut found = 0;
     'steps: for entry in entries {
-        found = append_chosen(&mut text, program, &mut counts, &entry.event, steps, found)?;
+        found = append_chosen(
+            &mut text,
+            program,
+            &mut counts,
+            &mut near,
+            &entry.event,
+            steps,
+            found,
+        )?;
     }
     Ok(text)
 }
