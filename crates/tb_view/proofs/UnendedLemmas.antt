@@ -1,18 +1,19 @@
 -- The lines of all tasks, where only those that haven't ended have some.
-use Rattle.std.proofs.Common.{◌≡◌, ◌⊎◌, ℕ, List, [], ◌∷◌, ◌++◌, Bool, true, false, not, cond, refl, sym, ap, ◌∙◌, subst, ⊎_elim, inl, inr, IsTrue, Option, Some, None}
+use Rattle.std.proofs.Common.{◌≡◌, ◌⊎◌, ℕ, List, [], ◌∷◌, ◌++◌, Bool, true, false, not, cond, refl, sym, ap, ◌∙◌, subst, ⊎_elim, inl, inr, IsTrue, Option, Some}
 use Rattle.std.specs.Prelude.{◌||◌, ◌&&◌, is_none, option_map}
 use Rattle.std.specs.List.{list_any, AllByRecursion}
 use Rattle.std.specs.BTreeMap.{insert_entry}
 use Rattle.std.specs.Ordering.{ordering_reverse, is_eq, match_ordering}
 use Rattle.std.specs.declared.cmp.Ordering.{Ordering}
 use Rattle.std.specs.declared.cmp.Ordering.TheVariants.{Less, Equal, Greater}
-use Rattle.std.proofs.lemmas.Bool.{false≢true, both_ways, and_from, and_parts, or_cases, or_left, or_right, or_parts}
+use Rattle.std.proofs.lemmas.Bool.{false≢true, both_ways, and_parts, or_cases, or_left, or_right}
 use Rattle.tb_model.specs.declared.action.Action.{Action}
 use Rattle.tb_model.specs.declared.action.Action.TheVariants.{Start, Let, Load, Store, Print, Spawn, Wait, Open, Close, Test, End, Fault}
+use Rattle.tb_model.specs.declared.spawn.Spawn.{Spawn as TheSpawn}
 use Rattle.tb_model.specs.Names.{Name, same_name, name_cmp}
 use Rattle.tb_model.specs.NameLaws.{name_cmp_total, name_cmp_ties}
 use Rattle.tb_model.specs.Facts.{History, is_spawned, is_spawn_of, spawns, ends}
-use Rattle.tb_model.specs.Hindrances.{Hindrance, Refusal, By, NoSuchTask, Ended, can_step, in_the_way, refusal_of}
+use Rattle.tb_model.specs.Hindrances.{Hindrance, By, NoSuchTask, Ended, can_step, in_the_way, refusal_of}
 use Rattle.tb_model.specs.Program.{Program, planned, zero_ℤ}
 use Rattle.tb_model.specs.State.{is_unended}
 use Rattle.tb_model.proofs.TestLemmas.{same_true, same_refl}
@@ -90,47 +91,45 @@ module _ (k : Name) (v : ℕ) where
       at Equal c more = or_left (same_name k e.0) _ (name_cmp_ties k e.0 ∙ ap is_eq c)
       at Greater c more = or_right (same_name k e.0) _ more
 
-rises_with : (a : Action) (es : List Named) → Rises (names_of es) → Rises (names_of (with_spawned a es))
-rises_with (Spawn s) es r = rises_insert s.child s.body es r
-rises_with Start es r = r
-rises_with (Let x y) es r = r
-rises_with (Load x y z) es r = r
-rises_with (Store x y) es r = r
-rises_with (Print x) es r = r
-rises_with (Wait x) es r = r
-rises_with Open es r = r
-rises_with Close es r = r
-rises_with (Test x) es r = r
-rises_with End es r = r
-rises_with Fault es r = r
+-- an action generates a task, or leaves the named as they are
+generates : (a : Action) → ((s : TheSpawn) × (a ≡ Spawn s)) ⊎ (((es : List Named) → with_spawned a es ≡ es) × ((u : Name) → is_spawn_of u a ≡ false))
+generates (Spawn s) = inl (s, refl)
+generates Start = inr ((λ es. refl), λ u. refl)
+generates (Let x y) = inr ((λ es. refl), λ u. refl)
+generates (Load x y z) = inr ((λ es. refl), λ u. refl)
+generates (Store x y) = inr ((λ es. refl), λ u. refl)
+generates (Print x) = inr ((λ es. refl), λ u. refl)
+generates (Wait x) = inr ((λ es. refl), λ u. refl)
+generates Open = inr ((λ es. refl), λ u. refl)
+generates Close = inr ((λ es. refl), λ u. refl)
+generates (Test x) = inr ((λ es. refl), λ u. refl)
+generates End = inr ((λ es. refl), λ u. refl)
+generates Fault = inr ((λ es. refl), λ u. refl)
 
-stays_with : (a : Action) (es : List Named) (u : Name) → is_in u (names_of es) ≡ true → is_in u (names_of (with_spawned a es)) ≡ true
-stays_with (Spawn s) es u i = stays_in s.child s.body es u i
-stays_with Start es u i = i
-stays_with (Let x y) es u i = i
-stays_with (Load x y z) es u i = i
-stays_with (Store x y) es u i = i
-stays_with (Print x) es u i = i
-stays_with (Wait x) es u i = i
-stays_with Open es u i = i
-stays_with Close es u i = i
-stays_with (Test x) es u i = i
-stays_with End es u i = i
-stays_with Fault es u i = i
+module _ (a : Action) (es : List Named) where
+  rises_with : Rises (names_of es) → Rises (names_of (with_spawned a es))
+  rises_with r =
+      ⊎_elim
+      (λ g. subst (λ b. Rises (names_of (with_spawned b es))) (sym g.1) (rises_insert g.0.child g.0.body es r))
+      (λ k. subst (λ l. Rises (names_of l)) (sym (k.0 es)) r)
+      (generates a)
 
-comes_with : (a : Action) (es : List Named) (u : Name) → is_spawn_of u a ≡ true → is_in u (names_of (with_spawned a es)) ≡ true
-comes_with (Spawn s) es u h = subst (λ w. is_in w (names_of (insert_entry name_cmp es s.child s.body)) ≡ true) (same_true s.child u h) (comes_in s.child s.body es)
-comes_with Start es u h = absurd (false≢true h)
-comes_with (Let x y) es u h = absurd (false≢true h)
-comes_with (Load x y z) es u h = absurd (false≢true h)
-comes_with (Store x y) es u h = absurd (false≢true h)
-comes_with (Print x) es u h = absurd (false≢true h)
-comes_with (Wait x) es u h = absurd (false≢true h)
-comes_with Open es u h = absurd (false≢true h)
-comes_with Close es u h = absurd (false≢true h)
-comes_with (Test x) es u h = absurd (false≢true h)
-comes_with End es u h = absurd (false≢true h)
-comes_with Fault es u h = absurd (false≢true h)
+  stays_with : (u : Name) → is_in u (names_of es) ≡ true → is_in u (names_of (with_spawned a es)) ≡ true
+  stays_with u i =
+      ⊎_elim
+      (λ g. subst (λ b. is_in u (names_of (with_spawned b es)) ≡ true) (sym g.1) (stays_in g.0.child g.0.body es u i))
+      (λ k. subst (λ l. is_in u (names_of l) ≡ true) (sym (k.0 es)) i)
+      (generates a)
+
+  comes_with : (u : Name) → is_spawn_of u a ≡ true → is_in u (names_of (with_spawned a es)) ≡ true
+  comes_with u h =
+      ⊎_elim
+      (λ g.
+      subst (λ b. is_in u (names_of (with_spawned b es)) ≡ true) (sym g.1)
+      (subst (λ w. is_in w (names_of (insert_entry name_cmp es g.0.child g.0.body)) ≡ true)
+      (same_true g.0.child u (subst (λ b. is_spawn_of u b ≡ true) g.1 h)) (comes_in g.0.child g.0.body es)))
+      (λ k. absurd (both_ways (is_spawn_of u a) (k.1 u) h))
+      (generates a)
 
 module _ (root_line : ℕ) where
   named_rise : (H : History) → Rises (names_of (named_tasks root_line H))
