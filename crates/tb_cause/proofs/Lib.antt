@@ -18,3 +18,4 @@ pub mod AnsweredLemmas
 pub mod CausePassLemmas
 pub mod NearestPassLemmas
 pub mod LoneLemmas
+pub mod CountLemmas

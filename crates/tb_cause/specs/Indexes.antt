@@ -1,5 +1,6 @@
 -- What is known of entries by place and by name.
-use Rattle.std.specs.Prelude.{◌≡◌, ◌<◌, ◌≤◌, ℕ, List, Bool, false, Option, Some, None, option_map, slice_get, get_or, take, length, unwrap_or}
+use Rattle.std.specs.Prelude.{◌≡◌, ◌<◌, ◌≤◌, ◌+◌, if◌then◌else◌, ℕ, List, Bool, false, Option, Some, None, option_map, slice_get, get_or, take, length, unwrap_or}
+use Rattle.indexmap.specs.IndexMap.{IndexMap, get}
 use Rattle.tb_model.specs.declared.action.Action.{Action}
 use Rattle.tb_model.specs.declared.item.Item.{Item}
 use Rattle.tb_model.specs.declared.step_id.StepId.{StepId}
@@ -48,6 +49,10 @@ items_told entries t = items_in (spawn_of t (history_of entries))
 -- how often a task is counted, where what isn't noted counts nothing
 abbrev pub count_in : (Name → Option ℕ) → Name → ℕ
 count_in G t = unwrap_or (G t) 0
+
+-- one step more of t
+abbrev pub IsCounted : {S : Type 0} → IndexMap Name ℕ S → Name → IndexMap Name ℕ S → Type 0
+IsCounted old t new = (u : Name) → count_in (get same_name new) u ≡ (if same_name t u then count_in (get same_name old) t + 1 else count_in (get same_name old) u)
 
 -- of the entries up to this place, these are the numbers of the steps
 pub record AreNumbers (entries : List Entry) (at : ℕ) (numbers : List ℕ) : Type 0 where

@@ -6,6 +6,7 @@ mod asking;
 mod cause_refusal;
 mod causes;
 mod cone;
+mod counting;
 mod finding;
 mod giving;
 mod indexed;

@@ -1,17 +1,16 @@
 //! The names of steps, by their places.
 
-ghost use Rattle.std.specs.Prelude.{◌≡◌, ◌<◌, ◌≤◌, ◌+◌, ℕ, IfOk, OnOk, Some, length, map, vec_len, if◌then◌else◌};
+ghost use Rattle.std.specs.Prelude.{◌≡◌, ◌<◌, ◌≤◌, IfOk, Some, length, map};
 ghost use Rattle.std.specs.List.{All};
-ghost use Rattle.indexmap.specs.IndexMap.{get};
 ghost use Rattle.tb_model.specs.declared.step_id.StepId.{StepId};
-ghost use Rattle.tb_model.specs.Names.{Name, same_name};
 ghost use Rattle.tb_core.specs.Scans.{step_at};
-ghost use Rattle.tb_cause.specs.Indexes.{AreNumbers, count_in};
+ghost use Rattle.tb_cause.specs.Indexes.{AreNumbers};
 
+use crate::counting::count_step;
 use indexmap::IndexMap;
 use std::alloc::{AllocError, Global};
 use tb_core::{Entry, step_at};
-use tb_model::{StepId, TaskName};
+use tb_model::StepId;
 
 /// The names of the steps at these places. Where they are few, each is counted among the entries.
 pub(crate) fn names_at(
@@ -53,7 +52,7 @@ fn names_by(
     requires numbers { AreNumbers entries.now (length entries.now) numbers.now }
     ensures { IfOk result (λ steps. map (λ (s : StepId). Some s) steps.items ≡ map (step_at entries.now) places.now) }
 {
-    let mut steps = Vec::new(alloc);
+    let mut steps = Vec::with_capacity(alloc, places.len())?;
     for place in places {
         steps.push(named(entries, *place as usize, numbers[*place as usize])?)?;
     }
@@ -76,36 +75,11 @@ fn numbers_of(alloc: Global, entries: &[Entry]) -> Result<Vec<u32>, AllocError>
     ensures { IfOk result (λ numbers. AreNumbers entries.now (length entries.now) numbers.items) }
 {
     let mut counts = IndexMap::new(alloc);
-    let mut numbers = Vec::new(alloc);
+    let mut numbers = Vec::with_capacity(alloc, entries.len())?;
+    let mut near = 0_usize;
     for at in 0..entries.len() {
-        let k = count(&mut counts, &entries[at].event.task)?;
+        let k = count_step(&mut counts, &mut near, &entries[at].event.task)?;
         numbers.push(k)?;
     }
     Ok(numbers)
-}
-
-/// Counts one more step of the task.
-fn count(counts: &mut IndexMap<TaskName, u32>, task: &TaskName) -> Result<u32, AllocError>
-    requires { count_in (get same_name counts.old) task.now < 1000000 }
-    ensures number { IfOk result (λ k. k ≡ count_in (get same_name counts.old) task.now + 1) }
-    ensures counts { OnOk result ((t : Name) → count_in (get same_name counts.new) t ≡
-        (if same_name task.now t then count_in (get same_name counts.old) task.now + 1 else count_in (get same_name counts.old) t)) }
-{
-    let k = match counts.get(task) {
-        Some(count) => *count + 1,
-        None => 1,
-    };
-    put_count(counts, task, k)?;
-    Ok(k)
-}
-
-fn put_count(
-    counts: &mut IndexMap<TaskName, u32>,
-    task: &TaskName,
-    k: u32,
-) -> Result<(), AllocError>
-    ensures { OnOk result ((t : Name) → get same_name counts.new t ≡ (if same_name task.now t then Some k else get same_name counts.old t)) }
-{
-    counts.insert(task.clone()?, k)?;
-    Ok(())
 }

@@ -1,0 +1,82 @@
+//! How many steps each task has taken, along the entries.
+
+ghost use Rattle.std.specs.Prelude.{◌≡◌, ◌<◌, ◌+◌, IfOk, IsTrue, OnOk, Some, slice_get, if◌then◌else◌};
+ghost use Rattle.std.specs.Map.{keys_of};
+ghost use Rattle.indexmap.specs.IndexMap.{get};
+ghost use Rattle.tb_model.specs.Names.{Name, same_name};
+ghost use Rattle.tb_cause.specs.Indexes.{IsCounted, count_in};
+
+use indexmap::IndexMap;
+use std::alloc::AllocError;
+use tb_model::TaskName;
+
+/// Counts one step more of the task, and tells how many that are. The place `near` is tried before
+/// the name's hash is taken, and becomes the task's: mostly a task takes several steps in a row.
+#[inline(always)]
+pub(crate) fn count_step(
+    counts: &mut IndexMap<TaskName, u32>,
+    near: &mut usize,
+    task: &TaskName,
+) -> Result<u32, AllocError>
+    requires few { count_in (get same_name counts.old) task.now < 1000000 }
+    ensures number { IfOk result (λ k. k ≡ count_in (get same_name counts.old) task.now + 1) }
+    ensures counts { OnOk result (IsCounted counts.old task.now counts.new) }
+{
+    if stands_at(counts, *near, task) {
+        if let Some(count) = counts.get_index_mut(*near) {
+            *count += 1;
+            return Ok(*count);
+        }
+    }
+    count_behind(counts, near, task)
+}
+
+/// The same of a task that doesn't stand at the place: the next place is tried, which is the right
+/// one where tasks take their steps in turn. It stands apart, so that most steps don't pay for its
+/// room.
+#[inline(never)]
+fn count_behind(
+    counts: &mut IndexMap<TaskName, u32>,
+    near: &mut usize,
+    task: &TaskName,
+) -> Result<u32, AllocError>
+    requires few { count_in (get same_name counts.old) task.now < 1000000 }
+    ensures number { IfOk result (λ k. k ≡ count_in (get same_name counts.old) task.now + 1) }
+    ensures counts { OnOk result (IsCounted counts.old task.now counts.new) }
+{
+    *near = near.wrapping_add(1);
+    if stands_at(counts, *near, task) {
+        if let Some(count) = counts.get_index_mut(*near) {
+            *count += 1;
+            return Ok(*count);
+        }
+    }
+    *near = counts.get_index_of(task).unwrap_or(counts.len());
+    count_by_hash(counts, task)
+}
+
+/// Whether the task's count is at the place.
+#[inline(always)]
+fn stands_at(counts: &IndexMap<TaskName, u32>, at: usize, task: &TaskName) -> bool
+    ensures { IsTrue result → slice_get (keys_of counts.now.entries) at ≡ Some task.now }
+{
+    match counts.as_slice().get_index(at) {
+        Some((key, _)) => *key == *task,
+        None => false,
+    }
+}
+
+/// The same where it is anywhere.
+fn count_by_hash(counts: &mut IndexMap<TaskName, u32>, task: &TaskName) -> Result<u32, AllocError>
+    requires few { count_in (get same_name counts.old) task.now < 1000000 }
+    ensures number { IfOk result (λ k. k ≡ count_in (get same_name counts.old) task.now + 1) }
+    ensures counts { OnOk result (IsCounted counts.old task.now counts.new) }
+{
+    if let Some(count) = counts.get_mut(task) {
+        *count += 1;
+        return Ok(*count);
+    }
+    let name = task.clone()?;
+    counts.insert(name, 1)?;
+    Ok(1)
+}
