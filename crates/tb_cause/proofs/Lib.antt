@@ -19,3 +19,4 @@ pub mod CausePassLemmas
 pub mod NearestPassLemmas
 pub mod LoneLemmas
 pub mod CountLemmas
+pub mod TaskKeyLemmas

@@ -1,6 +1,6 @@
 -- The keys of events: an event needs an earlier one where it takes a key that the earlier one gives, or where it comes behind
 -- that one's end by depend items.
-use Rattle.std.specs.Prelude.{◌≡◌, if◌then◌else◌, ℕ, ◌+◌, List, [], ◌∷◌, Bool, true, false, ◌&&◌, ◌||◌, nat_eq, Option, Some, None}
+use Rattle.std.specs.Prelude.{◌≡◌, get_or, if◌then◌else◌, ℕ, ◌+◌, List, [], ◌∷◌, Bool, true, false, ◌&&◌, ◌||◌, nat_eq, Option, Some, None}
 use Rattle.std.specs.List.{list_any}
 use Rattle.indexmap.specs.IndexSet.{contains}
 use Rattle.tb_model.specs.declared.action.Action.{Action}
@@ -14,6 +14,7 @@ use Rattle.tb_model.specs.declared.place.Place.TheVariants.{Cell, All}
 use Rattle.tb_model.specs.Names.{Name, same_name, is_child, is_within}
 use Rattle.tb_model.specs.Facts.{History, own, groups, innermost, is_end, is_print, is_store_to, touches, is_spawn_of}
 use Rattle.tb_model.specs.Items
+use Rattle.tb_core.specs.declared.entry.Entry.{Entry}
 use Rattle.tb_cause.specs.declared.keys.Keys.{Keys}
 
 -- a step or the spawn of a task, its end, the end of a child of it, the end of it or of one below it, the end of a child with an
@@ -148,6 +149,10 @@ has m (Item t n c) = contains same_item_key m.items (t, n, c)
 has m (Stored c) = contains nat_eq m.stored c
 has m (Touched c) = contains nat_eq m.touched c
 has m Printed = m.printed
+
+-- b says whether f tells a step of the task of the entry at this place
+abbrev pub IsOfTask : List Entry → ℕ → (Key → Bool) → Bool → Type 0
+IsOfTask entries p f b = (e : Entry) → e ≡ get_or entries p e → b ≡ f (Task e.event.task)
 
 -- with each name, those above it are among these
 abbrev pub IsUpward : (Name → Bool) → Type 0

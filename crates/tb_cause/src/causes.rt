@@ -1,13 +1,13 @@
 //! What a step needs, by one pass back over the entries in front of it.
 
-ghost use Rattle.std.specs.Prelude.{◌≡◌, ◌<◌, ◌≤◌, ◌∷◌, [], ◌++◌, ◌||◌, IfOk, OnOk, Some, false, length, reverse, take, get_or};
+ghost use Rattle.std.specs.Prelude.{◌≡◌, ◌<◌, ◌≤◌, ◌∷◌, [], ◌++◌, ◌||◌, IfOk, IsTrue, OnOk, Some, false, true, length, reverse, take, get_or};
 ghost use Rattle.tb_model.specs.declared.step_id.StepId.{StepId};
 ghost use Rattle.tb_core.specs.declared.entry.Entry.{Entry as AnEntry};
 ghost use Rattle.tb_core.specs.Scans.{AreLegal, history_of, step_at};
 ghost use Rattle.tb_cause.specs.Asked.{AreAskedAt, AreCausesAt, asks, gives_any};
 ghost use Rattle.tb_cause.specs.Chains.{causes_of};
 ghost use Rattle.tb_cause.specs.Indexes.{items_told};
-ghost use Rattle.tb_cause.specs.Keys.{Key, has};
+ghost use Rattle.tb_cause.specs.Keys.{IsOfTask, Key, has};
 
 use crate::giving::gives_some;
 use crate::indexed::Indexed;
@@ -76,7 +76,7 @@ fn note_and_pass(
     requires none { (k : Key) → has keys.old k ≡ false }
     ensures { IfOk result (λ places. AreCausesAt indexed.now at places.items) }
 {
-    note_at(keys, indexed, at)?;
+    note_at(keys, indexed, at, false)?;
     pass(alloc, keys, indexed, at)
 }
 
@@ -93,55 +93,73 @@ fn pass(
 {
     indexed.history_is_legal();
     let mut places = Vec::new(alloc);
+    let mut of_task = indexed.is_of_task(keys, at);
     let mut left = at;
     'back: while 0 < left {
         left -= 1;
-        if is_asked(keys, indexed, left)? {
-            enter(keys, &mut places, indexed, left)?;
+        of_task = indexed.is_of_earlier(keys, left, of_task);
+        if is_asked(keys, indexed, left, of_task)? {
+            enter(keys, &mut places, indexed, left, of_task)?;
+            of_task = true;
         }
     }
     places.reverse();
     Ok(places)
 }
 
-/// Whether the entry at this place gives one of the keys.
-pub(crate) fn is_asked(keys: &Keys, indexed: &Indexed<'_>, at: usize) -> Result<bool, AllocError>
+/// Whether the entry at this place gives one of the keys; `of_task` says whether there is a key of
+/// its task.
+pub(crate) fn is_asked(
+    keys: &Keys,
+    indexed: &Indexed<'_>,
+    at: usize,
+    of_task: bool,
+) -> Result<bool, AllocError>
     requires within { at < length indexed.now }
+    requires of_task { IsOfTask indexed.now at (has keys.now) of_task }
     ensures { IfOk result (λ b. (e : AnEntry) → e ≡ get_or indexed.now at e →
         b ≡ gives_any (has keys.now) (items_told indexed.now) e.event) }
 {
     let event = indexed.event_at(at);
-    let items = indexed.items_of(&event.task);
-    let found = gives_some(keys, event, items)?;
+    let found = gives_some(keys, indexed, event, of_task)?;
     Ok(found)
 }
 
-/// Notes the keys of the entry at this place, and the place behind the others.
+/// Notes the keys of the entry at this place, and the place behind the others; where `of_task` is
+/// set, there is a key of the entry's task.
 pub(crate) fn enter(
     keys: &mut Keys,
     places: &mut Vec<u32>,
     indexed: &Indexed<'_>,
     at: usize,
+    of_task: bool,
 ) -> Result<(), AllocError>
     requires within { at < length indexed.now }
+    requires of_task { IsTrue of_task → IsOfTask indexed.now at (has keys.old) true }
     ensures places { OnOk result (places.new.items ≡ places.old.items ++ at ∷ []) }
     ensures keys { OnOk result ((k : Key) (e : AnEntry) → e ≡ get_or indexed.now at e → has keys.new k
         ≡ (asks (items_told indexed.now) (history_of (take at indexed.now)) e.event k || has keys.old k)) }
 {
-    note_at(keys, indexed, at)?;
+    note_at(keys, indexed, at, of_task)?;
     places.push(indexed.place(at))?;
     Ok(())
 }
 
-/// Notes the keys of the entry at this place.
-pub(crate) fn note_at(keys: &mut Keys, indexed: &Indexed<'_>, at: usize) -> Result<(), AllocError>
+/// Notes the keys of the entry at this place; where `of_task` is set, there is a key of its task.
+pub(crate) fn note_at(
+    keys: &mut Keys,
+    indexed: &Indexed<'_>,
+    at: usize,
+    of_task: bool,
+) -> Result<(), AllocError>
     requires within { at < length indexed.now }
+    requires of_task { IsTrue of_task → IsOfTask indexed.now at (has keys.old) true }
     ensures { OnOk result ((k : Key) (e : AnEntry) → e ≡ get_or indexed.now at e → has keys.new k
         ≡ (asks (items_told indexed.now) (history_of (take at indexed.now)) e.event k || has keys.old k)) }
 {
     indexed.history_is_legal();
     let event = indexed.event_at(at);
-    let items = indexed.items_of(&event.task);
-    note(keys, indexed.front(at), event, indexed.held_at(at), items)?;
+    let held = indexed.held_at(at);
+    note(keys, indexed, indexed.front(at), event, held, of_task)?;
     Ok(())
 }

@@ -1,13 +1,13 @@
 //! What needs a step, by one pass over the entries behind it.
 
-ghost use Rattle.std.specs.Prelude.{◌≡◌, ◌<◌, ◌≤◌, ◌+◌, ◌∷◌, [], ◌++◌, ◌||◌, IfOk, OnOk, Some, false, length, take, get_or};
+ghost use Rattle.std.specs.Prelude.{◌≡◌, ◌<◌, ◌≤◌, ◌+◌, ◌∷◌, [], ◌++◌, ◌||◌, IfOk, IsTrue, OnOk, Some, false, true, length, take, get_or};
 ghost use Rattle.std.specs.List.{All};
 ghost use Rattle.tb_model.specs.declared.step_id.StepId.{StepId};
 ghost use Rattle.tb_core.specs.declared.entry.Entry.{Entry as AnEntry};
 ghost use Rattle.tb_core.specs.Scans.{AreLegal, history_of, step_at};
 ghost use Rattle.tb_cause.specs.Chains.{AreAllBehind, AreGivenAt, IsCone};
 ghost use Rattle.tb_cause.specs.Indexes.{items_told};
-ghost use Rattle.tb_cause.specs.Keys.{Key, Within, IsUpward, gives, has, takes_any};
+ghost use Rattle.tb_cause.specs.Keys.{Key, IsOfTask, Within, IsUpward, gives, has, takes_any};
 
 use crate::cone::Cone;
 use crate::giving::give;
@@ -103,7 +103,7 @@ fn enter_and_pass(
     ensures { IfOk result (λ places. AreAllBehind step.now indexed.now at places.items) }
 {
     let mut places = Vec::new(alloc);
-    enter(keys, &mut places, indexed, at)?;
+    enter(keys, &mut places, indexed, at, false)?;
     pass(keys, &mut places, indexed, at, step)?;
     Ok(places)
 }
@@ -123,42 +123,50 @@ fn pass(
     ensures { OnOk result (AreAllBehind _step.now indexed.now at places.new.items) }
 {
     indexed.history_is_legal();
+    let mut of_task = indexed.is_of_task(keys, at);
     for later in at + 1..indexed.len() {
-        if goes(keys, indexed, later)? {
-            enter(keys, places, indexed, later)?;
+        of_task = indexed.is_of_next(keys, later, of_task);
+        if goes(keys, indexed, later, of_task)? {
+            enter(keys, places, indexed, later, of_task)?;
+            of_task = true;
         }
     }
     Ok(())
 }
 
-/// Whether the entry at this place takes one of the keys.
-fn goes(keys: &Keys, indexed: &Indexed<'_>, later: usize) -> Result<bool, AllocError>
+/// Whether the entry at this place takes one of the keys; `of_task` says whether there is a key of
+/// its task.
+fn goes(keys: &Keys, indexed: &Indexed<'_>, later: usize, of_task: bool) -> Result<bool, AllocError>
     requires within { later < length indexed.now }
+    requires of_task { IsOfTask indexed.now later (has keys.now) of_task }
     ensures { IfOk result (λ b. (e : AnEntry) → e ≡ get_or indexed.now later e →
         b ≡ takes_any (has keys.now) (items_told indexed.now) (history_of (take later indexed.now)) e.event) }
 {
     let event = indexed.event_at(later);
-    let items = indexed.items_of(&event.task);
     let held = indexed.held_at(later);
-    let found = takes_some(keys, indexed.front(later), event, held, items)?;
+    let front = indexed.front(later);
+    let found = takes_some(keys, indexed, front, event, held, of_task)?;
     Ok(found)
 }
 
-/// Puts the keys of the entry at this place, and the place behind the others.
+/// Puts the keys of the entry at this place, and the place behind the others; where `of_task` is
+/// set, there is a key of the entry's task.
 fn enter(
     keys: &mut Keys,
     places: &mut Vec<u32>,
     indexed: &Indexed<'_>,
     at: usize,
+    of_task: bool,
 ) -> Result<(), AllocError>
     requires within { at < length indexed.now }
+    requires of_task { IsTrue of_task → IsOfTask indexed.now at (has keys.old) true }
     requires upward { IsUpward (λ t. has keys.old (Within t)) }
     ensures places { OnOk result (places.new.items ≡ places.old.items ++ at ∷ []) }
     ensures keys { OnOk result ((k : Key) (e : AnEntry) → e ≡ get_or indexed.now at e →
         has keys.new k ≡ (gives (items_told indexed.now) e.event k || has keys.old k)) }
 {
     let event = indexed.event_at(at);
-    give(keys, event, indexed.items_of(&event.task))?;
+    give(keys, indexed, event, of_task)?;
     places.push(indexed.place(at))?;
     Ok(())
 }

@@ -1,37 +1,48 @@
 //! The keys that a step gives.
 
-ghost use Rattle.std.specs.Prelude.{◌≡◌, ◌≤◌, ◌&&◌, ◌||◌, ℕ, List, IfOk, OnOk};
+ghost use Rattle.std.specs.Prelude.{◌≡◌, ◌≤◌, ◌&&◌, ◌||◌, ℕ, IfOk, IsTrue, OnOk, true};
 ghost use Rattle.std.specs.List.{list_any};
 ghost use Rattle.indexmap.specs.IndexSet.{contains};
-ghost use Rattle.tb_model.specs.declared.item.Item.{Item as AnItem};
 ghost use Rattle.tb_model.specs.Names.{Name, same_name, is_within};
 ghost use Rattle.tb_cause.specs.Asked.{action_gives, parent_gives, over_gives, place_gives, item_gives, items_give, gives_any, some_above};
-ghost use Rattle.tb_cause.specs.Keys.{Key, Within, IsUpward, has, gives, own_key, action_key, over_key, items_key, item_key, place_key, kind_number, same_item_key};
+ghost use Rattle.tb_cause.specs.Indexes.{items_told};
+ghost use Rattle.tb_cause.specs.Keys.{Key, Task, Within, IsUpward, has, gives, own_key, action_key, over_key, items_key, item_key, place_key, kind_number, same_item_key};
 
+use crate::indexed::Indexed;
 use crate::keys::{Keys, has_item, put, put_cell, put_item};
 use indexmap::IndexSet;
 use std::alloc::AllocError;
 use tb_model::{Action, Event, Item, Kind, Place, TaskName};
 
-/// Puts the keys that the event gives, whose task has these items.
-pub(crate) fn give(keys: &mut Keys, event: &Event, items: &[Item]) -> Result<(), AllocError>
-    requires { IsUpward (λ t. has keys.old (Within t)) }
-    ensures { OnOk result ((k : Key) (I : Name → List AnItem) → I event.now.task ≡ items.now →
-        has keys.new k ≡ (gives I event.now k || has keys.old k)) }
+/// Puts the keys that the event gives; where `of_task` is set, there is a key of its task.
+pub(crate) fn give(
+    keys: &mut Keys,
+    indexed: &Indexed<'_>,
+    event: &Event,
+    of_task: bool,
+) -> Result<(), AllocError>
+    requires upward { IsUpward (λ t. has keys.old (Within t)) }
+    requires of_task { IsTrue of_task → has keys.old (Task event.now.task) ≡ true }
+    ensures { OnOk result ((k : Key) →
+        has keys.new k ≡ (gives (items_told indexed.now) event.now k || has keys.old k)) }
 {
-    give_own(keys, &event.task)?;
+    give_own(keys, &event.task, of_task)?;
     give_action(keys, &event.action)?;
     if event.action.is_end() {
         give_over(keys, &event.task)?;
-        give_items(keys, &event.task, items)?;
+        give_items(keys, &event.task, indexed.items_of(&event.task))?;
     }
     Ok(())
 }
 
-/// Puts the key of a step of the task.
-fn give_own(keys: &mut Keys, task: &TaskName) -> Result<(), AllocError>
+/// Puts the key of a step of the task, if it isn't known to be there.
+fn give_own(keys: &mut Keys, task: &TaskName, known: bool) -> Result<(), AllocError>
+    requires { IsTrue known → has keys.old (Task task.now) ≡ true }
     ensures { OnOk result ((k : Key) → has keys.new k ≡ (own_key task.now k || has keys.old k)) }
 {
+    if known {
+        return Ok(());
+    }
     put(&mut keys.tasks, task)
 }
 
@@ -144,12 +155,17 @@ pub(crate) fn number_of(kind: Kind) -> u32
     }
 }
 
-/// Whether the event gives one of the keys; its task has these items.
-pub(crate) fn gives_some(keys: &Keys, event: &Event, items: &[Item]) -> Result<bool, AllocError>
-    ensures { IfOk result (λ b. (I : Name → List AnItem) → I event.now.task ≡ items.now →
-        b ≡ gives_any (has keys.now) I event.now) }
+/// Whether the event gives one of the keys; `of_task` says whether there is a key of its task.
+pub(crate) fn gives_some(
+    keys: &Keys,
+    indexed: &Indexed<'_>,
+    event: &Event,
+    of_task: bool,
+) -> Result<bool, AllocError>
+    requires { of_task ≡ has keys.now (Task event.now.task) }
+    ensures { IfOk result (λ b. b ≡ gives_any (has keys.now) (items_told indexed.now) event.now) }
 {
-    if keys.tasks.contains(&event.task) || gives_by_action(keys, &event.action) {
+    if of_task || gives_by_action(keys, &event.action) {
         return Ok(true);
     }
     if !event.action.is_end() {
@@ -158,7 +174,7 @@ pub(crate) fn gives_some(keys: &Keys, event: &Event, items: &[Item]) -> Result<b
     if gives_by_over(keys, &event.task)? {
         return Ok(true);
     }
-    let found = gives_by_items(keys, &event.task, items)?;
+    let found = gives_by_items(keys, &event.task, indexed.items_of(&event.task))?;
     Ok(found)
 }
 

@@ -1,13 +1,13 @@
 //! The entries of a history, with what is looked up in them.
 
-ghost use Rattle.std.specs.Prelude.{◌≡◌, ◌≤◌, ◌<◌, IfOk, IfSome, length, take, get_or};
+ghost use Rattle.std.specs.Prelude.{◌≡◌, ◌≤◌, ◌<◌, ◌+◌, ◌-◌, IfOk, IfSome, length, take, get_or};
 ghost use Rattle.std.specs.Option.{option_copied};
 ghost use Rattle.tb_model.specs.Facts.{own};
 ghost use Rattle.tb_model.specs.State.{spawn_of};
 ghost use Rattle.tb_core.specs.declared.entry.Entry.{Entry as AnEntry};
 ghost use Rattle.tb_core.specs.Scans.{AreLegal, history_of};
 ghost use Rattle.tb_cause.specs.Indexes.{items_placed, items_told, placed_action};
-ghost use Rattle.tb_cause.specs.Keys.{held_by};
+ghost use Rattle.tb_cause.specs.Keys.{IsOfTask, has, held_by};
 
 use crate::cone::Cone;
 use crate::keys::Keys;
@@ -98,6 +98,43 @@ impl<'a> Indexed<'a> {
         ensures { (e : AnEntry) → e ≡ get_or self.now at e → result.now ≡ e.event }
     {
         event_in(self.entries, at)
+    }
+
+    /// Whether there is a key of the task of the entry at this place.
+    pub fn is_of_task(&self, keys: &Keys, at: usize) -> bool
+        requires { at < length self.now }
+        ensures { IsOfTask self.now at (has keys.now) result }
+    {
+        keys.tasks.contains(&self.event_at(at).task)
+    }
+
+    /// The same, where it is known of the entry in front of this place, which mostly is of the same
+    /// task: then no hash is taken.
+    #[inline(always)]
+    pub fn is_of_next(&self, keys: &Keys, at: usize, of_last: bool) -> bool
+        requires within { at < length self.now }
+        requires behind { 0 < at }
+        requires last { IsOfTask self.now (at - 1) (has keys.now) of_last }
+        ensures { IsOfTask self.now at (has keys.now) result }
+    {
+        if self.event_at(at).task == self.event_at(at - 1).task {
+            return of_last;
+        }
+        self.is_of_task(keys, at)
+    }
+
+    /// The same, where it is known of the entry behind this place.
+    #[inline(always)]
+    pub fn is_of_earlier(&self, keys: &Keys, at: usize, of_last: bool) -> bool
+        requires within { at + 1 < length self.now }
+        requires last { IsOfTask self.now (at + 1) (has keys.now) of_last }
+        ensures { IsOfTask self.now at (has keys.now) result }
+    {
+        self.history_is_legal();
+        if self.event_at(at).task == self.event_at(at + 1).task {
+            return of_last;
+        }
+        self.is_of_task(keys, at)
     }
 
     /// The undeferred child that the newest step of this one's task had generated before it.

@@ -57,7 +57,7 @@ fn note_and_pass(
     requires none { (k : Key) → has own.old k ≡ false }
     ensures { IfOk result (λ places. AreNearest indexed.now at places.items) }
 {
-    note_at(own, indexed, at)?;
+    note_at(own, indexed, at, false)?;
     let mut keys = Keys::new(alloc);
     pass(alloc, own, &mut keys, indexed, at)
 }
@@ -84,7 +84,7 @@ fn pass(
     'back: while bottom < left {
         left -= 1;
         if meet(own, keys, &mut places, indexed, left)? {
-            enter(keys, &mut found, indexed, left)?;
+            enter(keys, &mut found, indexed, left, false)?;
             if is_answered_at(keys, indexed, at) {
                 return Ok(turned(places));
             }
@@ -150,10 +150,10 @@ fn meet(
     ensures places { OnOk result ((e : AnEntry) → e ≡ get_or indexed.now at e → places.new.items ≡ places.old.items
         ++ (if not (gives_any (has keys.now) (items_told indexed.now) e.event) && gives_any (has own.now) (items_told indexed.now) e.event then at ∷ [] else [])) }
 {
-    if is_asked(keys, indexed, at)? {
+    if is_asked(keys, indexed, at, indexed.is_of_task(keys, at))? {
         return Ok(true);
     }
-    if !is_asked(own, indexed, at)? {
+    if !is_asked(own, indexed, at, indexed.is_of_task(own, at))? {
         return Ok(false);
     }
     places.push(indexed.place(at))?;

@@ -1,6 +1,6 @@
 //! The keys that a step takes, noted for the look at what stands in front of it.
 
-ghost use Rattle.std.specs.Prelude.{◌≡◌, ◌≢◌, ◌≤◌, ◌&&◌, ◌||◌, ℕ, [], List, OnOk};
+ghost use Rattle.std.specs.Prelude.{true, IsTrue, ◌≡◌, ◌≢◌, ◌≤◌, ◌&&◌, ◌||◌, ℕ, [], List, OnOk};
 ghost use Rattle.std.specs.List.{list_any};
 ghost use Rattle.std.specs.Option.{option_copied};
 ghost use Rattle.indexmap.specs.IndexSet.{contains};
@@ -10,9 +10,11 @@ ghost use Rattle.tb_model.specs.Names.{Name, same_name};
 ghost use Rattle.tb_model.specs.Facts.{own, groups, innermost};
 ghost use Rattle.tb_core.specs.Scans.{history_of};
 ghost use Rattle.tb_cause.specs.Asked.{same_key, asks, group_key, new_items_key};
+ghost use Rattle.tb_cause.specs.Indexes.{items_told};
 ghost use Rattle.tb_cause.specs.Keys.{Key, Item as ItemKey, Task, has, held_by, held_any, action_any, wait_any, items_any, item_any, kind_any, place_any, same_item_key};
 
 use crate::giving::number_of;
+use crate::indexed::Indexed;
 use crate::keys::{Keys, put, put_cell, put_item};
 use crate::taking::comes_behind;
 use indexmap::IndexSet;
@@ -21,30 +23,36 @@ use tb_core::Entry;
 use tb_model::{Action, Event, Item, Kind, Place, TaskName};
 
 /// Puts the keys that the event takes. It stands behind these entries, and at an undeferred child
-/// if one is named; its task has these items.
+/// if one is named; where `of_task` is set, there is a key of its task.
 pub(crate) fn note(
     keys: &mut Keys,
+    indexed: &Indexed<'_>,
     front: &[Entry],
     event: &Event,
     held: Option<&TaskName>,
-    items: &[Item],
+    of_task: bool,
 ) -> Result<(), AllocError>
     requires held { option_copied held ≡ held_by (own event.now.task (history_of front.now)) }
     requires opened { event.now.action ≡ Close → groups (own event.now.task (history_of front.now)) ≢ [] }
-    ensures { OnOk result ((k : Key) (I : Name → List AnItem) → I event.now.task ≡ items.now →
-        has keys.new k ≡ (asks I (history_of front.now) event.now k || has keys.old k)) }
+    requires of_task { IsTrue of_task → has keys.old (Task event.now.task) ≡ true }
+    ensures { OnOk result ((k : Key) → has keys.new k
+        ≡ (asks (items_told indexed.now) (history_of front.now) event.now k || has keys.old k)) }
 {
-    note_by_items(keys, &event.task, &event.action, items)?;
+    note_by_items(keys, indexed, &event.task, &event.action)?;
     note_by_wait(keys, front, &event.task, &event.action)?;
     note_by_action(keys, &event.action)?;
     note_held(keys, held)?;
-    note_own(keys, &event.task)?;
+    note_own(keys, &event.task, of_task)?;
     Ok(())
 }
 
-fn note_own(keys: &mut Keys, task: &TaskName) -> Result<(), AllocError>
+fn note_own(keys: &mut Keys, task: &TaskName, known: bool) -> Result<(), AllocError>
+    requires { IsTrue known → has keys.old (Task task.now) ≡ true }
     ensures { OnOk result ((k : Key) → has keys.new k ≡ (same_key (Task task.now) k || has keys.old k)) }
 {
+    if known {
+        return Ok(());
+    }
     put(&mut keys.tasks, task)
 }
 
@@ -137,18 +145,15 @@ fn note_group(
 
 fn note_by_items(
     keys: &mut Keys,
+    indexed: &Indexed<'_>,
     task: &TaskName,
     action: &Action,
-    items: &[Item],
 ) -> Result<(), AllocError>
-    ensures { OnOk result ((k : Key) (I : Name → List AnItem) → I task.now ≡ items.now →
-        has keys.new k ≡ (items_any (λ a. same_key a k) I task.now action.now || has keys.old k)) }
+    ensures { OnOk result ((k : Key) → has keys.new k
+        ≡ (items_any (λ a. same_key a k) (items_told indexed.now) task.now action.now || has keys.old k)) }
 {
     match action {
-        Action::Start => match items {
-            [] => Ok(()),
-            _ => note_start(keys, task, items),
-        },
+        Action::Start => note_start(keys, task, indexed.items_of(task)),
         Action::Wait { items } => {
             note_new(keys, task, false, items.as_slice())?;
             Ok(())
@@ -162,6 +167,9 @@ fn note_start(keys: &mut Keys, task: &TaskName, items: &[Item]) -> Result<(), Al
     ensures { OnOk result ((k : Key) (I : Name → List AnItem) → I task.now ≡ items.now →
         has keys.new k ≡ (items_any (λ a. same_key a k) I task.now Start || has keys.old k)) }
 {
+    if items.is_empty() {
+        return Ok(());
+    }
     match task.parent()? {
         Some(parent) => {
             note_new(keys, &parent, true, items)?;

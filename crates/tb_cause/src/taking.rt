@@ -4,13 +4,16 @@ ghost use Rattle.std.specs.Prelude.{◌≡◌, ◌≤◌, ◌&&◌, ◌||◌, �
 ghost use Rattle.std.specs.List.{list_any};
 ghost use Rattle.std.specs.Option.{option_copied};
 ghost use Rattle.indexmap.specs.IndexSet.{contains};
+ghost use Rattle.tb_model.specs.declared.action.Action.TheVariants.{Start};
 ghost use Rattle.tb_model.specs.declared.item.Item.{Item as AnItem};
 ghost use Rattle.tb_model.specs.Names.{Name, same_name};
 ghost use Rattle.tb_model.specs.Facts.{own, groups, innermost};
 ghost use Rattle.tb_core.specs.Scans.{history_of};
+ghost use Rattle.tb_cause.specs.Indexes.{items_told};
 ghost use Rattle.tb_cause.specs.Keys.{Key, Task, has, held_by, held_any, action_any, wait_any, items_any, item_any, kind_any, place_any, takes_any, comes_behind, kind_number};
 
 use crate::giving::number_of;
+use crate::indexed::Indexed;
 use crate::keys::{Keys, has_item};
 use indexmap::IndexSet;
 use std::alloc::AllocError;
@@ -18,26 +21,28 @@ use tb_core::Entry;
 use tb_model::{Action, Event, Item, Kind, Place, TaskName};
 
 /// Whether the event takes one of the keys. It stands behind these entries, and at an undeferred
-/// child if one is named; its task has these items.
+/// child if one is named; `of_task` says whether there is a key of its task.
 pub(crate) fn takes_some(
     keys: &Keys,
+    indexed: &Indexed<'_>,
     front: &[Entry],
     event: &Event,
     held: Option<&TaskName>,
-    items: &[Item],
+    of_task: bool,
 ) -> Result<bool, AllocError>
     requires held { option_copied held ≡ held_by (own event.now.task (history_of front.now)) }
-    ensures { IfOk result (λ b. (I : Name → List AnItem) → I event.now.task ≡ items.now →
-        b ≡ takes_any (has keys.now) I (history_of front.now) event.now) }
+    requires of_task { of_task ≡ has keys.now (Task event.now.task) }
+    ensures { IfOk result (λ b.
+        b ≡ takes_any (has keys.now) (items_told indexed.now) (history_of front.now) event.now) }
 {
-    if keys.tasks.contains(&event.task)
+    if of_task
         || takes_held(keys, held)
         || takes_by_action(keys, &event.action)
         || takes_by_wait(keys, front, &event.task, &event.action)
     {
         return Ok(true);
     }
-    let found = takes_by_items(keys, &event.task, &event.action, items)?;
+    let found = takes_by_items(keys, indexed, &event.task, &event.action)?;
     Ok(found)
 }
 
@@ -106,26 +111,36 @@ fn takes_of_group(set: &IndexSet<TaskName>, front: &[Entry], task: &TaskName) ->
 
 fn takes_by_items(
     keys: &Keys,
+    indexed: &Indexed<'_>,
     task: &TaskName,
     action: &Action,
-    items: &[Item],
 ) -> Result<bool, AllocError>
-    ensures { IfOk result (λ b. (I : Name → List AnItem) → I task.now ≡ items.now →
-        b ≡ items_any (has keys.now) I task.now action.now) }
+    ensures { IfOk result (λ b. b ≡ items_any (has keys.now) (items_told indexed.now) task.now action.now) }
 {
     match action {
-        Action::Start => match items {
-            [] => Ok(false),
-            _ => match task.parent()? {
-                Some(parent) => takes_some_item(keys, &parent, true, items),
-                None => Ok(false),
-            },
-        },
+        Action::Start => {
+            let taken = takes_at_start(keys, task, indexed.items_of(task))?;
+            Ok(taken)
+        }
         Action::Wait { items } => {
             let found = takes_some_item(keys, task, false, items.as_slice())?;
             Ok(found)
         }
         _ => Ok(false),
+    }
+}
+
+/// The same of a start, whose task has these items.
+fn takes_at_start(keys: &Keys, task: &TaskName, items: &[Item]) -> Result<bool, AllocError>
+    ensures { IfOk result (λ b. (I : Name → List AnItem) → I task.now ≡ items.now →
+        b ≡ items_any (has keys.now) I task.now Start) }
+{
+    match items {
+        [] => Ok(false),
+        _ => match task.parent()? {
+            Some(parent) => takes_some_item(keys, &parent, true, items),
+            None => Ok(false),
+        },
     }
 }
 

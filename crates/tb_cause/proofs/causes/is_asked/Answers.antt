@@ -1,10 +1,15 @@
 use Rattle.std.proofs.Common.{◌∙◌, ap, sym}
+use Rattle.tb_model.specs.declared.event.Event.{Event}
 use Rattle.tb_cause.specs.Asked.{gives_any}
 use Rattle.tb_cause.specs.Indexes.{items_told}
-use Rattle.tb_cause.specs.Keys.{has}
+use Rattle.tb_cause.specs.Keys.{Task, has}
+use Rattle.tb_cause.proofs.ConeLemmas.{there}
 use Rattle.tb_cause.proofs.causes.is_asked.Goals as goal
 
+pub gives_some-requires : goal.gives_some-requires
+gives_some-requires c =
+    let w = there c.args.indexed.now c.args.at c.requires.within in
+    c.requires.of_task w.0 w.1 ∙ ap (λ (v : Event). has c.args.keys.now (Task v.task)) (sym (c.event_at-event.ensures w.0 w.1))
+
 pub returns : goal.returns
-returns c e is =
-    let I = items_told c.args.indexed.now in
-    c.in_ok-found.ensures I (sym c.items_of-items.ensures) ∙ ap (gives_any (has c.args.keys.now) I) (c.event_at-event.ensures e is)
+returns c e is = c.in_ok-found.ensures ∙ ap (gives_any (has c.args.keys.now) (items_told c.args.indexed.now)) (c.event_at-event.ensures e is)

@@ -1,7 +1,7 @@
-use Rattle.std.proofs.Common.{◌<◌, ◌≤◌, length}
+use Rattle.std.proofs.Common.{◌<◌, ◌≤◌, ◌-◌, length}
 use Rattle.std.specs.List.{All}
 use Rattle.tb_cause.specs.Chains.{AreGivenAt}
-use Rattle.tb_cause.specs.Keys.{has}
+use Rattle.tb_cause.specs.Keys.{IsOfTask, has}
 use Rattle.tb_cause.proofs.ConeLemmas.{Found}
 use Rattle.tb_cause.proofs.finding.pass.Given as goal
 
@@ -11,4 +11,5 @@ invariant-loop-later l = record {
   given : AreGivenAt l.indexed l.places.items (has l.keys);
   inside : All (λ p. p < length l.indexed) l.places.items;
   behind : All (λ p. l.at ≤ p) l.places.items;
+  of_task : IsOfTask l.indexed (l.later - 1) (has l.keys) l.of_task;
 }
