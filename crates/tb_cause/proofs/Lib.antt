@@ -20,3 +20,4 @@ pub mod NearestPassLemmas
 pub mod LoneLemmas
 pub mod CountLemmas
 pub mod TaskKeyLemmas
+pub mod OwnPlaceLemmas

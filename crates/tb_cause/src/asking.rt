@@ -1,6 +1,6 @@
 //! Questions to a core: what needs a step, and what does it need.
 
-ghost use Rattle.std.specs.Prelude.{◌≡◌, ◌↔◌, IfOk, IsErrOf, IsFalse, IsTrue, Some, map, reverse, ◌<◌, length, vec_len, drop};
+ghost use Rattle.std.specs.Prelude.{◌≡◌, ◌↔◌, IfOk, IfSome, IsErrOf, IsFalse, IsSome, IsTrue, Some, map, reverse, ◌<◌, length, vec_len, drop};
 ghost use Rattle.tb_model.specs.Equivalent.{stands};
 ghost use Rattle.tb_core.specs.Scans.{history_of, step_at};
 ghost use Rattle.tb_core.specs.Seen.{history};
@@ -9,9 +9,9 @@ ghost use Rattle.tb_cause.specs.Chains.{needers, causes_of};
 
 use crate::cause_refusal::CauseRefusal;
 use crate::causes::causes_of;
-use crate::finding::cone_of;
+use crate::finding::cone_in;
 use std::alloc::Global;
-use tb_core::{Core, Entry, place_of};
+use tb_core::{Core, Entry, place_in};
 use tb_model::StepId;
 
 /// The steps that need this one, directly or through others, in the order of the history.
@@ -22,8 +22,8 @@ pub fn needed_by(alloc: Global, core: &Core, step: &StepId) -> Result<Vec<StepId
         ↔ IsFalse (stands step.now (history core.now.run)) }
 {
     let entries = core.legal_entries();
-    let at = place_in(core, entries, step)?;
-    match cone_of(alloc, entries, at, step) {
+    let at = place_told(core, entries, step)?;
+    match cone_in(alloc, core, entries, at, step) {
         Ok(cone) => Ok(behind_first(cone.steps)),
         Err(_) => Err(CauseRefusal::Memory),
     }
@@ -37,15 +37,25 @@ pub fn needs(alloc: Global, core: &Core, step: &StepId) -> Result<Vec<StepId>, C
         ↔ IsFalse (stands step.now (history core.now.run)) }
 {
     let entries = core.legal_entries();
-    let at = place_in(core, entries, step)?;
+    let at = place_told(core, entries, step)?;
     match causes_of(alloc, entries, at) {
         Ok(steps) => Ok(steps),
         Err(_) => Err(CauseRefusal::Memory),
     }
 }
 
-/// The place of the step among these, which are the core's entries.
-fn place_in(core: &Core, entries: &[Entry], step: &StepId) -> Result<usize, CauseRefusal>
+/// The place of the step among these, which are the core's entries. It isn't looked for: the places
+/// of its task's steps tell it.
+pub fn place_among(core: &Core, entries: &[Entry], step: &StepId) -> Option<usize>
+    requires { map departure (reverse entries.now) ≡ core.now.run.steps }
+    ensures there { IsSome result ↔ IsTrue (stands step.now (history core.now.run)) }
+    ensures step { IfSome result (λ at. step_at entries.now at ≡ Some step.now) }
+    ensures within { IfSome result (λ at. at < length entries.now) }
+{
+    place_in(core.events_of(&step.task), entries, step)
+}
+
+fn place_told(core: &Core, entries: &[Entry], step: &StepId) -> Result<usize, CauseRefusal>
     requires { map departure (reverse entries.now) ≡ core.now.run.steps }
     ensures place { IfOk result (λ at. step_at entries.now at ≡ Some step.now) }
     ensures within { IfOk result (λ at. at < length entries.now) }
@@ -53,10 +63,7 @@ fn place_in(core: &Core, entries: &[Entry], step: &StepId) -> Result<usize, Caus
     ensures absent { IsErrOf result CauseRefusal.NoSuchStep
         ↔ IsFalse (stands step.now (history core.now.run)) }
 {
-    if !core.has_step(step) {
-        return Err(CauseRefusal::NoSuchStep);
-    }
-    match place_of(entries, step) {
+    match place_among(core, entries, step) {
         Some(at) => Ok(at),
         None => Err(CauseRefusal::NoSuchStep),
     }

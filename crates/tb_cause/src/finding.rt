@@ -1,10 +1,11 @@
 //! What needs a step, by one pass over the entries behind it.
 
-ghost use Rattle.std.specs.Prelude.{◌≡◌, ◌<◌, ◌≤◌, ◌+◌, ◌∷◌, [], ◌++◌, ◌||◌, IfOk, IsTrue, OnOk, Some, false, true, length, take, get_or};
+ghost use Rattle.std.specs.Prelude.{◌≡◌, ◌<◌, ◌≤◌, ◌+◌, ◌∷◌, [], ◌++◌, ◌||◌, IfOk, IsTrue, OnOk, Some, false, true, length, map, reverse, take, get_or};
 ghost use Rattle.std.specs.List.{All};
 ghost use Rattle.tb_model.specs.declared.step_id.StepId.{StepId};
 ghost use Rattle.tb_core.specs.declared.entry.Entry.{Entry as AnEntry};
 ghost use Rattle.tb_core.specs.Scans.{AreLegal, history_of, step_at};
+ghost use Rattle.tb_core.specs.Soundness.{departure};
 ghost use Rattle.tb_cause.specs.Chains.{AreAllBehind, AreGivenAt, IsCone};
 ghost use Rattle.tb_cause.specs.Indexes.{items_told};
 ghost use Rattle.tb_cause.specs.Keys.{Key, IsOfTask, Within, IsUpward, gives, has, takes_any};
@@ -13,10 +14,10 @@ use crate::cone::Cone;
 use crate::giving::give;
 use crate::indexed::Indexed;
 use crate::keys::Keys;
-use crate::names::names_at;
+use crate::names::{names_at, names_in};
 use crate::taking::takes_some;
 use std::alloc::{AllocError, Global};
-use tb_core::Entry;
+use tb_core::{Core, Entry};
 use tb_model::StepId;
 
 /// The step at this place with all that need it.
@@ -35,6 +36,27 @@ pub fn cone_of(
 {
     let places = places_behind(alloc, entries, at, step)?;
     let steps = names_at(alloc, entries, &places)?;
+    Ok(Cone { places, steps })
+}
+
+/// The same of the core's entries, whose places tell the numbers of few steps.
+pub fn cone_in(
+    alloc: Global,
+    core: &Core,
+    entries: &[Entry],
+    at: usize,
+    step: &StepId,
+) -> Result<Cone, AllocError>
+    requires same { map departure (reverse entries.now) ≡ core.now.run.steps }
+    requires legal { AreLegal entries.now }
+    requires bound { length entries.now ≤ 1000000 }
+    requires within { at < length entries.now }
+    requires here { step_at entries.now at ≡ Some step.now }
+    ensures cone { IfOk result (IsCone step.now (history_of entries.now)) }
+    ensures behind { IfOk result (λ c. All (λ p. at ≤ p) c.places.items) }
+{
+    let places = places_behind(alloc, entries, at, step)?;
+    let steps = names_in(alloc, core, entries, &places)?;
     Ok(Cone { places, steps })
 }
 

@@ -18,8 +18,8 @@ mod spawns;
 mod standing;
 mod taking;
 
-pub use asking::{needed_by, needs};
+pub use asking::{needed_by, needs, place_among};
 pub use cause_refusal::CauseRefusal;
 pub use cone::Cone;
-pub use finding::cone_of;
+pub use finding::{cone_in, cone_of};
 pub use nearest::nearest_places;

@@ -1,15 +1,16 @@
 //! The names of steps, by their places.
 
-ghost use Rattle.std.specs.Prelude.{◌≡◌, ◌<◌, ◌≤◌, IfOk, Some, length, map};
+ghost use Rattle.std.specs.Prelude.{◌≡◌, ◌<◌, ◌≤◌, IfOk, Some, length, map, reverse};
 ghost use Rattle.std.specs.List.{All};
 ghost use Rattle.tb_model.specs.declared.step_id.StepId.{StepId};
 ghost use Rattle.tb_core.specs.Scans.{step_at};
+ghost use Rattle.tb_core.specs.Soundness.{departure};
 ghost use Rattle.tb_cause.specs.Indexes.{AreNumbers};
 
 use crate::counting::count_step;
 use indexmap::IndexMap;
 use std::alloc::{AllocError, Global};
-use tb_core::{Entry, step_at};
+use tb_core::{Core, Entry, step_among, step_at};
 use tb_model::StepId;
 
 /// The names of the steps at these places. Where they are few, each is counted among the entries.
@@ -22,11 +23,60 @@ pub(crate) fn names_at(
     requires places { All (λ p. p < length entries.now) places.now }
     ensures { IfOk result (λ steps. map (λ (s : StepId). Some s) steps.items ≡ map (step_at entries.now) places.now) }
 {
-    if places.len() < 8 {
+    if places.len() < 3 {
         return few_names(alloc, entries, places);
     }
     let numbers = numbers_of(alloc, entries)?;
     names_by(alloc, entries, places, &numbers)
+}
+
+/// The same of the core's entries: where the places are few, the number of each step is found among
+/// the places of its task's steps.
+pub(crate) fn names_in(
+    alloc: Global,
+    core: &Core,
+    entries: &[Entry],
+    places: &[u32],
+) -> Result<Vec<StepId>, AllocError>
+    requires same { map departure (reverse entries.now) ≡ core.now.run.steps }
+    requires bound { length entries.now ≤ 1000000 }
+    requires places { All (λ p. p < length entries.now) places.now }
+    ensures { IfOk result (λ steps. map (λ (s : StepId). Some s) steps.items ≡ map (step_at entries.now) places.now) }
+{
+    if places.len() < entries.len() / 8 {
+        return names_found(alloc, core, entries, places);
+    }
+    names_at(alloc, entries, places)
+}
+
+fn names_found(
+    alloc: Global,
+    core: &Core,
+    entries: &[Entry],
+    places: &[u32],
+) -> Result<Vec<StepId>, AllocError>
+    requires same { map departure (reverse entries.now) ≡ core.now.run.steps }
+    requires bound { length entries.now ≤ 1000000 }
+    requires places { All (λ p. p < length entries.now) places.now }
+    ensures { IfOk result (λ steps. map (λ (s : StepId). Some s) steps.items ≡ map (step_at entries.now) places.now) }
+{
+    let mut steps = Vec::with_capacity(alloc, places.len())?;
+    for place in places {
+        steps.push(name_found(core, entries, *place as usize)?)?;
+    }
+    Ok(steps)
+}
+
+/// The name of the step at this place of the core's entries.
+fn name_found(core: &Core, entries: &[Entry], at: usize) -> Result<StepId, AllocError>
+    requires same { map departure (reverse entries.now) ≡ core.now.run.steps }
+    requires bound { length entries.now ≤ 1000000 }
+    requires within { at < length entries.now }
+    ensures { IfOk result (λ id. step_at entries.now at ≡ Some id) }
+{
+    let own = core.events_of(&entries[at].event.task);
+    let id = step_among(own, entries, at)?;
+    Ok(id)
 }
 
 fn few_names(alloc: Global, entries: &[Entry], places: &[u32]) -> Result<Vec<StepId>, AllocError>

@@ -1,4 +1,4 @@
--- The entries that stay where those at some places go. No public clause cites this module.
+-- The entries that stay where those at some places go. Public clauses cite the events alone.
 use Rattle.std.specs.Prelude.{◌≡◌, ◌≤◌, ℕ, ◌+◌, ◌==◌, List, [], ◌∷◌, ◌++◌, Bool, false, length, take, drop, map, if◌then◌else◌}
 use Rattle.tb_model.specs.declared.event.Event.{Event}
 use Rattle.tb_places.specs.declared.places.Places.{Places}

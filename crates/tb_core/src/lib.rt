@@ -20,7 +20,7 @@ mod unwinding;
 pub use elsewhere::Elsewhere;
 pub use entry::Entry;
 pub use needing::{first_needer, is_apart, is_before, is_covered, needs};
-pub use places::{ordinal_of, place_of, step_at};
+pub use places::{ordinal_of, place_in, place_of, step_among, step_at};
 pub use removed::Removed;
 pub use rollback::Rollback;
 pub use run::Core;

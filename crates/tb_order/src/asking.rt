@@ -9,8 +9,8 @@ ghost use Rattle.tb_races.specs.Racing;
 use crate::immediate::immediate;
 use crate::racing::races_among;
 use std::alloc::{AllocError, Global};
-use tb_cause::CauseRefusal;
-use tb_core::{Core, place_of};
+use tb_cause::{CauseRefusal, place_among};
+use tb_core::Core;
 use tb_model::StepId;
 use tb_races::{Cause, Race};
 
@@ -22,7 +22,7 @@ pub fn causes(alloc: Global, core: &Core, step: &StepId) -> Result<Vec<Cause>, C
         ↔ IsFalse (stands step.now (history core.now.run)) }
 {
     let entries = core.legal_entries();
-    let Some(at) = place_of(entries, step) else {
+    let Some(at) = place_among(core, entries, step) else {
         return Err(CauseRefusal::NoSuchStep);
     };
     match immediate(alloc, entries, at) {

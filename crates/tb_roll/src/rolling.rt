@@ -1,17 +1,18 @@
 //! A rollback: first all memory is taken, then the steps are taken back, which can't fail.
 
-ghost use Rattle.std.specs.Prelude.{◌≡◌, ◌<◌, ◌≤◌, IfOk, IfErr, OnOk, OnErr, IsTrue, Some, length};
+ghost use Rattle.std.specs.Prelude.{◌≡◌, ◌<◌, ◌≤◌, IfOk, IfErr, OnOk, OnErr, IsTrue, Some, length, map, reverse};
 ghost use Rattle.tb_model.specs.Equivalent.{stands};
 ghost use Rattle.tb_core.specs.Rolled.{IsOfHistory, RollsBack};
 ghost use Rattle.tb_core.specs.Scans.{AreLegal, history_of, step_at};
 ghost use Rattle.tb_core.specs.Seen.{history};
+ghost use Rattle.tb_core.specs.Soundness.{departure};
 ghost use Rattle.tb_roll.specs.Outcomes.{TellsFirst, Stays};
 
 use crate::readied::Ready;
 use crate::roll_refusal::RollRefusal;
 use std::alloc::{AllocError, Global};
-use tb_cause::{Cone, cone_of};
-use tb_core::{Core, Entry, Removed, Rollback, place_of};
+use tb_cause::{Cone, cone_in, place_among};
+use tb_core::{Core, Entry, Removed, Rollback};
 use tb_model::StepId;
 
 /// Finds what goes with a step, and takes all memory for the rollback.
@@ -21,14 +22,11 @@ pub fn ready(alloc: Global, core: &Core, step: &StepId) -> Result<Ready, RollRef
     ensures stands { OnOk result (IsTrue (stands step.now (history core.now.run))) }
     ensures refused { IfErr result (Stays core.now.run step.now) }
 {
-    if !core.has_step(step) {
-        return Err(RollRefusal::NoSuchStep);
-    }
     let entries = core.legal_entries();
-    let Some(at) = place_of(entries, step) else {
+    let Some(at) = place_among(core, entries, step) else {
         return Err(RollRefusal::NoSuchStep);
     };
-    match prepare(alloc, entries, at, step) {
+    match prepare(alloc, core, entries, at, step) {
         Ok(rollback) => Ok(Ready { rollback }),
         Err(_) => Err(RollRefusal::Memory),
     }
@@ -59,10 +57,12 @@ pub fn roll(alloc: Global, core: &mut Core, step: &StepId) -> Result<Vec<Removed
 /// The step at this place with all that need it, and the room to take them back.
 fn prepare(
     alloc: Global,
+    core: &Core,
     entries: &[Entry],
     at: usize,
     step: &StepId,
 ) -> Result<Rollback, AllocError>
+    requires same { map departure (reverse entries.now) ≡ core.now.run.steps }
     requires legal { AreLegal entries.now }
     requires bound { length entries.now ≤ 1000000 }
     requires within { at < length entries.now }
@@ -70,7 +70,7 @@ fn prepare(
     ensures ready { IfOk result (IsOfHistory (history_of entries.now)) }
     ensures step { IfOk result (λ r. r.step ≡ step.now) }
 {
-    let Cone { places, steps } = cone_of(alloc, entries, at, step)?;
+    let Cone { places, steps } = cone_in(alloc, core, entries, at, step)?;
     let kept = Vec::with_capacity(alloc, entries.len() - at)?;
     let removed = Vec::with_capacity(alloc, places.len())?;
     Ok(Rollback {
