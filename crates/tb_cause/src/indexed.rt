@@ -10,7 +10,7 @@ ghost use Rattle.tb_cause.specs.Indexes.{items_placed, items_told, placed_action
 ghost use Rattle.tb_cause.specs.Keys.{IsOfTask, has, held_by};
 
 use crate::cone::Cone;
-use crate::keys::Keys;
+use crate::keys::{Keys, has_task};
 use crate::spawns::spawns_of;
 use crate::standing::held_steps;
 use indexmap::IndexMap;
@@ -105,7 +105,7 @@ impl<'a> Indexed<'a> {
         requires { at < length self.now }
         ensures { IsOfTask self.now at (has keys.now) result }
     {
-        keys.tasks.contains(&self.event_at(at).task)
+        has_task(&keys.tasks, &self.event_at(at).task)
     }
 
     /// The same, where it is known of the entry in front of this place, which mostly is of the same

@@ -59,6 +59,19 @@ pub(crate) fn put(set: &mut IndexSet<TaskName>, task: &TaskName) -> Result<(), A
     Ok(())
 }
 
+/// Whether the task is in the set. Where it is the set's only one, no hash is taken, as in a rollback of
+/// one task's steps.
+pub(crate) fn has_task(set: &IndexSet<TaskName>, task: &TaskName) -> bool
+    ensures { result ≡ contains same_name set.now task.now }
+{
+    if set.len() == 1 {
+        if let Some(one) = set.get_index(0) {
+            return *one == *task;
+        }
+    }
+    set.contains(task)
+}
+
 /// Puts the cell into the set.
 #[tactic(auto, using(crate::proofs::SetLemmas::put_in))]
 pub(crate) fn put_cell(set: &mut IndexSet<u32>, cell: u32) -> Result<(), AllocError>

@@ -1,8 +1,12 @@
 //! The names of steps, by their places.
 
-ghost use Rattle.std.specs.Prelude.{◌≡◌, ◌<◌, ◌≤◌, IfOk, Some, length, map, reverse};
+ghost use Rattle.std.specs.Prelude.{◌≡◌, ◌<◌, ◌≤◌, ◌-◌, IfOk, IsTrue, Some, length, map, reverse, slice_get};
 ghost use Rattle.std.specs.List.{All};
 ghost use Rattle.tb_model.specs.declared.step_id.StepId.{StepId};
+ghost use Rattle.tb_model.specs.Facts.{is_of};
+ghost use Rattle.tb_places.specs.Where.{places_where};
+ghost use Rattle.tb_core.specs.declared.entry.Entry.{Entry as AnEntry};
+ghost use Rattle.tb_core.specs.Renumbering.{events_in};
 ghost use Rattle.tb_core.specs.Scans.{step_at};
 ghost use Rattle.tb_core.specs.Soundness.{departure};
 ghost use Rattle.tb_cause.specs.Indexes.{AreNumbers};
@@ -43,7 +47,7 @@ pub(crate) fn names_in(
     requires places { All (λ p. p < length entries.now) places.now }
     ensures { IfOk result (λ steps. map (λ (s : StepId). Some s) steps.items ≡ map (step_at entries.now) places.now) }
 {
-    if places.len() < entries.len() / 8 {
+    if places.len() < entries.len() / 2 {
         return names_found(alloc, core, entries, places);
     }
     names_at(alloc, entries, places)
@@ -61,21 +65,57 @@ fn names_found(
     ensures { IfOk result (λ steps. map (λ (s : StepId). Some s) steps.items ≡ map (step_at entries.now) places.now) }
 {
     let mut steps = Vec::with_capacity(alloc, places.len())?;
+    let mut near = 0_usize;
     for place in places {
-        steps.push(name_found(core, entries, *place as usize)?)?;
+        steps.push(name_found(core, entries, *place as usize, &mut near)?)?;
     }
     Ok(steps)
 }
 
-/// The name of the step at this place of the core's entries.
-fn name_found(core: &Core, entries: &[Entry], at: usize) -> Result<StepId, AllocError>
+/// The name of the step at this place of the core's entries. The number `near` is that of the step
+/// that was found last: mostly this one is the next of its task, and then it isn't searched for.
+fn name_found(
+    core: &Core,
+    entries: &[Entry],
+    at: usize,
+    near: &mut usize,
+) -> Result<StepId, AllocError>
     requires same { map departure (reverse entries.now) ≡ core.now.run.steps }
     requires bound { length entries.now ≤ 1000000 }
     requires within { at < length entries.now }
     ensures { IfOk result (λ id. step_at entries.now at ≡ Some id) }
 {
     let own = core.events_of(&entries[at].event.task);
+    if stands_next(own, at, *near) {
+        *near += 1;
+        return name_numbered(own, entries, at, *near);
+    }
     let id = step_among(own, entries, at)?;
+    *near = id.k as usize;
+    Ok(id)
+}
+
+/// Whether the place stands behind so many of these.
+fn stands_next(own: &[u32], at: usize, near: usize) -> bool
+    ensures { IsTrue result → slice_get own.now near ≡ Some at }
+{
+    match own.get(near) {
+        Some(place) => *place as usize == at,
+        None => false,
+    }
+}
+
+/// The name of the step at this place, which is the kth of those of its task.
+fn name_numbered(_own: &[u32], entries: &[Entry], at: usize, k: usize) -> Result<StepId, AllocError>
+    requires bound { length entries.now ≤ 1000000 }
+    requires within { at < length entries.now }
+    requires own { (e : AnEntry) → slice_get entries.now at ≡ Some e →
+        _own.now ≡ places_where (is_of e.event.task) (events_in entries.now) }
+    requires some { 0 < k }
+    requires number { slice_get _own.now (k - 1) ≡ Some at }
+    ensures { IfOk result (λ id. step_at entries.now at ≡ Some id) }
+{
+    let id = named(entries, at, k as u32)?;
     Ok(id)
 }
 
