@@ -34,11 +34,11 @@ module _ (a b : Option (List ℕ)) (held start numbers rest front last bytes : L
   left : numbers ≡ front ++ (last ++ s.0)
   left = s.1 ∙ ap (λ l. l ++ s.0) cut ∙ append_assoc front last s.0
 
-  spelled_more : (c : Option (List ℕ)) (more : List ℕ) → Told b c more (λ all. all ≡ held ++ bytes) → Spelled a c more start numbers front
+  pub spelled_more : (c : Option (List ℕ)) (more : List ℕ) → Told b c more (λ all. all ≡ held ++ bytes) → Spelled a c more start numbers front
   spelled_more c more t =
       (last ++ s.0, left, subst (λ whole. Told a c more (λ all. all ≡ whole)) next (told_more a b c held more (start ++ levels_text s.0) bytes s.2 t))
 
-  spelled_cut : (c : Option (List ℕ)) → WroteFront b c (held ++ bytes) → WroteFront a c (start ++ levels_text numbers)
+  pub spelled_cut : (c : Option (List ℕ)) → WroteFront b c (held ++ bytes) → WroteFront a c (start ++ levels_text numbers)
   spelled_cut c w =
       front_told a b c held (start ++ levels_text s.0) bytes (start ++ levels_text numbers) (levels_text front) s.2 w
       (ap (λ l. start ++ levels_text l) left ∙ ap (λ l. start ++ l) (levels_both front (last ++ s.0)) ∙ sym (append_assoc start (levels_text (last ++ s.0)) (levels_text front))
@@ -101,14 +101,22 @@ last_run parts run empty is so no_parts =
     let none = nil_from_length run (eqb-true (length run) 0 (sym is ∙ so)) in
     ap₂ (λ p r. p ++ r) (no_parts none) none
 
--- the run was spelled, and the next one taken off the parts
-module _ (a b : Option (List ℕ)) (held start numbers parts run : List ℕ) (s : Spelled a b held start numbers (parts ++ run)) where
-  pub run_more : (c : Option (List ℕ)) (more next_parts next_run : List ℕ) → Told b c more (λ all. all ≡ held ++ levels_text run) → parts ≡ next_parts ++ next_run → Spelled a c more start numbers (next_parts ++ next_run)
-  run_more c more next_parts next_run t split =
-      subst (λ rest. Spelled a c more start numbers rest) split (spelled_more a b held start numbers (parts ++ run) parts run (levels_text run) s refl refl c more t)
+-- nothing but what was there is put
+pub none_spelled : (a b : Option (List ℕ)) (held start numbers rest : List ℕ) → numbers ≡ rest → Told a b held (λ all. all ≡ start) → Spelled a b held start numbers rest
+none_spelled a b held start numbers rest is t =
+    ([], is ∙ sym (append-nil rest), subst (λ l. Told a b held (λ all. all ≡ l)) (sym (append-nil start)) t)
 
-  pub run_cut : (c : Option (List ℕ)) → WroteFront b c (held ++ levels_text run) → WroteFront a c (start ++ levels_text numbers)
-  run_cut = spelled_cut a b held start numbers (parts ++ run) parts run (levels_text run) s refl refl
+pub spelled_as : (a b : Option (List ℕ)) (held start numbers rest parts : List ℕ) → rest ≡ parts → Spelled a b held start numbers rest → Spelled a b held start numbers parts
+spelled_as a b held start numbers rest parts is s = subst (Spelled a b held start numbers) is s
+
+-- the run was spelled, and the next one taken off the parts
+module _ (a b : Option (List ℕ)) (held start numbers parts run bytes : List ℕ) (s : Spelled a b held start numbers (parts ++ run)) (is : bytes ≡ levels_text run) where
+  pub run_more : (c : Option (List ℕ)) (more next_parts next_run : List ℕ) → Told b c more (λ all. all ≡ held ++ bytes) → parts ≡ next_parts ++ next_run → Spelled a c more start numbers (next_parts ++ next_run)
+  run_more c more next_parts next_run t split =
+      subst (λ rest. Spelled a c more start numbers rest) split (spelled_more a b held start numbers (parts ++ run) parts run bytes s refl is c more t)
+
+  pub run_cut : (c : Option (List ℕ)) → WroteFront b c (held ++ bytes) → WroteFront a c (start ++ levels_text numbers)
+  run_cut = spelled_cut a b held start numbers (parts ++ run) parts run bytes s refl is
 
 name_whole : (waiting numbers : List ℕ) → (waiting ++ 48 ∷ []) ++ levels_text numbers ≡ waiting ++ name_text numbers
 name_whole waiting numbers = append_assoc waiting (48 ∷ []) (levels_text numbers) ∙ ap (λ l. waiting ++ l) (sym (named numbers))

@@ -2,12 +2,13 @@
 use Rattle.std.proofs.Common.{◌≡◌, ℕ, ◌+◌, ◌-◌, ◌^◌, ◌<◌, ◌≤◌, List, ◌++◌, length, length-append, [], Option, Some, None, IfSome, append_assoc, suc, take, drop, refl, ap, ap₂, sym, ◌∙◌, arith, subst, ℤ, pos, negsuc, FitsSigned, w64, false, int_le, unsigned_abs, set, ◌∷◌}
 use Rattle.std.proofs.Math.Seq.{drop-append_seam}
 use Rattle.std.proofs.lemmas.List.{length-take-le, drop-drop, drop-set, drop_all}
+use Rattle.tb_draft.proofs.PassageLemmas.{named}
 use Rattle.tb_draft.proofs.DigitLemmas.{minus_first}
 use Rattle.std.proofs.lemmas.Fmt.{length-decimal-le, IsAscii-decimal, IsAscii-signed}
 use Rattle.std.proofs.lemmas.Str.{IsUtf8-append, IsUtf8-from_ascii}
 use Rattle.std.specs.Fmt.{decimal, signed_decimal}
 use Rattle.std.specs.Str.{IsUtf8}
-use Rattle.tb_model.specs.Spelling.{name_text}
+use Rattle.tb_model.specs.Spelling.{levels_text, name_text}
 use borrow.Rule.Slice.PartMut.{put_mid, post_of}
 
 pub text_put : (at : ℕ) (bytes text now : List ℕ) → now ≡ text → length text ≤ at → at ≤ length bytes
@@ -52,31 +53,20 @@ level_put whole self new parts parent n is put named =
     ap (λ x. name_text parent ++ x) put ∙ sym (append_assoc (name_text parent) (46 ∷ decimal n) self)
     ∙ ap (λ t. name_text t ++ self) (sym is) ∙ named
 
--- the root, in front of all levels
-pub root_put : (self new old name numbers left : List ℕ) (at : ℕ) (r : Option (Unit {0})) → name ≡ left ++ numbers → left ≡ [] → length numbers ≤ at
-    → name_text (drop at numbers) ++ self ≡ name_text numbers ++ old → IfSome r (λ _. new ≡ 48 ∷ self) → IfSome r (λ _. new ≡ name_text name ++ old)
-root_put self new old name numbers left at None split none all named put = tt
-root_put self new old name numbers left at (Some u) split none all named put =
-    let whole : name ≡ numbers = split ∙ ap (λ x. x ++ numbers) none in
-    put ∙ ap (λ t. name_text t ++ self) (sym (drop_all at numbers all)) ∙ named ∙ ap (λ t. name_text t ++ old) (sym whole)
+-- all levels
+pub levels_put : (self old numbers : List ℕ) (at : ℕ) → length numbers ≤ at → levels_text (drop at numbers) ++ self ≡ levels_text numbers ++ old → self ≡ levels_text numbers ++ old
+levels_put self old numbers at all named = ap (λ t. levels_text t ++ self) (sym (drop_all at numbers all)) ∙ named
 
--- the root has no numbers
-pub root_none : (name numbers left : List ℕ) → name ≡ left ++ numbers → name ≡ [] → length left + length numbers ≡ 0
-root_none name numbers left split none = sym (length-append left numbers) ∙ ap length (sym split ∙ none)
+-- a name is the root's, and its levels
+pub name_put : (mid new old name numbers : List ℕ) (r : Option (Unit {0})) → name ≡ numbers → mid ≡ levels_text numbers ++ old
+    → IfSome r (λ _. new ≡ 48 ∷ mid) → IfSome r (λ _. new ≡ name_text name ++ old)
+name_put mid new old name numbers None is levels put = tt
+name_put mid new old name numbers (Some u) is levels put = put ∙ ap (λ t. 48 ∷ t) (levels ∙ ap (λ n. levels_text n ++ old) (sym is)) ∙ ap (λ t. t ++ old) (sym (named name))
 
-pub root_run : (name numbers left rest run : List ℕ) → name ≡ left ++ numbers → name ≡ [] → left ≡ rest ++ run → length run ≡ 0
-root_run name numbers left rest run split none more =
-    omega (arith, root_none name numbers left split none, ap length more ∙ length-append rest run)
-
-pub is_nil : (xs : List ℕ) → length xs ≡ 0 → xs ≡ []
-is_nil [] none = refl
-is_nil (x ∷ xs) none = absurd (omega (arith, none))
-
--- in front of a root nothing was put
-pub root_room : (self old name numbers left : List ℕ) (at : ℕ) → name ≡ left ++ numbers → name ≡ [] → name_text (drop at numbers) ++ self ≡ name_text numbers ++ old
-    → length self ≡ length old
-root_room self old name [] left at split none named = let e : suc (length self) ≡ suc (length old) = ap length (ap (λ t. name_text t ++ self) (sym (drop_all at [] (omega arith))) ∙ named) in omega arith
-root_room self old name (n ∷ numbers) left at split none named = absurd (omega (arith, root_none name (n ∷ numbers) left split none))
+-- what no numbers are left of
+pub only_run : (name numbers left run : List ℕ) → name ≡ left ++ numbers → (run ≡ [] → left ≡ []) → length run < 1 → name ≡ numbers
+only_run name numbers left [] split last none = split ∙ ap (λ x. x ++ numbers) (last refl)
+only_run name numbers left (n ∷ run) split last none = absurd (omega (arith, none))
 
 pub number_length : (self new : List ℕ) (n : ℕ) → n < 2 ^ 32 → new ≡ decimal n ++ self → length new ≤ length self + 10
 number_length self new n small put =

@@ -2,7 +2,7 @@
 
 ghost use Rattle.std.specs.Prelude.{◌≡◌, ◌+◌, ◌<◌, ◌≤◌, ◌++◌, ◌∷◌, [], IfNone, IfSome, IsSome, decimal, length};
 ghost use Rattle.std.specs.Fmt.{signed_decimal};
-ghost use Rattle.tb_model.specs.Spelling.{name_text};
+ghost use Rattle.tb_model.specs.Spelling.{levels_text, name_text};
 
 use crate::digits::{put_digits, put_long};
 use std::marker::Model;
@@ -115,6 +115,18 @@ impl ShortText {
         self.prepend(".")
     }
 
+    /// Puts levels in front, the last of these first. Some of them may stand where there is no room.
+    #[inline(always)]
+    fn prepend_levels(&mut self, numbers: &[u32]) -> Option<()>
+        ensures some { IfSome result (λ _. self.new ≡ levels_text numbers.now ++ self.old) }
+        ensures none { numbers.now ≡ [] → IsSome result × (self.new ≡ self.old) }
+    {
+        'levels: for n in numbers {
+            self.prepend_level(*n)?;
+        }
+        Some(())
+    }
+
     /// Puts a name in front, if it has 16 levels at most and there is room for ten digits of each. Some levels may stand
     /// where there isn't.
     #[inline(always)]
@@ -122,17 +134,19 @@ impl ShortText {
         ensures some { IfSome result (λ _. self.new ≡ name_text name.now ++ self.old) }
         ensures root { name.now ≡ [] → length self.old < 96 → IsSome result }
     {
+        if let Some(numbers) = name.short() {
+            self.prepend_levels(numbers)?;
+            return self.prepend("0");
+        }
         let mut parts = name.parts();
-        let numbers = parts.take_run();
-        if numbers.len() > LEVELS {
+        let run = parts.take_run();
+        if run.as_slice().len() > LEVELS {
             return None;
         }
-        let [] = parts.take_run() else {
+        let [] = parts.take_run().as_slice() else {
             return None;
         };
-        'levels: for n in numbers {
-            self.prepend_level(*n)?;
-        }
+        self.prepend_levels(run.as_slice())?;
         self.prepend("0")
     }
 }

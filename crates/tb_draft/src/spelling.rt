@@ -66,9 +66,12 @@ fn put_name<K: Sink>(
 {
     put(sink, waiting, b"0")?;
     let mut parts = name.parts();
+    'spelled: while let Some((_, text)) = parts.take_spelled() {
+        put(sink, waiting, text)?;
+    }
     let mut run = parts.take_run();
-    'runs: while !run.is_empty() {
-        put_levels(sink, waiting, run)?;
+    'runs: while !run.as_slice().is_empty() {
+        put_levels(sink, waiting, run.as_slice())?;
         run = parts.take_run();
     }
     Ok(())

@@ -4,6 +4,7 @@ use Rattle.std.proofs.Common.{true≢false, eqb-true, not, nat_lt, le-ltb, lt-lt
 use Rattle.std.specs.Prelude.{slice_index_or}
 use Rattle.tb_model.specs.Names.{same_name}
 use Rattle.tb_model.specs.Blocks.{far_numbers, AreFull, IsSplit, IsDeep}
+use Rattle.tb_model.proofs.TestLemmas.{same_refl}
 use Rattle.tb_model.proofs.WithinLemmas.{different}
 
 pub far_length : (far : List (List ℕ)) → AreFull far → length (far_numbers far) ≡ 128 * length far
@@ -217,6 +218,12 @@ same_split k a b long =
 pub same_front : (k : ℕ) (a b : List ℕ) → length a ≡ length b → same_name (take k a) (take k b) ≡ true
     → same_name a b ≡ same_name (take (length a - k) (drop k a)) (take (length b - k) (drop k b))
 same_front k a b long same = same_split k a b long ∙ ap (λ t. t && same_name (take (length a - k) (drop k a)) (take (length b - k) (drop k b))) same
+
+-- nor do those that both end with
+pub same_filled : (k : ℕ) (a b : List ℕ) → length a ≡ length b → drop k a ≡ drop k b → same_name a b ≡ same_name (take k a) (take k b)
+same_filled k a b long same =
+    same_split k a b long
+    ∙ and_true (same_name (take k a) (take k b)) _ (ap₂ same_name (take_rest a k ∙ same) (take_rest b k) ∙ same_refl (drop k b))
 
 pub other_front : (k : ℕ) (a b : List ℕ) → length a ≡ length b → same_name (take k a) (take k b) ≡ false → same_name a b ≡ false
 other_front k a b long other = same_split k a b long ∙ ap (λ t. t && same_name (take (length a - k) (drop k a)) (take (length b - k) (drop k b))) other

@@ -1,7 +1,8 @@
 -- The order of names that fall into blocks.
-use Rattle.std.proofs.Common.{◌≡◌, ℕ, ◌≤◌, ◌<◌, List, [], ◌∷◌, ◌++◌, true, false, length, reverse, refl, sym, ap, ap₂, ◌∙◌, arith, append_assoc, length-append, true≢false}
+use Rattle.std.proofs.Common.{◌≡◌, ℕ, suc, ◌≤◌, ◌<◌, List, [], ◌∷◌, ◌++◌, true, false, length, reverse, refl, sym, ap, ap₂, ◌∙◌, arith, append_assoc, length-append, true≢false}
 use Rattle.std.specs.declared.cmp.Ordering.{Ordering}
 use Rattle.std.specs.declared.cmp.Ordering.TheVariants.{Less, Equal, Greater}
+use Rattle.std.specs.Cmp.{nat_cmp_is}
 use Rattle.std.specs.Cmp.Lexicographic.{slice_cmp}
 use Rattle.std.specs.Ordering.{nat_cmp, ordering_then, is_eq}
 use Rattle.std.proofs.lemmas.List.{reverse-append, length-reverse, take_rest}
@@ -105,3 +106,14 @@ module _ (a b m n : Name) (left right : List (List ℕ)) (ordered : AreOrdered a
   fewer_is_less y e some' is' same' none near le =
       sym (ordered ∙ ap₂ name_cmp (no_blocks m left none) (with_first n y e right some' is' same')
       ∙ shorter_is_less m (n ++ far_numbers (others right)) y le (omega (arith, near, length-append n (far_numbers (others right)))))
+
+-- where one has no more numbers, that one comes first
+pub none_left : (xs ys : Name) → length xs < 1 → nat_cmp 0 (length ys) ≡ name_cmp xs ys
+none_left [] [] none = refl
+none_left [] (n ∷ ys) none = sym (nat_cmp_is 0 (suc (length ys)) Less (omega arith)) ∙ sym (shorter [] [] (reverse (n ∷ ys)) (omega arith) (omega (arith, length-reverse (n ∷ ys))))
+none_left (m ∷ xs) ys none = absurd (omega (arith, none))
+
+pub some_left : (xs ys : Name) → 1 ≤ length xs → length ys < 1 → Greater ≡ name_cmp xs ys
+some_left [] ys some none = absurd (omega (arith, some))
+some_left (m ∷ xs) [] some none = sym (longer [] (reverse (m ∷ xs)) [] (omega arith) (omega (arith, length-reverse (m ∷ xs))))
+some_left (m ∷ xs) (n ∷ ys) some none = absurd (omega (arith, none))

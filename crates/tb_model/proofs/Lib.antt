@@ -10,6 +10,7 @@ pub mod BlockLemmas
 pub mod BlockOrderLemmas
 pub mod BlockEndLemmas
 pub mod BlockHashLemmas
+pub mod FewLemmas
 pub mod PartsLemmas
 pub mod RemovalLemmas
 pub mod AlikeLemmas

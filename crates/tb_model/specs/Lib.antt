@@ -5,6 +5,7 @@ pub mod NameHash
 pub mod NameLaws
 pub mod Boxed
 pub mod Blocks
+pub mod Bytes
 pub mod Stored
 pub mod Items
 pub mod Facts

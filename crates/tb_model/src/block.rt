@@ -1,8 +1,10 @@
 //! A run of the numbers of deep names.
 
-ghost use Rattle.std.specs.Prelude.{◌≡◌, IfOk, length};
+ghost use Rattle.std.specs.Prelude.{◌≡◌, IfOk, IfSome, length};
+ghost use Rattle.tb_model.specs.Names.{same_name};
+ghost use Rattle.tb_model.specs.Spelling.{levels_text};
 
-use smallvec::SmallVec;
+use crate::levels::Levels;
 use std::alloc::{AllocError, Global};
 use std::marker::Model;
 use std::sync::Arc;
@@ -13,18 +15,16 @@ pub(crate) const BLOCK: usize = 128;
 /// 128 numbers of a deep name. They stand on the heap once, for all names that have them.
 #[derive(Drop)]
 pub(crate) struct Block {
-    numbers: Arc<SmallVec<u32, 8>>,
+    levels: Arc<Levels>,
 }
 
 impl Model for Block {
-    ghost use Rattle.std.specs.Prelude.{◌≡◌, List, ℕ, length};
+    ghost use Rattle.std.specs.Prelude.{List, ℕ};
     ghost use Rattle.std.specs.Arc.{arc_value};
 
     ghost Value = { List ℕ };
 
-    ghost view = { λ b. (arc_value b.numbers).items };
-
-    ghost invariant = { λ b. length (arc_value b.numbers).items ≡ 128 };
+    ghost view = { λ b. arc_value b.levels };
 }
 
 impl Block {
@@ -33,9 +33,10 @@ impl Block {
         requires { length numbers.now ≡ 128 }
         ensures { IfOk result (λ b. b ≡ numbers.now) }
     {
-        let list = SmallVec::from_slice(alloc, numbers)?;
+        let mut levels = [0; BLOCK];
+        levels.copy_from_slice(numbers);
         Ok(Block {
-            numbers: Arc::new(alloc, list)?,
+            levels: Arc::new(alloc, Levels::new(levels))?,
         })
     }
 
@@ -44,7 +45,21 @@ impl Block {
         ensures is { result.now ≡ self.now }
         ensures full { length self.now ≡ 128 }
     {
-        self.numbers.as_slice()
+        self.levels.as_slice()
+    }
+
+    /// Whether the numbers are the same.
+    pub fn is_same(&self, other: &Block) -> bool
+        ensures { result ≡ same_name self.now other.now }
+    {
+        self.levels.is_same(&other.levels)
+    }
+
+    /// The levels of the numbers as text, which is kept where each has one digit.
+    pub fn text(&self) -> Option<&[u8]>
+        ensures { IfSome result (λ t. t.now ≡ levels_text self.now) }
+    {
+        self.levels.text()
     }
 
     /// The same block, with one owner more. It is refused where it has nine quintillion.
@@ -52,7 +67,7 @@ impl Block {
         ensures { IfOk result (λ b. b ≡ self.now) }
     {
         Ok(Block {
-            numbers: Arc::try_clone(&self.numbers)?,
+            levels: Arc::try_clone(&self.levels)?,
         })
     }
 }

@@ -57,6 +57,18 @@ fn are_so_many_same(a: &[u32], b: &[u32], count: usize) -> bool
     same
 }
 
+/// The same of numbers below 256, all of them at once.
+#[inline(always)]
+pub(crate) fn are_bytes_same<const N: usize>(a: &[u8; N], b: &[u8; N]) -> bool
+    ensures { result ≡ same_name a.now b.now }
+{
+    let mut same = true;
+    for i in 0..N {
+        same &= a[i] == b[i];
+    }
+    same
+}
+
 /// The numbers without most of the last ones that both have, which don't decide the order: deep
 /// names of one program mostly begin alike at the root.
 pub(crate) fn without_common<'a>(a: &'a [u32], b: &'a [u32]) -> (&'a [u32], &'a [u32])

@@ -35,7 +35,7 @@ pub(crate) fn shared(alloc: Global, parts: &Parts<'_>) -> Result<Deep, AllocErro
 {
     let far = copied(alloc, parts.far)?;
     Ok(Deep {
-        near: SmallVec::from_slice(alloc, parts.near)?,
+        near: SmallVec::from_slice(alloc, parts.near.as_slice())?,
         far,
     })
 }
@@ -46,13 +46,14 @@ pub(crate) fn grown(alloc: Global, first: u32, rest: &Parts<'_>) -> Result<Deep,
     ensures { IfOk result (λ d. IsDeep d.near.items d.far.items (first ∷ rest.now)) }
 {
     let mut far = copied(alloc, rest.far)?;
-    if rest.near.len() < BLOCK {
-        let mut near = SmallVec::with_capacity(alloc, rest.near.len() + 1)?;
+    let others = rest.near.as_slice();
+    if others.len() < BLOCK {
+        let mut near = SmallVec::with_capacity(alloc, others.len() + 1)?;
         near.push_reserved(first);
-        near.extend_from_slice(rest.near)?;
+        near.extend_from_slice(others)?;
         return Ok(Deep { near, far });
     }
-    far.push(Block::from_slice(alloc, rest.near)?)?;
+    far.push(Block::from_slice(alloc, others)?)?;
     Ok(Deep {
         near: SmallVec::from_slice(alloc, &[first])?,
         far,

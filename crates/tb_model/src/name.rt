@@ -1,6 +1,6 @@
 //! Names of tasks.
 
-ghost use Rattle.std.specs.Prelude.{◌≡◌, ◌<◌, ◌≤◌, IfOk, IsOk, IsErrOf, OnOk, OnErr, IsFalse, ◌↔◌, [], ◌++◌, length, nat_lt, slice_get, string_bytes};
+ghost use Rattle.std.specs.Prelude.{◌≡◌, ◌<◌, ◌≤◌, IfOk, IsOk, IsErrOf, OnOk, OnErr, IfSome, IfNone, IsFalse, ◌↔◌, [], ◌++◌, length, nat_lt, slice_get, string_bytes};
 ghost use Rattle.std.specs.Cmp.Rules.{comparing};
 ghost use Rattle.std.specs.Hash as fed;
 ghost use Rattle.std.specs.Ordering.{as_partial_cmp};
@@ -9,6 +9,7 @@ ghost use Rattle.tb_model.specs.NameHash.{digest};
 ghost use Rattle.tb_model.specs.Spelling.{name_text, spells_name, spelled_name};
 ghost use Rattle.tb_model.specs.NameLaws.{same_name_equivalence, same_name_partial, name_cmp_total, name_cmp_ties, same_name_feeds, name_cmp_partial};
 
+use crate::in_common::are_same;
 use crate::name_hash::digest;
 use crate::name_order::compared;
 use crate::name_refusal::NameRefusal;
@@ -27,8 +28,8 @@ use std::mem::size_of;
 /// The name of a task. Contracts see the path from the task up to the root: the root is the empty
 /// list, and the nth child of `t` is `n ∷ t`. The numbers stand in that order.
 ///
-/// A name takes two words. Up to three numbers stand in them; more stand on the heap, once for all
-/// copies of the name. Where there are more than 128, the names above and below share blocks of 128.
+/// A name takes two words. Up to three numbers stand in them, and up to fourteen where each is below 256; others stand on
+/// the heap, once for all copies of the name. Where there are more than 128, the names above and below share blocks of 128.
 #[derive(Drop, Debug)]
 pub struct TaskName {
     numbers: Numbers,
@@ -89,7 +90,7 @@ impl Ord for TaskName {
     ghost matches_eq = { name_cmp_ties };
 
     fn cmp(&self, other: &TaskName) -> Ordering {
-        compared(&self.numbers.parts(), &other.numbers.parts())
+        compared(&self.numbers, &other.numbers)
     }
 }
 
@@ -109,7 +110,7 @@ impl Hash for TaskName {
     ghost respects_eq = { same_name_feeds };
 
     fn hash<H: Hasher>(&self, state: &mut H) {
-        digest(&self.numbers.parts()).hash(state);
+        digest(&self.numbers).hash(state);
     }
 }
 
@@ -191,7 +192,22 @@ impl TaskName {
     pub fn ordinal(&self) -> Option<u32>
         ensures { result ≡ slice_get self.now 0 }
     {
-        self.numbers.parts().first()
+        if let Some(numbers) = self.numbers.short() {
+            return numbers.first().copied();
+        }
+        match self.numbers.few() {
+            Some(few) => few.as_bytes().first().map(|n| u32::from(*n)),
+            None => self.numbers.parts().first(),
+        }
+    }
+
+    /// The numbers, where there are at most three.
+    #[inline(always)]
+    pub fn short(&self) -> Option<&[u32]>
+        ensures some { IfSome result (λ n. n.now ≡ self.now) }
+        ensures none { IfNone result (3 < length self.now) }
+    {
+        self.numbers.short()
     }
 
     /// Whether there are more than 128 levels between the root and the task.
@@ -213,6 +229,15 @@ impl TaskName {
     pub fn is_parent_of(&self, other: &TaskName) -> bool
         ensures { result ≡ is_child self.now other.now }
     {
+        if let (Some(numbers), Some([_, others @ ..])) = (
+            self.numbers.short(),
+            other.numbers.short(),
+        ) {
+            return are_same(others, numbers);
+        }
+        if let (Some(few), Some(longer)) = (self.numbers.few(), other.numbers.few()) {
+            return few.is_after_first(longer);
+        }
         match other.numbers.parts().split_first() {
             None => false,
             Some((_, parent)) => parent.is_same(&self.numbers.parts()),

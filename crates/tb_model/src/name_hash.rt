@@ -1,9 +1,10 @@
 //! The number by which a table looks a name up.
 
-ghost use Rattle.std.specs.Prelude.{◌≡◌, ◌++◌, length, take, drop};
+ghost use Rattle.std.specs.Prelude.{◌≡◌, ◌≤◌, ◌++◌, length, take, drop};
 ghost use Rattle.tb_model.specs.NameHash.{digest, digest_of, mixed};
 
 use crate::block::BLOCK;
+use crate::numbers::Numbers;
 use crate::parts::Parts;
 
 // So many numbers of a deep name are mixed: those nearest to the task, and those nearest to the root.
@@ -11,18 +12,32 @@ const NEAR: usize = 16;
 
 const FAR: usize = 8;
 
-/// A number made of the name's depth and numbers. It costs no more for a deep name than for one of 24 numbers: names that
-/// differ in the middle alone have one digest.
-pub(crate) fn digest(numbers: &Parts<'_>) -> u32
+/// A number made of the name's depth and numbers.
+pub(crate) fn digest(numbers: &Numbers) -> u32
     ensures { result ≡ digest numbers.now }
 {
-    let length = numbers.near.len() as u128 + numbers.far.len() as u128 * 128;
+    if let Some(short) = numbers.short() {
+        return mixed(short.len() as u32, short);
+    }
+    match numbers.few() {
+        Some(few) => of_bytes(few.as_bytes()),
+        None => of_parts(&numbers.parts()),
+    }
+}
+
+/// The same of names of any length. It costs no more for a deep name than for one of 24 numbers: names that
+/// differ in the middle alone have one digest.
+fn of_parts(numbers: &Parts<'_>) -> u32
+    ensures { result ≡ digest numbers.now }
+{
+    let near = numbers.near.as_slice();
+    let length = near.len() as u128 + numbers.far.len() as u128 * 128;
     let depth = (length % 4_294_967_296) as u32;
     match numbers.far {
-        [] => of_numbers(depth, numbers.near),
+        [] => of_numbers(depth, near),
         [root, ..] => {
             let last = &numbers.far[numbers.far.len() - 1];
-            of_blocks(depth, numbers.near, last.as_slice(), root.as_slice())
+            of_blocks(depth, near, last.as_slice(), root.as_slice())
         }
     }
 }
@@ -65,6 +80,28 @@ fn mixed(digest: u32, numbers: &[u32]) -> u32
         [number, others @ ..] => {
             let next = digest.wrapping_mul(2_654_435_769).wrapping_add(*number);
             mixed(next, others)
+        }
+    }
+}
+
+/// The same of a name whose numbers take a byte each.
+fn of_bytes(numbers: &[u8]) -> u32
+    requires { length numbers.now ≤ 24 }
+    ensures { result ≡ digest numbers.now }
+{
+    mixed_bytes(numbers.len() as u32, numbers)
+}
+
+fn mixed_bytes(digest: u32, numbers: &[u8]) -> u32
+    ensures { result ≡ mixed digest numbers.now }
+{
+    match numbers {
+        [] => digest,
+        [number, others @ ..] => {
+            let next = digest
+                .wrapping_mul(2_654_435_769)
+                .wrapping_add(u32::from(*number));
+            mixed_bytes(next, others)
         }
     }
 }

@@ -3,30 +3,44 @@
 ghost use Rattle.std.specs.Prelude.{◌≡◌};
 ghost use Rattle.tb_model.specs.Names.{name_cmp};
 
-use crate::in_common::{are_same, without_common};
+use crate::in_common::without_common;
+use crate::numbers::Numbers;
 use crate::parts::Parts;
 use std::cmp::Ordering;
 
-/// How the one name stands to the other: number by number from the root, a parent before its children. Deep names
-/// of one program mostly begin alike at the root, so the blocks that both have there are passed over.
-pub(crate) fn compared(a: &Parts<'_>, b: &Parts<'_>) -> Ordering
+/// How the one name stands to the other: number by number from the root, a parent before its children.
+pub(crate) fn compared(a: &Numbers, b: &Numbers) -> Ordering
+    ensures { result ≡ name_cmp a.now b.now }
+{
+    if let (Some(own), Some(others)) = (a.short(), b.short()) {
+        return by_numbers(own, others);
+    }
+    if let (Some(own), Some(others)) = (a.few(), b.few()) {
+        return own.compared(others);
+    }
+    by_parts(&a.parts(), &b.parts())
+}
+
+/// The same of names of any length. Deep names of one program mostly begin alike at the root, so the blocks that both
+/// have there are passed over.
+fn by_parts(a: &Parts<'_>, b: &Parts<'_>) -> Ordering
     ensures { result ≡ name_cmp a.now b.now }
 {
     let mut left = a.far;
     let mut right = b.far;
     'blocks: while let [x, more @ ..] = left {
         let [y, others @ ..] = right else {
-            return by_numbers(x.as_slice(), b.near).then(Ordering::Greater);
+            return by_numbers(x.as_slice(), b.near.as_slice()).then(Ordering::Greater);
         };
-        if !are_same(x.as_slice(), y.as_slice()) {
+        if !x.is_same(y) {
             return by_numbers(x.as_slice(), y.as_slice());
         }
         left = more;
         right = others;
     }
     match right {
-        [] => by_numbers(a.near, b.near),
-        [y, ..] => by_numbers(a.near, y.as_slice()).then(Ordering::Less),
+        [] => by_numbers(a.near.as_slice(), b.near.as_slice()),
+        [y, ..] => by_numbers(a.near.as_slice(), y.as_slice()).then(Ordering::Less),
     }
 }
 

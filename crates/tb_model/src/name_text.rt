@@ -25,7 +25,7 @@ pub(crate) fn append_name(text: &mut String, numbers: &Parts<'_>) -> Result<(), 
         append_levels(text, block.as_slice())?;
         rest = more;
     }
-    append_levels(text, numbers.near)
+    append_levels(text, numbers.near.as_slice())
 }
 
 /// Appends the levels of these numbers, after the name of the task that the last of them is a child of. Some of

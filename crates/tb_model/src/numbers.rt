@@ -5,9 +5,11 @@ ghost use Rattle.tb_model.specs.Names.{same_name};
 ghost use Rattle.tb_model.specs.Stored.{numbers_in, IsShortest};
 
 use crate::block::BLOCK;
+use crate::few::Few;
 use crate::in_common::are_same;
 use crate::making::{cut, grown, shared};
 use crate::parts::Parts;
+use crate::run::Run;
 use crate::stored::Stored;
 use smallvec::SmallVec;
 use std::alloc::{AllocError, Global};
@@ -15,8 +17,8 @@ use std::fmt;
 use std::marker::Model;
 use std::sync::Arc;
 
-/// A list that takes two words. A short one takes no memory, and the copies of a longer one share
-/// it.
+/// A list that takes two words. A short one takes no memory, nor does one of a few small numbers; the copies of a longer
+/// one share it.
 #[derive(Drop)]
 pub(crate) struct Numbers {
     alloc: Global,
@@ -67,7 +69,7 @@ impl Numbers {
         ensures short { length parts.now ≤ 3 → IsOk result }
     {
         if parts.far.is_empty() {
-            return Numbers::from_slice(alloc, parts.near);
+            return Numbers::from_slice(alloc, parts.near.as_slice());
         }
         let stored = Stored::Deep(Arc::new(alloc, shared(alloc, parts)?)?);
         Ok(Numbers { alloc, stored })
@@ -78,8 +80,9 @@ impl Numbers {
         ensures ok { IfOk result (λ n. n ≡ first ∷ rest.now) }
         ensures short { length rest.now < 3 → IsOk result }
     {
-        let stored = if rest.far.is_empty() && rest.near.len() < BLOCK {
-            with_few(alloc, first, rest.near)?
+        let near = rest.near.as_slice();
+        let stored = if rest.far.is_empty() && near.len() < BLOCK {
+            with_few(alloc, first, near)?
         } else {
             Stored::Deep(Arc::new(alloc, grown(alloc, first, rest)?)?)
         };
@@ -101,15 +104,53 @@ impl Numbers {
             Stored::One(numbers) => numbers,
             Stored::Two(numbers) => numbers,
             Stored::Three(numbers) => numbers,
+            Stored::Few(few) => {
+                return Parts {
+                    near: Run::of_spread(few.spread()),
+                    far: &[],
+                };
+            }
             Stored::Shared(list) => list.as_slice(),
             Stored::Deep(deep) => {
                 return Parts {
-                    near: deep.near.as_slice(),
+                    near: Run::of_slice(deep.near.as_slice()),
                     far: deep.far.as_slice(),
                 };
             }
         };
-        Parts { near, far: &[] }
+        Parts {
+            near: Run::of_slice(near),
+            far: &[],
+        }
+    }
+
+    /// The numbers, where up to three stand in the value itself.
+    #[inline(always)]
+    pub fn short(&self) -> Option<&[u32]>
+        ensures is { IfSome result (λ n. n.now ≡ self.now) }
+        ensures few { IfSome result (λ _. length self.now ≤ 3) }
+        ensures none { IfNone result (3 < length self.now) }
+    {
+        let numbers: &[u32] = match &self.stored {
+            Stored::Zero => &[],
+            Stored::One(numbers) => numbers,
+            Stored::Two(numbers) => numbers,
+            Stored::Three(numbers) => numbers,
+            Stored::Few(_) | Stored::Shared(_) => return None,
+            Stored::Deep(_) => return None,
+        };
+        Some(numbers)
+    }
+
+    /// The numbers, where more of them stand there.
+    #[inline(always)]
+    pub fn few(&self) -> Option<&Few>
+        ensures { IfSome result (λ n. n.now ≡ self.now) }
+    {
+        match &self.stored {
+            Stored::Few(few) => Some(few),
+            _ => None,
+        }
     }
 
     /// A copy, which takes no memory. That of a list of more than three is refused where it has
@@ -124,6 +165,7 @@ impl Numbers {
             Stored::One(numbers) => Stored::One(*numbers),
             Stored::Two(numbers) => Stored::Two(*numbers),
             Stored::Three(numbers) => Stored::Three(*numbers),
+            Stored::Few(few) => Stored::Few(few.copy()),
             Stored::Shared(list) => Stored::Shared(Arc::try_clone(list)?),
             Stored::Deep(deep) => Stored::Deep(Arc::try_clone(deep)?),
         };
@@ -145,6 +187,7 @@ impl Numbers {
             (Stored::Three([a, b, c]), Stored::Three([k, l, m])) => {
                 *a == *k && *b == *l && *c == *m
             }
+            (Stored::Few(few), Stored::Few(others)) => few.is_same(others),
             _ => self.is_same_in_general(other),
         }
     }
@@ -173,7 +216,7 @@ fn in_place(numbers: &[u32]) -> Option<Stored>
         [a] => Some(Stored::One([*a])),
         [a, b] => Some(Stored::Two([*a, *b])),
         [a, b, c] => Some(Stored::Three([*a, *b, *c])),
-        _ => None,
+        [first, rest @ ..] => Some(Stored::Few(Few::with_first(*first, rest)?)),
     }
 }
 
@@ -187,12 +230,15 @@ fn with_few(alloc: Global, first: u32, rest: &[u32]) -> Result<Stored, AllocErro
         [] => Stored::One([first]),
         [a] => Stored::Two([first, *a]),
         [a, b] => Stored::Three([first, *a, *b]),
-        _ => {
-            let mut list = SmallVec::with_capacity(alloc, rest.len() + 1)?;
-            list.push_reserved(first);
-            list.extend_from_slice(rest)?;
-            Stored::Shared(Arc::new(alloc, list)?)
-        }
+        _ => match Few::with_first(first, rest) {
+            Some(few) => Stored::Few(few),
+            None => {
+                let mut list = SmallVec::with_capacity(alloc, rest.len() + 1)?;
+                list.push_reserved(first);
+                list.extend_from_slice(rest)?;
+                Stored::Shared(Arc::new(alloc, list)?)
+            }
+        },
     };
     Ok(stored)
 }
@@ -201,7 +247,7 @@ impl fmt::Debug for Numbers {
     fn fmt<W: fmt::Write>(&self, f: &mut fmt::Formatter<W>) -> fmt::Result {
         let Parts { near, far } = self.parts();
         let mut list = f.debug_list();
-        list.entries(near);
+        list.entries(near.as_slice());
         for block in far.iter().rev() {
             list.entries(block.as_slice());
         }

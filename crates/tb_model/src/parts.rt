@@ -3,16 +3,19 @@
 ghost use Rattle.std.specs.Prelude.{◌≡◌, ◌≤◌, ◌<◌, ◌∷◌, ◌++◌, [], IfSome, IfNone, length, slice_get};
 ghost use Rattle.tb_model.specs.Blocks.{far_numbers, AreFull, IsSplit};
 ghost use Rattle.tb_model.specs.Names.{same_name};
+ghost use Rattle.tb_model.specs.Spelling.{levels_text};
 
 use crate::block::Block;
 use crate::in_common::are_same;
+use crate::run::Run;
 use std::marker::Model;
+use std::mem::replace;
 
 /// A name's numbers: those nearest to the task, up to 128, then those in the blocks, of which the one at the
 /// root comes first.
 #[derive(Drop)]
 pub struct Parts<'a> {
-    pub(crate) near: &'a [u32],
+    pub(crate) near: Run<'a>,
     pub(crate) far: &'a [Block],
 }
 
@@ -22,9 +25,9 @@ impl<'a> Model for Parts<'a> {
 
     ghost Value = { List ℕ };
 
-    ghost view = { λ p. p.near.now ++ far_numbers p.far.now };
+    ghost view = { λ p. p.near ++ far_numbers p.far.now };
 
-    ghost invariant = { λ p. IsSplit p.near.now p.far.now };
+    ghost invariant = { λ p. IsSplit p.near p.far.now };
 }
 
 impl<'a> Parts<'a> {
@@ -32,7 +35,7 @@ impl<'a> Parts<'a> {
     pub fn first(&self) -> Option<u32>
         ensures { result ≡ slice_get self.now 0 }
     {
-        self.near.first().copied()
+        self.near.as_slice().first().copied()
     }
 
     /// The first number, and those after it. The root has none.
@@ -40,45 +43,62 @@ impl<'a> Parts<'a> {
         ensures some { IfSome result (λ r. self.now ≡ r.0 ∷ r.1) }
         ensures none { IfNone result (self.now ≡ []) }
     {
-        let [n, near @ ..] = self.near else {
+        let [n, others @ ..] = self.near.as_slice() else {
             return None;
         };
         match self.far {
-            [far @ .., last] if near.is_empty() => {
-                let near = last.as_slice();
+            [far @ .., last] if others.is_empty() => {
+                let near = Run::of_slice(last.as_slice());
                 Some((*n, Parts { near, far }))
             }
-            far => Some((*n, Parts { near, far })),
+            far => {
+                let near = self.near.without_first();
+                Some((*n, Parts { near, far }))
+            }
         }
     }
 
     /// Takes off the numbers that stand together nearest to the root, 128 at most. It takes none where there are no more.
-    pub fn take_run(&mut self) -> &'a [u32]
-        ensures split { self.old ≡ self.new ++ result.now }
-        ensures none { result.now ≡ [] → self.old ≡ [] }
-        ensures few { length result.now ≤ 128 }
+    pub fn take_run(&mut self) -> Run<'a>
+        ensures split { self.old ≡ self.new ++ result }
+        ensures none { result ≡ [] → self.old ≡ [] }
+        ensures few { length result ≤ 128 }
     {
         match self.far {
             [block, far @ ..] => {
                 self.far = far;
-                block.as_slice()
+                Run::of_slice(block.as_slice())
             }
-            [] => {
-                let near = self.near;
-                self.near = &[];
-                near
-            }
+            [] => replace(&mut self.near, Run::none()),
         }
+    }
+
+    /// Takes off the 128 numbers nearest to the root, and returns them with their levels as text, where a block keeps
+    /// them so: where each has one digit. Takes none elsewhere.
+    pub fn take_spelled(&mut self) -> Option<(&'a [u32], &'a [u8])>
+        ensures split { IfSome result (λ r. self.old ≡ self.new ++ r.0.now) }
+        ensures text { IfSome result (λ r. r.1.now ≡ levels_text r.0.now) }
+        ensures some { IfSome result (λ r. 0 < length r.0.now) }
+        ensures none { IfNone result (self.new ≡ self.old) }
+    {
+        let [block, far @ ..] = self.far else {
+            return None;
+        };
+        let text = block.text()?;
+        self.far = far;
+        Some((block.as_slice(), text))
     }
 
     /// Whether the numbers are the same.
     pub fn is_same(&self, other: &Parts<'_>) -> bool
         ensures { result ≡ same_name self.now other.now }
     {
-        if self.near.len() != other.near.len() || self.far.len() != other.far.len() {
+        let near = self.near.as_slice();
+        let others = other.near.as_slice();
+        if near.len() != others.len() || self.far.len() != other.far.len() {
             return false;
         }
-        are_same(self.near, other.near) && are_same_blocks(self.far, other.far)
+        are_same(near, others) && are_same_blocks(self.far, other.far)
     }
 }
 
@@ -94,7 +114,7 @@ fn are_same_blocks(a: &[Block], b: &[Block]) -> bool
         let [y, others @ ..] = right else {
             return false;
         };
-        if !are_same(x.as_slice(), y.as_slice()) {
+        if !x.is_same(y) {
             return false;
         }
         left = more;

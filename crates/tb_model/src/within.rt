@@ -4,6 +4,7 @@ ghost use Rattle.std.specs.Prelude.{◌≡◌};
 ghost use Rattle.tb_model.specs.Names.{is_within};
 
 use crate::parts::Parts;
+use crate::run::Run;
 
 /// Whether the numbers end in those of the other.
 pub(crate) fn ends_with(numbers: &Parts<'_>, end: &Parts<'_>) -> bool
@@ -15,15 +16,16 @@ pub(crate) fn ends_with(numbers: &Parts<'_>, end: &Parts<'_>) -> bool
     }
     // what stands in front of as many blocks as the end has
     let front = match &numbers.far[shared..] {
-        [] => numbers.near,
+        [] => numbers.near.as_slice(),
         [block, ..] => block.as_slice(),
     };
-    if front.len() < end.near.len() {
+    let count = end.near.as_slice().len();
+    if front.len() < count {
         return false;
     }
-    let near = &front[front.len() - end.near.len()..];
+    let near = &front[front.len() - count..];
     end.is_same(&Parts {
-        near,
+        near: Run::of_slice(near),
         far: &numbers.far[..shared],
     })
 }

@@ -1,0 +1,143 @@
+//! Small numbers that stand in a name itself.
+
+ghost use Rattle.std.specs.Prelude.{◌≡◌, ◌<◌, ◌≤◌, ◌∷◌, IfSome, length};
+ghost use Rattle.tb_model.specs.Names.{is_child, name_cmp, same_name};
+
+use crate::in_common::are_bytes_same;
+use crate::spread::Spread;
+use std::cmp::Ordering;
+use std::marker::Model;
+
+/// So many numbers stand in a name itself where each takes a byte.
+pub(crate) const FEW: usize = 14;
+
+/// Four to fourteen numbers below 256, a byte each.
+#[derive(Drop)]
+pub(crate) struct Few {
+    count: u8,
+    /// Those that stand there, then zeros, so that all are compared at once.
+    bytes: [u8; FEW],
+}
+
+impl Model for Few {
+    ghost use Rattle.std.specs.Prelude.{List, ℕ, take};
+    ghost use Rattle.tb_model.specs.Bytes.{IsFilled};
+
+    ghost Value = { List ℕ };
+
+    ghost view = { λ f. take f.count f.bytes };
+
+    ghost invariant = { λ f. IsFilled f.count f.bytes };
+}
+
+impl Few {
+    /// A number, and those after it, if they are few and small.
+    pub fn with_first(first: u32, rest: &[u32]) -> Option<Few>
+        ensures { IfSome result (λ f. f ≡ first ∷ rest.now) }
+    {
+        if rest.len() < 3 || rest.len() >= FEW || first > 255 {
+            return None;
+        }
+        let mut bytes = [0u8; FEW];
+        bytes[0] = first as u8;
+        for i in 0..rest.len() {
+            if rest[i] > 255 {
+                return None;
+            }
+            bytes[i + 1] = rest[i] as u8;
+        }
+        Some(Few {
+            count: rest.len() as u8 + 1,
+            bytes,
+        })
+    }
+
+    /// The same numbers.
+    #[inline(always)]
+    pub fn copy(&self) -> Few
+        ensures { result ≡ self.now }
+    {
+        Few {
+            count: self.count,
+            bytes: self.bytes,
+        }
+    }
+
+    /// Whether the numbers are the same, without a branch after each.
+    #[inline(always)]
+    pub fn is_same(&self, other: &Few) -> bool
+        ensures { result ≡ same_name self.now other.now }
+    {
+        self.count == other.count && are_bytes_same(&self.bytes, &other.bytes)
+    }
+
+    /// The numbers.
+    #[inline(always)]
+    pub fn as_bytes(&self) -> &[u8]
+        ensures is { result.now ≡ self.now }
+        ensures some { 3 < length self.now }
+        ensures few { length self.now ≤ 14 }
+    {
+        &self.bytes[..usize::from(self.count)]
+    }
+
+    /// Whether these are all of the other's numbers but the first.
+    pub fn is_after_first(&self, other: &Few) -> bool
+        ensures { result ≡ is_child self.now other.now }
+    {
+        let [_, others @ ..] = other.as_bytes() else {
+            return false;
+        };
+        are_same(others, self.as_bytes())
+    }
+
+    /// How these numbers stand to others, the last of each compared first.
+    pub fn compared(&self, other: &Few) -> Ordering
+        ensures { result ≡ name_cmp self.now other.now }
+    {
+        let mut own = self.as_bytes();
+        let mut others = other.as_bytes();
+        'levels: while let [front @ .., m] = own {
+            let [their_front @ .., n] = others else {
+                return Ordering::Greater;
+            };
+            if *m != *n {
+                return m.cmp(n);
+            }
+            own = front;
+            others = their_front;
+        }
+        0.cmp(&others.len())
+    }
+
+    /// The numbers, four bytes each.
+    #[inline(always)]
+    pub fn spread(&self) -> Spread
+        ensures { result ≡ self.now }
+    {
+        let mut numbers = [0; FEW];
+        for i in 0..FEW {
+            numbers[i] = u32::from(self.bytes[i]);
+        }
+        Spread::new(numbers, usize::from(self.count))
+    }
+}
+
+#[tactic(auto, using(crate::proofs::WithinLemmas::different))]
+fn are_same(a: &[u8], b: &[u8]) -> bool
+    ensures { result ≡ same_name a.now b.now }
+{
+    if a.len() != b.len() {
+        return false;
+    }
+    let mut left = a;
+    let mut right = b;
+    'numbers: while let ([n, more @ ..], [s, others @ ..]) = (left, right) {
+        if *n != *s {
+            return false;
+        }
+        left = more;
+        right = others;
+    }
+    true
+}

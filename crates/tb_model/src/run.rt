@@ -1,0 +1,78 @@
+//! Numbers of a name that stand together.
+
+ghost use Rattle.std.specs.Prelude.{◌≡◌, ◌<◌, [], drop, length};
+
+use crate::lent::Lent;
+use crate::spread::Spread;
+use std::marker::Model;
+
+/// Numbers of a name that stand together, those nearest to the task first.
+#[derive(Drop)]
+pub struct Run<'a> {
+    lent: Lent<'a>,
+}
+
+impl<'a> Model for Run<'a> {
+    ghost use Rattle.std.specs.Prelude.{List, ℕ};
+    ghost use Rattle.tb_model.specs.Stored.{lent_numbers};
+
+    ghost Value = { List ℕ };
+
+    ghost view = { λ r. lent_numbers r.lent };
+}
+
+impl<'a> Run<'a> {
+    /// No numbers.
+    #[inline(always)]
+    pub(crate) fn none() -> Run<'a>
+        ensures { result ≡ [] }
+    {
+        Run {
+            lent: Lent::Slice(&[]),
+        }
+    }
+
+    /// These numbers.
+    #[inline(always)]
+    pub(crate) fn of_slice(numbers: &'a [u32]) -> Run<'a>
+        ensures { result ≡ numbers.now }
+    {
+        Run {
+            lent: Lent::Slice(numbers),
+        }
+    }
+
+    /// The same of numbers that stand in a name itself.
+    #[inline(always)]
+    pub(crate) fn of_spread(numbers: Spread) -> Run<'a>
+        ensures { result ≡ numbers }
+    {
+        Run {
+            lent: Lent::Spread(numbers),
+        }
+    }
+
+    /// The numbers.
+    #[inline(always)]
+    pub fn as_slice(&self) -> &[u32]
+        ensures { result.now ≡ self.now }
+    {
+        match &self.lent {
+            Lent::Slice(numbers) => numbers,
+            Lent::Spread(numbers) => numbers.as_slice(),
+        }
+    }
+
+    /// Those after the first.
+    #[inline(always)]
+    pub(crate) fn without_first(&self) -> Run<'a>
+        requires { 0 < length self.now }
+        ensures { result ≡ drop 1 self.now }
+    {
+        let lent = match &self.lent {
+            Lent::Slice(numbers) => Lent::Slice(&numbers[1..]),
+            Lent::Spread(numbers) => Lent::Spread(numbers.without_first()),
+        };
+        Run { lent }
+    }
+}
