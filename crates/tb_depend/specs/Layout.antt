@@ -1,7 +1,9 @@
 -- How the items of all children lie in one list. No public clause cites this module.
-use Rattle.std.specs.Prelude.{◌≡◌, ℕ, zero, suc, List, [], ◌∷◌, ◌<◌, ◌≤◌, ◌-◌, ◌⊎◌, length, slice_index}
+use Rattle.std.specs.Prelude.{◌≡◌, ℕ, zero, suc, List, [], ◌∷◌, ◌<◌, ◌≤◌, ◌-◌, ◌⊎◌, length, slice_index, Option, Some, None, Box}
+use Rattle.std.specs.Box.{box_value}
 use Rattle.std.specs.List.{slice_range}
 use Rattle.tb_model.specs.declared.item.Item.{Item}
+use Rattle.tb_depend.specs.Table.{Table}
 
 -- the items of each child, where the first child's begin here and each child's end at its place
 abbrev pub rows_from : ℕ → List ℕ → List Item → List (List Item)
@@ -28,3 +30,8 @@ pub record IsRow (ends : List ℕ) (len n from to : ℕ) : Type 0 where
   pub order : from ≤ to
   pub within : to ≤ len
   pub there : ((0 < n) × (n ≤ length ends) × (from ≡ start_at 0 ends (n - 1)) × (to ≡ slice_index ends (n - 1))) ⊎ (((n ≡ 0) ⊎ (length ends < n)) × (from ≡ 0) × (to ≡ 0))
+
+-- what is seen of lists that may not be made yet
+abbrev pub seen : {Z : Type 0} → Option (Box Table Z) → Table
+seen None = record { siblings = []; places = 0; item_places = 0; link_places = 0; cells = []; number_places = 0 }
+seen (Some lists) = box_value lists

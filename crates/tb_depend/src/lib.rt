@@ -7,6 +7,7 @@ mod heads;
 pub mod laws;
 mod layout;
 mod link;
+mod lists;
 mod near;
 mod nearest;
 mod over;

@@ -6,15 +6,12 @@ ghost use Rattle.tb_depend.specs.Relations.{items_at, depends, excludes, is_cove
 ghost use Rattle.tb_depend.specs.Table.{HasRoomFor, KeepsRoom, FreesRoom};
 ghost use Rattle.tb_depend.specs.Nearness.{IsClosed, AreOver, AreOverFor, AreNear};
 
-use crate::chain::Chain;
-use crate::layout::{pop_row, push_row, row};
-use crate::near::{further_over, preds_over};
-use crate::nearest::{is_among, near_numbers};
+use crate::lists::Lists;
+use crate::nearest::is_among;
 use crate::over::Over;
 use crate::preds::Preds;
 use std::alloc::{AllocError, Global};
 use std::marker::Model;
-use std::mem;
 use tb_model::{Item, some_apart, some_before};
 
 /// The children of one task by their depend items, in the order of spawning. Children that have
@@ -22,24 +19,17 @@ use tb_model::{Item, some_apart, some_before};
 #[derive(Drop)]
 pub struct Siblings {
     alloc: Global,
-    // the items of all children, one child's behind another's
-    chain: Chain,
-    // where each child's items end
-    ends: Vec<usize>,
-    // the list that the next `add` fills and hands out
-    spare: Vec<usize>,
+    // on the heap, and made where the first child is: most tasks generate none
+    lists: Option<Box<Lists>>,
 }
 
 impl Model for Siblings {
-    ghost use Rattle.std.specs.Prelude.{◌≡◌, ◌-◌, [], length, vec_len, vec_capacity};
     ghost use Rattle.tb_depend.specs.Table.{Table};
-    ghost use Rattle.tb_depend.specs.Layout.{AreEnds, rows_from};
+    ghost use Rattle.tb_depend.specs.Layout.{seen};
 
     ghost Value = { Table };
 
-    ghost view = { λ s. record { siblings = rows_from 0 s.ends.items s.chain.items; places = vec_capacity s.ends - vec_len s.ends; item_places = s.chain.item_places; link_places = s.chain.link_places; cells = s.chain.cells; number_places = vec_capacity s.spare } };
-
-    ghost invariant = { λ s. AreEnds 0 s.ends.items (length s.chain.items) × (s.spare.items ≡ []) };
+    ghost view = { λ s. seen s.lists };
 }
 
 impl Siblings {
@@ -47,27 +37,27 @@ impl Siblings {
     pub fn new(alloc: Global) -> Siblings
         ensures { result.siblings ≡ [] }
     {
-        Siblings {
-            alloc,
-            chain: Chain::new(alloc),
-            ends: Vec::new(alloc),
-            spare: Vec::new(alloc),
-        }
+        Siblings { alloc, lists: None }
     }
 
     /// How many children there are.
-    #[tactic(auto, using(crate::proofs::LayoutLemmas::length_rows))]
     pub fn len(&self) -> usize
         ensures { result ≡ length self.now.siblings }
     {
-        self.ends.len()
+        match &self.lists {
+            Some(lists) => lists.len(),
+            None => 0,
+        }
     }
 
     /// The items of the nth child, n from 1, and none where there is no such child.
     pub fn items(&self, n: usize) -> &[Item]
         ensures { result.now ≡ items_at self.now.siblings n }
     {
-        row(self.chain.items(), &self.ends, n)
+        match &self.lists {
+            Some(lists) => lists.items(n),
+            None => &[],
+        }
     }
 
     /// Whether the nth child depends on the mth. A number that is no child's depends on none.
@@ -94,22 +84,23 @@ impl Siblings {
     }
 
     /// Makes the room that `add` needs for a child with these items, and changes nothing else.
-    #[tactic(auto, using(crate::proofs::LayoutLemmas::length_rows))]
     pub fn reserve_add(&mut self, items: &[Item]) -> Result<(), AllocError>
         ensures siblings { self.new.siblings ≡ self.old.siblings }
         ensures room { OnOk result (HasRoomFor self.new items.now) }
         ensures succeeds { HasRoomFor self.old items.now → IsOk result }
         ensures keeps { KeepsRoom self.old self.new }
     {
-        let count = self.len();
-        self.ends.reserve(1)?;
-        self.chain.reserve(items)?;
-        self.spare.reserve(count)
+        if let Some(lists) = &mut self.lists {
+            return lists.reserve_add(items);
+        }
+        let mut lists = Box::new(self.alloc, Lists::new(self.alloc))?;
+        lists.reserve_add(items)?;
+        self.lists = Some(lists);
+        Ok(())
     }
 
     /// Adds a child behind the others, and tells the children on which it depends. With room it
     /// takes no memory.
-    #[tactic(auto, using(crate::proofs::LayoutLemmas::length_rows))]
     pub fn add(&mut self, items: &[Item]) -> Result<Preds, AllocError>
         ensures added { OnOk result (self.new.siblings ≡ self.old.siblings ++ items.now ∷ []) }
         ensures preds { IfOk result (λ preds.
@@ -121,7 +112,7 @@ impl Siblings {
     {
         self.reserve_add(items)?;
         self.add_reserved(items);
-        let numbers = mem::replace(&mut self.spare, Vec::new(self.alloc));
+        let numbers = self.take_spare();
         Ok(self.fill_preds(self.len(), numbers))
     }
 
@@ -134,18 +125,33 @@ impl Siblings {
         ensures item_places { self.old.item_places ≤ self.new.item_places + length items.now }
         ensures numbers { self.new.number_places ≡ self.old.number_places }
     {
-        push_row(&mut self.chain, &mut self.ends, items);
+        if let Some(lists) = &mut self.lists {
+            lists.add_reserved(items);
+        }
+    }
+
+    /// The list for the numbers that `add` tells.
+    fn take_spare(&mut self) -> Vec<usize>
+        ensures empty { result.items ≡ [] }
+        ensures room { vec_capacity result ≡ self.old.number_places }
+        ensures same { self.new ≡ record self.old { number_places = self.new.number_places } }
+    {
+        match &mut self.lists {
+            Some(lists) => lists.take_spare(self.alloc),
+            None => Vec::new(self.alloc),
+        }
     }
 
     /// Takes the last child off, and keeps its room. Where there is none, nothing changes.
-    #[tactic(auto, using(crate::proofs::LayoutLemmas::length_rows))]
     pub fn drop_last(&mut self)
         ensures siblings { self.new.siblings ≡ take (length self.old.siblings - 1) self.old.siblings }
         ensures frees { 0 < length self.old.siblings → FreesRoom self.old self.new
             (length (items_at self.old.siblings (length self.old.siblings))) }
         ensures keeps { KeepsRoom self.old self.new }
     {
-        pop_row(&mut self.chain, &mut self.ends);
+        if let Some(lists) = &mut self.lists {
+            lists.drop_last();
+        }
     }
 
     /// Whether all children on which the nth depends are over. Asks only those near it, of each
@@ -154,7 +160,10 @@ impl Siblings {
         ensures { IsClosed self.now.siblings (T.over over.now) →
             IsTrue result ↔ AreOver self.now.siblings (T.over over.now) n }
     {
-        preds_over(&self.chain, &self.ends, n, over)
+        match &self.lists {
+            Some(lists) => lists.are_preds_over(n, over),
+            None => true,
+        }
     }
 
     /// Whether all children are over on which a further child with these items would depend: for a
@@ -164,7 +173,10 @@ impl Siblings {
         ensures { IsClosed self.now.siblings (T.over over.now) →
             IsTrue result ↔ AreOverFor self.now.siblings (T.over over.now) items.now }
     {
-        further_over(&self.chain, &self.ends, items, over)
+        match &self.lists {
+            Some(lists) => lists.are_over_for(items, over),
+            None => true,
+        }
     }
 
     /// The numbers of the children on which the nth depends.
@@ -183,7 +195,7 @@ impl Siblings {
     pub fn near(&self, n: usize) -> Result<Preds, AllocError>
         ensures { IfOk result (λ near. AreNear self.now.siblings n near) }
     {
-        let near = near_numbers(self.alloc, &self.chain, &self.ends, n)?;
+        let near = self.near_numbers(n)?;
         let mut numbers = Vec::new(self.alloc);
         for k in 0..self.len() {
             if is_among(&near, k + 1) {
@@ -191,6 +203,16 @@ impl Siblings {
             }
         }
         Ok(Preds::of(numbers))
+    }
+
+    /// The children near the nth, in no order, and some of them more than once.
+    fn near_numbers(&self, n: usize) -> Result<Vec<usize>, AllocError>
+        ensures { IfOk result (λ near. AreNear self.now.siblings n near.items) }
+    {
+        match &self.lists {
+            Some(lists) => lists.near_numbers(self.alloc, n),
+            None => Ok(Vec::new(self.alloc)),
+        }
     }
 
     /// The numbers of the children that the nth excludes, before it and behind it.

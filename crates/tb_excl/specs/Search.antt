@@ -1,5 +1,7 @@
 -- How the least holder is found. No public clause cites this module.
-use Rattle.std.specs.Prelude.{◌≡◌, ◌<◌, ℕ, List, [], ◌∷◌, Option, Some, None, if◌then◌else◌, nat_lt}
+use Rattle.std.specs.Prelude.{◌≡◌, ◌<◌, ℕ, List, [], ◌∷◌, Option, Some, None, if◌then◌else◌, nat_lt, Box}
+use Rattle.std.specs.Box.{box_value}
+use Rattle.indexmap.specs.IndexMap.{IndexMap}
 use Rattle.tb_model.specs.declared.place.Place.{Place}
 use Rattle.tb_model.specs.declared.place.Place.TheVariants.{Cell, All}
 use Rattle.tb_model.specs.declared.item.Item.{Item}
@@ -8,6 +10,11 @@ use Rattle.tb_excl.specs.Holders.{Holders, holder, is_exclusive}
 
 abbrev pub seen : Name → List (ℕ × Option ℕ) → Option ℕ → Holders
 seen parent cells all = record { parent = parent; cells = cells; all = all }
+
+-- the cells that may not be there yet, each with its holder
+abbrev pub entries_in : {S Z : Type 0} → Option (Box (IndexMap ℕ (Option ℕ) S) Z) → List (ℕ × Option ℕ)
+entries_in None = []
+entries_in (Some map) = (box_value map).entries
 
 -- children are counted from 1
 abbrev pub AreFromOne : Holders → Type 0

@@ -7,10 +7,9 @@ ghost use Rattle.tb_model.specs.LeastNames.{IsLeastName};
 ghost use Rattle.tb_excl.specs.Holders.{holder, has_room, is_exclusive, is_place, HasRoomFor, KeepsRoom, IsSet, IsSame, Excludes, ExcludesTask, IsLeastNumber};
 ghost use Rattle.tb_excl.specs.Search.{lesser, holder_at, least_held, least_holder, AreFromOne};
 
-use indexmap::IndexMap;
+use crate::cells::Cells;
 use std::alloc::{AllocError, Global};
 use std::marker::Model;
-use tb_cells::{reserve_cell, set_cell};
 use tb_model::{Item, Kind, Place, TaskName};
 
 /// The exclusive sets of one task's children: each cell that was ever taken, with the child that
@@ -18,7 +17,7 @@ use tb_model::{Item, Kind, Place, TaskName};
 #[derive(Drop)]
 pub struct Holders {
     parent: TaskName,
-    cells: IndexMap<u32, Option<u32>>,
+    cells: Cells,
     all: Option<u32>,
 }
 
@@ -28,9 +27,9 @@ impl Model for Holders {
 
     ghost Value = { Holders };
 
-    ghost view = { λ h. seen h.parent h.cells.entries h.all };
+    ghost view = { λ h. seen h.parent h.cells h.all };
 
-    ghost invariant = { λ h. AreFromOne (seen h.parent h.cells.entries h.all) };
+    ghost invariant = { λ h. AreFromOne (seen h.parent h.cells h.all) };
 }
 
 impl Holders {
@@ -41,7 +40,7 @@ impl Holders {
     {
         Holders {
             parent,
-            cells: IndexMap::new(alloc),
+            cells: Cells::new(alloc),
             all: None,
         }
     }
@@ -138,10 +137,7 @@ impl Holders {
     fn held_by(&self, cell: u32) -> Option<u32>
         ensures { result ≡ holder self.now (Place.Cell cell) }
     {
-        match self.cells.get(&cell) {
-            Some(holder) => *holder,
-            None => None,
-        }
+        self.cells.holder(cell)
     }
 
     fn reserve_item(&mut self, item: Item) -> Result<(), AllocError>
@@ -163,7 +159,7 @@ impl Holders {
         ensures succeeds { has_room self.old place ≡ true → IsOk result }
     {
         match place {
-            Place::Cell(cell) => reserve_cell(&mut self.cells, cell, None),
+            Place::Cell(cell) => self.cells.reserve(cell),
             Place::All => Ok(()),
         }
     }
@@ -197,7 +193,7 @@ impl Holders {
         ensures keeps { KeepsRoom self.old self.new }
     {
         match place {
-            Place::Cell(cell) => set_cell(&mut self.cells, cell, to),
+            Place::Cell(cell) => self.cells.set(cell, to),
             Place::All => self.all = to,
         }
     }
@@ -234,8 +230,8 @@ impl Holders {
         let mut i = self.cells.len();
         'cells: while i > 0 {
             i -= 1;
-            if let Some((cell, _holder)) = self.cells.get_index(i) {
-                least = lesser(self.held_by(*cell), least);
+            if let Some((cell, _holder)) = self.cells.at(i) {
+                least = lesser(self.held_by(cell), least);
             }
         }
         least

@@ -3,4 +3,4 @@ use Rattle.tb_excl.proofs.holders.Holders.reserve_place.Goals as goal
 
 pub invariant_of-self : goal.invariant_of-self
 invariant_of-self c =
-    reserved_from_one c.self.inside.parent c.self.inside.cells.entries c.reserve_cell.new.cells.entries c.self.inside.all c.reserve_cell.ensures.same c.self.invariant
+    reserved_from_one c.self.inside.parent c.self.inside.cells c.reserve.new.self c.self.inside.all c.reserve.ensures.same c.self.invariant

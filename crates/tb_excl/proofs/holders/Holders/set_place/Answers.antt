@@ -3,4 +3,4 @@ use Rattle.tb_excl.proofs.holders.Holders.set_place.Goals as goal
 
 pub invariant_of-self : goal.invariant_of-self
 invariant_of-self c =
-    set_from_one c.self.inside.parent c.self.inside.cells.entries c.set_cell.new.cells.entries c.self.inside.all c.args.to c.in-Cell.cell c.set_cell.ensures c.requires.from_one c.self.invariant
+    set_from_one c.self.inside.parent c.self.inside.cells c.set.new.self c.self.inside.all c.args.to c.in-Cell.cell c.set.ensures c.requires.from_one c.self.invariant

@@ -1,6 +1,6 @@
 use Rattle.std.proofs.Common.{subst, sym}
 use Rattle.tb_depend.specs.Table.{HasRoomFor}
-use Rattle.tb_depend.proofs.siblings.Siblings.add_reserved.Goals as goal
+use Rattle.tb_depend.proofs.lists.Lists.add_reserved.Goals as goal
 
 pub push_row-requires-clause-its_items : goal.push_row-requires-clause-its_items
 push_row-requires-clause-its_items c =

@@ -1,7 +1,7 @@
 use Rattle.std.proofs.Common.{subst, sym}
 use Rattle.std.proofs.lemmas.Bool.{false≢true}
 use Rattle.tb_depend.specs.Table.{HasRoomFor}
-use Rattle.tb_depend.proofs.siblings.Siblings.reserve_add.Goals as goal
+use Rattle.tb_depend.proofs.lists.Lists.reserve_add.Goals as goal
 
 pub returns-in_err-reserve-2-clause-succeeds : goal.returns-in_err-reserve-2-clause-succeeds
 returns-in_err-reserve-2-clause-succeeds c room =
