@@ -6,6 +6,7 @@ use Rattle.std.proofs.lemmas.Bool.{both_ways, false_from_ne_true, false≢true, 
 use Rattle.tb_model.specs.declared.action.Action.{Action}
 use Rattle.tb_model.specs.declared.action.Action.TheVariants.{Spawn, End, Fault}
 use Rattle.tb_model.specs.declared.event.Event.{Event}
+use Rattle.tb_model.specs.declared.spawn.Spawn.{Spawn as TheSpawn}
 use Rattle.tb_model.specs.Names.{Name, same_name}
 use Rattle.tb_model.specs.Facts.{History, own, is_of, is_end, ends, is_spawn_of, is_spawned, spawns, IsSpawned}
 use Rattle.tb_model.specs.Legal.{Cells, Legal, Continues, IsRunning}
@@ -168,3 +169,9 @@ marked_unended H tasks t st = ap (λ o. unwrap_or o false) (st t) ∙ at (is_spa
 
 pub candidates : (H : History) (tasks : Table) (skip : List Name) (name : Name) → AreMarks H tasks → is_candidate tasks skip name ≡ (is_unended H name && not (list_any (λ s. same_name s name) skip))
 candidates H tasks skip name st = ap (λ b. b && not (list_any (λ s. same_name s name) skip)) (marked_unended H tasks name st)
+
+-- a task that comes to stand isn't there yet
+pub absent_before : (cells : Cells) (H : History) (v : Event) (s : TheSpawn) (tasks : Table) → Legal cells (v ∷ H) → v.action ≡ Spawn s → AreMarks H tasks → mark_of tasks s.child ≡ None
+absent_before cells H v s tasks l q st =
+    let n : spawns s.child v ≡ true = ap (is_spawn_of s.child) q ∙ same_refl s.child in
+    st s.child ∙ ap (λ b. cond b (Some (not (list_any (ends s.child) H))) None) (new_absent cells H v l s.child n)

@@ -3,7 +3,9 @@
 
 ghost use Rattle.std.specs.Prelude.{◌≡◌, ◌∷◌, ◌&&◌, [], List, Bool, Some, None, true, false, not, option_map, unwrap_or};
 ghost use Rattle.std.specs.List.{list_any};
+ghost use Rattle.tb_model.specs.declared.action.Action.TheVariants.{Spawn};
 ghost use Rattle.tb_model.specs.declared.event.Event.{Event};
+ghost use Rattle.tb_model.specs.declared.spawn.Spawn.{Spawn as TheSpawn};
 ghost use Rattle.tb_model.specs.Names.{Name, same_name};
 ghost use Rattle.tb_model.specs.Facts.{History};
 ghost use Rattle.tb_model.specs.State.{is_unended};
@@ -69,6 +71,13 @@ pub fn back()
     ensures { (cells : Cells) (H : History) (v : Event) (old new : List (Name × Bool)) →
         Legal cells (v ∷ H) → AreMarks (v ∷ H) old → MarkedBackBy v.task v.action old new →
         AreMarks H new }
+{}
+
+/// A task that comes to stand isn't there yet.
+pub fn conditions()
+    ensures added { (cells : Cells) (H : History) (v : Event) (s : TheSpawn)
+        (tasks : List (Name × Bool)) → Legal cells (v ∷ H) → v.action ≡ Spawn s →
+        AreMarks H tasks → mark_of tasks s.child ≡ None }
 {}
 
 /// Histories that say the same have the same marks.

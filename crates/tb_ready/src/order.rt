@@ -1,6 +1,6 @@
 //! The order of the marked names, as a list of their places.
 
-ghost use Rattle.std.specs.Prelude.{◌≡◌, ◌<◌, ◌≤◌, false, true, length, remove, slice_index};
+ghost use Rattle.std.specs.Prelude.{◌≡◌, ◌<◌, ◌≤◌, false, true, length, insert, remove, slice_index};
 ghost use Rattle.std.specs.VecDeque.{deque_capacity};
 ghost use Rattle.std.specs.Option.{option_copied};
 ghost use Rattle.tb_model.specs.LeastNames.{IsLeastName};
@@ -71,9 +71,39 @@ fn put_in(names: &mut Names, order: &mut VecDeque<usize>, near: usize, at: usize
     ensures capacity { deque_capacity order.old ≤ deque_capacity order.new }
 {
     let place = place_of(names, order, near, names.name(at));
-    order.insert(place, at).unwrap();
+    insert(order, place, at);
     names.set(at, true);
     place
+}
+
+/// Puts it into the list, mostly at its end, in the room that is there.
+#[inline(always)]
+fn insert(order: &mut VecDeque<usize>, place: usize, at: usize)
+    requires within { place ≤ length order.old.items }
+    requires room { length order.old.items < deque_capacity order.old }
+    ensures items { order.new.items ≡ insert order.old.items place at }
+    ensures capacity { deque_capacity order.old ≤ deque_capacity order.new }
+{
+    if place == order.len() {
+        order.push_back_reserved(at);
+    } else {
+        order.insert(place, at).unwrap();
+    }
+}
+
+/// Where the name at a place, which is marked, is among the marked ones: mostly near by.
+#[inline(always)]
+fn place_among(names: &Names, order: &VecDeque<usize>, near: usize, at: usize) -> usize
+    requires order { IsOrder names.now.tasks order.now.items }
+    requires there { at < length names.now.tasks }
+    requires marked { mark_at names.now.tasks at ≡ true }
+    ensures within { result < length order.now.items }
+    ensures is { slice_index order.now.items result ≡ at }
+{
+    if near < order.len() && order[near] == at {
+        return near;
+    }
+    place_of(names, order, near, names.name(at))
 }
 
 /// Unmarks the name at a place, which is marked, and tells where it was among the marked ones. The
@@ -87,7 +117,7 @@ fn take_out(names: &mut Names, order: &mut VecDeque<usize>, near: usize, at: usi
     ensures room { names.new.room ≡ names.old.room }
     ensures capacity { deque_capacity order.old ≤ deque_capacity order.new }
 {
-    let place = place_of(names, order, near, names.name(at));
+    let place = place_among(names, order, near, at);
     let _at = order.remove(place);
     names.set(at, false);
     place

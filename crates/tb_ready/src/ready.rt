@@ -1,6 +1,6 @@
 //! The tasks by name.
 
-ghost use Rattle.std.specs.Prelude.{◌≡◌, ◌<◌, ◌≤◌, ◌+◌, [], IsOk, OnOk, OnErr, IsSome, is_some, unwrap_or, false, length, slice_get};
+ghost use Rattle.std.specs.Prelude.{◌≡◌, ◌<◌, ◌≤◌, ◌+◌, [], IsOk, OnOk, OnErr, IsSome, is_some, None, unwrap_or, false, length, slice_get};
 ghost use Rattle.std.specs.Option.{option_copied};
 ghost use Rattle.std.specs.List.{IsDistinct};
 ghost use Rattle.std.specs.Map.{keys_of};
@@ -127,8 +127,19 @@ impl Ready {
             return Ok(());
         }
         self.reserve_add(&name)?;
-        self.names.push(name);
+        self.add_reserved(name);
         Ok(())
+    }
+
+    /// The same in the room that is there, for a name that isn't there.
+    #[inline(always)]
+    pub fn add_reserved(&mut self, name: TaskName)
+        requires absent { mark_of self.old.tasks name ≡ None }
+        requires room { 0 < self.old.room }
+        ensures tasks { self.new.tasks ≡ with_name self.old.tasks name }
+        ensures keeps { self.old.room ≤ self.new.room + 1 }
+    {
+        self.names.push(name);
     }
 
     /// Removes a name, marked or not. Where it isn't there, nothing changes.

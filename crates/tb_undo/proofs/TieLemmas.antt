@@ -23,6 +23,7 @@ use Rattle.tb_model.proofs.ReorderingLemmas as order
 use Rattle.tb_store.specs.declared.replaced.Replaced.{Replaced}
 use Rattle.tb_excl.specs.Holders.{HasRoomFor}
 use Rattle.tb_excl.proofs.HistoriesLemmas as sets
+use Rattle.tb_ready.specs.Histories.{AreMarks}
 use Rattle.tb_ready.proofs.HistoryLemmas as marks
 use Rattle.tb_wait.specs.Histories.{AreKin}
 use Rattle.tb_wait.proofs.HistoryLemmas as waits
@@ -164,23 +165,24 @@ cell first t acts (Test b) count e k = tt
 cell first t acts End count e k = tt
 cell first t acts Fault count e k = tt
 
-next_spawn : (first : Cells) (H : History) (s : Seen) (t : Name) (a : Action) → Legal first (record { task = t; action = a } ∷ H) → AreKin H s.waits.tasks → IsNextSpawn s t a
-next_spawn first H s t (Spawn spawn) l k = (
+next_spawn : (first : Cells) (H : History) (s : Seen) (t : Name) (a : Action) → Legal first (record { task = t; action = a } ∷ H) → AreKin H s.waits.tasks → AreMarks H s.marks.tasks → IsNextSpawn s t a
+next_spawn first H s t (Spawn spawn) l k m = (
   waits.spawn_next first H (record { task = t; action = Spawn spawn }) s.waits.tasks l spawn refl k,
   sym (ap (drop 1) l.1.own.1),
   l.1.own.2,
+  marks.absent_before first H (record { task = t; action = Spawn spawn }) spawn s.marks.tasks l refl m,
 )
-next_spawn first H s t Start l k = tt
-next_spawn first H s t (Let r x) l k = tt
-next_spawn first H s t (Load r c x) l k = tt
-next_spawn first H s t (Store c x) l k = tt
-next_spawn first H s t (Print x) l k = tt
-next_spawn first H s t (Wait items) l k = tt
-next_spawn first H s t Open l k = tt
-next_spawn first H s t Close l k = tt
-next_spawn first H s t (Test b) l k = tt
-next_spawn first H s t End l k = tt
-next_spawn first H s t Fault l k = tt
+next_spawn first H s t Start l k m = tt
+next_spawn first H s t (Let r x) l k m = tt
+next_spawn first H s t (Load r c x) l k m = tt
+next_spawn first H s t (Store c x) l k m = tt
+next_spawn first H s t (Print x) l k m = tt
+next_spawn first H s t (Wait items) l k m = tt
+next_spawn first H s t Open l k m = tt
+next_spawn first H s t Close l k m = tt
+next_spawn first H s t (Test b) l k m = tt
+next_spawn first H s t End l k m = tt
+next_spawn first H s t Fault l k m = tt
 
 last_spawn : (first : Cells) (H : History) (s : Seen) (t : Name) (a : Action) → Legal first (record { task = t; action = a } ∷ H) → AreKin (record { task = t; action = a } ∷ H) s.waits.tasks → IsLastSpawn s t a
 last_spawn first H s t (Spawn spawn) l k = waits.spawn_last first H (record { task = t; action = Spawn spawn }) s.waits.tasks l spawn refl k
@@ -235,7 +237,7 @@ can_change first root_line D v s f =
       cell = cell first v.task (own v.task H) v.action (length s.store.cells) k.cells.count f.legal.1.own;
       few = λ x e. few x e;
       linked = linked first root_line D s f.legal.0 k v.task (acting first H v f.legal);
-      spawn = next_spawn first H s v.task v.action f.legal k.waiting;
+      spawn = next_spawn first H s v.task v.action f.legal k.waiting k.marked;
     }
   where
     few : (x : Task) → task s.rows v.task ≡ Some x → x.steps < 4294967295

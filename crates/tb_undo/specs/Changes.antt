@@ -9,6 +9,7 @@ use Rattle.tb_model.specs.Names.{Name, same_name}
 use Rattle.tb_model.specs.Facts.{is_of}
 use Rattle.tb_store.specs.declared.replaced.Replaced.{Replaced}
 use Rattle.tb_store.specs.Contents.{number_at, with_number}
+use Rattle.tb_ready.specs.Tasks.{mark_of}
 use Rattle.tb_ready.specs.Histories.{MarkedBy, MarkedBackBy}
 use Rattle.tb_wait.specs.Kin.{IsNext, IsLast, HasRoomFor as HasRoomForChild, HasGroupRoom, IsSame as IsSameWaits}
 use Rattle.tb_wait.specs.Histories.{ChangesBy, ChangesBackBy}
@@ -178,9 +179,9 @@ abbrev pub IsCell : ℕ → Action → Type 0
 IsCell count (Store c x) = c < count
 IsCell count _ = ⊤
 
--- a spawn is that of the task's next child, and passes at most 16 arguments
+-- a spawn is that of the task's next child, which isn't there yet, and passes at most 16 arguments
 abbrev pub IsNextSpawn : Seen → Name → Action → Type 0
-IsNextSpawn s p (Spawn spawn) = IsNext s.waits.tasks p spawn.child × (p ≡ drop 1 spawn.child) × (length spawn.args ≤ 16)
+IsNextSpawn s p (Spawn spawn) = IsNext s.waits.tasks p spawn.child × (p ≡ drop 1 spawn.child) × (length spawn.args ≤ 16) × (mark_of s.marks.tasks spawn.child ≡ None)
 IsNextSpawn s p _ = ⊤
 
 -- what the tables ask for where the event is taken

@@ -3,7 +3,7 @@
 ghost use Rattle.std.specs.Prelude.{◌≡◌, ◌<◌, ◌≤◌, ◌-◌, ◌↔◌, IsTrue, [], ◌∷◌, OnOk, OnErr, IfOk, IsOk, Some, None, drop, length, true, false, if◌then◌else◌, option_map};
 ghost use Rattle.tb_model.specs.Facts.{is_print};
 ghost use Rattle.tb_wait.specs.Kin.{HasRoomFor as HasRoomForChild, IsNext, IsLast, Adds, Drops, Changes, with_over};
-ghost use Rattle.tb_ready.specs.Tasks.{with_name, without_name, with_mark};
+ghost use Rattle.tb_ready.specs.Tasks.{mark_of, with_name, without_name, with_mark};
 ghost use Rattle.tb_undo.specs.Tasks.{Task, row, task, HasChildRoomIn, fresh_task, register_by, register_over, IsRegister};
 ghost use Rattle.tb_undo.specs.Sets.{Reserves, IsLinked, HasSetRoom, Sets, Comes, Goes, number_of};
 ghost use Rattle.tb_undo.specs.State.{IsState};
@@ -272,6 +272,7 @@ impl Tables {
     /// A child comes to stand, with its name's copies that were made for it.
     fn spawn(&mut self, parent: &TaskName, child: &TaskName, body: u32, args: &[i64])
         requires next { IsNext self.old.waits.tasks parent.now child.now }
+        requires absent { mark_of self.old.marks.tasks child.now ≡ None }
         requires family { parent.now ≡ drop 1 child.now }
         requires few { length args.now ≤ 16 }
         requires waits { HasRoomForChild self.old.waits parent.now child.now }
@@ -291,8 +292,8 @@ impl Tables {
             parent: its_parent,
             ..
         } = self.copies.take().unwrap();
-        self.waits.spawned(parent, of_waits).unwrap();
-        self.marks.add(of_marks).unwrap();
+        self.waits.spawned_reserved(parent, of_waits);
+        self.marks.add_reserved(of_marks);
         self.marks.mark(child, true);
         let row = Row::new(self.alloc, of_holders, its_parent, self.near, body, args);
         rows::add(&mut self.rows, key, row);

@@ -1,5 +1,5 @@
 -- A rising list of numbers as a set.
-use Rattle.std.proofs.Common.{◌≡◌, ℕ, zero, suc, ◌+◌, ◌<◌, ◌≤◌, List, [], ◌∷◌, Bool, true, false, cond, ◌||◌, ◌==◌, nat_lt, Option, Some, None, length, get_or, refl, sym, ap, ◌∙◌, subst, arith, ⊎_elim, eqb-true, eq-eqb, nat_eq, Result, Ok, Err, OnErr, OnOk, IsOk, IsSome, OnSome}
+use Rattle.std.proofs.Common.{◌≡◌, ℕ, zero, suc, ◌+◌, ◌<◌, ◌≤◌, List, [], ◌∷◌, ◌++◌, drop, Bool, true, false, cond, ◌||◌, ◌==◌, nat_lt, Option, Some, None, length, get_or, refl, sym, ap, ◌∙◌, subst, arith, ⊎_elim, eqb-true, eq-eqb, nat_eq, Result, Ok, Err, OnErr, OnOk, IsOk, IsSome, OnSome}
 use Rattle.std.specs.List.{insert, remove}
 use Rattle.std.proofs.lemmas.Bool.{false≢true, or_cases, or_left, or_right}
 use Rattle.std.specs.Cmp.{both_ways}
@@ -104,6 +104,21 @@ remove_is_cut n (x ∷ xs) = at (remove_is_cut n xs) (nat_lt x n)
     at : remove xs (below n xs) ≡ cut n xs → (b : Bool) → remove (x ∷ xs) (cond b (suc (below n xs)) 0) ≡ cond b (x ∷ cut n xs) xs
     at h true = ap (λ l. x ∷ l) h
     at h false = refl
+
+-- at the end, and from the beginning
+pub put_last : (xs : List ℕ) (n at : ℕ) → at ≡ length xs → xs ++ n ∷ [] ≡ insert xs at n
+put_last xs n at e = last xs ∙ ap (λ k. insert xs k n) (sym e)
+  where
+    last : (ys : List ℕ) → ys ++ n ∷ [] ≡ insert ys (length ys) n
+    last [] = refl
+    last (y ∷ ys) = ap (λ l. y ∷ l) (last ys)
+
+pub cut_first : (xs : List ℕ) (at : ℕ) → at ≡ 0 → drop 1 xs ≡ remove xs at
+cut_first xs at e = first xs ∙ ap (remove xs) (sym e)
+  where
+    first : (ys : List ℕ) → drop 1 ys ≡ remove ys 0
+    first [] = refl
+    first (y ∷ ys) = refl
 
 put_has : (n : ℕ) (xs : List ℕ) → IsPut xs n true (put n xs)
 put_has n [] m = turn (n == m)

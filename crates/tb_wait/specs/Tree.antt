@@ -1,6 +1,7 @@
 -- The tree of the tasks that were ever generated, by their places in a list: who hasn't ended, and below whom.
 -- No public clause cites this module.
-use Rattle.std.specs.Prelude.{◌≡◌, ◌≢◌, ◌<◌, ◌≤◌, ◌+◌, ◌-◌, ◌++◌, ℕ, suc, Bool, true, false, not, ◌||◌, List, [], ◌∷◌, Option, Some, length, slice_get, slice_index_or}
+use Rattle.std.specs.Prelude.{◌≡◌, ◌≢◌, ◌<◌, ◌≤◌, ◌+◌, ◌-◌, ◌++◌, ℕ, suc, Bool, true, false, not, ◌||◌, List, [], ◌∷◌, Option, Some, None, length, slice_get, slice_index_or, Box}
+use Rattle.std.specs.Box.{box_value}
 use Rattle.tb_wait.specs.Numbers.{has, is_empty}
 
 -- the place of the parent, the number among its children, whether the task stands and hasn't ended, the places of the
@@ -14,6 +15,21 @@ pub record Node : Type 0 where
   pub unended : List ℕ
   pub live : List ℕ
   pub room : ℕ
+
+-- the part about its children
+pub record Children : Type 0 where
+  pub places : List ℕ
+  pub unended : List ℕ
+  pub live : List ℕ
+  pub room : ℕ
+
+abbrev pub childless : Children
+childless = record { places = []; unended = []; live = []; room = 0 }
+
+-- the part that may not be made yet
+abbrev pub children_in : {Z : Type 0} → Option (Box Children Z) → Children
+children_in None = childless
+children_in (Some children) = box_value children
 
 abbrev pub Nodes : Type 0
 Nodes = List Node

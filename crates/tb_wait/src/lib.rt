@@ -1,6 +1,7 @@
 //! Which children of a task, and which members of its open groups, haven't ended.
 #![tactic(auto)]
 
+mod children;
 pub mod laws;
 mod near;
 mod node;

@@ -4,33 +4,27 @@ ghost use Rattle.std.specs.Prelude.{◌≡◌, ◌<◌, ◌≤◌, ◌+◌, ◌-
 ghost use Rattle.tb_wait.specs.Numbers.{has, IsPut, IsNextAbove};
 ghost use Rattle.tb_wait.specs.Tree.{leaf, is_live};
 
-use crate::numbers::Numbers;
+use crate::children::Children;
 use std::alloc::{AllocError, Global};
 use std::marker::Model;
 
 /// A task that was ever generated, with what is known of its children.
 #[derive(Drop)]
 pub struct Node {
+    alloc: Global,
     owner: usize,
     number: u32,
     pending: bool,
-    places: Vec<usize>,
-    unended: Numbers,
-    live: Numbers,
-    room: usize,
+    // on the heap, and made where the first child is: most tasks generate none
+    children: Option<Box<Children>>,
 }
 
 impl Model for Node {
-    ghost use Rattle.std.specs.Prelude.{◌+◌, ◌≤◌, length, vec_capacity};
-    ghost use Rattle.tb_wait.specs.Tree.{Node};
+    ghost use Rattle.tb_wait.specs.Tree.{Node, children_in};
 
     ghost Value = { Node };
 
-    ghost view = { λ n. record { owner = n.owner; number = n.number; pending = n.pending; places = n.places.items; unended = n.unended.items; live = n.live.items; room = n.room } };
-
-    ghost invariant = { λ n. (length n.places.items + n.room ≤ vec_capacity n.places)
-        × (length n.places.items + n.room ≤ n.unended.bound)
-        × (length n.places.items + n.room ≤ n.live.bound) };
+    ghost view = { λ n. let c = children_in n.children in record { owner = n.owner; number = n.number; pending = n.pending; places = c.places; unended = c.unended; live = c.live; room = c.room } };
 }
 
 impl Node {
@@ -39,13 +33,11 @@ impl Node {
         ensures { result ≡ leaf owner number }
     {
         Node {
+            alloc,
             owner,
             number,
             pending: false,
-            places: Vec::new(alloc),
-            unended: Numbers::new(alloc),
-            live: Numbers::new(alloc),
-            room: 0,
+            children: None,
         }
     }
 
@@ -74,7 +66,11 @@ impl Node {
     pub fn is_live(&self) -> bool
         ensures { result ≡ is_live self.now }
     {
-        self.pending || !self.live.is_empty()
+        let done = match &self.children {
+            Some(children) => children.is_done(),
+            None => true,
+        };
+        self.pending || !done
     }
 
     /// Sets whether the task stands and hasn't ended.
@@ -89,14 +85,20 @@ impl Node {
         requires { 0 < number }
         ensures { result ≡ slice_get self.now.places (number - 1) }
     {
-        self.places.get((number - 1) as usize).copied()
+        match &self.children {
+            Some(children) => children.place(number),
+            None => None,
+        }
     }
 
     /// How many children were ever generated.
     pub fn len(&self) -> usize
         ensures { result ≡ length self.now.places }
     {
-        self.places.len()
+        match &self.children {
+            Some(children) => children.len(),
+            None => 0,
+        }
     }
 
     /// Makes room for one more child.
@@ -106,13 +108,12 @@ impl Node {
         ensures keeps { self.old.room ≤ self.new.room }
         ensures succeeds { 0 < self.old.room → IsOk result }
     {
-        if self.room == 0 {
-            let len = self.places.as_slice().len() + 1;
-            self.unended.reserve(len)?;
-            self.live.reserve(len)?;
-            self.places.reserve(1)?;
-            self.room = 1;
+        if let Some(children) = &mut self.children {
+            return children.reserve();
         }
+        let mut children = Box::new(self.alloc, Children::new(self.alloc))?;
+        children.reserve()?;
+        self.children = Some(children);
         Ok(())
     }
 
@@ -121,8 +122,9 @@ impl Node {
         requires { 0 < self.old.room }
         ensures { self.new ≡ record self.old { places = self.old.places ++ place ∷ []; room = self.old.room - 1 } }
     {
-        self.places.push_reserved(place);
-        self.room -= 1;
+        if let Some(children) = &mut self.children {
+            children.push(place);
+        }
     }
 
     /// Sets whether the child of this number hasn't ended.
@@ -132,7 +134,9 @@ impl Node {
         ensures set { IsPut self.old.unended number unended self.new.unended }
         ensures same { self.new ≡ record self.old { unended = self.new.unended } }
     {
-        self.unended.set(number, unended);
+        if let Some(children) = &mut self.children {
+            children.set_unended(number, unended);
+        }
     }
 
     /// Sets whether some task within the child of this number hasn't ended.
@@ -142,34 +146,38 @@ impl Node {
         ensures set { IsPut self.old.live number live self.new.live }
         ensures same { self.new ≡ record self.old { live = self.new.live } }
     {
-        self.live.set(number, live);
-    }
-
-    /// Whether the child of this number hasn't ended.
-    pub fn has_unended(&self, number: u32) -> bool
-        ensures { result ≡ has self.now.unended number }
-    {
-        self.unended.has(number)
+        if let Some(children) = &mut self.children {
+            children.set_live(number, live);
+        }
     }
 
     /// Whether some task within the child of this number hasn't ended.
     pub fn has_live(&self, number: u32) -> bool
         ensures { result ≡ has self.now.live number }
     {
-        self.live.has(number)
+        match &self.children {
+            Some(children) => children.has_live(number),
+            None => false,
+        }
     }
 
     /// The least number above `low` of a child that hasn't ended.
     pub fn first_unended(&self, low: u32) -> Option<u32>
         ensures { IsNextAbove self.now.unended low result }
     {
-        self.unended.next_above(low)
+        match &self.children {
+            Some(children) => children.first_unended(low),
+            None => None,
+        }
     }
 
     /// The least number above `low` of a child within which some task hasn't ended.
     pub fn first_live(&self, low: u32) -> Option<u32>
         ensures { IsNextAbove self.now.live low result }
     {
-        self.live.next_above(low)
+        match &self.children {
+            Some(children) => children.first_live(low),
+            None => None,
+        }
     }
 }

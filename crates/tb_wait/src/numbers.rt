@@ -49,7 +49,8 @@ impl Numbers {
         if bound > self.bound {
             let len = self.items.len();
             self.items.reserve(bound.saturating_sub(len))?;
-            self.bound = bound;
+            // for all that there is room for, so that mostly the next call has nothing to do
+            self.bound = self.items.capacity();
         }
         Ok(())
     }
@@ -69,6 +70,7 @@ impl Numbers {
     }
 
     /// How many numbers are below n, and whether it is there itself.
+    #[inline]
     fn find(&self, n: u32) -> (usize, bool)
         ensures place { result.0 ≡ below n self.now.items }
         ensures within { result.0 ≤ length self.now.items }
@@ -96,7 +98,12 @@ impl Numbers {
         ensures bound { self.new.bound ≡ self.old.bound }
     {
         let (at, there) = self.find(n);
-        if !there {
+        if there {
+            return;
+        }
+        if at == self.items.len() {
+            self.items.push_back_reserved(n);
+        } else {
             self.items.insert(at, n).unwrap();
         }
     }
@@ -106,7 +113,12 @@ impl Numbers {
         ensures bound { self.new.bound ≡ self.old.bound }
     {
         let (at, there) = self.find(n);
-        if there {
+        if !there {
+            return;
+        }
+        if at == 0 {
+            let _n = self.items.pop_front();
+        } else {
             let _n = self.items.remove(at);
         }
     }
@@ -125,6 +137,7 @@ impl Numbers {
 }
 
 // How many numbers in front are below n.
+#[inline]
 fn gap(items: &VecDeque<u32>, n: u64) -> usize
     requires { (high : ℕ) × Rises 0 items.now.items high }
     ensures gap { result ≡ below n items.now.items }

@@ -147,12 +147,35 @@ impl Wait {
         ensures succeeds { HasRoomFor self.old parent.now child → IsOk result }
     {
         self.reserve_spawned(parent, &child)?;
-        if self.is_known(parent, &child) {
+        self.spawned_reserved(parent, child);
+        Ok(())
+    }
+
+    /// The same in the room that is there.
+    pub fn spawned_reserved(&mut self, parent: &TaskName, child: TaskName)
+        requires next { IsNext self.old.tasks parent.now child }
+        requires room { HasRoomFor self.old parent.now child }
+        ensures tasks { Adds self.old.tasks parent.now child self.new.tasks }
+        ensures names { KeepsNames self.old.tasks self.new.tasks }
+        ensures room { self.old.room ≤ self.new.room + 1 }
+    {
+        if self.is_next_known(parent, &child) {
             self.enter(parent, &child);
         } else {
             self.enter_new(parent, child);
         }
-        Ok(())
+    }
+
+    // Whether the child that the parent generates next was ever generated: its number tells that.
+    #[inline(always)]
+    fn is_next_known(&self, parent: &TaskName, child: &TaskName) -> bool
+        requires { IsNext self.now.tasks parent.now child.now }
+        ensures { result ≡ is_known self.now.tasks child.now }
+    {
+        match self.near.find(&self.names, parent) {
+            Some(owner) => self.tree.has_child(owner, number_of(child)),
+            None => self.names.contains(child),
+        }
     }
 
     fn enter(&mut self, parent: &TaskName, child: &TaskName)

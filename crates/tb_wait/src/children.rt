@@ -1,0 +1,134 @@
+//! The children of one task in the tree of tasks.
+
+ghost use Rattle.std.specs.Prelude.{◌≡◌, ◌<◌, ◌≤◌, ◌+◌, ◌-◌, [], ◌∷◌, ◌++◌, OnOk, IsOk, length, slice_get};
+ghost use Rattle.tb_wait.specs.Numbers.{has, is_empty, IsPut, IsNextAbove};
+ghost use Rattle.tb_wait.specs.Tree.{childless};
+
+use crate::numbers::Numbers;
+use std::alloc::{AllocError, Global};
+use std::marker::Model;
+
+/// The places of a task's children, and which of them haven't ended.
+#[derive(Drop)]
+pub(crate) struct Children {
+    places: Vec<usize>,
+    unended: Numbers,
+    live: Numbers,
+    room: usize,
+}
+
+impl Model for Children {
+    ghost use Rattle.std.specs.Prelude.{◌+◌, ◌≤◌, length, vec_capacity};
+    ghost use Rattle.tb_wait.specs.Tree.{Children};
+
+    ghost Value = { Children };
+
+    ghost view = { λ c. record { places = c.places.items; unended = c.unended.items; live = c.live.items; room = c.room } };
+
+    ghost invariant = { λ c. (length c.places.items + c.room ≤ vec_capacity c.places)
+        × (length c.places.items + c.room ≤ c.unended.bound)
+        × (length c.places.items + c.room ≤ c.live.bound) };
+}
+
+impl Children {
+    /// No children.
+    pub(crate) fn new(alloc: Global) -> Children
+        ensures { result ≡ childless }
+    {
+        Children {
+            places: Vec::new(alloc),
+            unended: Numbers::new(alloc),
+            live: Numbers::new(alloc),
+            room: 0,
+        }
+    }
+
+    /// Whether within none of them a task stands that hasn't ended.
+    pub(crate) fn is_done(&self) -> bool
+        ensures { result ≡ is_empty self.now.live }
+    {
+        self.live.is_empty()
+    }
+
+    /// The place of the child of this number.
+    pub(crate) fn place(&self, number: u32) -> Option<usize>
+        requires { 0 < number }
+        ensures { result ≡ slice_get self.now.places (number - 1) }
+    {
+        self.places.get((number - 1) as usize).copied()
+    }
+
+    /// How many children were ever generated.
+    pub(crate) fn len(&self) -> usize
+        ensures { result ≡ length self.now.places }
+    {
+        self.places.len()
+    }
+
+    /// Makes room for one more child.
+    pub(crate) fn reserve(&mut self) -> Result<(), AllocError>
+        ensures ok { OnOk result (0 < self.new.room) }
+        ensures same { self.new ≡ record self.old { room = self.new.room } }
+        ensures keeps { self.old.room ≤ self.new.room }
+        ensures succeeds { 0 < self.old.room → IsOk result }
+    {
+        if self.room == 0 {
+            let len = self.places.as_slice().len() + 1;
+            self.unended.reserve(len)?;
+            self.live.reserve(len)?;
+            self.places.reserve(1)?;
+            self.room = 1;
+        }
+        Ok(())
+    }
+
+    /// One more child, at this place.
+    pub(crate) fn push(&mut self, place: usize)
+        requires { 0 < self.old.room }
+        ensures { self.new ≡ record self.old { places = self.old.places ++ place ∷ []; room = self.old.room - 1 } }
+    {
+        self.places.push_reserved(place);
+        self.room -= 1;
+    }
+
+    /// Sets whether the child of this number hasn't ended.
+    pub(crate) fn set_unended(&mut self, number: u32, unended: bool)
+        requires from_one { 0 < number }
+        requires child { number ≤ length self.old.places }
+        ensures set { IsPut self.old.unended number unended self.new.unended }
+        ensures same { self.new ≡ record self.old { unended = self.new.unended } }
+    {
+        self.unended.set(number, unended);
+    }
+
+    /// Sets whether some task within the child of this number hasn't ended.
+    pub(crate) fn set_live(&mut self, number: u32, live: bool)
+        requires from_one { 0 < number }
+        requires child { number ≤ length self.old.places }
+        ensures set { IsPut self.old.live number live self.new.live }
+        ensures same { self.new ≡ record self.old { live = self.new.live } }
+    {
+        self.live.set(number, live);
+    }
+
+    /// Whether some task within the child of this number hasn't ended.
+    pub(crate) fn has_live(&self, number: u32) -> bool
+        ensures { result ≡ has self.now.live number }
+    {
+        self.live.has(number)
+    }
+
+    /// The least number above `low` of a child that hasn't ended.
+    pub(crate) fn first_unended(&self, low: u32) -> Option<u32>
+        ensures { IsNextAbove self.now.unended low result }
+    {
+        self.unended.next_above(low)
+    }
+
+    /// The least number above `low` of a child within which some task hasn't ended.
+    pub(crate) fn first_live(&self, low: u32) -> Option<u32>
+        ensures { IsNextAbove self.now.live low result }
+    {
+        self.live.next_above(low)
+    }
+}
