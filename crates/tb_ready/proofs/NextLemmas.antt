@@ -2,7 +2,8 @@
 use Rattle.std.proofs.Common.{◌≡◌, ◌≢◌, ◌<◌, ◌≤◌, ◌+◌, ℕ, Bool, true, false, List, [], length, Option, Some, None, arith, refl, ap, sym, ◌∙◌, subst, get_or, ◌⊎◌, inl, inr}
 use Rattle.std.specs.Prelude.{unwrap_or}
 use Rattle.std.specs.declared.cmp.Ordering.TheVariants.{Less}
-use Rattle.std.specs.Ordering.{ordering_reverse}
+use Rattle.std.specs.Ordering.{is_lt, ordering_reverse}
+use Rattle.std.proofs.lemmas.Cmp.{tied_itself}
 use Rattle.std.proofs.lemmas.Bool.{cases_lt, and_from, false≢true}
 use Rattle.tb_model.specs.Names.{Name, name_cmp}
 use Rattle.tb_model.specs.NameLaws.{name_cmp_total}
@@ -24,6 +25,20 @@ module _ (ts : List (Name × Bool)) (o : List ℕ) (ord : IsOrder ts o) where
 
   pub first_of_all : IsFirstBehind ts o None 0
   first_of_all = record { passed = λ a l b. absurd (omega (arith, l)); behind = λ a h w. tt }
+
+  -- a name that stands in the order stands at its place
+  pub place_of_itself : (name : Name) (p : ℕ) → p < length o → at p ≡ name → IsPlace ts o name p
+  place_of_itself name p h e = record {
+    within = omega (arith, h);
+    below = λ a l. ap (name_cmp (at a)) (sym e) ∙ ord.rising a p l h;
+    above = λ a l w. ap (λ n. is_lt (name_cmp (at a) n)) (sym e) ∙ not_less a l w (cases_lt p a);
+  }
+    where
+      not_less : (a : ℕ) → p ≤ a → a < length o → (p < a) ⊎ (a ≤ p) → is_lt (name_cmp (at a) (at p)) ≡ false
+      not_less a l w (inl x) = ap is_lt (name_cmp_total.antisymm (at a) (at p) ∙ ap ordering_reverse (ord.rising p a x w))
+      not_less a l w (inr x) =
+          let same : a ≡ p = omega (arith, l, x) in
+          ap (λ n. is_lt (name_cmp n (at p))) (ap at same) ∙ ap is_lt (tied_itself name_cmp_total (at p))
 
   module _ (name : Name) (p : ℕ) (place : IsPlace ts o name p) where
     -- the name itself stands there

@@ -8,10 +8,10 @@ ghost use Rattle.tb_model.specs.Names.{same_name};
 ghost use Rattle.tb_model.specs.LeastNames.{IsLeastName};
 ghost use Rattle.tb_ready.specs.Tasks.{mark_of, with_name, without_name, with_mark, IsLeast, IsMarkedBehind};
 
+use crate::gapped::Gapped;
 use crate::names::Names;
 use crate::order::{forget, least, next_marked, set_mark};
 use std::alloc::{AllocError, Global};
-use std::collections::VecDeque;
 use std::marker::Model;
 use tb_model::TaskName;
 
@@ -19,24 +19,23 @@ use tb_model::TaskName;
 #[derive(Drop)]
 pub struct Ready {
     names: Names,
-    // the places of the marked names, by rising name, with room for all names; a deque, since tasks
-    // are mostly spawned at its end and end at its beginning
-    order: VecDeque<usize>,
+    // the places of the marked names, by rising name, with room for all names; tasks mostly come and
+    // go near those that came or went before
+    order: Gapped,
     // where in that order a mark changed last: mostly the next change is there too
     near: usize,
 }
 
 impl Model for Ready {
     ghost use Rattle.std.specs.Prelude.{◌≤◌, ◌-◌, min, length};
-    ghost use Rattle.std.specs.VecDeque.{deque_capacity};
     ghost use Rattle.tb_ready.specs.Tasks.{Tasks};
     ghost use Rattle.tb_ready.specs.Order.{IsOrder};
 
     ghost Value = { Tasks };
 
-    ghost view = { λ r. record { tasks = r.names.tasks; room = min r.names.room (deque_capacity r.order - length r.names.tasks) } };
+    ghost view = { λ r. record { tasks = r.names.tasks; room = min r.names.room (r.order.capacity - length r.names.tasks) } };
 
-    ghost invariant = { λ r. IsOrder r.names.tasks r.order.items × (length r.names.tasks ≤ deque_capacity r.order) };
+    ghost invariant = { λ r. IsOrder r.names.tasks r.order.items × (length r.names.tasks ≤ r.order.capacity) };
 }
 
 impl Ready {
@@ -46,7 +45,7 @@ impl Ready {
     {
         Ready {
             names: Names::new(alloc),
-            order: VecDeque::new(alloc),
+            order: Gapped::new(alloc),
             near: 0,
         }
     }

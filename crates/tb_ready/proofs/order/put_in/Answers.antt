@@ -18,7 +18,7 @@ returns-clause-order c =
     let place =
     subst (λ n. IsPlace c.args.names.now.tasks c.args.order.now.items n c.place_of-place.result) c.name.ensures.name c.place_of-place.ensures in
     let items = c.insert.ensures.items in
-    subst (λ ts. IsOrder ts c.insert.new.order.items) (sym c.set.ensures.tasks) (rw items
+    subst (λ ts. IsOrder ts c.insert.new.self.items) (sym c.set.ensures.tasks) (rw items
     (order_in c.args.names.now.tasks c.args.order.now.items c.requires.order c.name.ensures.unique _ c.place_of-place.result c.args.at
     c.requires.there c.requires.unmarked place
     (length-insert c.args.order.now.items c.place_of-place.result c.args.at place.within)
