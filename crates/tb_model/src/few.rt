@@ -1,6 +1,6 @@
 //! Small numbers that stand in a name itself.
 
-ghost use Rattle.std.specs.Prelude.{◌≡◌, ◌<◌, ◌≤◌, ◌∷◌, IfSome, length};
+ghost use Rattle.std.specs.Prelude.{◌≡◌, ◌<◌, ◌≤◌, ◌∷◌, IfSome, IfNone, drop, length};
 ghost use Rattle.tb_model.specs.Names.{is_child, name_cmp, same_name};
 
 use crate::in_common::are_bytes_same;
@@ -81,14 +81,49 @@ impl Few {
         &self.bytes[..usize::from(self.count)]
     }
 
+    /// A number, and these after it, if they stay few and small.
+    #[inline(always)]
+    pub fn with(&self, first: u32) -> Option<Few>
+        ensures { IfSome result (λ f. f ≡ first ∷ self.now) }
+    {
+        if usize::from(self.count) >= FEW || first > 255 {
+            return None;
+        }
+        let mut bytes = [0u8; FEW];
+        bytes[0] = first as u8;
+        bytes[1..].copy_from_slice(&self.bytes[..FEW - 1]);
+        Some(Few {
+            count: self.count + 1,
+            bytes,
+        })
+    }
+
+    /// The numbers after the first, if there are more than three.
+    #[inline(always)]
+    pub fn rest(&self) -> Option<Few>
+        ensures rest { IfSome result (λ f. f ≡ drop 1 self.now) }
+        ensures none { IfNone result (length self.now ≤ 4) }
+    {
+        if self.count <= 4 {
+            return None;
+        }
+        let mut bytes = [0u8; FEW];
+        bytes[..FEW - 1].copy_from_slice(&self.bytes[1..]);
+        Some(Few {
+            count: self.count - 1,
+            bytes,
+        })
+    }
+
     /// Whether these are all of the other's numbers but the first.
     pub fn is_after_first(&self, other: &Few) -> bool
         ensures { result ≡ is_child self.now other.now }
     {
-        let [_, others @ ..] = other.as_bytes() else {
-            return false;
-        };
-        are_same(others, self.as_bytes())
+        let _ = &self.count;
+        match other.rest() {
+            Some(rest) => rest.is_same(self),
+            None => false,
+        }
     }
 
     /// How these numbers stand to others, the last of each compared first.
@@ -121,23 +156,4 @@ impl Few {
         }
         Spread::new(numbers, usize::from(self.count))
     }
-}
-
-#[tactic(auto, using(crate::proofs::WithinLemmas::different))]
-fn are_same(a: &[u8], b: &[u8]) -> bool
-    ensures { result ≡ same_name a.now b.now }
-{
-    if a.len() != b.len() {
-        return false;
-    }
-    let mut left = a;
-    let mut right = b;
-    'numbers: while let ([n, more @ ..], [s, others @ ..]) = (left, right) {
-        if *n != *s {
-            return false;
-        }
-        left = more;
-        right = others;
-    }
-    true
 }

@@ -130,8 +130,7 @@ impl TaskName {
         ensures child { IfOk result (λ c. c ≡ child self.now n) }
         ensures short { length self.now < 3 → IsOk result }
     {
-        let alloc = self.numbers.allocator();
-        let numbers = Numbers::with_first(alloc, n, &self.numbers.parts())?;
+        let numbers = self.numbers.child(n)?;
         Ok(TaskName { numbers })
     }
 
@@ -141,6 +140,9 @@ impl TaskName {
         ensures parent { IfOk result (λ p. p ≡ parent self.now) }
         ensures short { length self.now ≤ 4 → IsOk result }
     {
+        if let Some(numbers) = self.numbers.rest_in_place() {
+            return Ok(Some(TaskName { numbers }));
+        }
         match self.numbers.parts().split_first() {
             None => Ok(None),
             Some((_, parent)) => {

@@ -1,7 +1,7 @@
 //! The numbers of a name.
 
-ghost use Rattle.std.specs.Prelude.{◌≡◌, ◌≤◌, ◌<◌, [], ◌∷◌, ◌++◌, length, IfOk, IsOk, IfSome, IfNone};
-ghost use Rattle.tb_model.specs.Names.{same_name};
+ghost use Rattle.std.specs.Prelude.{◌≡◌, ◌≤◌, ◌<◌, [], ◌∷◌, ◌++◌, length, IfOk, IsOk, IfSome, IfNone, Some};
+ghost use Rattle.tb_model.specs.Names.{same_name, parent};
 ghost use Rattle.tb_model.specs.Stored.{numbers_in, IsShortest};
 
 use crate::block::BLOCK;
@@ -87,6 +87,33 @@ impl Numbers {
             Stored::Deep(Arc::new(alloc, grown(alloc, first, rest)?)?)
         };
         Ok(Numbers { alloc, stored })
+    }
+
+    /// This number, and these after it. Takes memory only where these are three or more.
+    #[inline(always)]
+    pub fn child(&self, first: u32) -> Result<Numbers, AllocError>
+        ensures ok { IfOk result (λ n. n ≡ first ∷ self.now) }
+        ensures short { length self.now < 3 → IsOk result }
+    {
+        match with_first_in_place(&self.stored, first) {
+            Some(stored) => Ok(Numbers {
+                alloc: self.alloc,
+                stored,
+            }),
+            None => Numbers::with_first(self.alloc, first, &self.parts()),
+        }
+    }
+
+    /// These but the first, where they stand in the value.
+    #[inline(always)]
+    pub fn rest_in_place(&self) -> Option<Numbers>
+        ensures { IfSome result (λ n. Some n ≡ parent self.now) }
+    {
+        let stored = rest_in_place(&self.stored)?;
+        Some(Numbers {
+            alloc: self.alloc,
+            stored,
+        })
     }
 
     /// The allocator.
@@ -202,8 +229,25 @@ impl Numbers {
             (Stored::Shared(numbers), Stored::Shared(others)) => {
                 are_same(numbers.as_slice(), others.as_slice())
             }
-            _ => self.parts().is_same(&other.parts()),
+            (Stored::Deep(_), Stored::Deep(_)) => self.parts().is_same(&other.parts()),
+            _ => self.is_same_elsewhere(other),
         }
+    }
+
+    /// The same where the numbers don't stand alike: of short names their count decides.
+    fn is_same_elsewhere(&self, other: &Numbers) -> bool
+        ensures { result ≡ same_name self.now other.now }
+    {
+        if let Some(numbers) = self.short() {
+            return match other.short() {
+                Some(others) => are_same(numbers, others),
+                None => false,
+            };
+        }
+        if let Some(_numbers) = other.short() {
+            return false;
+        }
+        self.parts().is_same(&other.parts())
     }
 }
 
@@ -217,6 +261,35 @@ fn in_place(numbers: &[u32]) -> Option<Stored>
         [a, b] => Some(Stored::Two([*a, *b])),
         [a, b, c] => Some(Stored::Three([*a, *b, *c])),
         [first, rest @ ..] => Some(Stored::Few(Few::with_first(*first, rest)?)),
+    }
+}
+
+/// A number, and these after it, where all stand in the value.
+#[inline(always)]
+fn with_first_in_place(stored: &Stored, first: u32) -> Option<Stored>
+    ensures more { IfSome result (λ s. (numbers_in s ≡ first ∷ numbers_in stored.now) × IsShortest s) }
+{
+    match stored {
+        Stored::Zero => Some(Stored::One([first])),
+        Stored::One([a]) => Some(Stored::Two([first, *a])),
+        Stored::Two([a, b]) => Some(Stored::Three([first, *a, *b])),
+        Stored::Few(few) => Some(Stored::Few(few.with(first)?)),
+        Stored::Three(_) | Stored::Shared(_) => None,
+        Stored::Deep(_) => None,
+    }
+}
+
+/// These but the first, where both stand in the value.
+#[inline(always)]
+fn rest_in_place(stored: &Stored) -> Option<Stored>
+    ensures { IfSome result (λ s. (Some (numbers_in s) ≡ parent (numbers_in stored.now)) × IsShortest s) }
+{
+    match stored {
+        Stored::One([_a]) => Some(Stored::Zero),
+        Stored::Two([_, a]) => Some(Stored::One([*a])),
+        Stored::Three([_, a, b]) => Some(Stored::Two([*a, *b])),
+        Stored::Few(few) => Some(Stored::Few(few.rest()?)),
+        _ => None,
     }
 }
 
