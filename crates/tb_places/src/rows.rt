@@ -1,6 +1,6 @@
 //! Rows of places. A row that isn't there is an empty one.
 
-ghost use Rattle.std.specs.Prelude.{◌≡◌, ◌≢◌, ◌<◌, ◌++◌, ◌∷◌, [], ℕ, List, Option, OnOk, IsOk, length};
+ghost use Rattle.std.specs.Prelude.{◌≡◌, ◌≢◌, ◌<◌, ◌≤◌, ◌+◌, ◌++◌, ◌∷◌, [], ℕ, List, Option, OnOk, IsOk, length, vec_len, vec_capacity};
 ghost use Rattle.tb_model.specs.declared.event.Event.{Event as AnEvent};
 ghost use Rattle.tb_places.specs.Rows.{row_of, room_of, HasRoom, HasRoomAt, AreRows, KeepsRooms};
 
@@ -79,7 +79,7 @@ impl Rows {
         ensures succeeds { HasRoom self.old n → IsOk result }
     {
         self.grow(n)?;
-        self.rows[n].reserve(1)
+        reserve_one(&mut self.rows[n])
     }
 
     #[inline(always)]
@@ -116,4 +116,19 @@ impl Rows {
         }
         Ok(())
     }
+}
+
+/// Makes room for one more place, mostly without a call.
+#[inline(always)]
+fn reserve_one(row: &mut Vec<u32>) -> Result<(), AllocError>
+    ensures items { row.new.items ≡ row.old.items }
+    ensures len { vec_len row.new ≡ vec_len row.old }
+    ensures ok { OnOk result (vec_len row.new + 1 ≤ vec_capacity row.new) }
+    ensures capacity { vec_capacity row.old ≤ vec_capacity row.new }
+    ensures succeeds { vec_len row.old + 1 ≤ vec_capacity row.old → IsOk result }
+{
+    if row.len() < row.capacity() {
+        return Ok(());
+    }
+    row.reserve(1)
 }
