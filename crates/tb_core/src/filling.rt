@@ -1,12 +1,13 @@
 //! What a step fills in: the number that a load reads, and the name of a child.
 
-ghost use Rattle.std.specs.Prelude.{◌≡◌, ◌<◌, ◌↔◌, ℕ, List, IfOk, IsOk, IsTrue, Some, None, length};
+ghost use Rattle.std.specs.Prelude.{◌≡◌, ◌<◌, ◌≤◌, ◌+◌, ◌↔◌, ℕ, List, IfOk, IsOk, OnOk, IsTrue, Some, None, length, vec_len, vec_capacity};
 ghost use Rattle.tb_model.specs.declared.event.Event.{Event as AnEvent};
 ghost use Rattle.tb_model.specs.declared.spawn.Spawn.{Spawn as ASpawn};
 ghost use Rattle.tb_model.specs.Names.{child};
 ghost use Rattle.tb_read.specs.Plans.{names_allowed};
 ghost use Rattle.tb_core.specs.Filling.{spare_task, spare_spawn, Fills, IsNextSpawn, IsRunOf, IsWhole};
 
+use crate::entry::Entry;
 use std::alloc::AllocError;
 use tb_model::{Action, Event, Spawned, TaskName};
 use tb_read::Plan;
@@ -87,7 +88,7 @@ pub fn event_for(tables: &Tables, task: &TaskName, action: Action) -> Result<Eve
 
 /// Whether nothing is filled in of the action.
 #[inline(always)]
-fn is_whole(action: &Action) -> bool
+pub fn is_whole(action: &Action) -> bool
     ensures { IsTrue result → IsWhole action.now }
 {
     match action {
@@ -181,4 +182,17 @@ fn is_nth_child(name: &TaskName, parent: &TaskName, n: u32) -> bool
         None => false,
         Some(m) => m == n && parent.is_parent_of(name),
     }
+}
+
+/// Makes room for one more entry, mostly without a call.
+#[inline(always)]
+pub fn reserve_one(entries: &mut Vec<Entry>) -> Result<(), AllocError>
+    ensures items { entries.new.items ≡ entries.old.items }
+    ensures ok { OnOk result (vec_len entries.new + 1 ≤ vec_capacity entries.new) }
+    ensures succeeds { vec_len entries.old + 1 ≤ vec_capacity entries.old → IsOk result }
+{
+    if entries.len() < entries.capacity() {
+        return Ok(());
+    }
+    entries.reserve(1)
 }

@@ -1,5 +1,6 @@
 //! The history, step by step.
 
+mod clear;
 mod reading;
 mod state;
 
@@ -21,7 +22,7 @@ ghost use Rattle.tb_core.specs.Scans.{AreLegal};
 
 use crate::answers::{config, named, stale, stands_so};
 use crate::entry::Entry;
-use crate::filling::{copy_event, copy_of, event_for, fill_in, forget, planned, spares};
+use crate::filling::{copy_event, copy_of, fill_in, forget, planned, reserve_one, spares};
 use crate::needing::first_needer;
 use crate::places::{is_number_of, place_in, step_among};
 use crate::removed::Removed;
@@ -259,48 +260,6 @@ impl Core {
         }
     }
 
-    /// Takes an action of a task from which nothing keeps it: nothing is asked again. The action
-    /// leaves the task at the line `to`. The event is the newest then.
-    #[inline(always)]
-    pub fn step_clear(&mut self, task: &TaskName, action: Action, to: u32) -> Result<(), AllocError>
-        requires { MayTake self.old.run task.now action }
-        ensures taken { OnOk result (Takes self.old.run task.now action to self.new.run
-            (event_for self.old.run task.now action)) }
-        ensures err { OnErr result (self.new.run ≡ self.old.run) }
-    {
-        let event = self.event_of_clear(task, action)?;
-        self.append(event, to)?;
-        Ok(())
-    }
-
-    /// The same with a copy of the event, for which memory is taken before the step.
-    pub fn step_copied(
-        &mut self,
-        task: &TaskName,
-        action: Action,
-        to: u32,
-    ) -> Result<Event, AllocError>
-        requires { MayTake self.old.run task.now action }
-        ensures taken { IfOk result (Takes self.old.run task.now action to self.new.run) }
-        ensures err { OnErr result (self.new.run ≡ self.old.run) }
-    {
-        let event = self.event_of_clear(task, action)?;
-        let copy = copy_event(&event)?;
-        self.append(event, to)?;
-        Ok(copy)
-    }
-
-    /// The event of an action from which nothing keeps the task.
-    #[inline(always)]
-    fn event_of_clear(&self, task: &TaskName, action: Action) -> Result<Event, AllocError>
-        requires { MayTake self.now.run task.now action }
-        ensures is { IfOk result (λ v. v ≡ event_for self.now.run task.now action) }
-        ensures may { IfOk result (MayFollow self.now.run.cells (history self.now.run)) }
-    {
-        let event = event_for(&self.tables, task, action)?;
-        Ok(event)
-    }
-
     /// Takes an event that may follow the others.
     #[inline(always)]
     fn append(&mut self, event: Event, to: u32) -> Result<(), AllocError>
@@ -310,7 +269,7 @@ impl Core {
         ensures err { OnErr result (self.new.run ≡ self.old.run) }
     {
         let at = self.count();
-        self.entries.reserve(1)?;
+        reserve_one(&mut self.entries)?;
         forget(&mut self.reserved);
         self.places.reserve(&event)?;
         let replaced = self.tables.apply(&event, to)?;
