@@ -1,6 +1,6 @@
 -- What a task does next, by the plan of its next step.
 use Rattle.std.proofs.Common.{◌≡◌, ◌<◌, ◌≤◌, ◌+◌, ◌↔◌, ◌++◌, ℕ, suc, List, [], ◌∷◌, Bool, true, false, length, refl, sym, ap, ap₂, ◌∙◌, subst, arith, Option, Some, None, option_map}
-use Rattle.std.specs.Prelude.{Result, Ok, Err, IfOk}
+use Rattle.std.specs.Prelude.{Result, Ok, Err, IfOk, IfSome}
 use Rattle.std.proofs.lemmas.Bool.Decides.{nat_tests}
 use Rattle.std.proofs.lemmas.List.{length-map}
 use Rattle.tb_model.specs.declared.entry.Entry.{Entry}
@@ -161,3 +161,10 @@ kept_from run t m p full e says current k = kept_of run t m p e says current k
 pub kept_enters : (limit seat : ℕ) (run : Seen) (t : Name) (m : Coming) (p : Plan) (entries : List Entry) (control : Control) (e : StepRefusal) → IsStepOf t m p → IsCurrent run p → IsKeptBy run t m.action e
     → Enters limit seat run p run entries entries control control (Err e)
 kept_enters limit seat run t m p entries control e says current k = (refl, refl, refl, kept_from run t m p (has_no_place limit entries) e says current k)
+
+-- where one was found it is the least
+pub if_some : {E : Type 0} (P : Program) (run : Seen) (result : Result (Option (Name × Coming)) E) → IfOk result (IsLeastComing P run)
+    → IfOk result (λ found. IfSome found (λ r. IsLeastComing P run (Some r)))
+if_some P run (Ok None) least = tt
+if_some P run (Ok (Some r)) least = least
+if_some P run (Err e) least = tt

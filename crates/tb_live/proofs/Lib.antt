@@ -6,6 +6,7 @@ pub mod FloorLemmas
 pub mod FloorStepLemmas
 pub mod RunLemmas
 pub mod StepLemmas
+pub mod LeastStepLemmas
 pub mod RollLemmas
 pub mod ClaimLemmas
 pub mod ControlLemmas

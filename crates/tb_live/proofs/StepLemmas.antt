@@ -31,7 +31,7 @@ use Rattle.tb_live.specs.Preparing.{entry_of}
 use Rattle.tb_live.specs.Claims.{AreLawful}
 use Rattle.tb_live.specs.Controls.{behind_step}
 use Rattle.tb_live.specs.Session.{Session, Held, is_full}
-use Rattle.tb_live.specs.Moves.{StepsFor, Refuses, StepsBy, LeastStepsFor, refusal_for, least_task}
+use Rattle.tb_live.specs.Moves.{StepsFor, Refuses, StepsBy, LeastStepsFor, for_least, refusal_for, least_task}
 use Rattle.tb_live.specs.Soundness.{IsSound, IsLawful}
 use Rattle.tb_live.specs.Plans.{IsPlanOf, HasNone, IsEntered, IsKeptFrom, Enters, has_no_place}
 use Rattle.tb_live.specs.Unevaluated.{IsWanting, IsLeastWanting}
@@ -245,10 +245,6 @@ module _ (P : Program) (limit : ℕ) (entries : List Entry) (before : Control) (
   least_wanting_so seat full _ f w = absurd w
 
 -- ---- the step of the least task
-
-abbrev pub for_least : Result StepId StepRefusal → Result (Option StepId) StepRefusal
-for_least (Ok i) = Ok (Some i)
-for_least (Err e) = Err e
 
 pub for_least_held : (A : Type 0) (result : Result StepId StepRefusal) → IfErr result (λ e. e ≢ Memory → A) → IfErr (for_least result) (λ e. e ≢ Memory → A)
 for_least_held A (Ok i) k = tt

@@ -78,6 +78,11 @@ LeastStepsFor seat s new (Err Full) = (new ≡ s) × ((t : Name) × (least_task 
 LeastStepsFor seat s new (Err Memory) = (new ≡ s) × (least_task s ≢ None → IsFalse (is_full s))
 LeastStepsFor seat s new (Err _) = ⊥
 
+-- a step for the look for its task
+abbrev pub for_least : Result StepId StepRefusal → Result (Option StepId) StepRefusal
+for_least (Ok i) = Ok (Some i)
+for_least (Err e) = Err e
+
 abbrev pub LeastStepsBy : Session → Session → Result (Option StepId) StepRefusal → Type 0
 LeastStepsBy = LeastStepsFor 0
 

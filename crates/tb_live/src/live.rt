@@ -7,7 +7,7 @@ mod pausing;
 mod running;
 mod state;
 
-ghost use Rattle.std.specs.Prelude.{◌≡◌, ◌≢◌, ◌<◌, ◌≤◌, IfOk, IfErr, OnErr, IfSome, IfNone, IsOk, Some, None, length, reverse, slice_get};
+ghost use Rattle.std.specs.Prelude.{◌≡◌, ◌≢◌, ◌<◌, ◌≤◌, ℕ, IfOk, IfErr, OnErr, IfSome, IfNone, IsOk, Some, None, length, reverse, slice_get};
 ghost use Rattle.std.specs.Option.{option_copied};
 ghost use Rattle.tb_model.specs.declared.entry.Entry.TheVariants.{Rolled};
 ghost use Rattle.tb_model.specs.State.{printed};
@@ -24,9 +24,9 @@ use crate::mode::Mode;
 use crate::newest::{newest_print, newest_store};
 use crate::planning::coming_of;
 use crate::prepared::{Prepared, forget, take_name, take_roll};
-use crate::ready::{least_coming, refusal_of};
+use crate::ready::{known_coming, least_behind, refusal_of};
 use crate::rolling::{enter_roll, fresh_name};
-use crate::stepping::{enter_clear, enter_step};
+use crate::stepping::{enter_apart, enter_clear, enter_step, for_least};
 use crate::unevaluated::{least_wanting, wanting};
 use std::alloc::{AllocError, Global};
 use std::marker::Model;
@@ -190,28 +190,45 @@ impl Live {
         ensures stepped { LeastStepsFor seat self.old.session self.new.session result }
         ensures kept { IfErr result (λ e. e ≢ Memory → self.new ≡ self.old) }
     {
-        let found = match least_coming(self.alloc, &self.program, &self.core, &mut self.floor) {
-            Ok(Some(found)) => found,
-            Ok(None) => return Ok(None),
-            Err(_) => {
-                let full = self.is_full();
-                return Err(least_wanting(&self.program, &self.core, full));
+        match known_coming(self.alloc, &self.program, &self.core, &self.floor) {
+            Ok(Some(found)) => for_least(enter_clear(
+                &mut self.core,
+                &mut self.journal,
+                &mut self.control,
+                &mut self.prepared,
+                &mut self.floor,
+                self.limit,
+                seat,
+                found.0,
+                found.1,
+            )),
+            Ok(None) => {
+                match least_behind(self.alloc, &self.program, &self.core, &mut self.floor) {
+                    Ok(Some(found)) => for_least(enter_apart(
+                        &mut self.core,
+                        &mut self.journal,
+                        &mut self.control,
+                        &mut self.prepared,
+                        &mut self.floor,
+                        self.limit,
+                        seat,
+                        found,
+                    )),
+                    Ok(None) => Ok(None),
+                    Err(_) => self.least_refused(),
+                }
             }
-        };
-        match enter_clear(
-            &mut self.core,
-            &mut self.journal,
-            &mut self.control,
-            &mut self.prepared,
-            &mut self.floor,
-            self.limit,
-            seat,
-            found.0,
-            found.1,
-        ) {
-            Ok(id) => Ok(Some(id)),
-            Err(refusal) => Err(refusal),
+            Err(_) => self.least_refused(),
         }
+    }
+
+    /// Why no least task takes a step where memory for the look was refused.
+    #[inline(never)]
+    fn least_refused(&self) -> Result<Option<StepId>, StepRefusal>
+        ensures { (seat : ℕ) → LeastStepsFor seat self.now.session self.now.session result }
+    {
+        let full = self.is_full();
+        Err(least_wanting(&self.program, &self.core, full))
     }
 
     /// Why the task's next step would be refused now, a full journal aside.

@@ -1,6 +1,6 @@
 //! The least task that can step.
 
-ghost use Rattle.std.specs.Prelude.{◌≡◌, ◌↔◌, IfOk, IfSome, IsTrue, Some, is_some};
+ghost use Rattle.std.specs.Prelude.{◌≡◌, ◌↔◌, IfNone, IfOk, IfSome, IsTrue, Some, is_some};
 ghost use Rattle.std.specs.Option.{option_copied};
 ghost use Rattle.tb_model.specs.Hindrances.{can_step, least_ready};
 ghost use Rattle.tb_core.specs.Seen.{history};
@@ -77,9 +77,31 @@ fn told(refusal: StepRefusal) -> Result<Option<StepRefusal>, AllocError>
     }
 }
 
+/// The floor's task with what it does, if there is one and it can step.
+#[inline(always)]
+pub fn known_coming(
+    alloc: Global,
+    program: &Program,
+    core: &Core,
+    floor: &Floor,
+) -> Result<Option<(TaskName, Coming)>, AllocError>
+    requires fits { Fits program.now core.now.run }
+    requires floor { IsFloor program.now (history core.now.run) floor.now }
+    ensures least { IfOk result (λ found. IfSome found (λ r. IsLeastComing program.now core.now.run (Some r))) }
+    ensures passed { IfOk result (λ found. IfNone found (IsPassed program.now (history core.now.run) floor.now)) }
+{
+    let Some(task) = floor.task() else {
+        return Ok(None);
+    };
+    match clear_coming(alloc, program, core, task) {
+        Ok(Some(coming)) => named(task, coming),
+        Ok(None) => Ok(None),
+        Err(_) => Err(AllocError),
+    }
+}
+
 /// The least task that can step, with what it does; it becomes the floor. The tasks that haven't ended are
 /// asked in the order of their names, from the floor on.
-#[inline(always)]
 pub fn least_coming(
     alloc: Global,
     program: &Program,
@@ -91,11 +113,8 @@ pub fn least_coming(
     ensures least { IfOk result (IsLeastComing program.now core.now.run) }
     ensures floor { IsFloor program.now (history core.now.run) floor.new }
 {
-    let Some(task) = floor.task() else {
-        return least_behind(alloc, program, core, floor);
-    };
-    match clear_coming(alloc, program, core, task) {
-        Ok(Some(coming)) => named(task, coming),
+    match known_coming(alloc, program, core, floor) {
+        Ok(Some(found)) => Ok(Some(found)),
         Ok(None) => least_behind(alloc, program, core, floor),
         Err(_) => Err(AllocError),
     }
@@ -104,7 +123,7 @@ pub fn least_coming(
 /// The same where the floor's task, if there is one, can't step. It stands apart, so that a task's step
 /// after its own doesn't pay for its room.
 #[inline(never)]
-fn least_behind(
+pub fn least_behind(
     alloc: Global,
     program: &Program,
     core: &Core,

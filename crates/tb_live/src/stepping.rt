@@ -8,6 +8,7 @@ ghost use Rattle.tb_core.specs.Outcomes.{Fits, IsCurrent, IsOpen, MayTake, event
 ghost use Rattle.tb_core.specs.Seen.{history};
 ghost use Rattle.tb_live.specs.Controls.{behind_step};
 ghost use Rattle.tb_live.specs.Floor.{IsCarried};
+ghost use Rattle.tb_live.specs.Moves.{for_least};
 ghost use Rattle.tb_live.specs.Plans.{Enters, IsClear, IsEntered, IsKeptFrom, IsNext, IsStepOf, IsTaken, has_no_place};
 ghost use Rattle.tb_live.specs.Preparing.{HasRoom, IsReadied};
 
@@ -141,6 +142,46 @@ pub fn enter_clear(
             Ok(StepId { task, k: steps + 1 })
         }
         Err(_) => Err(StepRefusal::Memory),
+    }
+}
+
+/// The same of a task with what it does next. It stands apart, so that a task's step after its own doesn't pay for its room.
+#[inline(never)]
+pub fn enter_apart(
+    core: &mut Core,
+    journal: &mut Journal,
+    control: &mut Control,
+    prepared: &mut Option<Prepared>,
+    floor: &mut Floor,
+    limit: u32,
+    seat: u32,
+    found: (TaskName, Coming),
+) -> Result<StepId, StepRefusal>
+    requires clear { IsClear core.old.run found.0 found.1 }
+    requires limit { core.old.run.limit ≡ limit }
+    requires shorter { length core.old.run.steps < length journal.old.items }
+    ensures entered { (p : Plan) → IsStepOf found.0 found.1 p → IsCurrent core.old.run p
+        → Enters limit seat core.old.run p core.new.run journal.old.items journal.new.items control.old control.new result }
+    ensures kept { IfErr result (λ e. e ≢ Memory → prepared.new ≡ prepared.old) }
+    ensures serves { (P : Program)
+        → HasRoom limit P core.old journal.old.items journal.old.room prepared.old
+        → HasRoom limit P core.new journal.new.items journal.new.room prepared.new }
+    ensures carried { OnOk result (IsCarried (history core.new.run) floor.old floor.new) }
+    ensures stays { OnErr result (floor.new ≡ floor.old) }
+{
+    enter_clear(
+        core, journal, control, prepared, floor, limit, seat, found.0, found.1,
+    )
+}
+
+/// The answer for a task that was looked for.
+#[inline(always)]
+pub fn for_least(stepped: Result<StepId, StepRefusal>) -> Result<Option<StepId>, StepRefusal>
+    ensures { result ≡ for_least stepped }
+{
+    match stepped {
+        Ok(id) => Ok(Some(id)),
+        Err(refusal) => Err(refusal),
     }
 }
 

@@ -4,9 +4,9 @@ use Rattle.tb_core.specs.Seen.{history}
 use Rattle.tb_live.specs.declared.coming.Coming.{Coming}
 use Rattle.tb_live.specs.Floor.{IsFloor, IsPassed}
 use Rattle.tb_live.specs.Plans.{IsComing}
-use Rattle.tb_live.proofs.ComingLemmas.{least_named}
+use Rattle.tb_live.proofs.ComingLemmas.{least_named, if_some}
 use Rattle.tb_live.proofs.FloorStepLemmas.{passed_floor, floor_ready}
-use Rattle.tb_live.proofs.ready.least_coming.Goals as goal
+use Rattle.tb_live.proofs.ready.known_coming.Goals as goal
 
 pub returns-in-Ok-Some-clause-least : goal.returns-in-Ok-Some-clause-least
 returns-in-Ok-Some-clause-least c =
@@ -14,11 +14,12 @@ returns-in-Ok-Some-clause-least c =
     let run = c.args.core.now.run in
     let t = c.in-Some.task.now in
     let floor = subst (IsFloor P (history run)) (sym c.in-Some.ensures) c.requires.floor in
-    least_named P run t c.in-Ok-Some.coming c.named.result (subst (λ (o : Option Coming). IfSome o (IsComing P run t)) c.in-Ok-Some.field-0-is c.in-Ok-Some.ensures.coming)
-    (floor_ready P (history run) t floor (c.in-Ok-Some.ensures.can ∙ ap is_some c.in-Ok-Some.field-0-is)) c.named.ensures
+    if_some P run c.named.result
+    (least_named P run t c.in-Ok-Some.coming c.named.result (subst (λ (o : Option Coming). IfSome o (IsComing P run t)) c.in-Ok-Some.field-0-is c.in-Ok-Some.ensures.coming)
+    (floor_ready P (history run) t floor (c.in-Ok-Some.ensures.can ∙ ap is_some c.in-Ok-Some.field-0-is)) c.named.ensures)
 
-pub least_behind-requires-in-Ok-None-clause-passed : goal.least_behind-requires-in-Ok-None-clause-passed
-least_behind-requires-in-Ok-None-clause-passed c =
+pub returns-in-Ok-None-clause-passed : goal.returns-in-Ok-None-clause-passed
+returns-in-Ok-None-clause-passed c =
     let P = c.args.program.now in
     let H = history c.args.core.now.run in
     let t = c.in-Some.task.now in
