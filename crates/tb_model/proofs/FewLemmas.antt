@@ -1,7 +1,7 @@
 -- Small numbers that stand in a name itself, and how they are lent.
 use Rattle.std.proofs.lemmas.List.{drop-drop, drop-take, take-take, append-nil, take-append-le, drop-append-le, take_all}
 use Rattle.std.proofs.Common.{◌≡◌, ℕ, suc, ◌+◌, ◌-◌, ◌<◌, ◌≤◌, List, [], ◌∷◌, ◌++◌, false, length, take, drop, length-take, refl, sym, ap, ◌∙◌, subst, arith}
-use Rattle.tb_model.specs.Names.{same_name, is_child}
+use Rattle.tb_model.specs.Names.{same_name}
 use Rattle.tb_model.specs.Bytes.{IsFilled, no_bytes}
 use Rattle.tb_model.proofs.BlockLemmas.{same_filled}
 use Rattle.tb_model.proofs.WithinLemmas.{different}
@@ -85,8 +85,3 @@ longer first c bytes kept long few filled is =
 pub all_but_first : (bytes : List ℕ) → length bytes ≡ 14 → take 13 (drop 1 bytes) ≡ drop 1 bytes
 all_but_first [] long = refl
 all_but_first (x ∷ bs) long = take_all 13 bs (omega (arith, long))
-
--- a child has one number more
-pub child_of_more : (t u : List ℕ) → (length u ≡ suc (length t) → ⊥) → is_child t u ≡ false
-child_of_more t [] h = refl
-child_of_more t (n ∷ u) h = different u t (λ e. h (ap suc e))

@@ -1,7 +1,7 @@
 //! Small numbers that stand in a name itself.
 
 ghost use Rattle.std.specs.Prelude.{◌≡◌, ◌<◌, ◌≤◌, ◌∷◌, IfSome, IfNone, drop, length};
-ghost use Rattle.tb_model.specs.Names.{is_child, name_cmp, same_name};
+ghost use Rattle.tb_model.specs.Names.{name_cmp, same_name};
 
 use crate::in_common::are_bytes_same;
 use crate::spread::Spread;
@@ -113,17 +113,6 @@ impl Few {
             count: self.count - 1,
             bytes,
         })
-    }
-
-    /// Whether these are all of the other's numbers but the first.
-    pub fn is_after_first(&self, other: &Few) -> bool
-        ensures { result ≡ is_child self.now other.now }
-    {
-        let _ = &self.count;
-        match other.rest() {
-            Some(rest) => rest.is_same(self),
-            None => false,
-        }
     }
 
     /// How these numbers stand to others, the last of each compared first.

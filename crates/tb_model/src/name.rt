@@ -9,7 +9,6 @@ ghost use Rattle.tb_model.specs.NameHash.{digest};
 ghost use Rattle.tb_model.specs.Spelling.{name_text, spells_name, spelled_name};
 ghost use Rattle.tb_model.specs.NameLaws.{same_name_equivalence, same_name_partial, name_cmp_total, name_cmp_ties, same_name_feeds, name_cmp_partial};
 
-use crate::in_common::are_same;
 use crate::name_hash::digest;
 use crate::name_order::compared;
 use crate::name_refusal::NameRefusal;
@@ -212,6 +211,17 @@ impl TaskName {
         self.numbers.short()
     }
 
+    /// The numbers, a byte each, where they stand so: four to fourteen, each below 256.
+    #[inline(always)]
+    pub fn few(&self) -> Option<&[u8]>
+        ensures { IfSome result (λ n. n.now ≡ self.now) }
+    {
+        match self.numbers.few() {
+            Some(few) => Some(few.as_bytes()),
+            None => None,
+        }
+    }
+
     /// Whether there are more than 128 levels between the root and the task.
     pub fn is_deep(&self) -> bool
         ensures { result ≡ nat_lt 128 (length self.now) }
@@ -231,14 +241,8 @@ impl TaskName {
     pub fn is_parent_of(&self, other: &TaskName) -> bool
         ensures { result ≡ is_child self.now other.now }
     {
-        if let (Some(numbers), Some([_, others @ ..])) = (
-            self.numbers.short(),
-            other.numbers.short(),
-        ) {
-            return are_same(others, numbers);
-        }
-        if let (Some(few), Some(longer)) = (self.numbers.few(), other.numbers.few()) {
-            return few.is_after_first(longer);
+        if let Some(rest) = other.numbers.rest_in_place() {
+            return rest.is_same(&self.numbers);
         }
         match other.numbers.parts().split_first() {
             None => false,
