@@ -1,5 +1,5 @@
 -- What stands in a short text after something was put in front of it.
-use Rattle.std.proofs.Common.{◌≡◌, ℕ, ◌+◌, ◌-◌, ◌^◌, ◌<◌, ◌≤◌, List, ◌++◌, length, length-append, [], Option, Some, None, IfSome, append_assoc, suc, take, drop, refl, ap, ap₂, sym, ◌∙◌, arith, subst, ℤ, pos, negsuc, FitsSigned, w64, false, int_le, unsigned_abs, set, ◌∷◌}
+use Rattle.std.proofs.Common.{◌≡◌, ℕ, ◌+◌, ◌-◌, ◌^◌, ◌<◌, ◌≤◌, List, ◌++◌, length, length-append, [], Option, Some, None, IfSome, append_assoc, zero, suc, take, drop, refl, ap, ap₂, sym, ◌∙◌, arith, subst, ℤ, pos, negsuc, FitsSigned, w64, false, int_le, unsigned_abs, set, ◌∷◌}
 use Rattle.std.proofs.Math.Seq.{drop-append_seam}
 use Rattle.std.proofs.lemmas.List.{length-take-le, drop-drop, drop-set, drop_all}
 use Rattle.tb_draft.proofs.PassageLemmas.{named}
@@ -7,7 +7,7 @@ use Rattle.tb_draft.proofs.DigitLemmas.{minus_first}
 use Rattle.std.proofs.lemmas.Fmt.{length-decimal-le, IsAscii-decimal, IsAscii-signed}
 use Rattle.std.proofs.lemmas.Str.{IsUtf8-append, IsUtf8-from_ascii}
 use Rattle.std.specs.Fmt.{decimal, signed_decimal}
-use Rattle.std.specs.Str.{IsUtf8}
+use Rattle.std.specs.Str.{IsAscii, IsUtf8}
 use Rattle.tb_model.specs.Spelling.{levels_text, name_text}
 use borrow.Rule.Slice.PartMut.{put_mid, post_of}
 
@@ -73,9 +73,20 @@ number_length self new n small put =
     let whole : length new ≡ length (decimal n) + length self = ap length put ∙ length-append (decimal n) self in
     omega (arith, number_room n small)
 
-pub level_length : (self mid new : List ℕ) (n : ℕ) (r : Option (Unit {0})) → n < 2 ^ 32 → mid ≡ decimal n ++ self
-    → IfSome r (λ _. new ≡ 46 ∷ mid) → IfSome r (λ _. length new ≤ length self + 11)
-level_length self mid new n None small put dot = tt
-level_length self mid new n (Some u) small put dot =
-    let whole : length new ≡ suc (length mid) = ap length dot in
-    omega (arith, number_length self mid n small put)
+pub level_length : (self new : List ℕ) (n : ℕ) → n < 2 ^ 32 → new ≡ 46 ∷ decimal n ++ self → length new ≤ length self + 11
+level_length self new n small put =
+    let whole : length new ≡ suc (length (decimal n) + length self) = ap length put ∙ ap suc (length-append (decimal n) self) in
+    omega (arith, number_room n small)
+
+-- a level's dot, in front of its number
+pub dot_put : (at : ℕ) (bytes old : List ℕ) (n : ℕ) → 1 ≤ at → at ≤ length bytes → drop at bytes ≡ decimal n ++ old → drop (at - 1) (set bytes (at - 1) 46) ≡ 46 ∷ decimal n ++ old
+dot_put at bytes old n some within is =
+    let e : at - 1 + 1 ≡ at = omega (arith, some) in
+    drop-set bytes (at - 1) 46 (omega (arith, some, within)) ∙ ap (λ k. 46 ∷ drop k bytes) e ∙ ap (λ x. 46 ∷ x) is
+
+ascii_dot : (n : ℕ) → n < 2 ^ 64 → IsAscii (46 ∷ decimal n)
+ascii_dot n small zero = omega arith
+ascii_dot n small (suc i) = IsAscii-decimal n small i
+
+pub level_is : (new old : List ℕ) (n : ℕ) → new ≡ 46 ∷ decimal n ++ old → n < 2 ^ 64 → IsUtf8 old → IsUtf8 new
+level_is new old n is small o = text_is new (46 ∷ decimal n) old is (IsUtf8-from_ascii (46 ∷ decimal n) (ascii_dot n small)) o

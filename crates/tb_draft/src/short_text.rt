@@ -111,8 +111,13 @@ impl ShortText {
         ensures short { IfSome result (λ _. length self.new ≤ length self.old + 11) }
         ensures succeeds { length self.old + 11 ≤ 96 → IsSome result }
     {
-        self.prepend_number(n)?;
-        self.prepend(".")
+        if self.at < 11 {
+            return None;
+        }
+        let at = put_digits(&mut self.bytes, self.at, n);
+        self.bytes[at - 1] = b'.';
+        self.at = at - 1;
+        Some(())
     }
 
     /// Puts levels in front, the last of these first. Some of them may stand where there is no room.
@@ -127,6 +132,17 @@ impl ShortText {
         Some(())
     }
 
+    /// The same of levels that take a byte each.
+    #[inline(always)]
+    fn prepend_small_levels(&mut self, numbers: &[u8]) -> Option<()>
+        ensures { IfSome result (λ _. self.new ≡ levels_text numbers.now ++ self.old) }
+    {
+        'levels: for n in numbers {
+            self.prepend_level(u32::from(*n))?;
+        }
+        Some(())
+    }
+
     /// Puts a name in front, if it has 16 levels at most and there is room for ten digits of each. Some levels may stand
     /// where there isn't.
     #[inline(always)]
@@ -136,6 +152,10 @@ impl ShortText {
     {
         if let Some(numbers) = name.short() {
             self.prepend_levels(numbers)?;
+            return self.prepend("0");
+        }
+        if let Some(numbers) = name.few() {
+            self.prepend_small_levels(numbers)?;
             return self.prepend("0");
         }
         let mut parts = name.parts();

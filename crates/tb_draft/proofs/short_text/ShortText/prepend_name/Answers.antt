@@ -13,3 +13,8 @@ returns-clause-some c =
     let run = only_run c.args.name.now c.take_run-run.result c.take_run-run.new.self c.take_run.result (sym c.parts-parts.ensures ∙ c.take_run-run.ensures.split) c.take_run.ensures.none none in
     name_put c.prepend_levels-2.new.self c.prepend-2.new.self c.args.self.now c.args.name.now c.as_slice-3.result.now c.prepend-2.result
     (run ∙ sym c.as_slice-3.ensures) c.in_ok-prepend_levels-2.ensures.some c.prepend-2.ensures.some
+
+pub returns-in-Some-few-clause-some : goal.returns-in-Some-few-clause-some
+returns-in-Some-few-clause-some c =
+    name_put c.prepend_small_levels.new.self c.prepend-in-Some-few.new.self c.args.self.now c.args.name.now c.in-Some-few.numbers.now c.prepend-in-Some-few.result
+    (sym c.in-Some-few.ensures) c.in_ok-prepend_small_levels.ensures c.prepend-in-Some-few.ensures.some
