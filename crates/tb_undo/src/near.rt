@@ -10,9 +10,9 @@ use crate::row::Row;
 use indexmap::IndexMap;
 use tb_model::TaskName;
 
-/// The place of the task's row. The place `near`, and the one behind it, are tried before the name's
-/// hash is taken: mostly the task that took the last step is asked of again, or the one that was
-/// generated after it. A place counts only where the very name stands, so any place does.
+/// The place of the task's row. The place `near`, the one behind it and that of the parent are tried before the name's
+/// hash is taken: mostly the task that took the last step is asked of again, the one that was generated after it, or its
+/// parent. A place counts only where the very name stands, so any place does.
 #[inline(always)]
 pub fn find(rows: &IndexMap<TaskName, Row>, near: usize, name: &TaskName) -> Option<usize>
     ensures index { result ≡ position (same_name name.now) (keys_of rows.now.entries) }
@@ -32,7 +32,19 @@ fn find_elsewhere(rows: &IndexMap<TaskName, Row>, near: usize, name: &TaskName) 
     if stands_at(rows, next, name) {
         return Some(next);
     }
+    let above = above(rows, near);
+    if stands_at(rows, above, name) {
+        return Some(above);
+    }
     rows.get_index_of(name)
+}
+
+/// Where the row of the parent of the task at this place is looked for first.
+fn above(rows: &IndexMap<TaskName, Row>, at: usize) -> usize {
+    match rows.as_slice().get_index(at) {
+        Some((_, row)) => row.above,
+        None => 0,
+    }
 }
 
 /// The task's row, which is looked for so.
