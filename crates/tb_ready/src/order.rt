@@ -30,7 +30,7 @@ fn place_of(names: &Names, order: &Gapped, near: usize, name: &TaskName) -> usiz
     let mut high = order.len();
     let mut round: u8 = 0;
     'halves: while low < high {
-        let middle = probe(low, high, near, round);
+        let middle = probe(low, high, order.len(), near, round);
         round = round.saturating_add(1);
         if marked(names, order, middle).cmp(name).is_lt() {
             low = middle + 1;
@@ -41,9 +41,9 @@ fn place_of(names: &Names, order: &Gapped, near: usize, name: &TaskName) -> usiz
     low
 }
 
-/// Which place between these is looked at in this round of a search: the one near by, and then its
-/// neighbour, come before the halves.
-fn probe(low: usize, high: usize, near: usize, round: u8) -> usize
+/// Which place between these is looked at in this round of a search: the one near by, and then some on the side of it to
+/// which the search turns, each farther from the last one, come before the halves.
+fn probe(low: usize, high: usize, len: usize, near: usize, round: u8) -> usize
     requires { low < high }
     ensures from { low ≤ result }
     ensures below { result < high }
@@ -51,8 +51,8 @@ fn probe(low: usize, high: usize, near: usize, round: u8) -> usize
     match round {
         0 if low <= near && near < high => near,
         0 => high - 1,
-        1 if near < low => low,
-        1 => high - 1,
+        1..4 if low == 0 => high - usize::from(round).min(high),
+        1..4 if high == len => low.saturating_add(usize::from(round) - 1).min(high - 1),
         _ => low + (high - low) / 2,
     }
 }
