@@ -74,7 +74,11 @@ impl Gapped {
         ensures ok { OnOk result (length self.new.items + additional ≤ self.new.capacity) }
         ensures full { OnErr result (self.old.capacity < length self.old.items + additional) }
     {
-        self.ring.reserve(additional)
+        if additional <= self.ring.capacity() - self.ring.len() {
+            return Ok(());
+        }
+        // for twice as many: a ring that holds few grows by no more than it is asked for
+        self.ring.reserve(additional.saturating_mul(2))
     }
 
     /// Puts one in at this place, in the room that is there.
