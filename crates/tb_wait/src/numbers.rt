@@ -48,7 +48,9 @@ impl Numbers {
     {
         if bound > self.bound {
             let len = self.items.len();
-            self.items.reserve(bound.saturating_sub(len))?;
+            // for twice as many: a deque that holds few grows by no more than it is asked for
+            let more = bound.saturating_sub(len);
+            self.items.reserve(more.saturating_mul(2))?;
             // for all that there is room for, so that mostly the next call has nothing to do
             self.bound = self.items.capacity();
         }
