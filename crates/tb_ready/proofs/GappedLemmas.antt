@@ -1,7 +1,8 @@
 -- A list with a gap, and its gap moved.
 use Rattle.std.proofs.Common.{◌≡◌, ◌<◌, ◌≤◌, ◌+◌, ◌-◌, ℕ, suc, List, [], ◌∷◌, ◌++◌, length, arith, refl, ap, ap₂, sym, ◌∙◌, get_or, drop, take, map}
 use Rattle.std.specs.Prelude.{insert, remove}
-use Rattle.std.proofs.lemmas.List.{length-append, length-drop, length-take-le, length-map, get_or-map, ext_get_or, append_assoc, take-append-drop, take-append-le, drop-append-le, get_or_append_left, get_or-append_right, get_or-take, get_or-drop, take-map, drop-map, map-append}
+use Rattle.std.proofs.Math.Seq.{take-append_seam, drop-append_seam, take-append-add, drop-append-add}
+use Rattle.std.proofs.lemmas.List.{length-append, length-drop, length-take-le, length-map, get_or-map, ext_get_or, append_assoc, take-append-drop, take-append-le, drop-append-le, take-map, drop-map, map-append}
 use Rattle.tb_ready.specs.Gapped.{joined}
 use Rattle.tb_ready.specs.Order.{moved_up}
 
@@ -12,63 +13,30 @@ length_joined b xs =
     let whole = ap length (take-append-drop b xs) in
     omega (arith, one, other, whole)
 
--- what is in front of the gap, and what is after it
-pub at_front : (b : ℕ) (xs : List ℕ) (k : ℕ) → b + k < length xs → get_or (joined b xs) k 0 ≡ get_or xs (b + k) 0
-at_front b xs k h =
-    let n = length-drop b xs in
-    get_or_append_left (drop b xs) (take b xs) 0 k (omega (arith, n, h)) ∙ get_or-drop b xs k 0
-
-pub at_behind : (b : ℕ) (xs : List ℕ) (k : ℕ) → b ≤ length xs → length xs ≤ b + k → k < length xs → get_or (joined b xs) k 0 ≡ get_or xs (k - (length xs - b)) 0
-at_behind b xs k w h l =
-    get_or-append_right (drop b xs) (take b xs) (length xs - b) k 0 (length-drop b xs) (omega arith)
-    ∙ get_or-take b xs (k - (length xs - b)) 0 (omega arith)
-
 -- the front of a list put after the rest
-plus_none : (b : ℕ) → b + 0 ≡ b
-plus_none b = omega arith
-
-plus_one : (b n : ℕ) → b + suc n ≡ suc (b + n)
-plus_one b n = omega arith
-
-drop_round : (q p : List ℕ) (b : ℕ) → drop (b + length q) (q ++ p) ≡ drop b p
-drop_round [] p b = ap (λ k. drop k p) (plus_none b)
-drop_round (x ∷ q) p b = ap (λ k. drop k (x ∷ q ++ p)) (plus_one b (length q)) ∙ drop_round q p b
-
-take_round : (q p : List ℕ) (b : ℕ) → take (b + length q) (q ++ p) ≡ q ++ take b p
-take_round [] p b = ap (λ k. take k p) (plus_none b)
-take_round (x ∷ q) p b = ap (λ k. take k (x ∷ q ++ p)) (plus_one b (length q)) ∙ ap (λ ys. x ∷ ys) (take_round q p b)
-
-round : (p q : List ℕ) (b : ℕ) → b ≤ length p → joined (b + length q) (q ++ p) ≡ joined b (p ++ q)
+round : (p q : List ℕ) (b : ℕ) → b ≤ length p → joined (length q + b) (q ++ p) ≡ joined b (p ++ q)
 round p q b h =
-    ap₂ (λ xs ys. xs ++ ys) (drop_round q p b) (take_round q p b)
+    ap₂ (λ xs ys. xs ++ ys) (drop-append-add q p b) (take-append-add q p b)
     ∙ sym (append_assoc (drop b p) q (take b p))
     ∙ ap₂ (λ xs ys. xs ++ ys) (sym (drop-append-le b p q h)) (sym (take-append-le b p q h))
 
-pub turned_left : (c b : ℕ) (xs : List ℕ) → b + c ≤ length xs → joined b (drop c xs ++ take c xs) ≡ joined (b + c) xs
+pub turned_left : (c b : ℕ) (xs : List ℕ) → b + c ≤ length xs → joined b (drop c xs ++ take c xs) ≡ joined (c + b) xs
 turned_left c b xs h =
     let n = length-drop c xs in
     let m = length-take-le c xs (omega (arith, h)) in
     sym (round (drop c xs) (take c xs) b (omega (arith, n, h)))
-    ∙ ap₂ joined (ap (λ k. b + k) m) (take-append-drop c xs)
+    ∙ ap₂ joined (ap (λ k. k + b) m) (take-append-drop c xs)
 
-pub turned_right : (c b k : ℕ) (xs : List ℕ) → k + c ≡ length xs → b ≤ k → joined (b + c) (drop k xs ++ take k xs) ≡ joined b xs
+pub turned_right : (c b k : ℕ) (xs : List ℕ) → k + c ≡ length xs → b ≤ k → joined (c + b) (drop k xs ++ take k xs) ≡ joined b xs
 turned_right c b k xs e h =
     let n = length-drop k xs in
     let m = length-take-le k xs (omega (arith, e)) in
     let d : length (drop k xs) ≡ c = omega (arith, n, e) in
-    ap (λ j. joined (b + j) (drop k xs ++ take k xs)) (sym d)
+    ap (λ j. joined (j + b) (drop k xs ++ take k xs)) (sym d)
     ∙ round (take k xs) (drop k xs) b (omega (arith, m, h))
     ∙ ap (joined b) (take-append-drop k xs)
 
 -- one is put into the gap, or taken out after it
-take_parts : (xs ys : List ℕ) → take (length xs) (xs ++ ys) ≡ xs
-take_parts [] ys = refl
-take_parts (x ∷ xs) ys = ap (λ zs. x ∷ zs) (take_parts xs ys)
-
-drop_parts : (xs ys : List ℕ) → drop (length xs) (xs ++ ys) ≡ ys
-drop_parts [] ys = refl
-drop_parts (x ∷ xs) ys = drop_parts xs ys
-
 drop_one_more : (xs : List ℕ) (y : ℕ) (ys : List ℕ) → drop (suc (length xs)) (xs ++ y ∷ ys) ≡ ys
 drop_one_more [] y ys = refl
 drop_one_more (x ∷ xs) y ys = drop_one_more xs y ys
@@ -78,13 +46,13 @@ put_in b xs place at h =
     let n : length (drop b xs) ≡ place = (let l = length-drop b xs in omega (arith, l, h)) in
     ap₂ (λ ys zs. ys ++ zs) (drop-append-le b xs (at ∷ []) (omega (arith, h))) (take-append-le b xs (at ∷ []) (omega (arith, h)))
     ∙ append_assoc (drop b xs) (at ∷ []) (take b xs)
-    ∙ ap₂ (λ ys zs. ys ++ at ∷ zs) (sym (take_parts (drop b xs) (take b xs))) (sym (drop_parts (drop b xs) (take b xs)))
+    ∙ ap₂ (λ ys zs. ys ++ at ∷ zs) (sym (take-append_seam (drop b xs) (take b xs))) (sym (drop-append_seam (drop b xs) (take b xs)))
     ∙ ap (λ k. insert (joined b xs) k at) n
 
 pub taken_out : (b : ℕ) (x : ℕ) (xs : List ℕ) (place : ℕ) → b + place ≡ length xs → joined b xs ≡ remove (joined (suc b) (x ∷ xs)) place
 taken_out b x xs place h =
     let n : length (drop b xs) ≡ place = (let l = length-drop b xs in omega (arith, l, h)) in
-    ap₂ (λ ys zs. ys ++ zs) (sym (take_parts (drop b xs) (x ∷ take b xs))) (sym (drop_one_more (drop b xs) x (take b xs)))
+    ap₂ (λ ys zs. ys ++ zs) (sym (take-append_seam (drop b xs) (x ∷ take b xs))) (sym (drop_one_more (drop b xs) x (take b xs)))
     ∙ ap (remove (joined (suc b) (x ∷ xs))) n
 
 -- each moved up

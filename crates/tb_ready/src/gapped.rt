@@ -9,8 +9,8 @@ use std::alloc::{AllocError, Global};
 use std::collections::VecDeque;
 use std::marker::Model;
 
-/// A list of places. A change of it costs what lies between its place and that of the change before
-/// it, and needs room only in the ring.
+/// A list of places. One is put in or taken out at the gap; the gap moves there first, over what lies between, which takes
+/// no memory.
 #[derive(Drop)]
 pub(crate) struct Gapped {
     // those after the gap, and then those in front of it
