@@ -68,11 +68,6 @@ pub only_run : (name numbers left run : List ℕ) → name ≡ left ++ numbers �
 only_run name numbers left [] split last none = split ∙ ap (λ x. x ++ numbers) (last refl)
 only_run name numbers left (n ∷ run) split last none = absurd (omega (arith, none))
 
-pub number_length : (self new : List ℕ) (n : ℕ) → n < 2 ^ 32 → new ≡ decimal n ++ self → length new ≤ length self + 10
-number_length self new n small put =
-    let whole : length new ≡ length (decimal n) + length self = ap length put ∙ length-append (decimal n) self in
-    omega (arith, number_room n small)
-
 pub level_length : (self new : List ℕ) (n : ℕ) → n < 2 ^ 32 → new ≡ 46 ∷ decimal n ++ self → length new ≤ length self + 11
 level_length self new n small put =
     let whole : length new ≡ suc (length (decimal n) + length self) = ap length put ∙ ap suc (length-append (decimal n) self) in

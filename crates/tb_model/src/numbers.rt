@@ -104,7 +104,7 @@ impl Numbers {
         }
     }
 
-    /// These but the first, where they stand in the value.
+    /// These but the first, where both stand in the value; of four small numbers it isn't told.
     #[inline(always)]
     pub fn rest_in_place(&self) -> Option<Numbers>
         ensures { IfSome result (λ n. Some n ≡ parent self.now) }
@@ -267,19 +267,19 @@ fn in_place(numbers: &[u32]) -> Option<Stored>
 /// A number, and these after it, where all stand in the value.
 #[inline(always)]
 fn with_first_in_place(stored: &Stored, first: u32) -> Option<Stored>
-    ensures more { IfSome result (λ s. (numbers_in s ≡ first ∷ numbers_in stored.now) × IsShortest s) }
+    ensures { IfSome result (λ s. (numbers_in s ≡ first ∷ numbers_in stored.now) × IsShortest s) }
 {
     match stored {
         Stored::Zero => Some(Stored::One([first])),
         Stored::One([a]) => Some(Stored::Two([first, *a])),
         Stored::Two([a, b]) => Some(Stored::Three([first, *a, *b])),
+        Stored::Three(numbers) => Some(Stored::Few(Few::with_first(first, numbers)?)),
         Stored::Few(few) => Some(Stored::Few(few.with(first)?)),
-        Stored::Three(_) | Stored::Shared(_) => None,
-        Stored::Deep(_) => None,
+        _ => None,
     }
 }
 
-/// These but the first, where both stand in the value.
+/// These but the first, where both stand in the value; of four small numbers it isn't told.
 #[inline(always)]
 fn rest_in_place(stored: &Stored) -> Option<Stored>
     ensures { IfSome result (λ s. (Some (numbers_in s) ≡ parent (numbers_in stored.now)) × IsShortest s) }
