@@ -19,7 +19,7 @@ pub struct Entry {
     pub number: i64,
 }
 
-const _: () = prove!(size_of::<Entry>() == 56);
+const _: () = prove!(size_of::<Entry>() == 48);
 
 impl Entry {
     /// The entry of an event that leaves its task at this line, and replaces so much.

@@ -4,7 +4,9 @@ use std::alloc::AllocGlobal;
 use std::mem;
 use std::process::Abort;
 use tb_core::{Entry, first_needer, place_of, step_at};
-use tb_model::{Action, Args, Event, Item, Items, Kind, Place, Spawn, Spawned, StepId, TaskName};
+use tb_model::{
+    Action, Args, Event, Item, Items, Kind, Place, Spawn, Spawned, StepId, TaskName, WaitItems,
+};
 
 fn name(rt: &(impl Abort + AllocGlobal), text: &str) -> TaskName {
     TaskName::parse(rt.alloc(), text.as_bytes()).expect(rt, text)
@@ -30,6 +32,13 @@ fn items(rt: &(impl Abort + AllocGlobal), words: &[&str]) -> Items {
         items.push(item).expect(rt, "memory is there");
     }
     items
+}
+
+fn wait(rt: &(impl Abort + AllocGlobal), words: &[&str]) -> Action {
+    let items = items(rt, words);
+    Action::Wait {
+        items: WaitItems::new(rt.alloc(), items).expect(rt, "memory is there"),
+    }
 }
 
 fn spawn(rt: &(impl Abort + AllocGlobal), child: &str, words: &[&str], deferred: bool) -> Action {
@@ -63,9 +72,7 @@ fn action(rt: &(impl Abort + AllocGlobal), words: &[&str]) -> Action {
         ["print"] => Action::Print { value: 1 },
         ["spawn", child, depend @ ..] => spawn(rt, *child, depend, true),
         ["undeferred", child] => spawn(rt, *child, [].as_slice(), false),
-        ["wait", depend @ ..] => Action::Wait {
-            items: items(rt, depend),
-        },
+        ["wait", depend @ ..] => wait(rt, depend),
         _ => panic!(rt; "an action"),
     }
 }

@@ -9,7 +9,7 @@ use crate::copying::copy_of;
 use crate::seat::seat_of;
 use std::alloc::{AllocError, Global};
 use std::mem::size_of;
-use tb_model::{Action, Entry, Event, Items, StepId, TaskName};
+use tb_model::{Action, Entry, Event, Items, StepId, TaskName, WaitItems};
 
 /// Most entries stand in the value itself, by what was done; the others stand apart, each with a
 /// number. A seat above 255, which no run has, stands apart with its entry.
@@ -90,7 +90,7 @@ impl Compact {
             Compact::Apart(number) => nth(apart, *number),
             Compact::Started { seat, task } => stepped(*seat, task, Action::Start),
             Compact::Waited { seat, task } => {
-                let items = Items::new(alloc);
+                let items = WaitItems::new(alloc, Items::new(alloc))?;
                 stepped(*seat, task, Action::Wait { items })
             }
             Compact::Entered { seat, task } => stepped(*seat, task, Action::Open),

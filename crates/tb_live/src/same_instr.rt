@@ -104,7 +104,7 @@ fn is_same_task(a: &Statement, b: &Statement) -> bool
             body == line
                 && are_same_operands(args.as_slice(), operands.as_slice())
                 && are_same_clauses(depends.as_slice(), clauses.as_slice())
-                && is_same_test(condition, test)
+                && is_same_test(&condition.get(), &test.get())
         }
         _ => false,
     }

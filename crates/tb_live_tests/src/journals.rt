@@ -8,6 +8,7 @@ use std::process::Abort;
 use tb_journal::{Journal, copy_of, seat_of, stands_apart};
 use tb_model::{
     Action, Args, Entry, Event, Item, Items, Kind, Place, Spawn, Spawned, StepId, TaskName,
+    WaitItems,
 };
 
 /// A step of a task that is five levels deep.
@@ -114,15 +115,18 @@ fn add_steps(rt: &(impl Abort + AllocGlobal), journal: &mut Journal, seat: u32) 
     add(rt, journal, step(rt, seat, spawn(rt)));
 }
 
+fn wait(rt: &(impl Abort + AllocGlobal), items: Items) -> Action {
+    let Ok(items) = WaitItems::new(rt.alloc(), items) else {
+        panic!(rt; "memory is there");
+    };
+    Action::Wait { items }
+}
+
 fn add_others(rt: &(impl Abort + AllocGlobal), journal: &mut Journal, seat: u32) {
-    let none = Action::Wait {
-        items: Items::new(rt.alloc()),
-    };
-    add(rt, journal, step(rt, seat, none));
-    let one = Action::Wait {
-        items: items(rt, rt.alloc(), false),
-    };
-    add(rt, journal, step(rt, seat, one));
+    let none = Items::new(rt.alloc());
+    add(rt, journal, step(rt, seat, wait(rt, none)));
+    let one = items(rt, rt.alloc(), false);
+    add(rt, journal, step(rt, seat, wait(rt, one)));
     add(rt, journal, step(rt, seat, Action::Open));
     add(rt, journal, step(rt, seat, Action::Close));
     add(rt, journal, step(rt, seat, Action::Test { yes: true }));

@@ -4,6 +4,7 @@ pub mod Texts
 pub mod NameHash
 pub mod NameLaws
 pub mod Boxed
+pub mod Heaped
 pub mod Blocks
 pub mod Bytes
 pub mod Stored

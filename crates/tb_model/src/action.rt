@@ -4,9 +4,10 @@ ghost use Rattle.std.specs.Prelude.{◌≡◌};
 ghost use Rattle.tb_model.specs.Facts;
 ghost use Rattle.tb_model.specs.Needs;
 
-use crate::items::Items;
 use crate::name::TaskName;
 use crate::spawned::Spawned;
+use crate::wait_items::WaitItems;
+use std::mem::size_of;
 
 /// What one step of a task did, with the numbers that it read, wrote, printed or passed.
 #[derive(Clone, Debug, Drop)]
@@ -24,7 +25,7 @@ pub enum Action {
     /// A child was generated.
     Spawn(Spawned),
     /// A `taskwait` was passed.
-    Wait { items: Items },
+    Wait { items: WaitItems },
     /// A `taskgroup` was entered.
     Open,
     /// The end of a `taskgroup` was passed.
@@ -36,6 +37,8 @@ pub enum Action {
     /// An address was none of the cells': the task is over, and did nothing else.
     Fault,
 }
+
+const _: () = prove!(size_of::<Action>() == 16);
 
 impl Action {
     /// Whether the task is over with this: a fault is an end.

@@ -3,13 +3,14 @@
 ghost use Rattle.std.specs.Prelude.{◌≡◌, IfOk, [], OnOk, OnErr, ◌++◌, ◌∷◌};
 
 use crate::clause::Clause;
+use crate::heap_list::HeapList;
 use std::alloc::{AllocError, Global};
 use std::marker::Model;
 
 /// The depend clauses of a statement, in the order in which they were written.
 #[derive(Drop, Debug)]
 pub struct Clauses {
-    list: Vec<Clause>,
+    list: HeapList<Clause>,
 }
 
 impl Model for Clauses {
@@ -18,7 +19,7 @@ impl Model for Clauses {
 
     ghost Value = { List Clause };
 
-    ghost view = { λ a. a.list.items };
+    ghost view = { λ a. a.list };
 }
 
 impl Clauses {
@@ -27,7 +28,7 @@ impl Clauses {
         ensures { result ≡ [] }
     {
         Clauses {
-            list: Vec::new(alloc),
+            list: HeapList::new(alloc),
         }
     }
 
@@ -36,8 +37,7 @@ impl Clauses {
         ensures ok { OnOk result (self.new ≡ self.old ++ clause ∷ []) }
         ensures err { OnErr result (self.new ≡ self.old) }
     {
-        self.list.push(clause)?;
-        Ok(())
+        self.list.push(clause)
     }
 
     /// The clauses, in order.
@@ -53,7 +53,7 @@ impl Clone for Clauses {
 
     fn clone(&self) -> Result<Clauses, AllocError> {
         Ok(Clauses {
-            list: self.list.clone()?,
+            list: self.list.copy()?,
         })
     }
 }

@@ -2,6 +2,7 @@
 
 ghost use Rattle.std.specs.Prelude.{◌≡◌, IfOk, [], OnOk, OnErr, ◌++◌, ◌∷◌};
 
+use crate::heap_list::HeapList;
 use crate::operand::Operand;
 use std::alloc::{AllocError, Global};
 use std::marker::Model;
@@ -9,7 +10,7 @@ use std::marker::Model;
 /// The arguments of a `task` line as they are written, in order.
 #[derive(Drop, Debug)]
 pub struct Operands {
-    list: Vec<Operand>,
+    list: HeapList<Operand>,
 }
 
 impl Model for Operands {
@@ -18,7 +19,7 @@ impl Model for Operands {
 
     ghost Value = { List Operand };
 
-    ghost view = { λ a. a.list.items };
+    ghost view = { λ a. a.list };
 }
 
 impl Operands {
@@ -27,7 +28,7 @@ impl Operands {
         ensures { result ≡ [] }
     {
         Operands {
-            list: Vec::new(alloc),
+            list: HeapList::new(alloc),
         }
     }
 
@@ -36,8 +37,7 @@ impl Operands {
         ensures ok { OnOk result (self.new ≡ self.old ++ operand ∷ []) }
         ensures err { OnErr result (self.new ≡ self.old) }
     {
-        self.list.push(operand)?;
-        Ok(())
+        self.list.push(operand)
     }
 
     /// The arguments, in order.
@@ -53,7 +53,7 @@ impl Clone for Operands {
 
     fn clone(&self) -> Result<Operands, AllocError> {
         Ok(Operands {
-            list: self.list.clone()?,
+            list: self.list.copy()?,
         })
     }
 }

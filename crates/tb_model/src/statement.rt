@@ -2,9 +2,11 @@
 
 use crate::clauses::Clauses;
 use crate::condition::Condition;
+use crate::if_clause::IfClause;
 use crate::operand::Operand;
 use crate::operands::Operands;
 use crate::operator::Operator;
+use std::mem::size_of;
 
 /// A statement of a body, of which a task takes one at each step.
 #[derive(Clone, Debug, Drop)]
@@ -38,7 +40,7 @@ pub enum Statement {
         body: u32,
         args: Operands,
         depends: Clauses,
-        condition: Option<Condition>,
+        condition: IfClause,
     },
     Taskwait {
         depends: Clauses,
@@ -52,3 +54,5 @@ pub enum Statement {
     /// The end of the body.
     End,
 }
+
+const _: () = prove!(size_of::<Statement>() == 56);

@@ -1,7 +1,9 @@
 //! Lines of steps, read.
 
 use std::alloc::{AllocError, Global};
-use tb_model::{Action, Args, Event, Item, Items, Kind, Place, Spawn, Spawned, StepId, TaskName};
+use tb_model::{
+    Action, Args, Event, Item, Items, Kind, Place, Spawn, Spawned, StepId, TaskName, WaitItems,
+};
 
 /// A step's number and what it did, or nothing where the words are no step's line. A body is known
 /// by its first letter.
@@ -36,12 +38,18 @@ fn action(alloc: Global, words: &[&str]) -> Result<Option<Action>, AllocError> {
         _ => None,
     };
     match words {
-        ["wait", clauses @ ..] => Ok(clauses_of(alloc, clauses)?.map(|c| Action::Wait {
-            items: c.items,
-        })),
+        ["wait", clauses @ ..] => wait(alloc, clauses),
         ["spawn", child, body, clauses @ ..] => spawn(alloc, *child, *body, clauses),
         _ => Ok(simple),
     }
+}
+
+fn wait(alloc: Global, words: &[&str]) -> Result<Option<Action>, AllocError> {
+    let Some(clauses) = clauses_of(alloc, words)? else {
+        return Ok(None);
+    };
+    let items = WaitItems::new(alloc, clauses.items)?;
+    Ok(Some(Action::Wait { items }))
 }
 
 fn register(word: &str) -> Option<u8> {

@@ -16,7 +16,7 @@ use crate::planned::Plan;
 use std::alloc::{AllocError, Global};
 use tb_model::{
     Action, Address, Args, Clause, Comparison, Condition, Item, Items, Operand, Operator, Place,
-    Spawn, Spawned, Statement, TaskName,
+    Spawn, Spawned, Statement, TaskName, WaitItems,
 };
 
 /// The number of an operand.
@@ -184,7 +184,9 @@ fn wait_action(
     ensures allowed { IfOk result (λ a. IsTrue (names_allowed cells a)) }
 {
     Ok(match items_at(alloc, cells, regs, depends)? {
-        Some(items) => Action::Wait { items },
+        Some(items) => Action::Wait {
+            items: WaitItems::new(alloc, items)?,
+        },
         None => Action::Fault,
     })
 }
@@ -254,7 +256,7 @@ fn action(
                     *body,
                     args,
                     items,
-                    is_deferred(regs, *condition),
+                    is_deferred(regs, condition.get()),
                 )
             }
             None => Ok(Action::Fault),

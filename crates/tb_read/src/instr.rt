@@ -4,20 +4,24 @@ ghost use Rattle.std.specs.Prelude.{IsTrue};
 ghost use Rattle.tb_read.specs.Statements.{is_sound};
 
 use std::alloc::AllocError;
+use std::mem::size_of;
 use tb_model::Statement;
 
 /// The statement at a line, the lines that follow (`otherwise` behind a test that says no), and the
 /// number of cells of the program.
 #[derive(Debug, Drop)]
 pub struct Instr {
-    pub line: u32,
     pub statement: Statement,
+    pub line: u32,
     pub next: u32,
     pub otherwise: u32,
     pub cells: u32,
     /// Its registers are 0 to 15, and it has at most 16 arguments.
     pub ghost sound: { IsTrue (is_sound statement) },
 }
+
+// a program keeps as many as it has lines
+const _: () = prove!(size_of::<Option<Instr>>() == 80);
 
 impl Clone for Instr {
     ghost use Rattle.std.specs.Prelude.{◌≡◌};

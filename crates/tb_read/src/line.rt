@@ -1,6 +1,7 @@
 //! What a line is to the flow of control.
 
 use crate::parsed::Parsed;
+use std::mem::size_of;
 
 /// What a line of a text is to the flow of control.
 #[derive(Debug, Drop)]
@@ -15,3 +16,5 @@ pub enum Line {
     /// The end of the `while` of that line.
     EndWhile(u32),
 }
+
+const _: () = prove!(size_of::<Line>() == 64);

@@ -21,7 +21,8 @@ use crate::parsed::Parsed;
 use crate::word::{comparison, is_all, kind, operand, operator, register, word_at};
 use std::alloc::{AllocError, Global};
 use tb_model::{
-    Address, Clause, Clauses, Comparison, Condition, Kind, Operand, Operands, Operator, Statement,
+    Address, Clause, Clauses, Comparison, Condition, IfClause, Kind, Operand, Operands, Operator,
+    Statement,
 };
 
 fn register_at(words: &[&[u8]], at: usize) -> u8
@@ -192,7 +193,7 @@ fn task_of(alloc: Global, headings: &Headings<'_>, words: &[&[u8]]) -> Result<St
             body: 0,
             args: Operands::new(alloc),
             depends: Clauses::new(alloc),
-            condition: None,
+            condition: IfClause::none(),
         }),
         [name, rest @ ..] => {
             let clauses = clause_words(rest);
@@ -200,7 +201,7 @@ fn task_of(alloc: Global, headings: &Headings<'_>, words: &[&[u8]]) -> Result<St
                 body: line_of(headings.get(name)),
                 args: args_of(alloc, rest)?,
                 depends: clauses_of(alloc, false, clauses)?,
-                condition: test_of(clauses),
+                condition: IfClause::new(alloc, test_of(clauses))?,
             })
         }
     }

@@ -113,7 +113,13 @@ pub(crate) fn append_statement(text: &mut String, statement: &Statement) -> Resu
             args,
             depends,
             condition,
-        } => append_task(text, *body, args.as_slice(), depends.as_slice(), *condition),
+        } => append_task(
+            text,
+            *body,
+            args.as_slice(),
+            depends.as_slice(),
+            condition.get(),
+        ),
         Statement::Taskwait { depends } => {
             text.push_str("taskwait")?;
             append_clauses(text, depends.as_slice())

@@ -72,7 +72,7 @@ fn a_task_line_is_kept_whole(rt: HostRuntime) -> Result<(), Fail> {
         depends.as_str(),
         "[Clause { kind: In, address: Cell(Register(2)) }, Clause { kind: Out, address: All }]"
     );
-    let condition = format!(in rt.alloc(); "{condition:?}")?;
+    let condition = format!(in rt.alloc(); "{:?}", condition.get())?;
     assert_eq!(rt;
         condition.as_str(),
         "Some(Condition { left: Register(0), comparison: AtMost, right: Number(5) })"

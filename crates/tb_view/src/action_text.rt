@@ -7,7 +7,7 @@ ghost use Rattle.tb_view.specs.Step.{kind_text, place_text, item_text, items_tex
 
 use std::alloc::AllocError;
 use tb_draft::Draft;
-use tb_model::{Action, Item, Items, Kind, Place, Spawn};
+use tb_model::{Action, Item, Kind, Place, Spawn};
 
 /// Appends what was done; `body` is the name of the body that a spawn names.
 pub(crate) fn append_action(text: &mut Draft, body: &str, action: &Action) -> Result<(), AllocError>
@@ -20,7 +20,7 @@ pub(crate) fn append_action(text: &mut Draft, body: &str, action: &Action) -> Re
         Action::Store { cell, value } => append_store(text, *cell, *value),
         Action::Print { value } => append_print(text, *value),
         Action::Spawn(spawned) => append_spawn(text, body, spawned.get()),
-        Action::Wait { items } => append_wait(text, items),
+        Action::Wait { items } => append_wait(text, items.as_slice()),
         Action::Open => text.push_str("open"),
         Action::Close => text.push_str("close"),
         Action::Test { yes } => text.push_str(answer(*yes)),
@@ -65,11 +65,11 @@ fn append_print(text: &mut Draft, value: i64) -> Result<(), AllocError>
     text.push_signed(value)
 }
 
-fn append_wait(text: &mut Draft, items: &Items) -> Result<(), AllocError>
+fn append_wait(text: &mut Draft, items: &[Item]) -> Result<(), AllocError>
     ensures { OnOk result (text.new ≡ text.old ++ (codes "wait" ++ items_text items.now)) }
 {
     text.push_str("wait")?;
-    append_items(text, items.as_slice())
+    append_items(text, items)
 }
 
 fn append_spawn(text: &mut Draft, body: &str, spawn: &Spawn) -> Result<(), AllocError>

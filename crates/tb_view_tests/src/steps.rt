@@ -7,6 +7,7 @@ use std::process::Abort;
 use tb_draft::Draft;
 use tb_model::{
     Action, Args, Item, Items, Kind, NameRefusal, Place, Spawn, Spawned, StepId, TaskName,
+    WaitItems,
 };
 use tb_view::write_step;
 
@@ -223,8 +224,9 @@ fn item(kind: Kind, cell: u32) -> Item {
 }
 
 fn wait(rt: &(impl Abort + AllocGlobal), used: &[Item]) -> Action {
+    let items = items(rt, used);
     Action::Wait {
-        items: items(rt, used),
+        items: WaitItems::new(rt.alloc(), items).expect(rt, "memory is there"),
     }
 }
 

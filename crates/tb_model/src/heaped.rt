@@ -1,0 +1,9 @@
+//! Where the elements of a list on the heap stand.
+
+/// One element stands in a block of its own, which is as large as it: most lists have no more.
+#[derive(Drop, Debug)]
+pub(crate) enum Heaped<T> {
+    Zero,
+    One(Box<T>),
+    Many(Box<Vec<T>>),
+}
