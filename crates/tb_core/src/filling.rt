@@ -7,7 +7,6 @@ ghost use Rattle.tb_model.specs.Names.{child};
 ghost use Rattle.tb_read.specs.Plans.{names_allowed};
 ghost use Rattle.tb_core.specs.Filling.{spare_task, spare_spawn, Fills, IsNextSpawn, IsRunOf, IsWhole};
 
-use crate::entry::Entry;
 use std::alloc::AllocError;
 use tb_model::{Action, Event, Spawned, TaskName};
 use tb_read::Plan;
@@ -182,17 +181,4 @@ fn is_nth_child(name: &TaskName, parent: &TaskName, n: u32) -> bool
         None => false,
         Some(m) => m == n && parent.is_parent_of(name),
     }
-}
-
-/// Makes room for one more entry, mostly without a call.
-#[inline(always)]
-pub fn reserve_one(entries: &mut Vec<Entry>) -> Result<(), AllocError>
-    ensures items { entries.new.items ≡ entries.old.items }
-    ensures ok { OnOk result (vec_len entries.new + 1 ≤ vec_capacity entries.new) }
-    ensures succeeds { vec_len entries.old + 1 ≤ vec_capacity entries.old → IsOk result }
-{
-    if entries.len() < entries.capacity() {
-        return Ok(());
-    }
-    entries.reserve(1)
 }

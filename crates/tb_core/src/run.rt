@@ -4,7 +4,7 @@ mod clear;
 mod reading;
 mod state;
 
-ghost use Rattle.std.specs.Prelude.{◌≡◌, ◌≢◌, ◌<◌, ◌≤◌, ◌+◌, ◌↔◌, [], ◌∷◌, OnOk, IfOk, IfErr, OnErr, IfSome, IfNone, IsOk, IsSome, IsErrOf, IsTrue, IsFalse, length, reverse, slice_get, Some, None, if◌then◌else◌, map};
+ghost use Rattle.std.specs.Prelude.{◌≡◌, ◌≢◌, ◌<◌, ◌≤◌, ◌+◌, ◌↔◌, [], ◌∷◌, OnOk, IfOk, IfErr, OnErr, IfSome, IfNone, IsOk, IsSome, IsErrOf, IsTrue, IsFalse, length, reverse, slice_get, Some, None, if◌then◌else◌, map, vec_len, vec_capacity};
 ghost use Rattle.std.specs.Option.{option_copied};
 ghost use Rattle.tb_model.specs.Facts.{is_spawned};
 ghost use Rattle.tb_model.specs.Equivalent.{stands};
@@ -22,7 +22,7 @@ ghost use Rattle.tb_core.specs.Scans.{AreLegal};
 
 use crate::answers::{config, named, stale, stands_so};
 use crate::entry::Entry;
-use crate::filling::{copy_event, copy_of, fill_in, forget, planned, reserve_one, spares};
+use crate::filling::{copy_event, copy_of, fill_in, forget, planned, spares};
 use crate::needing::first_needer;
 use crate::places::{is_number_of, place_in, step_among};
 use crate::removed::Removed;
@@ -435,4 +435,17 @@ fn name_every_field(core: &Core, entry: &Entry) {
         at: _,
         number: _,
     } = entry;
+}
+
+/// Makes room for one more entry, mostly without a call.
+#[inline(always)]
+fn reserve_one(entries: &mut Vec<Entry>) -> Result<(), AllocError>
+    ensures items { entries.new.items ≡ entries.old.items }
+    ensures ok { OnOk result (vec_len entries.new + 1 ≤ vec_capacity entries.new) }
+    ensures succeeds { vec_len entries.old + 1 ≤ vec_capacity entries.old → IsOk result }
+{
+    if entries.len() < entries.capacity() {
+        return Ok(());
+    }
+    entries.reserve(1)
 }

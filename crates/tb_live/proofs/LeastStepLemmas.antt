@@ -21,7 +21,7 @@ use Rattle.tb_live.specs.Soundness.{IsSound, IsLawful}
 use Rattle.tb_live.proofs.ComingLemmas.{least_plan, next_of, way_so}
 use Rattle.tb_live.proofs.FloorStepLemmas.{floor_after, plan_clear}
 use Rattle.tb_live.proofs.RunLemmas.{shown}
-use Rattle.tb_live.proofs.StepLemmas.{Keeps, held, for_least_held, enters_held, live_least}
+use Rattle.tb_live.proofs.StepLemmas.{Keeps, live_least}
 
 module _ (seat : ℕ) (P : Program) (limit : ℕ) (entries : List Entry) (before : Control) (run : Seen)
     (sound : IsSound P limit (reverse entries) run) (r : Name × Coming) (ready : IsLeastComing P run (Some r)) where
@@ -54,10 +54,3 @@ module _ (seat : ℕ) (P : Program) (limit : ℕ) (entries : List Entry) (before
         let plan = least_plan P run r.0 r.1 k ready.1 in
         floor_after limit seat P run new k.plan.config.task k.plan entries pushed before after result sound.fits plan.0
         (entered k.plan k.says k.of_task.current) old now carried stays floor
-
-    pub held_found : (kept now : Option Prepared) (h : Held) → held P limit entries before kept ≡ h → IfErr result (λ e. e ≢ Memory → now ≡ kept)
-        → IfErr (for_least result) (λ e. e ≢ Memory → held P limit pushed after now ≡ h)
-    held_found kept now h is stays =
-        let k = ready.0 in
-        for_least_held _ result
-        (enters_held P limit entries pushed before after kept now h is seat run new k.plan result (entered k.plan k.says k.of_task.current) stays)

@@ -246,10 +246,6 @@ module _ (P : Program) (limit : ℕ) (entries : List Entry) (before : Control) (
 
 -- ---- the step of the least task
 
-pub for_least_held : (A : Type 0) (result : Result StepId StepRefusal) → IfErr result (λ e. e ≢ Memory → A) → IfErr (for_least result) (λ e. e ≢ Memory → A)
-for_least_held A (Ok i) k = tt
-for_least_held A (Err r) k = k
-
 least_refused : (seat : ℕ) (s new : Session) (t : Name) (e : StepRefusal) → new ≡ s → least_task s ≡ Some t → refusal_for s t ≡ None → Refuses s t e → LeastStepsFor seat s new (Err e)
 least_refused seat s new t Full same l clear r = (same, (t, l), r.1)
 least_refused seat s new t Memory same l clear r = (same, λ n. r.2 clear)

@@ -130,5 +130,6 @@ fn reserve_one(row: &mut Vec<u32>) -> Result<(), AllocError>
     if row.len() < row.capacity() {
         return Ok(());
     }
-    row.reserve(1)
+    // six places take no more room than one
+    row.reserve(if row.is_empty() { 6 } else { 1 })
 }

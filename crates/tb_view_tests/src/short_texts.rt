@@ -60,3 +60,17 @@ fn what_has_no_room_is_left_out(rt: HostRuntime) {
     assert!(rt; text.prepend("7").is_none());
     assert_eq!(rt; text.as_str().len(), 96);
 }
+
+#[test]
+fn levels_of_a_byte_each(rt: HostRuntime) {
+    let name = TaskName::parse(rt.alloc(), b"0.1.12.255.4").expect(&rt, "a name");
+    assert_eq!(rt; name.few(), Some(&[4, 255, 12, 1][..]));
+    let mut text = ShortText::new();
+    text.prepend_name(&name).expect(&rt, "there is room");
+    assert_eq!(rt; text.as_str(), "0.1.12.255.4");
+    let child = name.child(256).expect(&rt, "a child");
+    assert!(rt; child.few().is_none());
+    assert!(rt; name.is_parent_of(&child));
+    mem::forget(child);
+    mem::forget(name);
+}
