@@ -8,4 +8,5 @@ pub mod RolledLemmas
 pub mod BodyLemmas
 pub mod TeamLemmas
 pub mod ToldLemmas
+pub mod HistoryLemmas
 pub mod AnswerLemmas

@@ -6,7 +6,8 @@ use Rattle.tb_commands.specs.Commands.{AsksSeveral, asked}
 use Rattle.tb_commands.specs.declared.asked.Asked.{Asked}
 use Rattle.tb_commands.specs.declared.asked.Asked.TheVariants.{Command as Asks, Go}
 use Rattle.tb_commands.specs.declared.command.Command.{Command}
-use Rattle.tb_commands.specs.declared.command.Command.TheVariants.{Run}
+use Rattle.tb_commands.specs.declared.command.Command.TheVariants.{Run, Show}
+use Rattle.tb_view.specs.declared.view.View.TheVariants.{Hist}
 use Rattle.tb_team.specs.declared.lost.Lost.{Lost}
 use Rattle.tb_team.specs.declared.lost.Lost.TheVariants.{Memory as NoMemory, Journal as BadJournal}
 use Rattle.tb_replies.specs.Replies.{Answers}
@@ -40,9 +41,10 @@ failures_at _ = 0
 
 -- ---- the replies that go out in pieces
 
--- they tell the steps of `run`
+-- they tell the steps of `run`, and those that stand
 abbrev pub TellsSteps : Command → Type 0
 TellsSteps (Run most) = ⊤
+TellsSteps (Show Hist) = ⊤
 TellsSteps _ = ⊥
 
 -- and those of `go` where one worker takes them
@@ -51,12 +53,12 @@ AreTold (Asks command) = TellsSteps command
 AreTold (Go workers most) = workers ≡ 1
 AreTold _ = ⊥
 
--- the line asks for steps that are told as they are taken
+-- the line asks for steps, and is told them in pieces
 abbrev pub AsksSteps : ℕ → List ℕ → Type 0
 AsksSteps limit line = AreTold (asked limit line)
 
--- what was written without a whole reply: a beginning of one, and for want of memory that only where steps are told by the
--- way; where workers and journal don't fit, of which there are several then, nothing
+-- what was written without a whole reply: a beginning of one, and for want of memory that only where steps are told in
+-- pieces; where workers and journal don't fit, of which there are several then, nothing
 abbrev pub Fails : (AreSteps HasSeveral : Type 0) → (List ℕ → Session → Type 0) → Option (List ℕ) → Option (List ℕ) → Unanswered → Type 0
 Fails AreSteps HasSeveral IsReply before after Memory = Appends before after [] ⊎ (AreSteps × Begins IsReply before after)
 Fails AreSteps HasSeveral IsReply before after Write = Begins IsReply before after

@@ -1,8 +1,10 @@
 //! The reply to a command on a run, and what the run is after it.
 #![tactic(auto)]
 
+mod boxed_run;
 mod breaking;
 mod going;
+mod history;
 pub mod laws;
 mod newest;
 mod refusing;
@@ -14,5 +16,6 @@ mod teaming;
 mod unanswered;
 mod unwritten;
 
+pub use boxed_run::BoxedRun;
 pub use replies::answer;
 pub use unanswered::Unanswered;

@@ -11,8 +11,10 @@ ghost use Rattle.tb_team.specs.Gone.{HasSeats};
 ghost use Rattle.tb_live.specs.Runs.{resumed};
 ghost use Rattle.tb_model.specs.Spelling.{step_id_text};
 
+use crate::boxed_run::BoxedRun;
 use crate::breaking::{body_reply, break_reply, clear_reply};
 use crate::going::go_reply;
+use crate::history::history_reply;
 use crate::newest::append_newest;
 use crate::refusing::{refused, refused_for, refused_with};
 use crate::rolling::roll_reply;
@@ -26,8 +28,9 @@ use std::thread::Threads;
 use tb_commands::{Asked, Command, CommandFault, Workers, read_line};
 use tb_draft::Draft;
 use tb_lines::Sink;
-use tb_live::{Live, StepRefusal, UndoRefusal, end};
+use tb_live::{Live, StepRefusal, UndoRefusal};
 use tb_model::{StepId, TaskName};
+use tb_view::View;
 
 fn fault_word(fault: CommandFault) -> &'static str
     ensures { result.now ≡ fault_word fault }
@@ -125,6 +128,7 @@ fn reply<K: Sink>(
         Command::Break { at } => Ok(break_reply(alloc, live, at)?),
         Command::BreakBody { name } => Ok(body_reply(alloc, live, name.as_slice())?),
         Command::Clear { number } => Ok(clear_reply(alloc, live, number)?),
+        Command::Show { view: View::Hist } => Ok(history_reply(alloc, sink, live)?),
         Command::Show { view } => Ok(view_reply(alloc, live, &view)?),
     }
 }
@@ -133,9 +137,9 @@ fn reply<K: Sink>(
 fn command_told<K: Sink>(
     alloc: Global,
     sink: &mut K,
-    mut live: Live,
+    mut live: BoxedRun,
     command: Command,
-) -> Result<(Live, Draft), Unanswered>
+) -> Result<(BoxedRun, Draft), Unanswered>
     requires failures { K.failures sink.old < 2 ^ 64 - 1 }
     ensures told { IfOk result (λ r. Told (K.taken sink.old) (K.taken sink.new) r.1
         (λ out. Reply live.session command out r.0.session)) }
@@ -144,17 +148,21 @@ fn command_told<K: Sink>(
     ensures ok { OnOk result (K.failures sink.new ≡ K.failures sink.old) }
     ensures failed { IfErr result (λ why. K.failures sink.new ≡ K.failures sink.old + failures_at why) }
 {
-    match reply(alloc, sink, &mut live, command) {
+    match reply(alloc, sink, &mut live.live, command) {
         Ok(text) => Ok((live, text)),
         Err(why) => {
-            end(live);
+            live.end();
             Err(why)
         }
     }
 }
 
 /// Tells why a line is no command.
-fn fault_told(alloc: Global, live: Live, fault: CommandFault) -> Result<(Live, Draft), Unanswered>
+fn fault_told(
+    alloc: Global,
+    live: BoxedRun,
+    fault: CommandFault,
+) -> Result<(BoxedRun, Draft), Unanswered>
     ensures told { IfOk result (λ r. (r.1 ≡ line (codes "error " ++ fault_word fault))
         × (r.0.session ≡ live.session)) }
     ensures memory { IfErr result (λ why. why ≡ Unanswered.Memory) }
@@ -162,7 +170,7 @@ fn fault_told(alloc: Global, live: Live, fault: CommandFault) -> Result<(Live, D
     match fault_reply(alloc, fault) {
         Ok(text) => Ok((live, text)),
         Err(_) => {
-            end(live);
+            live.end();
             Err(Unanswered::Memory)
         }
     }
@@ -172,9 +180,9 @@ fn fault_told(alloc: Global, live: Live, fault: CommandFault) -> Result<(Live, D
 fn alone_told<K: Sink>(
     alloc: Global,
     sink: &mut K,
-    mut live: Live,
+    mut live: BoxedRun,
     most: u32,
-) -> Result<(Live, Draft), Unanswered>
+) -> Result<(BoxedRun, Draft), Unanswered>
     requires seats { HasSeats live.session }
     requires failures { K.failures sink.old < 2 ^ 64 - 1 }
     ensures told { IfOk result (λ r. Told (K.taken sink.old) (K.taken sink.new) r.1
@@ -184,10 +192,10 @@ fn alone_told<K: Sink>(
     ensures ok { OnOk result (K.failures sink.new ≡ K.failures sink.old) }
     ensures failed { IfErr result (λ why. K.failures sink.new ≡ K.failures sink.old + failures_at why) }
 {
-    match go_reply(alloc, sink, &mut live, most) {
+    match go_reply(alloc, sink, &mut live.live, most) {
         Ok(text) => Ok((live, text)),
         Err(why) => {
-            end(live);
+            live.end();
             Err(Unanswered::from(why))
         }
     }
@@ -198,10 +206,10 @@ fn go_told<R: Threads + Wait + Sync, K: Sink>(
     rt: &R,
     alloc: Global,
     sink: &mut K,
-    live: Live,
+    live: BoxedRun,
     workers: Workers,
     most: u32,
-) -> Result<(Live, Draft), Unanswered>
+) -> Result<(BoxedRun, Draft), Unanswered>
     requires seats { HasSeats live.session }
     requires failures { K.failures sink.old < 2 ^ 64 - 1 }
     ensures told { IfOk result (λ r. Told (K.taken sink.old) (K.taken sink.new) r.1
@@ -226,9 +234,9 @@ pub fn answer<R: Threads + Wait + Sync, K: Sink>(
     alloc: Global,
     limit: Workers,
     sink: &mut K,
-    live: Live,
+    live: BoxedRun,
     line: &[u8],
-) -> Result<(Live, Draft), Unanswered>
+) -> Result<(BoxedRun, Draft), Unanswered>
     requires seats { HasSeats live.session }
     requires failures { K.failures sink.old < 2 ^ 64 - 1 }
     ensures told { IfOk result (λ r. Told (K.taken sink.old) (K.taken sink.new) r.1
@@ -240,7 +248,7 @@ pub fn answer<R: Threads + Wait + Sync, K: Sink>(
     let asked = match read_line(alloc, limit, line) {
         Ok(asked) => asked,
         Err(_) => {
-            end(live);
+            live.end();
             return Err(Unanswered::Memory);
         }
     };

@@ -7,6 +7,7 @@ ghost use Rattle.tb_replies.specs.Course.{course_text};
 ghost use Rattle.tb_replies.specs.Replies.{GoReply};
 ghost use Rattle.tb_team.specs.Gone.{HasSeats};
 
+use crate::boxed_run::BoxedRun;
 use crate::running::{Taken, append_end};
 use std::alloc::{AllocError, Global};
 use std::sync::Wait;
@@ -30,7 +31,7 @@ fn course_text(alloc: Global, live: &Live, count: u32, stop: Stop) -> Result<Dra
 }
 
 /// Lets several workers go on for up to so many steps, and tells them. They stop at a breakpoint.
-pub fn team_reply<R: Threads + Wait + Sync>(
+fn reply_off_heap<R: Threads + Wait + Sync>(
     rt: &R,
     alloc: Global,
     live: Live,
@@ -49,5 +50,26 @@ pub fn team_reply<R: Threads + Wait + Sync>(
             end(live);
             Err(Lost::Memory)
         }
+    }
+}
+
+/// The same of a run on the heap, which the workers take off it. It stands apart, so that no other line pays for its room.
+#[inline(never)]
+pub fn team_reply<R: Threads + Wait + Sync>(
+    rt: &R,
+    alloc: Global,
+    live: BoxedRun,
+    workers: u32,
+    most: u32,
+) -> Result<(BoxedRun, Draft), Lost>
+    requires seats { HasSeats live.session }
+    requires several { 1 < workers }
+    requires few { workers ≤ 64 }
+    ensures { IfOk result (λ r. GoReply workers most live.session r.1 r.0.session) }
+{
+    let (live, text) = reply_off_heap(rt, alloc, live.into_inner(), workers, most)?;
+    match BoxedRun::new(alloc, live) {
+        Ok(live) => Ok((live, text)),
+        Err(_) => Err(Lost::Memory),
     }
 }

@@ -65,8 +65,8 @@ abbrev pub AnswersWith : (workers limit : ℕ) → List (List ℕ) → List ℕ 
 AnswersWith workers limit lines out line reply =
     (AreUndivided lines → ⊥) × ((P : Program) × IsProgram (program_text lines) P × RepliesWith workers (opened P limit 65) (command_lines lines) out line reply)
 
--- the replies to whole lines were written, and a beginning of a reply to the next one, which asks for steps that are told as
--- they are taken
+-- the replies to whole lines were written, and a beginning of a reply to the next one, which asks for steps that are told in
+-- pieces
 pub record BrokeOff (workers : ℕ) (AreReplies : List (List ℕ) → List ℕ → List ℕ → List ℕ → Type 0) (left rest before after : Option (List ℕ)) : Type 0 where
   pub lines : List (List ℕ)
   pub line : List ℕ

@@ -2,6 +2,7 @@
 
 ghost use Rattle.std.specs.Prelude.{◌≡◌, ◌+◌, ◌-◌, ◌<◌, ◌≤◌, ◌^◌, [], IfOk, OnOk, IsErrOf};
 ghost use Rattle.std.specs.Io.KnownBytes.{prepend_known};
+ghost use Rattle.tb_live.specs.Session.{opened};
 ghost use Rattle.tb_session.specs.Stages.{Gathered, Kept, Opens};
 
 use crate::divider::is_divider;
@@ -10,7 +11,8 @@ use std::alloc::{AllocError, Global};
 use std::sync::Wait;
 use tb_lines::{LineEnd, LineFault, LineReader, Source};
 use tb_live::Live;
-use tb_read::{FaultKind, read};
+use tb_read::{FaultKind, Program, read};
+use tb_replies::BoxedRun;
 
 /// Adds a line to the program text, but for the divider, and tells whether it is that. An empty
 /// piece adds nothing.
@@ -64,16 +66,26 @@ pub fn gather<R: Wait, S: Source>(
     unreachable!()
 }
 
+/// Opens a session of the program: a seat for the session itself, and one for each of 64 workers.
+fn opened(alloc: Global, program: Program, limit: u32) -> Result<BoxedRun, AllocError>
+    requires some { 1 ≤ limit }
+    requires bound { limit ≤ 1000000 }
+    ensures { IfOk result (λ run. run.session ≡ opened program limit 65) }
+{
+    let live = Live::open(alloc, program, limit, 65)?;
+    let run = BoxedRun::new(alloc, live)?;
+    Ok(run)
+}
+
 /// Reads the text, and opens a session of its program.
-pub fn open(alloc: Global, text: &[u8], limit: u32) -> Result<Live, Halt>
+pub fn open(alloc: Global, text: &[u8], limit: u32) -> Result<BoxedRun, Halt>
     requires some { 1 ≤ limit }
     requires bound { limit ≤ 1000000 }
     ensures { Opens limit text.now result }
 {
     match read(alloc, text) {
-        // a seat for the session, and one for each of 64 workers
-        Ok(program) => match Live::open(alloc, program, limit, 65) {
-            Ok(live) => Ok(live),
+        Ok(program) => match opened(alloc, program, limit) {
+            Ok(run) => Ok(run),
             Err(_) => Err(Halt::Memory),
         },
         Err(fault) if fault.kind == FaultKind::Memory => Err(Halt::Memory),

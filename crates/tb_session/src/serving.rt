@@ -12,13 +12,12 @@ use std::sync::Wait;
 use std::thread::Threads;
 use tb_commands::Workers;
 use tb_lines::{LineEnd, LineFault, LineReader, Sink, Source};
-use tb_live::Live;
-use tb_replies::{Unanswered, answer};
+use tb_replies::{BoxedRun, Unanswered, answer};
 
 /// Leaves a run whose session ends. The process ends with it and gives all of its memory back at once, so the
 /// run isn't taken apart, for which each of its steps would be read once more.
-pub(crate) fn leave(live: Live) {
-    mem::forget(live);
+pub(crate) fn leave(live: BoxedRun) {
+    mem::forget(live.into_inner());
 }
 
 /// Works on a line, and writes its reply.
@@ -26,10 +25,10 @@ pub fn answer_line<R: Threads + Wait + Sync, K: Sink>(
     rt: &R,
     alloc: Global,
     limit: Workers,
-    live: Live,
+    live: BoxedRun,
     sink: &mut K,
     line: &[u8],
-) -> Result<Live, Halt>
+) -> Result<BoxedRun, Halt>
     requires seats { HasSeats live.session }
     requires failures { K.failures sink.old < 2 ^ 64 - 1 }
     ensures answered { Answered limit live.session line.now
@@ -59,7 +58,7 @@ pub fn serve<R: Threads + Wait + Sync, S: Source, K: Sink>(
     rt: &R,
     alloc: Global,
     limit: Workers,
-    live: Live,
+    live: BoxedRun,
     reader: &mut LineReader,
     source: &mut S,
     sink: &mut K,

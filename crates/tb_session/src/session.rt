@@ -13,8 +13,8 @@ use std::sync::Wait;
 use std::thread::Threads;
 use tb_commands::Workers;
 use tb_lines::{LineEnd, LineFault, LineReader, Sink, Source};
-use tb_live::Live;
 use tb_options::Settings;
+use tb_replies::BoxedRun;
 
 /// Reads the program and opens its session, and tells what ended the program's text.
 fn begin<R: Wait, S: Source>(
@@ -23,7 +23,7 @@ fn begin<R: Wait, S: Source>(
     reader: &mut LineReader,
     source: &mut S,
     limit: u32,
-) -> Result<(Live, LineEnd), Halt>
+) -> Result<(BoxedRun, LineEnd), Halt>
     requires failures { S.failures source.old < 2 ^ 64 - 1 }
     requires some { 1 ≤ limit }
     requires bound { limit ≤ 1000000 }

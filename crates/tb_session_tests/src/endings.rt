@@ -63,35 +63,40 @@ fn a_write_that_fails_ends_the_session(rt: HostRuntime) -> Result<(), Fail> {
 
 const ENDLESS: &[u8] = b"cells 0\nbody main 0\nwhile 0 == 0\nend\nend\n---\n";
 
-/// The reply of a `run` of 4500 steps of that program, 70,905 bytes.
-fn long_reply(alloc: Global) -> Result<String, Fail> {
-    let mut text = String::from_str(alloc, "0#1 start\n")?;
+/// The replies to `run 4500` and `hist` in a session of that program, 70,905 and 70,900 bytes.
+fn long_replies(alloc: Global) -> Result<String, Fail> {
+    let mut lines = String::from_str(alloc, "0#1 start\n")?;
     for k in 2..4501u32 {
-        writeln!(text, "0#{k} test yes")?;
+        writeln!(lines, "0#{k} test yes")?;
     }
-    text.push_str("ran 4500 limit\n")?;
-    Ok(text)
+    Ok(format!(in alloc; "{lines}ran 4500 limit\nhist 4500\n{lines}")?)
 }
 
 /// Nothing is written twice or left out, and a write may fail in each piece.
 #[test]
-fn a_long_reply_goes_out_in_pieces(rt: HostRuntime) -> Result<(), Fail> {
+fn long_replies_go_out_in_pieces(rt: HostRuntime) -> Result<(), Fail> {
     let alloc = rt.alloc();
-    for (command, count) in [("run 4000\n", 1), ("run 4500\n", 2), ("go 1 4500\n", 2)] {
+    for (commands, count) in [
+        ("run 4000\nhist\n", 2),
+        ("run 4500\nhist\n", 4),
+        ("go 1 4500\n", 2),
+    ] {
         let mut text = Vec::from_slice(alloc, ENDLESS)?;
-        text.extend_from_slice(command.as_bytes())?;
-        let (_, calls, halt) = written(&rt, alloc, whole(&text), 100_000, 5000);
-        assert_eq!(rt; (calls, halt), (count, None), "{command}");
+        text.extend_from_slice(commands.as_bytes())?;
+        let (_, calls, halt) = written(&rt, alloc, whole(&text), 150_000, 5000);
+        assert_eq!(rt; (calls, halt), (count, None), "{commands}");
     }
-    let all = long_reply(alloc)?;
+    let all = long_replies(alloc)?;
     let mut text = Vec::from_slice(alloc, ENDLESS)?;
-    text.extend_from_slice(b"run 4500\n")?;
-    for room in [0usize, 1, 65_535, 65_536, 65_600, 70_904] {
+    text.extend_from_slice(b"run 4500\nhist\n")?;
+    for room in [
+        0usize, 1, 65_535, 65_536, 65_600, 70_904, 70_905, 136_440, 136_500, 141_804,
+    ] {
         let (bytes, _, halt) = written(&rt, alloc, whole(&text), room, 5000);
         assert_eq!(rt; (bytes.len(), halt), (room, Some(Halt::Write)));
         assert!(rt; all.as_bytes().starts_with(&bytes), "{room}");
     }
-    let (bytes, _, halt) = written(&rt, alloc, whole(&text), 70_905, 5000);
+    let (bytes, _, halt) = written(&rt, alloc, whole(&text), 141_805, 5000);
     assert_eq!(rt; halt, None);
     assert_eq!(rt; bytes.as_slice(), all.as_bytes());
     Ok(())

@@ -1,8 +1,8 @@
 mod NameLemmas
-mod CountLemmas
-mod WalkLemmas
+pub mod CountLemmas
+pub mod WalkLemmas
 mod NeedLemmas
-mod ShownLemmas
+pub mod ShownLemmas
 mod ReasonLemmas
 mod ListingLemmas
 mod TaskLemmas

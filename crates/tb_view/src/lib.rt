@@ -12,6 +12,7 @@ mod relations;
 mod short_line;
 mod showing;
 mod states;
+mod step_counts;
 mod step_line;
 mod step_text;
 mod steps;
@@ -23,8 +24,9 @@ mod view_refusal;
 mod waits;
 
 pub use showing::{draft, line, text};
+pub use step_counts::StepCounts;
 pub use step_line::append_line;
 pub use step_text::write_step;
-pub use steps::append_newest;
+pub use steps::{append_newest, history_head};
 pub use view::View;
 pub use view_refusal::ViewRefusal;

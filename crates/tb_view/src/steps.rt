@@ -1,36 +1,25 @@
 //! Steps of a history, as text.
 
-ghost use Rattle.std.specs.Prelude.{◌≡◌, ◌<◌, ◌≤◌, ◌+◌, ◌++◌, [], IfOk, OnOk, length, reverse, suc, drop, if◌then◌else◌};
+ghost use Rattle.std.specs.Prelude.{◌≡◌, ◌<◌, ◌≤◌, ◌+◌, ◌++◌, [], IfOk, OnOk, codes, decimal, length, reverse, suc, drop, if◌then◌else◌};
 ghost use Rattle.tb_core.specs.Scans.{history_of};
-ghost use Rattle.tb_view.specs.Lines.{event_line};
+ghost use Rattle.tb_view.specs.Lines.{event_line, line};
 ghost use Rattle.tb_view.specs.Steps.{history_text, newest_lines, chosen_text, AreStepsOf, count_of, IsCounted, is_first};
 
-use crate::counting::count_step;
+use crate::step_counts::StepCounts;
 use crate::step_line::append_line;
-use indexmap::IndexMap;
 use std::alloc::{AllocError, Global};
 use tb_core::Entry;
 use tb_draft::Draft;
 use tb_model::{Event, StepId, TaskName};
 use tb_read::Program;
 
-/// Appends the line of the next step of its task.
-fn append_next(
-    text: &mut Draft,
-    program: &Program,
-    counts: &mut IndexMap<TaskName, u32>,
-    near: &mut usize,
-    event: &Event,
-) -> Result<(), AllocError>
-    requires { count_of counts.old.entries event.now.task < 4294967295 }
-    ensures text { OnOk result (text.new ≡ text.old ++ event_line program.now
-        (record { task = event.now.task; k = suc (count_of counts.old.entries event.now.task) })
-        event.now) }
-    ensures counts { OnOk result
-        (IsCounted counts.old.entries event.now.task counts.new.entries) }
+/// How many steps there are, as a line.
+pub fn history_head(alloc: Global, entries: &[Entry]) -> Result<Draft, AllocError>
+    ensures { IfOk result (λ text. text ≡ line (codes "hist " ++ decimal (length entries.now))) }
 {
-    let k = count_step(counts, near, &event.task)?;
-    append_line(text, program, &event.task, k, &event.action)
+    let count = entries.len();
+    let head = format!(in alloc; "hist {count}\n")?;
+    Ok(Draft::of(alloc, head))
 }
 
 /// How many steps there are, and the line of each.
@@ -42,13 +31,10 @@ pub(crate) fn history_text(
     requires { length entries.now ≤ 1000000 }
     ensures { IfOk result (λ text. text ≡ history_text program.now (history_of entries.now)) }
 {
-    let count = entries.len();
-    let head = format!(in alloc; "hist {count}\n")?;
-    let mut text = Draft::of(alloc, head);
-    let mut counts = IndexMap::new(alloc);
-    let mut near = 0;
+    let mut text = history_head(alloc, entries)?;
+    let mut counts = StepCounts::none(alloc);
     'steps: for entry in entries {
-        append_next(&mut text, program, &mut counts, &mut near, &entry.event)?;
+        counts.append_next(&mut text, program, &entry.event)?;
     }
     Ok(text)
 }
@@ -57,23 +43,21 @@ pub(crate) fn history_text(
 fn append_if(
     text: &mut Draft,
     program: &Program,
-    counts: &mut IndexMap<TaskName, u32>,
-    near: &mut usize,
+    counts: &mut StepCounts,
     event: &Event,
     is_told: bool,
 ) -> Result<(), AllocError>
-    requires { count_of counts.old.entries event.now.task < 4294967295 }
+    requires { count_of counts.old event.now.task < 4294967295 }
     ensures text { OnOk result (text.new ≡ text.old ++ (if is_told then event_line program.now
-        (record { task = event.now.task; k = suc (count_of counts.old.entries event.now.task) })
+        (record { task = event.now.task; k = suc (count_of counts.old event.now.task) })
         event.now
         else [])) }
-    ensures counts { OnOk result
-        (IsCounted counts.old.entries event.now.task counts.new.entries) }
+    ensures counts { OnOk result (IsCounted counts.old event.now.task counts.new) }
 {
     if is_told {
-        append_next(text, program, counts, near, event)
+        counts.append_next(text, program, event)
     } else {
-        count_step(counts, near, &event.task)?;
+        counts.count(&event.task)?;
         Ok(())
     }
 }
@@ -92,18 +76,10 @@ pub fn append_newest(
         ≡ text.old ++ newest_lines program.now count (history_of entries.now)) }
 {
     let first = entries.len() - count;
-    let mut counts = IndexMap::new(alloc);
-    let mut near = 0;
+    let mut counts = StepCounts::none(alloc);
     let mut place = 0;
     'steps: for entry in entries {
-        append_if(
-            text,
-            program,
-            &mut counts,
-            &mut near,
-            &entry.event,
-            first <= place,
-        )?;
+        append_if(text, program, &mut counts, &entry.event, first <= place)?;
         place += 1;
     }
     Ok(())
@@ -125,28 +101,26 @@ fn is_next(steps: &[StepId], found: usize, task: &TaskName, k: u32) -> bool
 fn append_chosen(
     text: &mut Draft,
     program: &Program,
-    counts: &mut IndexMap<TaskName, u32>,
-    near: &mut usize,
+    counts: &mut StepCounts,
     event: &Event,
     steps: &[StepId],
     found: usize,
 ) -> Result<usize, AllocError>
-    requires few { count_of counts.old.entries event.now.task < 4294967295 }
+    requires few { count_of counts.old event.now.task < 4294967295 }
     requires within { found ≤ length steps.now }
     ensures text { OnOk result (text.new ≡ text.old
-        ++ (if is_first (record { task = event.now.task; k = suc (count_of counts.old.entries event.now.task) }) (drop found steps.now)
+        ++ (if is_first (record { task = event.now.task; k = suc (count_of counts.old event.now.task) }) (drop found steps.now)
         then event_line program.now
-        (record { task = event.now.task; k = suc (count_of counts.old.entries event.now.task) })
+        (record { task = event.now.task; k = suc (count_of counts.old event.now.task) })
         event.now
         else [])) }
     ensures found { IfOk result (λ n. n
-        ≡ (if is_first (record { task = event.now.task; k = suc (count_of counts.old.entries event.now.task) }) (drop found steps.now)
+        ≡ (if is_first (record { task = event.now.task; k = suc (count_of counts.old event.now.task) }) (drop found steps.now)
         then found + 1 else found)) }
     ensures within { IfOk result (λ n. n ≤ length steps.now) }
-    ensures counts { OnOk result
-        (IsCounted counts.old.entries event.now.task counts.new.entries) }
+    ensures counts { OnOk result (IsCounted counts.old event.now.task counts.new) }
 {
-    let k = count_step(counts, near, &event.task)?;
+    let k = counts.count(&event.task)?;
     if !is_next(steps, found, &event.task, k) {
         return Ok(found);
     }
@@ -170,19 +144,10 @@ pub(crate) fn chosen_text(
     let count = steps.len();
     let head = format!(in alloc; "{word} {count}\n")?;
     let mut text = Draft::of(alloc, head);
-    let mut counts = IndexMap::new(alloc);
-    let mut near = 0;
+    let mut counts = StepCounts::none(alloc);
     let mut found = 0;
     'steps: for entry in entries {
-        found = append_chosen(
-            &mut text,
-            program,
-            &mut counts,
-            &mut near,
-            &entry.event,
-            steps,
-            found,
-        )?;
+        found = append_chosen(&mut text, program, &mut counts, &entry.event, steps, found)?;
     }
     Ok(text)
 }

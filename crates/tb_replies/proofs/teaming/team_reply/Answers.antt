@@ -1,9 +1,6 @@
-use Rattle.tb_replies.proofs.TeamLemmas.{few_steps, gone_reply}
 use Rattle.tb_replies.proofs.teaming.team_reply.Goals as goal
-
-pub course_text-requires : goal.course_text-requires
-course_text-requires g c = few_steps c.args.workers c.args.most c.args.live.session c.in_ok-live.field-0 c.in_ok-live.ensures
 
 pub returns-in-Ok : goal.returns-in-Ok
 returns-in-Ok g c =
-    gone_reply c.args.workers c.args.most c.args.live.session c.in_ok-live.field-0 c.in-Ok.text c.in_ok-live.ensures c.in-Ok.ensures
+    let gone = rw c.into_inner.ensures at c.in_ok-live.ensures in
+    rw c.in-Ok.ensures gone

@@ -6,7 +6,7 @@ use Rattle.tb_view.proofs.steps.append_newest.Given as goal
 -- the lines of the newest steps so far, and all steps so far are counted
 abbrev pub invariant-steps : goal.invariant-steps
 invariant-steps l = record {
-  counts : AreCounts (history_of (take l.entry-index l.entries)) l.counts.entries;
+  counts : AreCounts (history_of (take l.entry-index l.entries)) l.counts;
   within : l.entry-index ≤ length l.entries;
   place : l.place ≡ l.entry-index;
   text : l.text ≡ l.initial.text ++ newest_lines l.program (l.entry-index - (length l.entries - l.count)) (history_of (take l.entry-index l.entries));
