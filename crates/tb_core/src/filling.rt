@@ -1,6 +1,6 @@
 //! What a step fills in: the number that a load reads, and the name of a child.
 
-ghost use Rattle.std.specs.Prelude.{◌≡◌, ◌<◌, ◌≤◌, ◌+◌, ◌↔◌, ℕ, List, IfOk, IsOk, OnOk, IsTrue, Some, None, length, vec_len, vec_capacity};
+ghost use Rattle.std.specs.Prelude.{◌≡◌, ◌<◌, ◌↔◌, ℕ, List, IfOk, IsOk, IsTrue, Some, None, length};
 ghost use Rattle.tb_model.specs.declared.event.Event.{Event as AnEvent};
 ghost use Rattle.tb_model.specs.declared.spawn.Spawn.{Spawn as ASpawn};
 ghost use Rattle.tb_model.specs.Names.{child};

@@ -1,22 +1,20 @@
 -- The step of a task that was found as the least that can take one.
 use Rattle.std.proofs.Common.{◌≡◌, ◌∙◌, ℕ, List, reverse, refl, sym, Option, Some}
-use Rattle.std.specs.Prelude.{◌≢◌, Result, IfErr, OnErr, OnOk}
+use Rattle.std.specs.Prelude.{Result, OnErr, OnOk}
 use Rattle.tb_model.specs.declared.entry.Entry.{Entry}
 use Rattle.tb_model.specs.declared.step_id.StepId.{StepId}
 use Rattle.tb_model.specs.Names.{Name}
 use Rattle.tb_model.specs.Program.{Program}
 use Rattle.tb_read.specs.declared.planned.Plan.{Plan}
 use Rattle.tb_core.specs.declared.step_refusal.StepRefusal.{StepRefusal}
-use Rattle.tb_core.specs.declared.step_refusal.StepRefusal.TheVariants.{Memory}
 use Rattle.tb_core.specs.Outcomes.{IsCurrent}
 use Rattle.tb_core.specs.Seen.{Seen, history}
 use Rattle.tb_live.specs.declared.coming.Coming.{Coming}
 use Rattle.tb_live.specs.declared.control.Control.{Control}
-use Rattle.tb_live.specs.declared.prepared.Prepared.{Prepared}
 use Rattle.tb_live.specs.Floor.{IsCarried, IsFloor}
 use Rattle.tb_live.specs.Moves.{LeastStepsFor, for_least}
 use Rattle.tb_live.specs.Plans.{Enters, IsClear, IsLeastComing, IsStepOf}
-use Rattle.tb_live.specs.Session.{Session, Held}
+use Rattle.tb_live.specs.Session.{Session}
 use Rattle.tb_live.specs.Soundness.{IsSound, IsLawful}
 use Rattle.tb_live.proofs.ComingLemmas.{least_plan, next_of, way_so}
 use Rattle.tb_live.proofs.FloorStepLemmas.{floor_after, plan_clear}

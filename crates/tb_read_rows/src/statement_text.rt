@@ -80,6 +80,44 @@ fn append_let(text: &mut String, reg: u8, value: Operand) -> Result<(), AllocErr
     append_operand(text, value)
 }
 
+fn append_compute(
+    text: &mut String,
+    reg: u8,
+    left: Operand,
+    operator: Operator,
+    right: Operand,
+) -> Result<(), AllocError> {
+    append_let(text, reg, left)?;
+    write!(text, " {}", operator_text(operator))?;
+    append_operand(text, right)
+}
+
+fn append_load(text: &mut String, reg: u8, address: Operand) -> Result<(), AllocError> {
+    write!(text, "load r{reg}")?;
+    append_operand(text, address)
+}
+
+fn append_store(text: &mut String, address: Operand, value: Operand) -> Result<(), AllocError> {
+    text.push_str("store")?;
+    append_operand(text, address)?;
+    append_operand(text, value)
+}
+
+fn append_print(text: &mut String, value: Operand) -> Result<(), AllocError> {
+    text.push_str("print")?;
+    append_operand(text, value)
+}
+
+fn append_wait(text: &mut String, depends: &[Clause]) -> Result<(), AllocError> {
+    text.push_str("taskwait")?;
+    append_clauses(text, depends)
+}
+
+fn append_test(text: &mut String, condition: Condition) -> Result<(), AllocError> {
+    text.push_str("test")?;
+    append_condition(text, condition)
+}
+
 /// Appends a statement.
 pub(crate) fn append_statement(text: &mut String, statement: &Statement) -> Result<(), AllocError> {
     match statement {
@@ -90,24 +128,10 @@ pub(crate) fn append_statement(text: &mut String, statement: &Statement) -> Resu
             left,
             operator,
             right,
-        } => {
-            append_let(text, *reg, *left)?;
-            write!(text, " {}", operator_text(*operator))?;
-            append_operand(text, *right)
-        }
-        Statement::Load { reg, address } => {
-            write!(text, "load r{reg}")?;
-            append_operand(text, *address)
-        }
-        Statement::Store { address, value } => {
-            text.push_str("store")?;
-            append_operand(text, *address)?;
-            append_operand(text, *value)
-        }
-        Statement::Print { value } => {
-            text.push_str("print")?;
-            append_operand(text, *value)
-        }
+        } => append_compute(text, *reg, *left, *operator, *right),
+        Statement::Load { reg, address } => append_load(text, *reg, *address),
+        Statement::Store { address, value } => append_store(text, *address, *value),
+        Statement::Print { value } => append_print(text, *value),
         Statement::Task {
             body,
             args,
@@ -120,16 +144,10 @@ pub(crate) fn append_statement(text: &mut String, statement: &Statement) -> Resu
             depends.as_slice(),
             condition.get(),
         ),
-        Statement::Taskwait { depends } => {
-            text.push_str("taskwait")?;
-            append_clauses(text, depends.as_slice())
-        }
+        Statement::Taskwait { depends } => append_wait(text, depends.as_slice()),
         Statement::Taskgroup => text.push_str("taskgroup"),
         Statement::EndTaskgroup => text.push_str("end taskgroup"),
-        Statement::Test { condition } => {
-            text.push_str("test")?;
-            append_condition(text, *condition)
-        }
+        Statement::Test { condition } => append_test(text, *condition),
         Statement::End => text.push_str("end"),
     }
 }
