@@ -3,7 +3,7 @@
 ghost use Rattle.std.specs.Prelude.{◌≡◌, ◌<◌, ◌≤◌, ◌∷◌, IfSome, IfNone, drop, length};
 ghost use Rattle.tb_model.specs.Names.{name_cmp, same_name};
 
-use crate::in_common::are_bytes_same;
+use crate::in_common::{are_eight_same, without_common_bytes};
 use crate::spread::Spread;
 use std::cmp::Ordering;
 use std::marker::Model;
@@ -68,7 +68,7 @@ impl Few {
     pub fn is_same(&self, other: &Few) -> bool
         ensures { result ≡ same_name self.now other.now }
     {
-        self.count == other.count && are_bytes_same(&self.bytes, &other.bytes)
+        self.count == other.count && are_all_same(&self.bytes, &other.bytes)
     }
 
     /// The numbers.
@@ -119,8 +119,7 @@ impl Few {
     pub fn compared(&self, other: &Few) -> Ordering
         ensures { result ≡ name_cmp self.now other.now }
     {
-        let mut own = self.as_bytes();
-        let mut others = other.as_bytes();
+        let (mut own, mut others) = without_common_bytes(self.as_bytes(), other.as_bytes());
         'levels: while let [front @ .., m] = own {
             let [their_front @ .., n] = others else {
                 return Ordering::Greater;
@@ -145,4 +144,12 @@ impl Few {
         }
         Spread::new(numbers, usize::from(self.count))
     }
+}
+
+/// Whether all bytes are the same. Two of them are compared twice, so that two comparisons do.
+#[inline(always)]
+fn are_all_same(a: &[u8; FEW], b: &[u8; FEW]) -> bool
+    ensures { result ≡ same_name a.now b.now }
+{
+    are_eight_same(&a[..8], &b[..8]) && are_eight_same(&a[6..], &b[6..])
 }

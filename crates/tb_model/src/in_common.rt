@@ -87,3 +87,49 @@ pub(crate) fn without_common<'a>(a: &'a [u32], b: &'a [u32]) -> (&'a [u32], &'a 
     }
     (&a[..m], &b[..n])
 }
+
+/// The same of numbers below 256, without most of those that both have: four are compared at once.
+#[inline(always)]
+pub(crate) fn without_common_bytes<'a>(a: &'a [u8], b: &'a [u8]) -> (&'a [u8], &'a [u8])
+    ensures { name_cmp result.0.now result.1.now ≡ name_cmp a.now b.now }
+{
+    let mut m = a.len();
+    let mut n = b.len();
+    'common: while m > FEW && n > FEW {
+        let i = m - FEW;
+        let j = n - FEW;
+        if !are_four_same(&a[i..m], &b[j..n]) {
+            return (&a[..m], &b[..n]);
+        }
+        m = i;
+        n = j;
+    }
+    (&a[..m], &b[..n])
+}
+
+/// Whether eight bytes are the same as eight others, by one comparison.
+#[inline(always)]
+pub(crate) fn are_eight_same(a: &[u8], b: &[u8]) -> bool
+    requires { (length a.now ≡ 8) × (length b.now ≡ 8) }
+    ensures { result ≡ same_name a.now b.now }
+{
+    let mut own = [0; 8];
+    let mut others = [0; 8];
+    own.copy_from_slice(a);
+    others.copy_from_slice(b);
+    u64::from_le_bytes(own) == u64::from_le_bytes(others)
+}
+
+/// Whether four bytes are the same as four others, by one comparison.
+#[inline(always)]
+fn are_four_same(a: &[u8], b: &[u8]) -> bool
+    requires { (length a.now ≡ 4) × (length b.now ≡ 4) }
+    ensures { result ≡ same_name a.now b.now }
+{
+    match (a, b) {
+        ([k, l, m, n], [p, q, r, s]) => {
+            u32::from_le_bytes([*k, *l, *m, *n]) == u32::from_le_bytes([*p, *q, *r, *s])
+        }
+        _ => false,
+    }
+}

@@ -139,9 +139,18 @@ impl TaskName {
         ensures parent { IfOk result (λ p. p ≡ parent self.now) }
         ensures short { length self.now ≤ 4 → IsOk result }
     {
-        if let Some(numbers) = self.numbers.rest_in_place() {
-            return Ok(Some(TaskName { numbers }));
+        match self.numbers.rest_in_place() {
+            Some(numbers) => Ok(Some(TaskName { numbers })),
+            None => self.parent_in_general(),
         }
+    }
+
+    /// The same of names of any length. It stands apart, so that a short name doesn't pay for its room.
+    #[inline(never)]
+    fn parent_in_general(&self) -> Result<Option<TaskName>, AllocError>
+        ensures parent { IfOk result (λ p. p ≡ parent self.now) }
+        ensures short { length self.now ≤ 4 → IsOk result }
+    {
         match self.numbers.parts().split_first() {
             None => Ok(None),
             Some((_, parent)) => {
@@ -241,9 +250,17 @@ impl TaskName {
     pub fn is_parent_of(&self, other: &TaskName) -> bool
         ensures { result ≡ is_child self.now other.now }
     {
-        if let Some(rest) = other.numbers.rest_in_place() {
-            return rest.is_same(&self.numbers);
+        match other.numbers.rest_in_place() {
+            Some(rest) => rest.is_same(&self.numbers),
+            None => self.is_parent_in_general(other),
         }
+    }
+
+    /// The same of names of any length.
+    #[inline(never)]
+    fn is_parent_in_general(&self, other: &TaskName) -> bool
+        ensures { result ≡ is_child self.now other.now }
+    {
         match other.numbers.parts().split_first() {
             None => false,
             Some((_, parent)) => parent.is_same(&self.numbers.parts()),

@@ -16,11 +16,11 @@ const FAR: usize = 8;
 pub(crate) fn digest(numbers: &Numbers) -> u32
     ensures { result ≡ digest numbers.now }
 {
-    if let Some(short) = numbers.short() {
-        return mixed(short.len() as u32, short);
+    if let Some(few) = numbers.few() {
+        return of_bytes(few.as_bytes());
     }
-    match numbers.few() {
-        Some(few) => of_bytes(few.as_bytes()),
+    match numbers.short() {
+        Some(short) => mixed(short.len() as u32, short),
         None => of_parts(&numbers.parts()),
     }
 }

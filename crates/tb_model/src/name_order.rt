@@ -12,17 +12,25 @@ use std::cmp::Ordering;
 pub(crate) fn compared(a: &Numbers, b: &Numbers) -> Ordering
     ensures { result ≡ name_cmp a.now b.now }
 {
-    if let (Some(own), Some(others)) = (a.short(), b.short()) {
-        return by_numbers(own, others);
-    }
     if let (Some(own), Some(others)) = (a.few(), b.few()) {
         return own.compared(others);
     }
+    if let (Some(own), Some(others)) = (a.short(), b.short()) {
+        return by_numbers(own, others);
+    }
+    in_general(a, b)
+}
+
+/// The same of names of any length. It stands apart, so that a comparison of short names doesn't pay for its room.
+#[inline(never)]
+fn in_general(a: &Numbers, b: &Numbers) -> Ordering
+    ensures { result ≡ name_cmp a.now b.now }
+{
     by_parts(&a.parts(), &b.parts())
 }
 
-/// The same of names of any length. Deep names of one program mostly begin alike at the root, so the blocks that both
-/// have there are passed over.
+/// The same by parts. Deep names of one program mostly begin alike at the root, so the blocks that both have there
+/// are passed over.
 fn by_parts(a: &Parts<'_>, b: &Parts<'_>) -> Ordering
     ensures { result ≡ name_cmp a.now b.now }
 {

@@ -100,8 +100,17 @@ impl Numbers {
                 alloc: self.alloc,
                 stored,
             }),
-            None => Numbers::with_first(self.alloc, first, &self.parts()),
+            None => self.child_in_general(first),
         }
+    }
+
+    /// The same where they don't stand in the value. It stands apart, so that a short list doesn't pay for its room.
+    #[inline(never)]
+    fn child_in_general(&self, first: u32) -> Result<Numbers, AllocError>
+        ensures ok { IfOk result (λ n. n ≡ first ∷ self.now) }
+        ensures short { length self.now < 3 → IsOk result }
+    {
+        Numbers::with_first(self.alloc, first, &self.parts())
     }
 
     /// These but the first, where both stand in the value; of four small numbers it isn't told.

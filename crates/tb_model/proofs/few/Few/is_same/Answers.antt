@@ -5,7 +5,7 @@ use Rattle.tb_model.proofs.few.Few.is_same.Goals as goal
 
 pub returns-then-self-other : goal.returns-then-self-other
 returns-then-self-other c =
-    c.are_bytes_same.ensures ∙ by_bytes c.self.invariant c.other.invariant c.self.told c.other.told c.if-self-other.true
+    c.are_all_same.ensures ∙ by_bytes c.self.invariant c.other.invariant c.self.told c.other.told c.if-self-other.true
     ∙ ap₂ same_name c.self.view_is c.other.view_is
 
 pub returns-else-self-other : goal.returns-else-self-other
