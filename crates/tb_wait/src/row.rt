@@ -5,6 +5,7 @@ ghost use Rattle.tb_wait.specs.Rows.{blank, is_pending, children_of, groups_of};
 ghost use Rattle.std.specs.Option.{option_map};
 ghost use Rattle.tb_wait.specs.Kin.{fresh, with_over, with_children, opened_kin, unopened_kin, closed_kin, unclosed_kin, first_of, is_fresh, Kin};
 
+use smallvec::SmallVec;
 use std::alloc::{AllocError, Global};
 use std::marker::Model;
 
@@ -14,14 +15,16 @@ pub struct Row {
     stands: bool,
     over: bool,
     children: u32,
-    groups: Vec<u32>,
-    shut: Vec<u32>,
+    // up to four of each stand in the row itself
+    groups: SmallVec<u32, 4>,
+    shut: SmallVec<u32, 4>,
     child_room: usize,
     group_room: usize,
 }
 
 impl Model for Row {
-    ghost use Rattle.std.specs.Prelude.{◌≡◌, ◌≤◌, ◌+◌, [], reverse, vec_len, vec_capacity, false};
+    ghost use Rattle.std.specs.Prelude.{◌≡◌, ◌≤◌, ◌+◌, [], reverse, false};
+    ghost use Rattle.smallvec.specs.SmallVec.{small_vec_len};
     ghost use Rattle.tb_wait.specs.Kin.{Slot};
     ghost use Rattle.tb_wait.specs.Rows.{kin_if};
 
@@ -33,8 +36,8 @@ impl Model for Row {
       group_room = r.group_room;
     } };
 
-    ghost invariant = { λ r. (vec_len r.groups + vec_len r.shut + r.group_room ≤ vec_capacity r.groups)
-        × (vec_len r.groups + vec_len r.shut + r.group_room ≤ vec_capacity r.shut)
+    ghost invariant = { λ r. (small_vec_len r.groups + small_vec_len r.shut + r.group_room ≤ r.groups.capacity)
+        × (small_vec_len r.groups + small_vec_len r.shut + r.group_room ≤ r.shut.capacity)
         × (r.stands ≡ false → (r.over ≡ false) × (r.children ≡ 0) × (r.groups.items ≡ []) × (r.shut.items ≡ [])) };
 }
 
@@ -47,8 +50,8 @@ impl Row {
             stands: false,
             over: false,
             children: 0,
-            groups: Vec::new(alloc),
-            shut: Vec::new(alloc),
+            groups: SmallVec::new(alloc),
+            shut: SmallVec::new(alloc),
             child_room: 0,
             group_room: 0,
         }
@@ -161,10 +164,10 @@ impl Row {
         ensures succeeds { 0 < self.old.group_room → IsOk result }
     {
         if self.group_room == 0 {
-            let shut = self.shut.len();
-            let groups = self.groups.len();
-            self.groups.reserve(shut + 1)?;
-            self.shut.reserve(groups + 1)?;
+            let shut = self.shut.len().checked_add(1).ok_or(AllocError)?;
+            let groups = self.groups.len().checked_add(1).ok_or(AllocError)?;
+            self.groups.reserve(shut)?;
+            self.shut.reserve(groups)?;
             self.group_room = 1;
         }
         Ok(())
@@ -189,7 +192,8 @@ impl Row {
         ensures keeps { self.old.group_room ≤ self.new.group_room }
         ensures group_room { groups_of self.old.kin ≢ [] → self.new.group_room ≡ self.old.group_room + 1 }
     {
-        if self.groups.pop().is_some() {
+        let places = self.groups.capacity();
+        if self.groups.pop().is_some() && self.group_room < places {
             self.group_room += 1;
         }
     }
