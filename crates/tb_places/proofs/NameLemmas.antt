@@ -1,9 +1,10 @@
 -- The number of a name among those that have one.
 use Rattle.std.proofs.Common.{◌≡◌, ◌<◌, ◌==◌, ℕ, List, [], Bool, true, false, cond, ltb, Option, Some, None, length, get_or, slice_get, is_some, refl, sym, ap, ◌∙◌, subst, arith, rules, tests}
-use Rattle.std.specs.List.{IsDistinct, position_or_len}
+use Rattle.std.specs.List.{IsDistinct, list_any, position_or_len}
 use Rattle.std.proofs.lemmas.Bool.{true≢false}
 use Rattle.std.proofs.lemmas.Bool.Decides.{nat_tests}
 use Rattle.std.proofs.lemmas.Map.Keys.{apart_from_distinct}
+use Rattle.std.proofs.lemmas.List.Folds.{list_any_at}
 use Rattle.std.proofs.lemmas.List.Sums.{position_or_len_is}
 use Rattle.std.proofs.lemmas.Option.{slice_get_within, get_or_from_slice_get}
 use Rattle.std.proofs.lemmas.List.Quantifiers.{position-Some}
@@ -63,3 +64,13 @@ no_number ks t u none some = by (same_name u t) refl
     by : (b : Bool) → same_name u t ≡ b → b ≡ false
     by false h = refl
     by true h = absurd (true≢false (sym some ∙ ap is_some (ap (number_of ks) (same_true u t h) ∙ none)))
+
+-- a name with a number is among those that have one
+pub numbered : (ks : List Name) (t : Name) → is_some (number_of ks t) ≡ true → list_any (same_name t) ks ≡ true
+numbered ks t some = by (number_of ks t) refl
+  where
+    by : (o : Option ℕ) → number_of ks t ≡ o → list_any (same_name t) ks ≡ true
+    by None e = absurd (true≢false (sym some ∙ ap is_some e))
+    by (Some k) e =
+        let x = position-Some (same_name t) ks k [] e in
+        list_any_at (same_name t) ks k [] x.0 x.1

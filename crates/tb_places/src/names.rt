@@ -68,19 +68,25 @@ impl Names {
             number_of self.new.keys.keys t ≡ number_of self.old.keys.keys t }
         ensures succeeds { is_some (number_of self.old.keys.keys task.now) ≡ true → IsOk result }
     {
-        match self.find(task) {
-            Some(number) => Ok(number),
-            None => self.add(task),
+        if self.is_last(task) {
+            Ok(self.last)
+        } else {
+            self.add(task)
         }
     }
 
+    /// The same of a task that was not the last to be found: it is looked for once, whether it has a number or not.
+    #[inline(never)]
     fn add(&mut self, task: &TaskName) -> Result<usize, AllocError>
-        requires { number_of self.old.keys.keys task.now ≡ None }
         ensures number { IfOk result (λ n. number_of self.new.keys.keys task.now ≡ Some n) }
         ensures others { (t : Name) → is_some (number_of self.old.keys.keys t) ≡ true →
             number_of self.new.keys.keys t ≡ number_of self.old.keys.keys t }
+        ensures succeeds { is_some (number_of self.old.keys.keys task.now) ≡ true → IsOk result }
     {
-        let name = task.clone()?;
+        // a name of many owners can't be copied
+        let Ok(name) = task.clone() else {
+            return self.find(task).ok_or(AllocError);
+        };
         match self.keys.insert_full(name) {
             Ok((number, _)) => {
                 self.last = number;

@@ -191,7 +191,8 @@ pub(crate) fn least<'a>(names: &'a Names, order: &Gapped, skip: &[TaskName]) -> 
     None
 }
 
-/// The place of the first marked name behind this one, or of the first of all: mostly near by.
+/// The place of the first marked name behind this one, or of the first of all: mostly near by, since a task of which it is
+/// asked has mostly just generated its last children.
 fn place_behind(names: &Names, order: &Gapped, near: usize, after: Option<&TaskName>) -> usize
     requires { IsOrder names.now.tasks order.now.items }
     ensures { IsFirstBehind names.now.tasks order.now.items (option_copied after.entry) result }
@@ -202,6 +203,10 @@ fn place_behind(names: &Names, order: &Gapped, near: usize, after: Option<&TaskN
     let before = near.saturating_sub(1);
     if is_named(names, order, before, name) {
         return before + 1;
+    }
+    let farther = near.saturating_sub(2);
+    if is_named(names, order, farther, name) {
+        return farther + 1;
     }
     let place = place_of(names, order, near, name);
     if is_named(names, order, place, name) {
