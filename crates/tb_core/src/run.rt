@@ -164,13 +164,22 @@ impl Core {
     }
 
     /// Whether nothing keeps a task that goes on from the action. It takes no memory.
-    #[inline(always)]
     pub fn is_clear(&self, task: &TaskName, action: &Action) -> bool
         requires there { IsTrue (is_spawned (history self.now.run) task.now) }
         requires going { IsFalse (has_ended self.now.run task.now) }
         ensures { IsTrue result ↔ (in_the_way (history self.now.run) task.now action.now ≡ None) }
     {
         self.tables.is_clear(task, action)
+    }
+
+    /// The same of a task of which it was asked where it stands, so that it isn't looked for again.
+    #[inline(always)]
+    pub fn is_clear_at(&self, standing: &Standing<'_>, task: &TaskName, action: &Action) -> bool
+        requires there { IsTrue (is_spawned (history self.now.run) task.now) }
+        requires going { IsFalse (has_ended self.now.run task.now) }
+        ensures { IsTrue result ↔ (in_the_way (history self.now.run) task.now action.now ≡ None) }
+    {
+        self.tables.is_clear_at(standing, task, action)
     }
 
     /// What keeps a task that goes on from the action.

@@ -1,9 +1,14 @@
 //! The least task that can step.
 
-ghost use Rattle.std.specs.Prelude.{◌≡◌, ◌↔◌, IfNone, IfOk, IfSome, IsTrue, Some, is_some};
+ghost use Rattle.std.specs.Prelude.{◌≡◌, ◌↔◌, IfNone, IfOk, IfSome, IsFalse, IsTrue, Some, is_some};
 ghost use Rattle.std.specs.Option.{option_copied};
+ghost use Rattle.tb_model.specs.Facts.{is_spawned};
 ghost use Rattle.tb_model.specs.Hindrances.{can_step, least_ready};
+ghost use Rattle.tb_model.specs.State.{is_unended};
+ghost use Rattle.tb_core.specs.Naming.{config_with};
+ghost use Rattle.tb_core.specs.Outcomes.{has_ended};
 ghost use Rattle.tb_core.specs.Seen.{history};
+ghost use Rattle.tb_core.specs.Situation.{config_of};
 ghost use Rattle.tb_live.specs.Soundness.{Fits};
 ghost use Rattle.tb_live.specs.Claims.{IsFreeBeside};
 ghost use Rattle.tb_live.specs.Floor.{IsFloor, IsPassed};
@@ -18,6 +23,7 @@ use std::alloc::{AllocError, Global};
 use tb_core::{Core, StepRefusal};
 use tb_model::TaskName;
 use tb_read::Program;
+use tb_undo::Standing;
 
 /// What the task does next, where it can.
 #[inline(always)]
@@ -37,11 +43,49 @@ fn clear_coming(
     if core.has_ended(task) {
         return Ok(None);
     }
-    let coming = coming_at(alloc, program, core, task, &standing)?;
-    if core.is_clear(task, &coming.action) {
+    clear_at(alloc, program, core, task, &standing)
+}
+
+/// The same of a task that stands so and isn't over.
+#[inline(always)]
+fn clear_at(
+    alloc: Global,
+    program: &Program,
+    core: &Core,
+    task: &TaskName,
+    standing: &Standing<'_>,
+) -> Result<Option<Coming>, AllocError>
+    requires fits { Fits program.now core.now.run }
+    requires there { IsTrue (is_spawned (history core.now.run) task.now) }
+    requires going { IsFalse (has_ended core.now.run task.now) }
+    requires here { config_of core.now.run task.now ≡ config_with task.now standing.now }
+    ensures coming { IfOk result (λ o. IfSome o (IsComing program.now core.now.run task.now)) }
+    ensures can { IfOk result (λ o. can_step program.now (history core.now.run) task.now ≡ is_some o) }
+{
+    let coming = coming_at(alloc, program, core, task, standing)?;
+    if core.is_clear_at(standing, task, &coming.action) {
         Ok(Some(coming))
     } else {
         Ok(None)
+    }
+}
+
+/// The same of a task that was generated and isn't over.
+#[inline(always)]
+fn unended_coming(
+    alloc: Global,
+    program: &Program,
+    core: &Core,
+    task: &TaskName,
+) -> Result<Option<Coming>, AllocError>
+    requires fits { Fits program.now core.now.run }
+    requires unended { IsTrue (is_unended (history core.now.run) task.now) }
+    ensures coming { IfOk result (λ o. IfSome o (IsComing program.now core.now.run task.now)) }
+    ensures can { IfOk result (λ o. can_step program.now (history core.now.run) task.now ≡ is_some o) }
+{
+    match core.standing(task) {
+        Some(standing) => clear_at(alloc, program, core, task, &standing),
+        None => unreachable!(),
     }
 }
 
@@ -164,7 +208,7 @@ fn coming_behind(
 {
     let mut after = task;
     'tasks: while let Some(task) = core.next_unended(after) {
-        match clear_coming(alloc, program, core, task) {
+        match unended_coming(alloc, program, core, task) {
             Ok(Some(coming)) => return named(task, coming),
             Ok(None) => after = Some(task),
             Err(_) => return Err(AllocError),
@@ -200,7 +244,7 @@ pub fn free_work(
     }
 }
 
-/// Whether the task can step, and no other seat claims it.
+/// Whether the task, which isn't over, can step, and no other seat claims it.
 fn can_take(
     alloc: Global,
     program: &Program,
@@ -209,10 +253,11 @@ fn can_take(
     seat: u32,
     task: &TaskName,
 ) -> Result<bool, AllocError>
-    requires { Fits program.now core.now.run }
+    requires fits { Fits program.now core.now.run }
+    requires unended { IsTrue (is_unended (history core.now.run) task.now) }
     ensures { IfOk result (λ can. IsTrue can ↔ CanTake program.now (history core.now.run) claims.now seat task.now) }
 {
-    match clear_coming(alloc, program, core, task) {
+    match unended_coming(alloc, program, core, task) {
         Ok(Some(_)) => Ok(claims.held_beside(seat, task).is_none()),
         Ok(None) => Ok(false),
         Err(_) => Err(AllocError),

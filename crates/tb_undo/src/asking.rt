@@ -15,6 +15,7 @@ ghost use Rattle.tb_undo.specs.Obstacles.{hindrance_by, IsKnown};
 use crate::near::get;
 use crate::obstacle::Obstacle;
 use crate::row::Row;
+use crate::standing::Standing;
 use crate::tables::Tables;
 use crate::walks::{is_held, next_before, next_covered};
 use tb_model::{Action, TaskName};
@@ -27,7 +28,15 @@ impl Tables {
     pub fn in_the_way(&self, name: &TaskName, action: &Action) -> Option<Obstacle<'_>>
         ensures { ForUnended self.now name.now (λ H. in_the_way H name.now action.now ≡ option_map (hindrance_by name.now) result) }
     {
-        let row = get(&self.rows, self.near, name)?;
+        self.in_the_way_near(self.near, name, action)
+    }
+
+    /// The same of a task whose row is looked for at the place `near` first.
+    #[inline(always)]
+    fn in_the_way_near(&self, near: usize, name: &TaskName, action: &Action) -> Option<Obstacle<'_>>
+        ensures { ForUnended self.now name.now (λ H. in_the_way H name.now action.now ≡ option_map (hindrance_by name.now) result) }
+    {
+        let row = get(&self.rows, near, name)?;
         if let Some(child) = undeferred(&self.waits, name, row) {
             return Some(Obstacle::Undeferred { child });
         }
@@ -47,22 +56,36 @@ impl Tables {
 
     /// Whether nothing keeps the task from the action, as `in_the_way` tells what does. Takes no
     /// memory. Who is excluded is asked first, since it costs no walk over the siblings.
-    #[inline(always)]
     pub fn is_clear(&self, name: &TaskName, action: &Action) -> bool
         ensures { ForUnended self.now name.now (λ H. IsTrue result ↔ (in_the_way H name.now action.now ≡ None)) }
     {
-        !self.is_excluded(name, action) && self.in_the_way(name, action).is_none()
+        self.is_clear_near(self.near, name, action)
+    }
+
+    /// The same of a task of which it was asked where it stands, so that its row isn't looked for again.
+    #[inline(always)]
+    pub fn is_clear_at(&self, standing: &Standing<'_>, name: &TaskName, action: &Action) -> bool
+        ensures { ForUnended self.now name.now (λ H. IsTrue result ↔ (in_the_way H name.now action.now ≡ None)) }
+    {
+        self.is_clear_near(standing.place(), name, action)
+    }
+
+    #[inline(always)]
+    fn is_clear_near(&self, near: usize, name: &TaskName, action: &Action) -> bool
+        ensures { ForUnended self.now name.now (λ H. IsTrue result ↔ (in_the_way H name.now action.now ≡ None)) }
+    {
+        !self.is_excluded(near, name, action) && self.in_the_way_near(near, name, action).is_none()
     }
 
     /// Whether the action is the first start of a task that a sibling under way excludes.
     #[inline(always)]
-    fn is_excluded(&self, name: &TaskName, action: &Action) -> bool
+    fn is_excluded(&self, near: usize, name: &TaskName, action: &Action) -> bool
         ensures { ForUnended self.now name.now (λ H. IsTrue result → in_the_way H name.now action.now ≢ None) }
     {
         let Action::Start = action else {
             return false;
         };
-        let Some(own) = get(&self.rows, self.near, name) else {
+        let Some(own) = get(&self.rows, near, name) else {
             return false;
         };
         let Some(n) = name.ordinal() else {

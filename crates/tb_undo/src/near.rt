@@ -1,12 +1,14 @@
 //! Where the row of a task is.
 
-ghost use Rattle.std.specs.Prelude.{◌≡◌, Some, IsTrue, position};
+ghost use Rattle.std.specs.Prelude.{◌≡◌, Some, IsTrue, option_map, position};
 ghost use Rattle.std.specs.Map.{keys_of};
 ghost use Rattle.std.specs.Option.{option_copied};
 ghost use Rattle.tb_model.specs.Names.{same_name};
-ghost use Rattle.tb_undo.specs.Tasks.{row};
+ghost use Rattle.tb_undo.specs.Standings.{standing_of};
+ghost use Rattle.tb_undo.specs.Tasks.{row, seen_row};
 
 use crate::row::Row;
+use crate::standing::Standing;
 use indexmap::IndexMap;
 use tb_model::TaskName;
 
@@ -55,6 +57,20 @@ pub fn get<'a>(rows: &'a IndexMap<TaskName, Row>, near: usize, name: &TaskName) 
     let at = find(rows, near, name)?;
     let (_, row) = rows.get_index(at)?;
     Some(row)
+}
+
+/// Where the task stands, by its row, which is looked for so.
+#[inline(always)]
+pub fn standing<'a>(
+    rows: &'a IndexMap<TaskName, Row>,
+    near: usize,
+    name: &TaskName,
+) -> Option<Standing<'a>>
+    ensures { result ≡ option_map (λ r. standing_of (seen_row r)) (row rows.now.entries name.now) }
+{
+    let at = find(rows, near, name)?;
+    let (_, row) = rows.get_index(at)?;
+    Some(Standing::of(row, at))
 }
 
 /// Whether the task's row is at the place.

@@ -13,7 +13,7 @@ ghost use Rattle.tb_undo.specs.Obstacles.{sibling};
 ghost use Rattle.tb_undo.specs.Readings.{IsNthOf, IsNextChild, IsUnendedBehind};
 ghost use Rattle.tb_undo.specs.Standings.{standing_of};
 
-use crate::near::get;
+use crate::near::{get, standing};
 use crate::row::Row;
 use crate::standing::Standing;
 use crate::tables::Tables;
@@ -49,8 +49,7 @@ impl Tables {
     pub fn standing(&self, name: &TaskName) -> Option<Standing<'_>>
         ensures { ForState self.now (λ first root_line D. result ≡ option_map standing_of (task_of root_line D name.now)) }
     {
-        let row = get(&self.rows, self.near, name)?;
-        Some(Standing::of(row))
+        standing(&self.rows, self.near, name)
     }
 
     /// How many children the task generated.

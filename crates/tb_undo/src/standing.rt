@@ -12,6 +12,8 @@ use std::marker::Model;
 #[derive(Drop)]
 pub struct Standing<'a> {
     row: &'a Row,
+    // where the row is
+    place: usize,
 }
 
 impl<'a> Model for Standing<'a> {
@@ -25,10 +27,16 @@ impl<'a> Model for Standing<'a> {
 
 impl<'a> Standing<'a> {
     #[inline(always)]
-    pub(crate) fn of(row: &'a Row) -> Standing<'a>
+    pub(crate) fn of(row: &'a Row, place: usize) -> Standing<'a>
         ensures { result ≡ standing_of (seen_row row.now) }
     {
-        Standing { row }
+        Standing { row, place }
+    }
+
+    /// Where the task's row is looked for first.
+    #[inline(always)]
+    pub(crate) fn place(&self) -> usize {
+        self.place
     }
 
     /// Its line.

@@ -6,7 +6,7 @@ use Rattle.tb_undo.specs.State.{IsState}
 use Rattle.tb_undo.specs.Obstacles.{hindrance_by}
 use Rattle.tb_undo.proofs.StartLemmas.{kept, was_spawned}
 use Rattle.tb_undo.proofs.AskingLemmas.{by_undeferred, by_start, by_wait, by_close, by_none}
-use Rattle.tb_undo.proofs.tables.Tables.in_the_way.Goals as goal
+use Rattle.tb_undo.proofs.tables.Tables.in_the_way_near.Goals as goal
 
 pub returns-in_err-row : goal.returns-in_err-row
 returns-in_err-row c first root_line D legal state unended =
