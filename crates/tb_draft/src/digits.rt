@@ -1,6 +1,6 @@
 //! The digits of a number, from the last to the first.
 
-ghost use Rattle.std.specs.Prelude.{◌≡◌, ◌+◌, ◌/◌, ◌%◌, ◌<◌, ◌≤◌, ◌∷◌, ◌++◌, decimal, drop, length};
+ghost use Rattle.std.specs.Prelude.{◌≡◌, ◌+◌, ◌-◌, ◌/◌, ◌%◌, ◌<◌, ◌≤◌, ◌∷◌, ◌++◌, decimal, drop, length};
 
 use crate::short_text::ROOM;
 
@@ -49,6 +49,16 @@ fn put_first(bytes: &mut [u8; ROOM], end: usize, n: u32) -> usize
     }
     put_pair(bytes, end - 2, n);
     end - 2
+}
+
+/// Puts a level of one digit in front of the place, with its dot.
+#[inline(always)]
+pub(crate) fn put_digit_level(bytes: &mut [u8; ROOM], end: usize, n: u8)
+    requires { (n < 10) × (2 ≤ end) × (end ≤ 96) }
+    ensures { drop (end - 2) bytes.new ≡ 46 ∷ decimal n ++ drop end bytes.old }
+{
+    bytes[end - 1] = b'0' + n;
+    bytes[end - 2] = b'.';
 }
 
 /// Puts a number that may be long, as `put_digits` does.

@@ -4,7 +4,7 @@ ghost use Rattle.std.specs.Prelude.{◌≡◌, ◌+◌, ◌<◌, ◌≤◌, ◌+
 ghost use Rattle.std.specs.Fmt.{signed_decimal};
 ghost use Rattle.tb_model.specs.Spelling.{levels_text, name_text};
 
-use crate::digits::{put_digits, put_long};
+use crate::digits::{put_digit_level, put_digits, put_long};
 use std::marker::Model;
 use tb_model::TaskName;
 
@@ -132,14 +132,52 @@ impl ShortText {
         Some(())
     }
 
-    /// The same of levels that take a byte each.
-    #[inline(always)]
+    /// The same of levels that take a byte each. It stands apart, so that a line with a shorter name doesn't pay for its
+    /// room.
+    #[inline(never)]
     fn prepend_small_levels(&mut self, numbers: &[u8]) -> Option<()>
         ensures { IfSome result (λ _. self.new ≡ levels_text numbers.now ++ self.old) }
     {
-        'levels: for n in numbers {
+        let others = self.prepend_fours(numbers);
+        'levels: for n in others {
             self.prepend_level(u32::from(*n))?;
         }
+        Some(())
+    }
+
+    /// Puts levels in front, four at once, as far as they have one digit each and there is room. Returns the others.
+    #[inline(always)]
+    fn prepend_fours<'a>(&mut self, numbers: &'a [u8]) -> &'a [u8]
+        ensures { levels_text result.now ++ self.new ≡ levels_text numbers.now ++ self.old }
+    {
+        let mut left = numbers;
+        'fours: while let [a, b, c, d, more @ ..] = left {
+            if *a > 9 || *b > 9 || *c > 9 || *d > 9 {
+                return left;
+            }
+            if self.prepend_four(*a, *b, *c, *d).is_none() {
+                return left;
+            }
+            left = more;
+        }
+        left
+    }
+
+    /// Puts four levels of one digit each in front, the last of these first, if there is room.
+    #[inline(always)]
+    fn prepend_four(&mut self, a: u8, b: u8, c: u8, d: u8) -> Option<()>
+        requires { (a < 10) × (b < 10) × (c < 10) × (d < 10) }
+        ensures some { IfSome result (λ _. self.new ≡ levels_text (a ∷ b ∷ c ∷ d ∷ []) ++ self.old) }
+        ensures none { IfNone result (self.new ≡ self.old) }
+    {
+        if self.at < 8 {
+            return None;
+        }
+        put_digit_level(&mut self.bytes, self.at, a);
+        put_digit_level(&mut self.bytes, self.at - 2, b);
+        put_digit_level(&mut self.bytes, self.at - 4, c);
+        put_digit_level(&mut self.bytes, self.at - 6, d);
+        self.at -= 8;
         Some(())
     }
 
