@@ -71,19 +71,20 @@ impl Names {
         if self.is_last(task) {
             Ok(self.last)
         } else {
-            self.add(task)
+            self.name_by_hash(task)
         }
     }
 
-    /// The same of a task that was not the last to be found: it is looked for once, whether it has a number or not.
+    /// The same, looked for among all, and once only, whether it has a number or not. It stands apart, so that most calls
+    /// don't pay for its room.
     #[inline(never)]
-    fn add(&mut self, task: &TaskName) -> Result<usize, AllocError>
+    fn name_by_hash(&mut self, task: &TaskName) -> Result<usize, AllocError>
         ensures number { IfOk result (λ n. number_of self.new.keys.keys task.now ≡ Some n) }
         ensures others { (t : Name) → is_some (number_of self.old.keys.keys t) ≡ true →
             number_of self.new.keys.keys t ≡ number_of self.old.keys.keys t }
         ensures succeeds { is_some (number_of self.old.keys.keys task.now) ≡ true → IsOk result }
     {
-        // a name of many owners can't be copied
+        // where a copy is refused, a task that has a number gets it all the same
         let Ok(name) = task.clone() else {
             return self.find(task).ok_or(AllocError);
         };

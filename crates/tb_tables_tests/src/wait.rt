@@ -322,12 +322,14 @@ fn child_again(rt: &(impl Abort + AllocGlobal), task: &TaskName, number: u32) ->
     }
 }
 
-// The task generates four children, each in a group of its own, and the first is the least.
+// The task generates four children, each in a group of its own, and the first is the least. Then it opens a fifth group,
+// for which the row has no place in itself.
 fn grow(rt: &(impl Abort + AllocGlobal), table: &mut Wait, task: &TaskName) {
     for n in 0..4u32 {
         spawn_again(rt, table, task, n);
         open_again(rt, table, task);
     }
+    open_again(rt, table, task);
     let first = child_again(rt, task, 1);
     assert!(rt; table.first_child(task) == Some(&first));
 }

@@ -192,8 +192,8 @@ impl Row {
         ensures keeps { self.old.group_room ≤ self.new.group_room }
         ensures group_room { groups_of self.old.kin ≢ [] → self.new.group_room ≡ self.old.group_room + 1 }
     {
-        let places = self.groups.capacity();
-        if self.groups.pop().is_some() && self.group_room < places {
+        let _places = self.groups.capacity();
+        if self.groups.pop().is_some() {
             self.group_room += 1;
         }
     }

@@ -2,8 +2,8 @@ use Rattle.std.proofs.Common.{◌≡◌, IsOk, true, is_some, refl, sym, ◌∙�
 use Rattle.std.proofs.lemmas.Bool.{true≢false}
 use Rattle.tb_places.specs.Numbers.{number_of}
 use Rattle.tb_places.proofs.NameLemmas.{numbered}
-use Rattle.tb_places.proofs.names.Names.add.Goals as goal
-use Rattle.tb_places.proofs.names.Names.add.Goals.{in-Ok-insert_full, in-Err}
+use Rattle.tb_places.proofs.names.Names.name_by_hash.Goals as goal
+use Rattle.tb_places.proofs.names.Names.name_by_hash.Goals.{in-Ok-insert_full, in-Err}
 
 pub returns-clause-succeeds : goal.returns-clause-succeeds
 returns-clause-succeeds c some =
