@@ -1,6 +1,7 @@
 pub mod LayoutLemmas
 pub mod NumbersLemmas
 pub mod RelationsLemmas
+pub mod BareLemmas
 pub mod LastLemmas
 pub mod ChainLemmas
 pub mod PlacesLemmas

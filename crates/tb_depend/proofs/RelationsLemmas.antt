@@ -101,7 +101,7 @@ covered_spawned acts items n = ap (λ b. has_no_items items || b) (ap (some_meet
 
 -- ---- who is no child is related to none
 
-meets_none : (test : Relation → Bool) (new : List Item) → some_meet test new [] ≡ false
+pub meets_none : (test : Relation → Bool) (new : List Item) → some_meet test new [] ≡ false
 meets_none test [] = refl
 meets_none test (i ∷ new) = meets_none test new
 
@@ -151,9 +151,3 @@ covered_by_spawned acts items m =
     let e = covered_spawned acts items m in
     let n = length_spawned acts in
     ((λ c. let r = l.0 c in (r.0, omega (arith, n, r.1), sym e ∙ r.2)), (λ r. l.1 (r.0, omega (arith, n, r.1), e ∙ r.2)))
-
--- where there are no children, nobody is in front of a further one
-pub none_over_for : (over : ℕ → Bool) (items : List Item) (m : ℕ) → IsTrue (some_meet is_before items (items_at [] m)) → IsTrue (over m)
-none_over_for over [] m h = absurd (false≢true h)
-none_over_for over (i ∷ items) zero h = none_over_for over items zero h
-none_over_for over (i ∷ items) (suc m) h = none_over_for over items (suc m) h

@@ -1,5 +1,5 @@
 -- How the items of all children lie in one list. No public clause cites this module.
-use Rattle.std.specs.Prelude.{◌≡◌, ℕ, zero, suc, List, [], ◌∷◌, ◌<◌, ◌≤◌, ◌-◌, ◌⊎◌, length, slice_index, Option, Some, None, Box}
+use Rattle.std.specs.Prelude.{◌≡◌, ℕ, zero, suc, List, [], ◌∷◌, ◌<◌, ◌≤◌, ◌-◌, ◌⊎◌, length, replicate, slice_index, Option, Some, None, Box}
 use Rattle.std.specs.Box.{box_value}
 use Rattle.std.specs.List.{slice_range}
 use Rattle.tb_model.specs.declared.item.Item.{Item}
@@ -31,7 +31,11 @@ pub record IsRow (ends : List ℕ) (len n from to : ℕ) : Type 0 where
   pub within : to ≤ len
   pub there : ((0 < n) × (n ≤ length ends) × (from ≡ start_at 0 ends (n - 1)) × (to ≡ slice_index ends (n - 1))) ⊎ (((n ≡ 0) ⊎ (length ends < n)) × (from ≡ 0) × (to ≡ 0))
 
--- what is seen of lists that may not be made yet
-abbrev pub seen : {Z : Type 0} → Option (Box Table Z) → Table
-seen None = record { siblings = []; places = 0; item_places = 0; link_places = 0; cells = []; number_places = 0 }
-seen (Some lists) = box_value lists
+-- so many children without items, with room for so many in all
+abbrev pub bare_table : ℕ → ℕ → Table
+bare_table count room = record { siblings = replicate count []; places = room - count; item_places = 0; link_places = 0; cells = []; number_places = room }
+
+-- what is seen of the children, of which there are no lists while none has an item
+abbrev pub seen : {Z : Type 0} → ℕ → ℕ → Option (Box Table Z) → Table
+seen count room None = bare_table count room
+seen count room (Some lists) = box_value lists

@@ -1,7 +1,8 @@
-//! The lists of a task's children, which are made where the first child is.
+//! The lists of a task's children, which are made where the first item is.
 
-ghost use Rattle.std.specs.Prelude.{◌≡◌, ◌≤◌, ◌+◌, ◌<◌, ◌-◌, [], ◌∷◌, ◌++◌, IsOk, OnOk, IfOk, IsTrue, ◌↔◌, length, take, vec_capacity};
+ghost use Rattle.std.specs.Prelude.{◌≡◌, ◌≤◌, ◌+◌, ◌<◌, ◌-◌, [], ◌∷◌, ◌++◌, IsOk, OnOk, IfOk, IsTrue, ◌↔◌, length, take, replicate, vec_capacity};
 ghost use Rattle.tb_depend.specs.Relations.{items_at};
+ghost use Rattle.tb_depend.specs.Layout.{bare_table};
 ghost use Rattle.tb_depend.specs.Table.{HasRoomFor, KeepsRoom, FreesRoom};
 ghost use Rattle.tb_depend.specs.Nearness.{IsClosed, AreOver, AreOverFor, AreNear};
 
@@ -39,15 +40,20 @@ impl Model for Lists {
 }
 
 impl Lists {
-    /// No children. Takes no memory.
-    pub(crate) fn new(alloc: Global) -> Lists
-        ensures { result.siblings ≡ [] }
+    /// So many children without items, and room for so many in all.
+    #[tactic(auto, using(crate::proofs::BareLemmas::ends_bare, crate::proofs::BareLemmas::rows_bare))]
+    pub(crate) fn bare(alloc: Global, count: u32, room: u32) -> Result<Lists, AllocError>
+        requires { count ≤ room }
+        ensures siblings { IfOk result (λ lists. lists.siblings ≡ replicate count []) }
+        ensures keeps { IfOk result (KeepsRoom (bare_table count room)) }
     {
-        Lists {
+        let mut ends = vec![in alloc; 0; count as usize]?;
+        ends.reserve((room - count) as usize)?;
+        Ok(Lists {
             chain: Chain::new(alloc),
-            ends: Vec::new(alloc),
-            spare: Vec::new(alloc),
-        }
+            ends,
+            spare: Vec::with_capacity(alloc, room as usize)?,
+        })
     }
 
     /// How many children there are.

@@ -19,17 +19,24 @@ use tb_model::{Item, some_apart, some_before};
 #[derive(Drop)]
 pub struct Siblings {
     alloc: Global,
-    // on the heap, and made where the first child is: most tasks generate none
+    // how many children there are, and may be with no memory, while none of them has an item
+    bare: u32,
+    bare_room: u32,
+    // on the heap, and made where the first item is: most tasks generate no child, and most children
+    // have no items
     lists: Option<Box<Lists>>,
 }
 
 impl Model for Siblings {
+    ghost use Rattle.std.specs.Prelude.{◌≤◌};
     ghost use Rattle.tb_depend.specs.Table.{Table};
     ghost use Rattle.tb_depend.specs.Layout.{seen};
 
     ghost Value = { Table };
 
-    ghost view = { λ s. seen s.lists };
+    ghost view = { λ s. seen s.bare s.bare_room s.lists };
+
+    ghost invariant = { λ s. s.bare ≤ s.bare_room };
 }
 
 impl Siblings {
@@ -37,7 +44,12 @@ impl Siblings {
     pub fn new(alloc: Global) -> Siblings
         ensures { result.siblings ≡ [] }
     {
-        Siblings { alloc, lists: None }
+        Siblings {
+            alloc,
+            bare: 0,
+            bare_room: 0,
+            lists: None,
+        }
     }
 
     /// How many children there are.
@@ -46,11 +58,12 @@ impl Siblings {
     {
         match &self.lists {
             Some(lists) => lists.len(),
-            None => 0,
+            None => self.bare as usize,
         }
     }
 
     /// The items of the nth child, n from 1, and none where there is no such child.
+    #[tactic(auto, using(crate::proofs::BareLemmas::items_bare))]
     pub fn items(&self, n: usize) -> &[Item]
         ensures { result.now ≡ items_at self.now.siblings n }
     {
@@ -84,6 +97,7 @@ impl Siblings {
     }
 
     /// Makes the room that `add` needs for a child with these items, and changes nothing else.
+    #[tactic(auto, using(crate::proofs::BareLemmas::items_bare))]
     pub fn reserve_add(&mut self, items: &[Item]) -> Result<(), AllocError>
         ensures siblings { self.new.siblings ≡ self.old.siblings }
         ensures room { OnOk result (HasRoomFor self.new items.now) }
@@ -93,14 +107,19 @@ impl Siblings {
         if let Some(lists) = &mut self.lists {
             return lists.reserve_add(items);
         }
-        let mut lists = Box::new(self.alloc, Lists::new(self.alloc))?;
+        if items.is_empty() && self.bare < u32::MAX {
+            self.bare_room = self.bare_room.max(self.bare + 1);
+            return Ok(());
+        }
+        let mut lists = Lists::bare(self.alloc, self.bare, self.bare_room)?;
         lists.reserve_add(items)?;
-        self.lists = Some(lists);
+        self.lists = Some(Box::new(self.alloc, lists)?);
         Ok(())
     }
 
     /// Adds a child behind the others, and tells the children on which it depends. With room it
     /// takes no memory.
+    #[tactic(auto, using(crate::proofs::BareLemmas::preds_bare))]
     pub fn add(&mut self, items: &[Item]) -> Result<Preds, AllocError>
         ensures added { OnOk result (self.new.siblings ≡ self.old.siblings ++ items.now ∷ []) }
         ensures preds { IfOk result (λ preds.
@@ -112,12 +131,16 @@ impl Siblings {
     {
         self.reserve_add(items)?;
         self.add_reserved(items);
-        let numbers = self.take_spare();
+        let numbers = match &mut self.lists {
+            Some(lists) => lists.take_spare(self.alloc),
+            None => return Ok(Preds::of(Vec::new(self.alloc))),
+        };
         Ok(self.fill_preds(self.len(), numbers))
     }
 
     /// Adds a child behind the others, in the room that is there. The cost doesn't depend on how
     /// many there are.
+    #[tactic(auto, using(crate::proofs::BareLemmas::items_bare))]
     pub fn add_reserved(&mut self, items: &[Item])
         requires { HasRoomFor self.old items.now }
         ensures added { self.new.siblings ≡ self.old.siblings ++ items.now ∷ [] }
@@ -125,37 +148,29 @@ impl Siblings {
         ensures item_places { self.old.item_places ≤ self.new.item_places + length items.now }
         ensures numbers { self.new.number_places ≡ self.old.number_places }
     {
-        if let Some(lists) = &mut self.lists {
-            lists.add_reserved(items);
-        }
-    }
-
-    /// The list for the numbers that `add` tells.
-    fn take_spare(&mut self) -> Vec<usize>
-        ensures empty { result.items ≡ [] }
-        ensures room { vec_capacity result ≡ self.old.number_places }
-        ensures same { self.new ≡ record self.old { number_places = self.new.number_places } }
-    {
         match &mut self.lists {
-            Some(lists) => lists.take_spare(self.alloc),
-            None => Vec::new(self.alloc),
+            Some(lists) => lists.add_reserved(items),
+            None => self.bare += 1,
         }
     }
 
     /// Takes the last child off, and keeps its room. Where there is none, nothing changes.
+    #[tactic(auto, using(crate::proofs::BareLemmas::take_bare, crate::proofs::BareLemmas::frees_bare))]
     pub fn drop_last(&mut self)
         ensures siblings { self.new.siblings ≡ take (length self.old.siblings - 1) self.old.siblings }
         ensures frees { 0 < length self.old.siblings → FreesRoom self.old self.new
             (length (items_at self.old.siblings (length self.old.siblings))) }
         ensures keeps { KeepsRoom self.old self.new }
     {
-        if let Some(lists) = &mut self.lists {
-            lists.drop_last();
+        match &mut self.lists {
+            Some(lists) => lists.drop_last(),
+            None => self.bare = self.bare.saturating_sub(1),
         }
     }
 
     /// Whether all children on which the nth depends are over. Asks only those near it, of each
     /// storage location the last of one kind in front of it; takes no memory.
+    #[tactic(auto, using(crate::proofs::BareLemmas::over_bare))]
     pub fn are_preds_over<T: Over>(&self, n: usize, over: &T) -> bool
         ensures { IsClosed self.now.siblings (T.over over.now) →
             IsTrue result ↔ AreOver self.now.siblings (T.over over.now) n }

@@ -49,6 +49,27 @@ fn a_writer_waits_for_both_readers(rt: HostRuntime) {
     mem::forget(siblings);
 }
 
+/// Children without items are only counted, until one comes with an item: then all have their numbers.
+#[test]
+fn a_child_with_an_item_follows_children_without(rt: HostRuntime) {
+    let mut siblings = Siblings::new(rt.alloc());
+    assert!(rt; lists(siblings.add(&[]), &[]));
+    assert!(rt; lists(siblings.add(&[]), &[]));
+    siblings.drop_last();
+    assert!(rt; lists(siblings.add(&[]), &[]));
+    assert_eq!(rt; siblings.len(), 2);
+    assert!(rt; follows(&mut siblings, Kind::Out, &[]));
+    assert!(rt; lists(siblings.add(&[]), &[]));
+    assert!(rt; follows(&mut siblings, Kind::In, [3].as_slice()));
+    assert!(rt; siblings.items(2).is_empty() && siblings.items(3).len() == 1);
+    for _ in 0..4u32 {
+        siblings.drop_last();
+    }
+    assert_eq!(rt; siblings.len(), 1);
+    assert!(rt; follows(&mut siblings, Kind::In, &[]));
+    mem::forget(siblings);
+}
+
 /// All children are over but these two, whatever depends on them: an answer tells whether they are asked.
 #[derive(Drop)]
 struct AllBut {
