@@ -130,6 +130,6 @@ fn reserve_one(row: &mut Vec<u32>) -> Result<(), AllocError>
     if row.len() < row.capacity() {
         return Ok(());
     }
-    // six places take no more room than one
-    row.reserve(if row.is_empty() { 6 } else { 1 })
+    // so that the row of a task of up to ten steps never moves
+    row.reserve(if row.is_empty() { 10 } else { 1 })
 }
