@@ -5,7 +5,7 @@ use Rattle.std.proofs.lemmas.List.{map-append, get_or_append_left, get_or_at}
 use Rattle.tb_model.specs.declared.entry.Entry.{Entry}
 use Rattle.tb_model.specs.declared.entry.Entry.TheVariants.{Opened}
 use Rattle.tb_journal.specs.declared.compact.Compact.{Compact}
-use Rattle.tb_journal.specs.declared.compact.Compact.TheVariants.{Apart, Started, Set, Loaded, Stored, Printed, Waited, Entered, Left, Tested, Ended, Faulted, RolledBack}
+use Rattle.tb_journal.specs.declared.compact.Compact.TheVariants.{Apart, Started, Set, Loaded, Stored, Printed, Generated, Waited, WaitedFor, Entered, Left, Tested, Ended, Faulted, RolledBack}
 use Rattle.tb_journal.specs.Compact.{entry_of, IsThere}
 
 -- one more stands apart
@@ -16,7 +16,9 @@ one_kept apart e (Set reg seat value t) there = refl
 one_kept apart e (Loaded reg seat cell value t) there = refl
 one_kept apart e (Stored seat cell value t) there = refl
 one_kept apart e (Printed seat value t) there = refl
+one_kept apart e (Generated seat s t) there = refl
 one_kept apart e (Waited seat t) there = refl
+one_kept apart e (WaitedFor seat items t) there = refl
 one_kept apart e (Entered seat t) there = refl
 one_kept apart e (Left seat t) there = refl
 one_kept apart e (Tested met seat t) there = refl

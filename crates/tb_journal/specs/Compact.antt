@@ -2,11 +2,11 @@
 use Rattle.std.specs.Prelude.{ℕ, ◌≡◌, ◌<◌, List, [], Result, Ok, Err, slice_index_or, ⊤}
 use Rattle.tb_model.specs.Names.{Name}
 use Rattle.tb_model.specs.declared.action.Action.{Action}
-use Rattle.tb_model.specs.declared.action.Action.TheVariants.{Start, Let, Load, Store, Print, Wait, Open, Close, Test, End, Fault}
+use Rattle.tb_model.specs.declared.action.Action.TheVariants.{Start, Let, Load, Store, Print, Spawn, Wait, Open, Close, Test, End, Fault}
 use Rattle.tb_model.specs.declared.entry.Entry.{Entry}
 use Rattle.tb_model.specs.declared.entry.Entry.TheVariants.{Opened, Stepped, Rolled}
 use Rattle.tb_journal.specs.declared.compact.Compact.{Compact}
-use Rattle.tb_journal.specs.declared.compact.Compact.TheVariants.{Apart, Started, Set, Loaded, Stored, Printed, Waited, Entered, Left, Tested, Ended, Faulted, RolledBack}
+use Rattle.tb_journal.specs.declared.compact.Compact.TheVariants.{Apart, Started, Set, Loaded, Stored, Printed, Generated, Waited, WaitedFor, Entered, Left, Tested, Ended, Faulted, RolledBack}
 
 abbrev pub step : ℕ → Name → Action → Entry
 step seat t a = Stepped seat (record { task = t; action = a })
@@ -19,7 +19,9 @@ entry_of apart (Set reg seat value t) = step seat t (Let reg value)
 entry_of apart (Loaded reg seat cell value t) = step seat t (Load reg cell value)
 entry_of apart (Stored seat cell value t) = step seat t (Store cell value)
 entry_of apart (Printed seat value t) = step seat t (Print value)
+entry_of apart (Generated seat s t) = step seat t (Spawn s)
 entry_of apart (Waited seat t) = step seat t (Wait [])
+entry_of apart (WaitedFor seat items t) = step seat t (Wait items)
 entry_of apart (Entered seat t) = step seat t Open
 entry_of apart (Left seat t) = step seat t Close
 entry_of apart (Tested met seat t) = step seat t (Test met)

@@ -36,6 +36,7 @@ is_long (Wait []) = false
 is_long (Wait items) = true
 is_long _ = false
 
--- the entry of a step of the seat with this action stands apart
+-- a step of the seat with this action has to be handed over whole: its entry shares the
+-- action's memory, or stands apart
 abbrev pub stands_apart : ℕ → Action → Bool
 stands_apart seat a = nat_le 256 seat || is_long a

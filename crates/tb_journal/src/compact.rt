@@ -9,10 +9,10 @@ use crate::copying::copy_of;
 use crate::seat::seat_of;
 use std::alloc::{AllocError, Global};
 use std::mem::size_of;
-use tb_model::{Action, Entry, Event, Items, StepId, TaskName, WaitItems};
+use tb_model::{Action, Entry, Event, Items, Spawned, StepId, TaskName, WaitItems};
 
-/// Most entries stand in the value itself, by what was done; the others stand apart, each with a
-/// number. A seat above 255, which no run has, stands apart with its entry.
+/// An entry stands in the value itself, by what was done. Only the opening and the entries of a seat
+/// above 255, which no run has, stand apart, each with a number.
 #[derive(Drop)]
 pub(crate) enum Compact {
     Apart(usize),
@@ -44,9 +44,20 @@ pub(crate) enum Compact {
         value: i64,
         task: TaskName,
     },
-    /// A `taskwait` without items.
+    Generated {
+        seat: u8,
+        spawn: Spawned,
+        task: TaskName,
+    },
+    /// A `taskwait` without items was passed.
     Waited {
         seat: u8,
+        task: TaskName,
+    },
+    /// A `taskwait` with items was passed.
+    WaitedFor {
+        seat: u8,
+        items: WaitItems,
         task: TaskName,
     },
     /// A `taskgroup` was entered.
@@ -89,8 +100,16 @@ impl Compact {
         match self {
             Compact::Apart(number) => nth(apart, *number),
             Compact::Started { seat, task } => stepped(*seat, task, Action::Start),
+            Compact::Generated { seat, spawn, task } => {
+                let spawn = spawn.clone()?;
+                stepped(*seat, task, Action::Spawn(spawn))
+            }
             Compact::Waited { seat, task } => {
                 let items = WaitItems::new(alloc, Items::new(alloc))?;
+                stepped(*seat, task, Action::Wait { items })
+            }
+            Compact::WaitedFor { seat, items, task } => {
+                let items = items.clone()?;
                 stepped(*seat, task, Action::Wait { items })
             }
             Compact::Entered { seat, task } => stepped(*seat, task, Action::Open),
@@ -153,7 +172,9 @@ impl Compact {
             | Compact::Loaded { seat, .. }
             | Compact::Stored { seat, .. }
             | Compact::Printed { seat, .. }
+            | Compact::Generated { seat, .. }
             | Compact::Waited { seat, .. }
+            | Compact::WaitedFor { seat, .. }
             | Compact::Entered { seat, .. }
             | Compact::Left { seat, .. }
             | Compact::Tested { seat, .. }

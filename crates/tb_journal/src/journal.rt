@@ -15,8 +15,8 @@ use tb_model::{Action, Entry, Event, TaskName};
 
 /// The entries of a run, the oldest first. Contracts see them, and for how many more there is room.
 ///
-/// An entry takes 32 bytes. Those of a spawn, of a `taskwait` with items and of the opening stand
-/// whole in a list of their own.
+/// An entry takes 32 bytes. The opening stands whole in a list of its own, and so does the entry of a
+/// seat above 255, which no run has.
 #[derive(Drop)]
 pub struct Journal {
     alloc: Global,
@@ -90,8 +90,8 @@ impl Journal {
         self.add(short_step(seat, event));
     }
 
-    /// Adds the step of a seat whose entry doesn't stand apart, and for which there is room. It takes no
-    /// memory.
+    /// Adds the step of a seat by its action, where that has no name or list of its own, and for which
+    /// there is room. It takes no memory.
     #[inline(always)]
     pub fn push_short(&mut self, seat: u32, task: TaskName, action: &Action)
         requires room { 0 < self.old.room }

@@ -8,8 +8,10 @@ ghost use Rattle.tb_journal.specs.Journals.{is_long, stands_apart};
 use crate::compact::Compact;
 use tb_model::{Action, Entry, Event, StepId, TaskName};
 
-/// Whether the entry of a step of the seat with this action stands apart: where that is a spawn or a
-/// `taskwait` with items, or a seat that no run has. The others have no memory of their own.
+/// Whether a step of the seat with this action has to be handed over whole, and so is copied before it
+/// is taken: the entry of a spawn and of a `taskwait` with items shares the action's memory, and that of a
+/// seat above 255, which no run has, stands apart. `push_short` reads the others off the action where it
+/// stands.
 #[inline(always)]
 pub fn stands_apart(seat: u32, action: &Action) -> bool
     ensures { result ≡ stands_apart seat action.now }
@@ -29,7 +31,7 @@ fn is_long(action: &Action) -> bool
     }
 }
 
-/// The entry in few bytes; itself, where it stands apart.
+/// The entry in few bytes; itself, where it stands apart. Nothing is copied.
 pub(crate) fn short(entry: Entry) -> Result<Compact, Entry>
     ensures ok { IfOk result (StandsFor entry) }
     ensures is { entry_in result ≡ entry }
@@ -52,14 +54,22 @@ pub(crate) fn short_step(seat: u32, event: Event) -> Result<Compact, Entry>
     ensures ok { IfOk result (StandsFor (Stepped seat event)) }
     ensures is { entry_in result ≡ Stepped seat event }
 {
-    if stands_apart(seat, &event.action) {
+    let Ok(seat) = u8::try_from(seat) else {
         return Err(Entry::Stepped { seat, event });
-    }
+    };
     let Event { task, action } = event;
-    Ok(short_action(seat as u8, task, &action))
+    match action {
+        Action::Spawn(spawn) => Ok(Compact::Generated { seat, spawn, task }),
+        Action::Wait { items } if !items.as_slice().is_empty() => Ok(Compact::WaitedFor {
+            seat,
+            items,
+            task,
+        }),
+        other => Ok(short_action(seat, task, &other)),
+    }
 }
 
-/// The entry of a step that doesn't stand apart.
+/// The entry of a step whose action has no name or list of its own.
 #[inline(always)]
 pub(crate) fn short_action(seat: u8, task: TaskName, action: &Action) -> Compact
     requires { IsFalse (is_long action.now) }
