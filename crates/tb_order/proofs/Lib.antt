@@ -4,6 +4,7 @@ pub mod LaneLemmas
 pub mod AfterLemmas
 pub mod ClockLemmas
 pub mod LinkLemmas
+pub mod StartLemmas
 pub mod SoundLemmas
 pub mod OwnLemmas
 pub mod NumberLemmas

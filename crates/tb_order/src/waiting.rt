@@ -19,21 +19,28 @@ use tb_core::{Entry, is_member};
 use tb_model::{Action, Item, TaskName, some_apart, some_before};
 use tb_races::NeedKind;
 
-/// Whether the step at this place may be linked to ends of others.
+/// Whether the step at this place may be linked to ends of others. A start without depend items isn't.
 pub fn may_wait(entries: &[Entry], tasks: &Tasks, at: usize) -> bool
+    requires legal { AreLegal entries.now }
     requires tasks { AreTasks entries.now tasks.now }
     requires at { at < length entries.now }
     ensures { IsFalse result → (exclusion : Bool) (x : ℕ) → x < at → IsTrue (is_end_at entries.now x)
         → IsTrue (links_at (order_of exclusion) entries.now at x) → IsTrue (both_at of_one entries.now at x) }
 {
-    waits_by_itself(&entries[at].event.action) || is_held(entries, tasks, at)
+    let items = items_of(entries, tasks, at);
+    waits_by_itself(&entries[at].event.action, items) || is_held(entries, tasks, at)
 }
 
-/// Whether the action is one that waits.
-fn waits_by_itself(action: &Action) -> bool
-    ensures { IsFalse result → (H : Facts.History) (t u : Name) → Kinds.wait_kind H t action.now u ≡ None }
+/// Whether the action, of a task with these depend items, is one that waits.
+fn waits_by_itself(action: &Action, items: &[Item]) -> bool
+    ensures { IsFalse result → (H : Facts.History) (t u : Name) → items.now ≡ Facts.items_of t H
+        → Kinds.wait_kind H t action.now u ≡ None }
 {
-    matches!(action, Action::Start | Action::Wait { .. } | Action::Close)
+    match action {
+        Action::Start => !items.is_empty(),
+        Action::Wait { .. } | Action::Close => true,
+        _ => false,
+    }
 }
 
 /// Whether the task generated an undeferred child right in front of the step at this place.
