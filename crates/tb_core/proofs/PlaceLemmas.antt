@@ -9,7 +9,7 @@ use Rattle.tb_model.specs.Legal.{Cells}
 use Rattle.tb_model.specs.Lines.{Departure}
 use Rattle.tb_model.specs.Equivalent.{stands}
 use Rattle.tb_model.proofs.FactsLemmas.{no_acts}
-use Rattle.tb_read.specs.declared.config.Config.{Config}
+use Rattle.tb_plan.specs.declared.config.Config.{Config}
 use Rattle.tb_undo.specs.State.{Seen as Tables, task_of}
 use Rattle.tb_undo.specs.Standings.{Standing, standing_of}
 use Rattle.tb_undo.proofs.TaskLemmas.{unacted_in}

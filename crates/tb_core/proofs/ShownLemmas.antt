@@ -23,9 +23,9 @@ use Rattle.tb_model.specs.Hindrances.{Hindrance, Refusal, By, in_the_way, number
 use Rattle.tb_model.specs.Hindrances.{NoSuchTask as TheTaskIsMissing, Ended as TheTaskIsOver}
 use Rattle.tb_model.proofs.HindranceLemmas.{nothing_in_the_way}
 use Rattle.tb_model.proofs.StateLemmas.{over_ended}
-use Rattle.tb_read.specs.declared.planned.Plan.{Plan}
-use Rattle.tb_read.specs.declared.config.Config.{Config}
-use Rattle.tb_read.specs.Plans.{names_allowed, line_behind, is_placed, is_place}
+use Rattle.tb_plan.specs.declared.planned.Plan.{Plan}
+use Rattle.tb_plan.specs.declared.config.Config.{Config}
+use Rattle.tb_plan.specs.Plans.{names_allowed, line_behind, is_placed, is_place}
 use Rattle.tb_undo.specs.State.{known_task, task_of}
 use Rattle.tb_undo.specs.Standings.{Standing, standing_of}
 use Rattle.tb_core.specs.declared.step_refusal.StepRefusal.{StepRefusal}

@@ -14,8 +14,8 @@ use Rattle.tb_model.specs.Lines.{Departure, events_of, without_lines}
 use Rattle.tb_model.specs.Needs.{step_of, needs, removed, without}
 use Rattle.tb_model.specs.Reordering.{IsUnneeded}
 use Rattle.tb_model.proofs.RemovalLemmas.{without_newest, its_step, removed_none}
+use Rattle.tb_plan.specs.Plans.{names_allowed}
 use Rattle.tb_undo.proofs.MiddleLemmas.{lines_kept}
-use Rattle.tb_read.specs.Plans.{names_allowed}
 use Rattle.tb_store.specs.declared.replaced.Replaced.{Replaced}
 use Rattle.tb_wait.specs.Histories.{kin_from}
 use Rattle.tb_wait.proofs.HistoryLemmas.{counted, kin_stands}

@@ -2,7 +2,7 @@
 use Rattle.std.specs.Prelude.{◌≡◌, ◌<◌, ⊤, Some}
 use Rattle.tb_model.specs.Names.{Name}
 use Rattle.tb_model.specs.Hindrances.{Hindrance, By}
-use Rattle.tb_read.specs.declared.config.Config.{Config}
+use Rattle.tb_plan.specs.declared.config.Config.{Config}
 use Rattle.tb_undo.specs.Standings.{Standing}
 use Rattle.tb_undo.specs.declared.obstacle.Obstacle.{Obstacle}
 use Rattle.tb_undo.specs.declared.obstacle.Obstacle.TheVariants as obstacle

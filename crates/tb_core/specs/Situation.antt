@@ -1,6 +1,6 @@
 -- Where a task stands behind a history that keeps its lines.
 use Rattle.tb_model.specs.Names.{Name}
-use Rattle.tb_read.specs.declared.config.Config.{Config}
+use Rattle.tb_plan.specs.declared.config.Config.{Config}
 use Rattle.tb_undo.specs.State.{known_task}
 use Rattle.tb_core.specs.Seen.{Seen}
 

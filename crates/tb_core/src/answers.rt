@@ -8,7 +8,7 @@ use crate::elsewhere::Elsewhere;
 use crate::step_refusal::StepRefusal;
 use std::alloc::{AllocError, Global};
 use tb_model::TaskName;
-use tb_read::Config;
+use tb_plan::Config;
 use tb_undo::{Obstacle, Standing};
 
 /// A task that stands so.

@@ -5,7 +5,7 @@ ghost use Rattle.std.specs.Prelude.{◌≡◌, IfOk};
 use std::alloc::{AllocError, Global};
 use std::fmt;
 use std::marker::Model;
-use tb_read::Config;
+use tb_plan::Config;
 
 /// Where a task stands that a plan takes to be elsewhere. Contracts see the configuration.
 ///
@@ -18,7 +18,7 @@ pub struct Elsewhere {
 
 impl Model for Elsewhere {
     ghost use Rattle.std.specs.Box.{box_value};
-    ghost use Rattle.tb_read.specs.declared.config.Config.{Config as TheConfig};
+    ghost use Rattle.tb_plan.specs.declared.config.Config.{Config as TheConfig};
 
     ghost Value = { TheConfig };
 

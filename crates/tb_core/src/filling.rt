@@ -4,12 +4,12 @@ ghost use Rattle.std.specs.Prelude.{◌≡◌, ◌<◌, ◌↔◌, ℕ, List, If
 ghost use Rattle.tb_model.specs.declared.event.Event.{Event as AnEvent};
 ghost use Rattle.tb_model.specs.declared.spawn.Spawn.{Spawn as ASpawn};
 ghost use Rattle.tb_model.specs.Names.{child};
-ghost use Rattle.tb_read.specs.Plans.{names_allowed};
+ghost use Rattle.tb_plan.specs.Plans.{names_allowed};
 ghost use Rattle.tb_core.specs.Filling.{spare_task, spare_spawn, Fills, IsNextSpawn, IsRunOf, IsWhole};
 
 use std::alloc::AllocError;
 use tb_model::{Action, Event, Spawned, TaskName};
-use tb_read::Plan;
+use tb_plan::Plan;
 use tb_undo::Tables;
 
 /// What can be used again of an event that isn't wanted any longer: its task's name, and its spawn.

@@ -35,7 +35,7 @@ use std::alloc::{AllocError, Global};
 use std::marker::Model;
 use tb_model::{Action, Event, StepId, TaskName};
 use tb_places::Places;
-use tb_read::{Config, Plan};
+use tb_plan::{Config, Plan};
 use tb_undo::{Standing, Tables};
 
 /// The history of a run, with what each step replaced, and the state that it leaves. It holds no

@@ -9,7 +9,8 @@ use std::mem;
 use std::process::Abort;
 use tb_core::{Core, Entry};
 use tb_model::{Action, Event, StepId, TaskName};
-use tb_read::{Plan, Program, plan, read};
+use tb_plan::{Plan, plan};
+use tb_read::{Program, read};
 use tb_roll::roll;
 
 /// Programs without `taskgroup`.

@@ -9,7 +9,8 @@ use std::process::Abort;
 use tb_cause::{needed_by, needs};
 use tb_core::{Core, Removed, StepRefusal};
 use tb_model::{Action, StepId, TaskName};
-use tb_read::{Plan, Program, plan, read};
+use tb_plan::{Plan, plan};
+use tb_read::{Program, read};
 use tb_roll::{finish, ready, roll, same_run};
 
 /// Whether the plan is for the core's cells, starts a task exactly in front of its first step, and

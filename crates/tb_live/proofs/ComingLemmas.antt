@@ -11,10 +11,10 @@ use Rattle.tb_model.specs.Facts.{History, is_of, own, is_spawned, prepend_if}
 use Rattle.tb_model.specs.Hindrances.{By, Hindrance, can_step, in_the_way, least_ready, refusal_of}
 use Rattle.tb_model.specs.Lines.{Departure}
 use Rattle.tb_model.specs.Program.{Program, instr_at}
-use Rattle.tb_read.specs.declared.config.Config.{Config}
-use Rattle.tb_read.specs.declared.instr.Instr.{Instr}
-use Rattle.tb_read.specs.declared.planned.Plan.{Plan}
-use Rattle.tb_read.specs.Plans.{IsActionOf, instruction, line_behind, names_allowed}
+use Rattle.tb_plan.specs.declared.config.Config.{Config}
+use Rattle.tb_plan.specs.declared.instr.Instr.{Instr}
+use Rattle.tb_plan.specs.declared.planned.Plan.{Plan}
+use Rattle.tb_plan.specs.Plans.{IsActionOf, instruction, line_behind, names_allowed}
 use Rattle.tb_undo.specs.Standings.{Standing}
 use Rattle.tb_core.specs.declared.step_refusal.StepRefusal.{StepRefusal}
 use Rattle.tb_core.specs.declared.step_refusal.StepRefusal.TheVariants.{Memory, Full}

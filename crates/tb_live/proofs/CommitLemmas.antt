@@ -14,8 +14,8 @@ use Rattle.tb_model.specs.Facts.{is_spawned, ends}
 use Rattle.tb_model.specs.Journal.{hist}
 use Rattle.tb_model.specs.Program.{Program, instr_at}
 use Rattle.tb_model.specs.Hindrances.{By, refusal_of, next_event}
-use Rattle.tb_read.specs.Plans.{instruction}
-use Rattle.tb_read.specs.declared.planned.Plan.{Plan}
+use Rattle.tb_plan.specs.Plans.{instruction}
+use Rattle.tb_plan.specs.declared.planned.Plan.{Plan}
 use Rattle.tb_core.specs.declared.step_refusal.StepRefusal.{StepRefusal}
 use Rattle.tb_core.specs.declared.step_refusal.StepRefusal.TheVariants.{Memory, NoSuchTask, Ended, Full, Stale}
 use Rattle.tb_core.specs.Seen.{Seen, Held as HeldCore}

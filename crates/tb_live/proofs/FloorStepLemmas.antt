@@ -18,7 +18,7 @@ use Rattle.tb_model.specs.Hindrances.{Hindrance, By, can_step, least_ready}
 use Rattle.tb_model.proofs.TestLemmas.{same_true}
 use Rattle.tb_model.proofs.LeastNameLemmas.{one_least, least_found, at_most_itself}
 use Rattle.tb_model.proofs.NextStepLemmas.{next_isnt_refused}
-use Rattle.tb_read.specs.declared.planned.Plan.{Plan}
+use Rattle.tb_plan.specs.declared.planned.Plan.{Plan}
 use Rattle.tb_core.specs.declared.step_refusal.StepRefusal.{StepRefusal}
 use Rattle.tb_core.specs.Seen.{Seen}
 use Rattle.tb_core.specs.Seen as core

@@ -10,6 +10,9 @@ use Rattle.tb_model.specs.declared.statement.Statement.TheVariants.{Start as DoS
 use Rattle.tb_model.specs.Names.{Name, child}
 use Rattle.tb_model.specs.Facts.{History, is_of, own, is_start, is_end, ends, spawns, is_spawned, IsSpawned}
 use Rattle.tb_model.specs.Hindrances.{Hindrance, Refusal, NoSuchTask, Ended, By, refusal_of, can_step, least_ready, in_the_way, number_read, next_event}
+use Rattle.tb_plan.specs.declared.config.Config.{Config}
+use Rattle.tb_plan.specs.declared.planned.Plan.{Plan}
+use Rattle.tb_plan.specs.Plans.{instruction}
 use Rattle.tb_undo.specs.State.{registers}
 use Rattle.tb_model.specs.declared.event.Event.{Event}
 use Rattle.tb_model.specs.Legal.{Cells, spawn_count, IsRunning, Continues}
@@ -23,9 +26,6 @@ use Rattle.tb_model.proofs.TestLemmas.{same_true}
 use Rattle.tb_model.proofs.NeighboursLemmas.{start_only}
 use Rattle.tb_model.proofs.LinesLemmas.{line_kept, situation_other}
 use Rattle.tb_model.proofs.WellFormedLemmas.{Placed, what_fits, stands}
-use Rattle.tb_read.specs.declared.config.Config.{Config}
-use Rattle.tb_read.specs.declared.planned.Plan.{Plan}
-use Rattle.tb_read.specs.Plans.{instruction}
 use Rattle.tb_core.specs.Seen.{Seen, history}
 use Rattle.tb_core.specs.Situation.{config_of}
 use Rattle.tb_core.specs.Filling.{completed}

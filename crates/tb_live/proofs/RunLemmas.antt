@@ -24,9 +24,9 @@ use Rattle.tb_model.proofs.TestLemmas.{same_refl}
 use Rattle.tb_model.proofs.FactsLemmas.{own_mine}
 use Rattle.tb_model.proofs.NeedersLemmas.{standing, unneeded}
 use Rattle.tb_model.proofs.ReorderingLemmas as reordering
-use Rattle.tb_read.specs.declared.config.Config.{Config}
-use Rattle.tb_read.specs.declared.planned.Plan.{Plan}
-use Rattle.tb_read.specs.Plans.{instruction, line_behind}
+use Rattle.tb_plan.specs.declared.config.Config.{Config}
+use Rattle.tb_plan.specs.declared.planned.Plan.{Plan}
+use Rattle.tb_plan.specs.Plans.{instruction, line_behind}
 use Rattle.tb_core.specs.declared.removed.Removed.{Removed}
 use Rattle.tb_core.specs.Seen.{Seen}
 use Rattle.tb_core.specs.Seen as core
@@ -80,8 +80,8 @@ line_fits P run p f i l =
     let t = p.config.task in
     let v = event_of run p in
     let c = situation P t H in
-    let here : Rattle.tb_read.specs.Plans.situation p.config ≡ c =
-    ap (λ (k : Config). Rattle.tb_read.specs.Plans.situation k) i.here
+    let here : Rattle.tb_plan.specs.Plans.situation p.config ≡ c =
+    ap (λ (k : Config). Rattle.tb_plan.specs.Plans.situation k) i.here
     ∙ ap₂ {C = Place} (λ (n : ℕ) (rs : List ℤ). record { line = n; regs = rs }) (stands_at P run t f) (holds_registers P run t)
     in
     ap₂ (λ (j : Instr) (k : Place). (moved j k p.action).line) (plan_instr P run p f i) here

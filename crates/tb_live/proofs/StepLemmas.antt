@@ -17,8 +17,8 @@ use Rattle.tb_model.specs.Hindrances.{Refusal, By, refusal_of, can_step, least_r
 use Rattle.tb_model.specs.Hindrances.{NoSuchTask as IsMissing, Ended as IsOver}
 use Rattle.tb_model.proofs.LeastNameLemmas.{least_found}
 use Rattle.tb_model.proofs.NextStepLemmas.{next_computed, next_isnt_refused}
-use Rattle.tb_read.specs.declared.config.Config.{Config}
-use Rattle.tb_read.specs.declared.planned.Plan.{Plan}
+use Rattle.tb_plan.specs.declared.config.Config.{Config}
+use Rattle.tb_plan.specs.declared.planned.Plan.{Plan}
 use Rattle.tb_core.specs.declared.step_refusal.StepRefusal.{StepRefusal}
 use Rattle.tb_core.specs.declared.step_refusal.StepRefusal.TheVariants.{Memory, NoSuchTask, Ended, Full, Stale}
 use Rattle.tb_core.specs.Seen.{Seen}

@@ -21,9 +21,9 @@ use Rattle.tb_model.specs.Legal.{Cells, spawn_count}
 use Rattle.tb_model.specs.Program.{Program, Instr, action_of, and_item, cell_at, computed, instr_at, is_deferred, is_met, items_at, items_or_fault, or_fault, place_at, planned, value, zero_ℤ}
 use Rattle.tb_model.specs.Hindrances.{Hindrance, By, Children, Undeferred, can_step, in_the_way, least_as, least_where, spawned_names}
 use Rattle.tb_model.proofs.LeastNameLemmas.{one_least, least_found}
-use Rattle.tb_read.specs.declared.config.Config.{Config}
-use Rattle.tb_read.specs.declared.instr.Instr.{Instr as Read}
-use Rattle.tb_read.specs.Plans.{instruction}
+use Rattle.tb_plan.specs.declared.config.Config.{Config}
+use Rattle.tb_plan.specs.declared.instr.Instr.{Instr as Read}
+use Rattle.tb_plan.specs.Plans.{instruction}
 use Rattle.tb_undo.specs.Standings.{Standing}
 use Rattle.tb_core.specs.Naming.{config_with}
 use Rattle.tb_core.specs.Outcomes.{has_ended}

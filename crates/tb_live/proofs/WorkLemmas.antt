@@ -8,7 +8,7 @@ use Rattle.tb_model.specs.Journal.{hist}
 use Rattle.tb_model.specs.LeastNames.{IsLeastName}
 use Rattle.tb_model.specs.Hindrances.{least_ready}
 use Rattle.tb_model.specs.Program.{Program}
-use Rattle.tb_read.specs.declared.config.Config.{Config}
+use Rattle.tb_plan.specs.declared.config.Config.{Config}
 use Rattle.tb_core.specs.Seen.{Seen}
 use Rattle.tb_core.specs.Seen as core
 use Rattle.tb_core.specs.Situation.{config_of}

@@ -9,10 +9,10 @@ use Rattle.tb_model.specs.Facts.{History, is_spawned}
 use Rattle.tb_model.specs.Program.{Program, instr_at}
 use Rattle.tb_model.specs.Hindrances.{can_step, in_the_way, least_ready, refusal_of}
 use Rattle.tb_model.specs.LeastNames.{IsLeastName}
-use Rattle.tb_read.specs.declared.instr.Instr.{Instr}
-use Rattle.tb_read.specs.declared.planned.Plan.{Plan}
+use Rattle.tb_plan.specs.declared.instr.Instr.{Instr}
+use Rattle.tb_plan.specs.declared.planned.Plan.{Plan}
+use Rattle.tb_plan.specs.Plans.{instruction, line_behind}
 use Rattle.tb_read.specs.Meaning.{IsPosition}
-use Rattle.tb_read.specs.Plans.{instruction, line_behind}
 use Rattle.tb_read.specs.Strips.{IsStripOf}
 use Rattle.tb_core.specs.declared.step_refusal.StepRefusal.{StepRefusal}
 use Rattle.tb_core.specs.declared.step_refusal.StepRefusal.TheVariants.{Memory, NoSuchTask, Ended, Full, Stale}

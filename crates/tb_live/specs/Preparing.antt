@@ -8,7 +8,7 @@ use Rattle.tb_model.specs.Equivalent.{stands}
 use Rattle.tb_model.specs.Names.{Name}
 use Rattle.tb_model.specs.Hindrances.{next_event}
 use Rattle.tb_model.specs.Program.{Program}
-use Rattle.tb_read.specs.declared.planned.Plan.{Plan}
+use Rattle.tb_plan.specs.declared.planned.Plan.{Plan}
 use Rattle.tb_core.specs.Outcomes.{IsOpen, event_of}
 use Rattle.tb_core.specs.Rolled.{IsOfHistory}
 use Rattle.tb_core.specs.Seen.{Held, history}

@@ -4,9 +4,9 @@ use Rattle.tb_model.specs.Names.{Name}
 use Rattle.tb_model.specs.Facts.{History, own, is_spawned}
 use Rattle.tb_model.specs.LeastNames.{IsLeastName}
 use Rattle.tb_model.specs.Program.{Program, instr_at, situation}
-use Rattle.tb_read.specs.declared.config.Config.{Config}
+use Rattle.tb_plan.specs.declared.config.Config.{Config}
+use Rattle.tb_plan.specs.Plans.{instruction}
 use Rattle.tb_read.specs.Meaning.{IsPosition}
-use Rattle.tb_read.specs.Plans.{instruction}
 use Rattle.tb_read.specs.Strips.{IsStripOf}
 use Rattle.tb_live.specs.declared.work.Work.{Work}
 use Rattle.tb_live.specs.declared.claim.Claim.{Claim}

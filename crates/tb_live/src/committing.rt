@@ -20,7 +20,8 @@ use crate::stepping::{enter_readied, ready_step};
 use tb_core::{Core, StepRefusal};
 use tb_journal::Journal;
 use tb_model::{Entry, Event, StepId, TaskName};
-use tb_read::{Instr, Plan, Program};
+use tb_plan::{Instr, Plan};
+use tb_read::Program;
 
 /// Whether the instruction is the program's at its line.
 fn is_of_program(program: &Program, instr: &Instr) -> bool

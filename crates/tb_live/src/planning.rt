@@ -14,7 +14,8 @@ use crate::work::Work;
 use std::alloc::{AllocError, Global};
 use tb_core::{Core, StepRefusal};
 use tb_model::TaskName;
-use tb_read::{Config, Program, Strip, evaluate, line_behind};
+use tb_plan::{Config, evaluate, line_behind};
+use tb_read::{Program, strip_around};
 use tb_undo::Standing;
 
 /// What a task does next, whether it may do it now or not.
@@ -97,7 +98,7 @@ fn work_at(program: &Program, core: &Core, config: Config) -> Result<Work, Alloc
         Some(instr) => Ok(Work {
             instr: instr.clone()?,
             config,
-            strip: Strip::around(program, at),
+            strip: strip_around(program, at),
         }),
         None => unreachable!(),
     }

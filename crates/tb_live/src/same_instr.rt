@@ -4,7 +4,7 @@ ghost use Rattle.std.specs.Prelude.{◌≡◌, ◌↔◌, IsTrue};
 ghost use Rattle.tb_live.specs.Statements.{IsCompute, IsTask};
 
 use tb_model::{Clause, Condition, Operand, Statement};
-use tb_read::Instr;
+use tb_plan::Instr;
 
 /// Whether the instructions stand at one line, say the same and lead to the same lines.
 pub fn is_same_instr(a: &Instr, b: &Instr) -> bool

@@ -20,7 +20,7 @@ use std::alloc::AllocError;
 use tb_core::{Core, StepRefusal};
 use tb_journal::{Journal, stands_apart};
 use tb_model::{Action, Event, StepId, TaskName};
-use tb_read::Plan;
+use tb_plan::Plan;
 
 /// Makes all room for the step of a plan and for its entry, and tells the event. The journal has more
 /// entries than the history has events. What was prepared is given up for it, and at want of memory;
@@ -197,7 +197,8 @@ fn follow(control: &mut Control, core: &Core, line: u32)
 }
 
 /// Takes an action from which nothing keeps the task, and enters it for the seat. Most entries are read
-/// off the history's newest event; one that stands apart is copied before the step.
+/// off the history's newest event; one that shares memory with its event, or stands apart, is copied
+/// before the step.
 #[inline(always)]
 fn take(
     core: &mut Core,

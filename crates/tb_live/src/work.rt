@@ -1,6 +1,6 @@
 //! What a seat works on.
 
-use tb_read::{Config, Instr, Strip};
+use tb_plan::{Config, Instr, Strip};
 
 /// The statement that a task takes next, the situation in which it does, and the private statements
 /// around it.

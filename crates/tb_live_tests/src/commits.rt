@@ -8,7 +8,7 @@ use std::mem;
 use std::process::Abort;
 use tb_live::Live;
 use tb_model::StepId;
-use tb_read::{Plan, plan};
+use tb_plan::{Plan, plan};
 
 /// The plan of the task, which the seat claims then.
 fn planned(rt: &(impl Abort + AllocGlobal), live: &mut Live, seat: u32, name: &str) -> Plan {

@@ -51,7 +51,7 @@ fn has_same_text(rt: &impl AllocGlobal, left: &Entry, right: &Entry) -> Result<b
     Ok(left.as_str() == right.as_str())
 }
 
-/// Adds the entry for which there is room by its action, where it doesn't stand apart.
+/// Adds the entry for which there is room by its action, where that has no name or list of its own.
 fn push(rt: &impl Abort, journal: &mut Journal, entry: Entry)
     requires { 0 < journal.old.room }
     ensures { length journal.old.items < length journal.new.items }

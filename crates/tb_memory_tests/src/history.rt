@@ -9,7 +9,8 @@ use std::mem;
 use std::process::Abort;
 use tb_core::{Core, StepRefusal};
 use tb_model::Action;
-use tb_read::{Plan, Program, plan, read};
+use tb_plan::{Plan, plan};
+use tb_read::{Program, read};
 use tb_roll::{RollRefusal, roll};
 
 /// A load, and a later store to its cell, of two tasks; the second one is generated with items.

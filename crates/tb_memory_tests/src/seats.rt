@@ -11,7 +11,7 @@ use tb_live::{
     StepRefusal, Work,
 };
 use tb_model::{StepId, TaskName};
-use tb_read::{Plan, plan};
+use tb_plan::{Plan, plan};
 
 fn planned(rt: &(impl Abort + AllocGlobal), work: &Work) -> Plan {
     assert!(rt; work.instr.line == work.config.at);

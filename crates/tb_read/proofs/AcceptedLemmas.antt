@@ -2,13 +2,13 @@
 use Rattle.std.proofs.Common.{◌≡◌, ◌≤◌, ◌∙◌, ℕ, ℤ, List, Option, Bor, length, map, ap, subst, arith, codes}
 use Rattle.std.proofs.lemmas.List.{length-map}
 use Rattle.tb_model.specs.Program.{Program, Body as Named}
+use Rattle.tb_plan.specs.declared.instr.Instr.{Instr}
 use Rattle.tb_read.specs.Context.{Context}
 use Rattle.tb_read.specs.Headings.{headings_from, heading_of}
 use Rattle.tb_read.specs.Meaning.{AreInstrsOf, IsProgramOf, first_number, line_of, lines_in}
 use Rattle.tb_read.specs.Reading.{context_at, IsAccepted}
 use Rattle.tb_read.specs.Shown.{shown_line, shown_instr, ArePlaced}
 use Rattle.tb_read.specs.Soundness.{IsSound, IsKept}
-use Rattle.tb_read.specs.declared.instr.Instr.{Instr}
 use Rattle.tb_read.specs.declared.line.Line.{Line}
 use Rattle.tb_read.proofs.ReadLemmas.{lines_count}
 use Rattle.tb_read.proofs.WellFormedLemmas.{accepted_well_formed, accepted_root, accepted_followed}

@@ -14,5 +14,4 @@ pub mod AcceptedLemmas
 pub mod ReadLemmas
 pub mod ProgramLemmas
 pub mod StripLemmas
-pub mod BurstLemmas
 pub mod BeginningLemmas

@@ -1,5 +1,6 @@
 -- Lists by place.
-use Rattle.std.proofs.Common.{◌≡◌, ℕ, zero, suc, ◌<◌, List, [], ◌∷◌, length, map, slice_get, Some, arith, ap, get_or, slice_index_or, ◌++◌, ◌+◌, subst, length-append}
+use Rattle.std.proofs.Common.{◌≡◌, ◌∙◌, ℕ, zero, suc, ◌<◌, List, [], ◌∷◌, length, map, drop, reverse, slice_get, Some, arith, ap, get_or, slice_index_or, ◌++◌, ◌+◌, subst, length-append}
+use Rattle.std.proofs.lemmas.List.{reverse-append}
 
 -- a place of a list that another one shows
 pub get_map : {A B : Type 0} (f : A → B) (xs : List A) (at : ℕ) (x : A) → slice_get xs at ≡ Some x → slice_get (map f xs) at ≡ Some (f x)
@@ -37,3 +38,18 @@ get_or_of_get (y ∷ xs) (suc at) d x e = get_or_of_get xs at d x e
 
 pub pushed_length : {A : Type 0} (xs more : List A) (x : A) (n : ℕ) → length xs ≡ n → more ≡ xs ++ x ∷ [] → length more ≡ n + 1
 pushed_length xs more x n count pushed = omega (arith, ap length pushed, length-append xs (x ∷ []))
+
+-- the first element of what is left of a list
+pub drop_next : {A : Type 0} (xs more : List A) (at : ℕ) (x : A) → drop at xs ≡ x ∷ more → (slice_get xs at ≡ Some x) × (drop (suc at) xs ≡ more)
+drop_next [] more zero x e = absurd cc
+drop_next [] more (suc at) x e = absurd cc
+drop_next (y ∷ xs) more zero x e = (cc, cc)
+drop_next (y ∷ xs) more (suc at) x e = drop_next xs more at x e
+
+-- what is left of a list, turned round, and its last element
+pub turned_last : {A : Type 0} (xs left rest : List A) (at : ℕ) (x : A) → drop at xs ≡ reverse left → left ≡ rest ++ x ∷ [] → (slice_get xs at ≡ Some x) × (drop (at + 1) xs ≡ reverse rest)
+turned_last xs left rest at x e last =
+    let turned : reverse left ≡ x ∷ reverse rest = ap reverse last ∙ reverse-append rest (x ∷ []) in
+    let next = drop_next xs (reverse rest) at x (e ∙ turned) in
+    let behind : suc at ≡ at + 1 = omega arith in
+    (next.0, subst (λ n. drop n xs ≡ reverse rest) behind next.1)

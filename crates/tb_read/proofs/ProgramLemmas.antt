@@ -1,19 +1,19 @@
 -- The instructions of a program.
 use Rattle.std.proofs.Common.{◌≡◌, ◌≢◌, ℕ, ◌+◌, ◌<◌, List, [], ◌∷◌, ◌++◌, map, slice_get, slice_index_or, length, Some, None, Option, Bor, IsSome, IfSome, IfNone, arith, refl, ap, sym, ◌∙◌, true, false, suc, cond, subst, slice_index}
 use Rattle.tb_model.specs.Program.{no_instr, Instr as Instruction}
+use Rattle.tb_plan.specs.Plans.{instruction}
+use Rattle.tb_plan.specs.Statements.{is_test}
+use Rattle.tb_plan.specs.declared.instr.Instr.{Instr}
 use Rattle.tb_read.specs.Flow.{Line}
-use Rattle.tb_read.specs.Plans.{instruction}
 use Rattle.tb_read.specs.Meaning.{IsInstrAt, IsInstrOf}
 use Rattle.tb_read.specs.Flow.Line.{Passed, Stands}
 use Rattle.tb_read.specs.Flow.{Arrives, LeadsTo, levels_behind, turn_of}
 use Rattle.tb_read.specs.Followed.{is_last}
-use Rattle.tb_read.specs.Statements.{is_test}
 use Rattle.tb_read.specs.Ways.{AreWaysOf}
 use Rattle.tb_read.specs.declared.ways.Ways.{Ways}
 use Rattle.tb_model.specs.declared.statement.Statement.{Statement}
 use Rattle.tb_model.specs.declared.statement.Statement.TheVariants.{Start, Let, Compute, Load, Store, Print, Task, Taskwait, Taskgroup, EndTaskgroup, Test, End}
 use Rattle.tb_read.specs.Shown.{shown_instr, IsPlaced, ArePlaced}
-use Rattle.tb_read.specs.declared.instr.Instr.{Instr}
 use Rattle.tb_read.proofs.ListLemmas.{get_map, get_or_push, get_push, get_or_of_get}
 
 module _ (lines : List (Option Instr)) (shown : List Instruction) (same : map shown_instr lines ≡ shown) (at cells : ℕ) (placed : ArePlaced cells lines) where

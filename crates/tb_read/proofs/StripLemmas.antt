@@ -3,8 +3,9 @@ use Rattle.std.proofs.Common.{◌≡◌, ℕ, zero, suc, ◌+◌, ◌-◌, ◌<�
 use Rattle.std.proofs.lemmas.List.{get_or-set_same, get_or-set_other, get_or_past, length-replicate}
 use Rattle.std.specs.Option.{option_map}
 use Rattle.tb_model.specs.Program.{Program, Instr as Instruction}
-use Rattle.tb_read.specs.declared.private_line.PrivateLine.{PrivateLine}
-use Rattle.tb_read.specs.Strips.{begins_body, first_line, last_line, instruction_of}
+use Rattle.tb_plan.specs.declared.private_line.PrivateLine.{PrivateLine}
+use Rattle.tb_plan.specs.Strips.{instruction_of}
+use Rattle.tb_read.specs.Strips.{begins_body, first_line, last_line}
 
 pub first_none : (P : Program) (n most : ℕ) → most ≡ 0 → n ≡ first_line P n most
 unfolding first_line

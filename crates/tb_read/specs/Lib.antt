@@ -1,9 +1,5 @@
 pub mod Fault
-pub mod Statements
-pub mod Plans
-pub mod Privacy
 pub mod Strips
-pub mod Bursts
 pub mod Text
 pub mod Word
 pub mod Grammar

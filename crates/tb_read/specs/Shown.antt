@@ -1,10 +1,10 @@
 -- What the reader's lists show.
 use Rattle.std.specs.Prelude.{◌≡◌, ◌≢◌, ℕ, List, slice_get, Option, Some, None, ⊤}
 use Rattle.tb_model.specs.Program.{no_instr, Instr as Instruction}
+use Rattle.tb_plan.specs.Plans.{instruction}
+use Rattle.tb_plan.specs.declared.instr.Instr.{Instr}
 use Rattle.tb_read.specs.Flow.{Line as Shown}
 use Rattle.tb_read.specs.Flow.Line.{Passed as IsPassed, Stands as IsStanding, Else as IsElse, EndIf as IsEndIf, EndWhile as IsEndWhile}
-use Rattle.tb_read.specs.Plans.{instruction}
-use Rattle.tb_read.specs.declared.instr.Instr.{Instr}
 use Rattle.tb_read.specs.declared.line.Line.{Line}
 use Rattle.tb_read.specs.declared.line.Line.TheVariants.{Passed, Stands, Else, EndIf, EndWhile}
 

@@ -2,10 +2,10 @@
 use Rattle.std.specs.Prelude.{◌≤◌, List, Option, length}
 use Rattle.tb_model.specs.Program.{Program}
 use Rattle.tb_model.specs.WellFormed.{WellFormed}
+use Rattle.tb_plan.specs.declared.instr.Instr.{Instr}
 use Rattle.tb_read.specs.Followed.{IsFollowed}
 use Rattle.tb_read.specs.Meaning.{IsPosition}
 use Rattle.tb_read.specs.Shown.{ArePlaced}
-use Rattle.tb_read.specs.declared.instr.Instr.{Instr}
 
 -- it is well formed, its root's body begins at a line with a statement, and no run leaves its body
 pub record IsSound (P : Program) : Type 0 where

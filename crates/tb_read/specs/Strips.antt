@@ -1,22 +1,14 @@
 -- The private statements around a line of a program.
-use Rattle.std.specs.Prelude.{◌≡◌, ℕ, zero, suc, ◌-◌, Bool, true, false, ◌&&◌, nat_le, Option, Some, None, slice_index_or, if◌then◌else◌}
-use Rattle.std.specs.Option.{option_map}
+use Rattle.std.specs.Prelude.{◌≡◌, ℕ, zero, suc, ◌-◌, Bool, true, false, ◌&&◌, nat_le, Option, None, if◌then◌else◌}
 use Rattle.tb_model.specs.declared.statement.Statement.{Statement}
 use Rattle.tb_model.specs.declared.statement.Statement.TheVariants.{Start}
 use Rattle.tb_model.specs.Program.{Program, instr_at, Instr as Instruction}
-use Rattle.tb_read.specs.Privacy.{is_private, statement_of}
-use Rattle.tb_read.specs.declared.private_line.PrivateLine.{PrivateLine}
-use Rattle.tb_read.specs.declared.strip.Strip.{Strip}
-
-abbrev pub private_instr : Instruction → Option Instruction
-private_instr i = if is_private i.statement then Some i else None
+use Rattle.tb_plan.specs.Strips.{private_instr, strip_at}
+use Rattle.tb_plan.specs.declared.strip.Strip.{Strip}
 
 -- the instruction of a line, where its statement is private
 abbrev pub private_at : Program → ℕ → Option Instruction
 private_at P n = private_instr (instr_at P n)
-
-abbrev pub instruction_of : PrivateLine → Instruction
-instruction_of p = record { statement = statement_of p.statement; next = p.next; otherwise = p.otherwise }
 
 -- ---- a body's lines
 
@@ -42,10 +34,6 @@ abbrev pub is_near : Program → ℕ → ℕ → Bool
 is_near P n m = nat_le (first_line P n 63) m && nat_le m (last_line P n 63)
 
 -- ---- the strip
-
--- the private statement of line n, where the strip has it
-abbrev pub strip_at : Strip → ℕ → Option Instruction
-strip_at s n = if nat_le s.first n then option_map instruction_of (slice_index_or s.lines (n - s.first) None) else None
 
 -- the strip has the private statements of the near lines, and no others
 abbrev pub IsStripOf : Program → ℕ → Strip → Type 0

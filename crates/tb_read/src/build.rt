@@ -1,28 +1,28 @@
 //! The instructions of an accepted text.
 
-ghost use Rattle.std.specs.Prelude.{◌≡◌, ◌<◌, ◌≤◌, ℕ, List, suc, length, map, slice_get, slice_index, Some, if◌then◌else◌, IfOk};
+ghost use Rattle.std.specs.Prelude.{◌≡◌, ◌<◌, ◌≤◌, ℕ, List, [], ◌∷◌, ◌++◌, suc, length, map, slice_get, slice_index, Some, if◌then◌else◌, IfOk};
+ghost use Rattle.tb_plan.specs.Statements.{is_test};
 ghost use Rattle.tb_read.specs.Flow.{Line as Shown};
 ghost use Rattle.tb_read.specs.Followed.{is_last};
-ghost use Rattle.tb_read.specs.Statements.{is_test};
 ghost use Rattle.tb_read.specs.Meaning.{AreInstrsOf, IsInstrAt};
 ghost use Rattle.tb_read.specs.Shown.{shown_line, shown_instr, IsPlaced, ArePlaced};
 ghost use Rattle.tb_read.specs.Ways.{AreWaysOf};
 
-use crate::instr::Instr;
 use crate::line::Line;
 use crate::ways::Ways;
 use std::alloc::{AllocError, Global};
-use std::mem::replace;
 use tb_model::Statement;
+use tb_plan::Instr;
 
-/// Takes a line out, and leaves one in its place over which control passes.
-fn take_line(lines: &mut Vec<Line>, at: usize) -> Line
-    requires { at < length lines.old.items }
-    ensures taken { slice_get lines.old.items at ≡ Some result }
-    ensures others { (n : ℕ) → at < n → slice_get lines.new.items n ≡ slice_get lines.old.items n }
-    ensures count { length lines.new.items ≡ length lines.old.items }
+/// Takes the last line off. The memory of lines that were taken off goes back every 4,096 lines.
+fn take_last(lines: &mut Vec<Line>) -> Line
+    requires { 0 < length lines.old.items }
+    ensures { lines.old.items ≡ lines.new.items ++ result ∷ [] }
 {
-    replace(&mut lines[at], Line::Passed)
+    if lines.len() % 4096 == 0 {
+        lines.shrink_to_fit();
+    }
+    lines.pop().unwrap()
 }
 
 fn is_last(statement: &Statement) -> bool
@@ -104,10 +104,13 @@ pub fn instrs(
     ensures instrs { IfOk result (λ instrs. AreInstrsOf (map shown_line lines.items) (map shown_instr instrs.items)) }
     ensures placed { IfOk result (λ instrs. ArePlaced cells instrs.items) }
 {
+    let count = lines.len();
+    let mut instrs = Vec::with_capacity(alloc, count)?;
+    // turned round, so that the first line is taken off first, and all lines never stand beside all instructions
     let mut left = lines;
-    let mut instrs = Vec::with_capacity(alloc, left.len())?;
-    for at in 0..left.len() {
-        let line = take_line(&mut left, at);
+    left.reverse();
+    for at in 0..count {
+        let line = take_last(&mut left);
         instrs.push(instr_at(line, ways, cells, at))?;
     }
     Ok(instrs)

@@ -2,6 +2,7 @@
 
 ghost use Rattle.std.specs.Prelude.{◌≡◌, ℕ, List, slice_get, ◌<◌, ◌==◌, ◌≤◌, IsTrue, IfOk, IfSome, Some, None, map, length, take};
 ghost use Rattle.std.specs.List.{list_all};
+ghost use Rattle.tb_plan.specs.Statements.{is_sound, is_sound_operand, is_sound_address, is_sound_clause, is_sound_condition, is_sound_test};
 ghost use Rattle.tb_read.specs.Clauses.{operand_in, comparison_in, condition_in, address_in, clause_in, args_of, clauses_of, test_of};
 ghost use Rattle.tb_read.specs.Context.{Setting};
 ghost use Rattle.tb_read.specs.Flow.{Line as AnyLine};
@@ -9,7 +10,6 @@ ghost use Rattle.tb_read.specs.Flow.Line.{Stands as IsStanding};
 ghost use Rattle.tb_read.specs.Headings.{heading_of};
 ghost use Rattle.tb_read.specs.Meaning.{register_at, operand_at, operator_at, let_of, test_in, line_of, task_of, end_of, line_by};
 ghost use Rattle.tb_read.specs.Shown.{shown_line};
-ghost use Rattle.tb_read.specs.Statements.{is_sound, is_sound_operand, is_sound_address, is_sound_clause, is_sound_condition, is_sound_test};
 
 use crate::block::Block;
 use crate::clauses::{arguments, begins_test, clause_words};

@@ -1,7 +1,7 @@
 //! A statement of a text.
 
 ghost use Rattle.std.specs.Prelude.{IsTrue};
-ghost use Rattle.tb_read.specs.Statements.{is_sound};
+ghost use Rattle.tb_plan.specs.Statements.{is_sound};
 
 use tb_model::Statement;
 

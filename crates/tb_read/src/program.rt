@@ -3,15 +3,15 @@
 ghost use Rattle.std.specs.Prelude.{◌≡◌, ◌<◌, ◌≤◌, ◌↔◌, IsSome, IfSome, IfNone, length, map, slice_get, slice_index_or, Some};
 ghost use Rattle.std.specs.Option.{option_map};
 ghost use Rattle.tb_model.specs.Program.{instr_at, no_instr};
+ghost use Rattle.tb_plan.specs.Plans.{instruction};
 ghost use Rattle.tb_read.specs.Meaning.{IsPosition};
 ghost use Rattle.tb_read.specs.Bodies.{named, name_at};
-ghost use Rattle.tb_read.specs.Plans.{instruction};
 ghost use Rattle.tb_read.specs.Shown.{shown_instr};
 ghost use Rattle.tb_read.specs.Soundness.{IsKept, IsSound};
 
 use crate::body::Body;
-use crate::instr::Instr;
 use std::marker::Model;
+use tb_plan::Instr;
 
 /// A program: its cells with their first numbers, its bodies, and an instruction for each line at
 /// which a task can stand.

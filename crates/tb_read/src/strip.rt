@@ -2,45 +2,23 @@
 
 ghost use Rattle.std.specs.Prelude.{◌≡◌, ◌≤◌, ◌<◌, ◌+◌, ◌-◌, ℕ, suc, nat_lt, None, slice_index_or, if◌then◌else◌};
 ghost use Rattle.std.specs.Option.{option_map};
-ghost use Rattle.tb_read.specs.Strips.{IsStripOf, strip_at, instruction_of, private_at, begins_body, first_line, last_line};
+ghost use Rattle.tb_plan.specs.Strips.{instruction_of};
+ghost use Rattle.tb_read.specs.Strips.{IsStripOf, private_at, begins_body, first_line, last_line};
 
-use crate::private_instr::private_of;
-use crate::private_line::PrivateLine;
 use crate::program::Program;
 use tb_model::Statement;
+use tb_plan::{PrivateLine, Strip, private_of};
 
-/// The private statements of a line's body, from 63 lines in front of the line to 63 behind it. It
-/// takes no memory.
-#[derive(Debug, Drop)]
-pub struct Strip {
-    // the line of the first of these
-    pub(crate) first: u32,
-    pub(crate) lines: [Option<PrivateLine>; 127],
-}
-
-impl Strip {
-    /// The strip around a line of a program.
-    pub fn around(program: &Program, at: u32) -> Strip
-        requires { at < 65537 }
-        ensures { IsStripOf program.now at result }
-    {
-        let first = first_line(program, at, 63);
-        let last = last_line(program, at, 63);
-        Strip {
-            first,
-            lines: lines_from(program, first, last - first + 1),
-        }
-    }
-
-    /// The private statement of a line, where the strip has it.
-    pub(crate) fn at(&self, line: u32) -> Option<PrivateLine>
-        ensures { option_map instruction_of result ≡ strip_at self.now line }
-    {
-        if line < self.first {
-            return None;
-        }
-        let place = (line - self.first) as usize;
-        if place < 127 { self.lines[place] } else { None }
+/// The private statements of a line's body, from 63 lines in front of the line to 63 behind it.
+pub fn strip_around(program: &Program, at: u32) -> Strip
+    requires { at < 65537 }
+    ensures { IsStripOf program.now at result }
+{
+    let first = first_line(program, at, 63);
+    let last = last_line(program, at, 63);
+    Strip {
+        first,
+        lines: lines_from(program, first, last - first + 1),
     }
 }
 

@@ -3,7 +3,7 @@
 ghost use Rattle.std.specs.Prelude.{◌≡◌, ◌<◌, ◌≤◌, ◌^◌, map, pos, neg_ℤ, IfSome, IsTrue};
 ghost use Rattle.std.specs.List.{list_all};
 ghost use Rattle.std.specs.Char.{is_ascii_digit};
-ghost use Rattle.tb_read.specs.Statements.{is_sound_operand};
+ghost use Rattle.tb_plan.specs.Statements.{is_sound_operand};
 ghost use Rattle.tb_read.specs.Word.{same_word, word_at, is_numeral, magnitude_of, number_of, register_of, operand_of, operator_of, resembles_register, is_name, begins_name, continues_name, comparison_of, kind_of, is_all};
 
 use tb_model::{Comparison, Kind, Operand, Operator};

@@ -5,7 +5,8 @@ ghost use Rattle.std.specs.Prelude.{◌≢◌, ◌<◌, ◌≤◌, [], length};
 use crate::statement_text::append_statement;
 use std::alloc::{AllocError, Global};
 use tb_model::Statement;
-use tb_read::{Instr, Program, read};
+use tb_plan::Instr;
+use tb_read::{Program, read};
 
 /// The place of the next line feed, or the end.
 fn line_end(bytes: &[u8]) -> usize

@@ -4,7 +4,8 @@ use std::mem;
 use std::process::Abort;
 use std::test::Fail;
 use tb_model::{Action, NameRefusal, TaskName};
-use tb_read::{Config, FaultKind, Program, ReadFault, Strip, plan, plan_burst, read};
+use tb_plan::{Config, plan, plan_burst};
+use tb_read::{FaultKind, Program, ReadFault, read, strip_around};
 
 const TEXT: &[u8] =
     b"cells 2\ncell 1 5\nbody main 0\nif r0 == 0\ntask b r0 7 depend in r0 depend out all if 1 < 2\nelse\ntaskwait\nend\nend\nbody b 2\nend\n";
@@ -79,7 +80,7 @@ fn deep_name(rt: &(impl Abort + AllocGlobal)) -> Result<TaskName, NameRefusal> {
 fn a_refused_growth_of_plan_burst_leaves_its_answer(rt: HostRuntime) -> Result<(), Fail> {
     let program = read_twice(&rt, LOOP)?;
     let instr = program.instr(3).ok_or("no loop")?;
-    let strip = Strip::around(&program, 3);
+    let strip = strip_around(&program, 3);
     let config = Config {
         task: deep_name(&rt)?,
         steps: 2,

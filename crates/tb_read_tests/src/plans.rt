@@ -3,7 +3,8 @@
 use std::process::Abort;
 use std::test::Fail;
 use tb_model::{Action, Spawn, TaskName};
-use tb_read::{Config, Plan, plan, read};
+use tb_plan::{Config, Plan, plan};
+use tb_read::read;
 
 /// The plan of a line of a program with two cells and this statement on line 3, for task `0`. Its
 /// registers are 0, 5, -1, the greatest and the least number, and zeros.

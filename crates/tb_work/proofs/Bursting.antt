@@ -5,7 +5,7 @@ use Rattle.std.specs.Iterator.{Yields}
 use Rattle.std.specs.Vec.Iter.{into_iter_items, into_iter_steps}
 use Rattle.std.specs.declared.vec.IntoIter.{IntoIter}
 use Rattle.tb_model.specs.Program.{Program}
-use Rattle.tb_read.specs.declared.planned.Plan.{Plan}
+use Rattle.tb_plan.specs.declared.planned.Plan.{Plan}
 use Rattle.tb_live.specs.declared.commit_refusal.CommitRefusal.{CommitRefusal}
 use Rattle.tb_live.specs.Commits.{IsCommittedOn, MayCommit, entry_to_come}
 use Rattle.tb_live.specs.Session.{Session, with_entry, with_seat}

@@ -5,7 +5,7 @@ use Rattle.std.proofs.lemmas.List.{append-nil}
 use Rattle.std.proofs.lemmas.List.Sums.{sum_by-cons}
 use Rattle.tb_model.specs.Program.{Program}
 use Rattle.tb_model.specs.declared.entry.Entry.TheVariants.{Stepped}
-use Rattle.tb_read.specs.declared.planned.Plan.{Plan}
+use Rattle.tb_plan.specs.declared.planned.Plan.{Plan}
 use Rattle.tb_work.specs.declared.receipt.Receipt.{Receipt}
 use Rattle.tb_work.specs.Receipts.{Seated, receipt, receipts_in}
 use Rattle.tb_work.specs.Changes.{Commits}

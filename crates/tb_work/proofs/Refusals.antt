@@ -8,7 +8,7 @@ use Rattle.tb_model.specs.Equivalent.{stands}
 use Rattle.tb_model.specs.Facts.{History, is_spawned, ends}
 use Rattle.tb_model.specs.Hindrances.{Refusal, NoSuchTask, Ended}
 use Rattle.tb_model.specs.Needers.{first_needer}
-use Rattle.tb_read.specs.declared.planned.Plan.{Plan}
+use Rattle.tb_plan.specs.declared.planned.Plan.{Plan}
 use Rattle.tb_core.specs.declared.step_refusal.StepRefusal.TheVariants.{Memory}
 use Rattle.tb_core.specs.declared.undo_refusal.UndoRefusal.{UndoRefusal}
 use Rattle.tb_core.specs.declared.undo_refusal.UndoRefusal.TheVariants.{Memory as NoMemory, NoSuchStep, Needed, Full}

@@ -1,7 +1,7 @@
 -- Plans that a seat commits one after another.
 use Rattle.std.specs.Prelude.{ℕ, zero, suc, ◌≡◌, ◌↔◌, List, [], ◌∷◌, length, Option, Some, None, IfSome}
 use Rattle.tb_model.specs.Program.{Program}
-use Rattle.tb_read.specs.declared.planned.Plan.{Plan}
+use Rattle.tb_plan.specs.declared.planned.Plan.{Plan}
 use Rattle.tb_live.specs.declared.commit_refusal.CommitRefusal.{CommitRefusal}
 use Rattle.tb_live.specs.Commits.{MayCommit, entry_to_come}
 use Rattle.tb_live.specs.Session.{Session, with_entry, with_seat}

@@ -5,7 +5,7 @@ use Rattle.tb_model.specs.declared.entry.Entry.TheVariants.{Stepped, Rolled}
 use Rattle.tb_model.specs.declared.event.Event.{Event}
 use Rattle.tb_model.specs.declared.step_id.StepId.{StepId}
 use Rattle.tb_model.specs.Program.{Program, action_of}
-use Rattle.tb_read.specs.declared.planned.Plan.{Plan}
+use Rattle.tb_plan.specs.declared.planned.Plan.{Plan}
 use Rattle.tb_live.specs.Session.{Session}
 use Rattle.tb_work.specs.Receipts.{Seated, Grew}
 

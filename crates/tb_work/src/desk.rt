@@ -34,7 +34,7 @@ use tb_live::{
     Claim, ClaimRefusal, CommitRefusal, Live, Removed, RollRefusal, StepRefusal, UndoRefusal, Work,
 };
 use tb_model::{StepId, TaskName};
-use tb_read::Plan;
+use tb_plan::Plan;
 
 /// The run, with a note for each place of its journal, and the book of the team's ledger.
 #[derive(Drop)]

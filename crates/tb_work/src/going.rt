@@ -27,7 +27,7 @@ use std::thread;
 use std::thread::Threads;
 use tb_live::{Claim, ClaimRefusal, CommitRefusal, Removed, RollRefusal, UndoRefusal, Work};
 use tb_model::{StepId, TaskName};
-use tb_read::{Plan, plan_burst};
+use tb_plan::{Plan, plan_burst};
 
 impl<N: Team> Shared<N> {
     /// Gives up the seat's former claim, and gives it one on the least task that can step and that no

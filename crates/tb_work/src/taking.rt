@@ -8,7 +8,7 @@ ghost use Rattle.tb_live.specs.Session.{with_entry, with_seat};
 
 use tb_live::{Live, Removed, RollRefusal, UndoRefusal};
 use tb_model::{Entry, StepId};
-use tb_read::Plan;
+use tb_plan::Plan;
 
 /// The place of the entry to come.
 pub fn next_place(live: &Live) -> u32

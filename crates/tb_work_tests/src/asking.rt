@@ -5,7 +5,7 @@ use std::process::Abort;
 use std::sync::Wait;
 use tb_live::{Claim, Work};
 use tb_model::{StepId, TaskName};
-use tb_read::{Plan, plan, plan_burst};
+use tb_plan::{Plan, plan, plan_burst};
 use tb_work::{Refused, Seat, Shared, Team};
 
 fn task(rt: &(impl Abort + AllocGlobal), text: &str) -> TaskName {

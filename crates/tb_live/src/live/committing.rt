@@ -15,7 +15,7 @@ use crate::rolling::ready_roll;
 use crate::stepping::ready_step;
 use tb_core::StepRefusal;
 use tb_model::{Entry, StepId};
-use tb_read::Plan;
+use tb_plan::Plan;
 use tb_roll::RollRefusal;
 
 impl Live {

@@ -1,9 +1,9 @@
 use Rattle.std.proofs.Common.{ap, sym, ◌∙◌, subst}
 use Rattle.std.proofs.lemmas.Bool.{false≢true}
 use Rattle.tb_model.specs.Program.{instr_at, situation}
-use Rattle.tb_read.specs.declared.config.Config.{Config}
+use Rattle.tb_plan.specs.declared.config.Config.{Config}
+use Rattle.tb_plan.specs.Plans.{IsActionOf}
 use Rattle.tb_read.specs.Meaning.{IsPosition}
-use Rattle.tb_read.specs.Plans.{IsActionOf}
 use Rattle.tb_core.specs.Seen.{history}
 use Rattle.tb_live.proofs.ComingLemmas.{is_coming}
 use Rattle.tb_live.proofs.PlanLemmas.{stands_at, stands_somewhere}

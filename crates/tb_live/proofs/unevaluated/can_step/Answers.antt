@@ -1,7 +1,7 @@
 use Rattle.std.proofs.Common.{ap, sym, refl, ◌∙◌, subst, ◌&&◌, not}
 use Rattle.std.proofs.lemmas.Bool.{false≢true}
 use Rattle.tb_model.specs.Program.{instr_at, situation}
-use Rattle.tb_read.specs.declared.config.Config.{Config}
+use Rattle.tb_plan.specs.declared.config.Config.{Config}
 use Rattle.tb_read.specs.Meaning.{IsPosition}
 use Rattle.tb_core.specs.Seen.{history}
 use Rattle.tb_live.specs.Unevaluated.{is_held_up}

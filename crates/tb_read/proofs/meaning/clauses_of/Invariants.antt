@@ -1,7 +1,7 @@
 use Rattle.std.proofs.Common.{◌≡◌, ◌++◌, map, length, IsTrue}
 use Rattle.std.specs.List.{list_all}
+use Rattle.tb_plan.specs.Statements.{is_sound_clause}
 use Rattle.tb_read.specs.Clauses.{clauses_of}
-use Rattle.tb_read.specs.Statements.{is_sound_clause}
 use Rattle.tb_read.proofs.meaning.clauses_of.Given as goal
 
 -- the words that are left tell the rest of what all words tell

@@ -1,7 +1,7 @@
 use Rattle.std.proofs.Common.{◌≡◌, ◌++◌, map, drop, IsTrue}
 use Rattle.std.specs.List.{list_all}
+use Rattle.tb_plan.specs.Statements.{is_sound_operand}
 use Rattle.tb_read.specs.Clauses.{operand_in}
-use Rattle.tb_read.specs.Statements.{is_sound_operand}
 use Rattle.tb_read.proofs.meaning.operands_of.Given as goal
 
 -- the operands so far and those of the words that are left are those of all words

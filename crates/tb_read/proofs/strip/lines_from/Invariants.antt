@@ -1,6 +1,7 @@
 use Rattle.std.proofs.Common.{◌≡◌, ◌+◌, ℕ, nat_lt, None, length, slice_index_or, if◌then◌else◌}
 use Rattle.std.specs.Option.{option_map}
-use Rattle.tb_read.specs.Strips.{instruction_of, private_at}
+use Rattle.tb_plan.specs.Strips.{instruction_of}
+use Rattle.tb_read.specs.Strips.{private_at}
 use Rattle.tb_read.proofs.strip.lines_from.Given as goal
 
 -- the lines so far

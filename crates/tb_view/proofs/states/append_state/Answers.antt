@@ -1,7 +1,7 @@
 use Rattle.std.proofs.Common.{◌≡◌, ◌++◌, OnOk, rules, ap, sym, ◌∙◌, subst, codes}
 use Rattle.std.specs.Fmt.{decimal}
 use Rattle.tb_model.specs.Program.{instr_at}
-use Rattle.tb_read.specs.declared.config.Config.{Config}
+use Rattle.tb_plan.specs.declared.config.Config.{Config}
 use Rattle.tb_read.specs.Followed.{is_last}
 use Rattle.tb_core.specs.Situation.{config_of}
 use Rattle.tb_view.proofs.StateLemmas.{is_known, is_absent, not_there, still_going, is_done}

@@ -1,7 +1,7 @@
 use Rattle.std.proofs.Common.{ℕ, suc, ◌≡◌, ◌+◌, List, ◌∷◌, [], ◌++◌, length, length-append, Some, None, ap, sym, subst, ◌∙◌, arith}
 use Rattle.std.proofs.lemmas.Option.{none-some}
 use Rattle.std.specs.Vec.Iter.{into_iter_items}
-use Rattle.tb_read.specs.declared.planned.Plan.{Plan}
+use Rattle.tb_plan.specs.declared.planned.Plan.{Plan}
 use Rattle.tb_live.specs.Commits.{MayCommit}
 use Rattle.tb_live.specs.Session.{Session}
 use Rattle.tb_work.specs.Bursts.{CommitsEach, TakesEach, stepped_on}

@@ -2,8 +2,8 @@
 
 ghost use Rattle.std.specs.Prelude.{◌≡◌};
 ghost use Rattle.std.specs.Option.{option_map};
-ghost use Rattle.tb_read.specs.Plans.{instruction};
-ghost use Rattle.tb_read.specs.Strips.{instruction_of, private_instr};
+ghost use Rattle.tb_plan.specs.Plans.{instruction};
+ghost use Rattle.tb_plan.specs.Strips.{instruction_of, private_instr};
 
 use crate::instr::Instr;
 use crate::private::Private;

@@ -2,7 +2,7 @@
 
 ghost use Rattle.std.specs.Prelude.{◌≡◌};
 ghost use Rattle.std.specs.Option.{option_map};
-ghost use Rattle.tb_read.specs.Privacy.{statement_of, private_statement};
+ghost use Rattle.tb_plan.specs.Privacy.{statement_of, private_statement};
 
 use tb_model::{Condition, Operand, Operator, Statement};
 

@@ -1,7 +1,7 @@
 //! One statement, evaluated for one task.
 
 ghost use Rattle.std.specs.Prelude.{◌≡◌, IsTrue};
-ghost use Rattle.tb_read.specs.Plans.{IsEvaluation, names_allowed, line_behind};
+ghost use Rattle.tb_plan.specs.Plans.{IsEvaluation, names_allowed, line_behind};
 
 use crate::config::Config;
 use crate::evaluation::line_behind;

@@ -1,8 +1,9 @@
 use Rattle.std.proofs.Common.{◌≡◌, ◌+◌, ◌-◌, ◌&&◌, ℕ, None, nat_le, if◌then◌else◌, refl, subst, arith}
 use Rattle.tb_model.specs.Program.{Program}
-use Rattle.tb_read.specs.Strips.{private_at, strip_at, first_line}
+use Rattle.tb_plan.specs.Strips.{strip_at}
+use Rattle.tb_read.specs.Strips.{private_at, first_line}
 use Rattle.tb_read.proofs.StripLemmas.{near_lines}
-use Rattle.tb_read.proofs.strip.Strip.around.Goals as goal
+use Rattle.tb_read.proofs.strip.strip_around.Goals as goal
 
 pub returns : goal.returns
 returns c m =

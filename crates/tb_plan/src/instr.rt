@@ -1,7 +1,7 @@
 //! One statement of a program, with what is needed to take it.
 
 ghost use Rattle.std.specs.Prelude.{IsTrue};
-ghost use Rattle.tb_read.specs.Statements.{is_sound};
+ghost use Rattle.tb_plan.specs.Statements.{is_sound};
 
 use std::alloc::AllocError;
 use std::mem::size_of;

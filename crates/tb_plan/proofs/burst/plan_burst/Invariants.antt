@@ -1,7 +1,7 @@
 use Rattle.std.proofs.Common.{◌-◌, ◌++◌, ◌∷◌, List}
-use Rattle.tb_read.specs.declared.planned.Plan.{Plan}
-use Rattle.tb_read.specs.Bursts.{Follow, IsBurst}
-use Rattle.tb_read.proofs.burst.plan_burst.Given as goal
+use Rattle.tb_plan.specs.declared.planned.Plan.{Plan}
+use Rattle.tb_plan.specs.Bursts.{Follow, IsBurst}
+use Rattle.tb_plan.proofs.burst.plan_burst.Given as goal
 
 -- what follows the last plan completes the burst
 abbrev pub invariant-loop : goal.invariant-loop

@@ -1,7 +1,7 @@
 //! Evaluates private statements one after another, for one task.
 
 ghost use Rattle.std.specs.Prelude.{◌≡◌, IfOk};
-ghost use Rattle.tb_read.specs.Bursts.{IsBurst, IsFollower, config_behind, regs_behind};
+ghost use Rattle.tb_plan.specs.Bursts.{IsBurst, IsFollower, config_behind, regs_behind};
 
 use crate::config::Config;
 use crate::evaluation::{evaluate, plan};

@@ -1,8 +1,8 @@
 use Rattle.std.proofs.Common.{arith, ◌-◌, [], subst}
-use Rattle.tb_read.specs.Bursts.{IsFollower, Follow}
-use Rattle.tb_read.proofs.BurstLemmas.{burst_more, burst_all, none_follows, none_left}
-use Rattle.tb_read.proofs.burst.plan_burst.Goals as goal
-use Rattle.tb_read.proofs.burst.plan_burst.Goals.{else-loop-test, then-loop-test+in_ok-next+in-None}
+use Rattle.tb_plan.specs.Bursts.{IsFollower, Follow}
+use Rattle.tb_plan.proofs.BurstLemmas.{burst_more, burst_all, none_follows, none_left}
+use Rattle.tb_plan.proofs.burst.plan_burst.Goals as goal
+use Rattle.tb_plan.proofs.burst.plan_burst.Goals.{else-loop-test, then-loop-test+in_ok-next+in-None}
 
 pub loop-preserved : goal.loop-preserved
 loop-preserved c =

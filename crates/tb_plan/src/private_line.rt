@@ -1,8 +1,8 @@
 //! A private statement with the lines that follow it.
 
 ghost use Rattle.std.specs.Prelude.{IsTrue};
-ghost use Rattle.tb_read.specs.Privacy.{statement_of};
-ghost use Rattle.tb_read.specs.Statements.{is_sound};
+ghost use Rattle.tb_plan.specs.Privacy.{statement_of};
+ghost use Rattle.tb_plan.specs.Statements.{is_sound};
 
 use crate::private::Private;
 

@@ -8,8 +8,8 @@ use Rattle.tb_model.specs.Names.{Name}
 use Rattle.tb_model.specs.declared.action.Action.{Action}
 use Rattle.tb_model.specs.declared.action.Action.TheVariants.{Start, Let, Load, Store, Print, Spawn, Wait, Open, Close, Test, End, Fault}
 use Rattle.tb_model.specs.Program.{action_of, moved, zero_ℤ, Instr as Instruction, Config as Situation}
-use Rattle.tb_read.specs.declared.instr.Instr.{Instr}
-use Rattle.tb_read.specs.declared.config.Config.{Config}
+use Rattle.tb_plan.specs.declared.instr.Instr.{Instr}
+use Rattle.tb_plan.specs.declared.config.Config.{Config}
 
 -- an instruction, and a situation, as the definitions see them
 abbrev pub instruction : Instr → Instruction

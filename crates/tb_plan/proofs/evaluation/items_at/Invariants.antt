@@ -2,8 +2,8 @@ use Rattle.std.proofs.Common.{◌≡◌, ◌++◌, ℤ, List, length, drop, IsTr
 use Rattle.std.specs.List.{list_all}
 use Rattle.std.specs.Option.{option_map}
 use Rattle.tb_model.specs.Program.{items_at}
-use Rattle.tb_read.specs.Plans.{is_placed}
-use Rattle.tb_read.proofs.evaluation.items_at.Given as goal
+use Rattle.tb_plan.specs.Plans.{is_placed}
+use Rattle.tb_plan.proofs.evaluation.items_at.Given as goal
 
 -- the items so far and those of the clauses that are left are those of all clauses
 abbrev pub invariant-loop-clause : goal.invariant-loop-clause

@@ -4,12 +4,12 @@ use Rattle.std.specs.Option.{option_map}
 use Rattle.tb_model.specs.declared.action.Action.{Action}
 use Rattle.tb_model.specs.declared.action.Action.TheVariants.{Let, Test}
 use Rattle.tb_model.specs.Program.{Instr as Instruction}
-use Rattle.tb_read.specs.declared.instr.Instr.{Instr}
-use Rattle.tb_read.specs.declared.config.Config.{Config}
-use Rattle.tb_read.specs.declared.planned.Plan.{Plan}
-use Rattle.tb_read.specs.declared.strip.Strip.{Strip}
-use Rattle.tb_read.specs.Plans.{instruction, line_behind}
-use Rattle.tb_read.specs.Strips.{strip_at}
+use Rattle.tb_plan.specs.declared.instr.Instr.{Instr}
+use Rattle.tb_plan.specs.declared.config.Config.{Config}
+use Rattle.tb_plan.specs.declared.planned.Plan.{Plan}
+use Rattle.tb_plan.specs.declared.strip.Strip.{Strip}
+use Rattle.tb_plan.specs.Plans.{instruction, line_behind}
+use Rattle.tb_plan.specs.Strips.{strip_at}
 
 -- the registers behind an action that is private: a `let` sets one, a test none
 abbrev pub regs_by : List ℤ → Action → Option (List ℤ)

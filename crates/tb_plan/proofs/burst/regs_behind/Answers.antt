@@ -1,5 +1,5 @@
 use Rattle.std.proofs.Common.{arith, to_z-of_z}
-use Rattle.tb_read.proofs.burst.regs_behind.Goals as goal
+use Rattle.tb_plan.proofs.burst.regs_behind.Goals as goal
 
 pub returns-in-Let : goal.returns-in-Let
 returns-in-Let c = grind (arith, to_z-of_z, c.in-Let.is)

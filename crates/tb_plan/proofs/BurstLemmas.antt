@@ -1,10 +1,10 @@
 -- Plans that follow one another.
 use Rattle.std.proofs.Common.{◌≡◌, ◌∙◌, ℕ, zero, suc, ◌+◌, ◌-◌, ◌<◌, List, [], ◌∷◌, ◌++◌, Some, None, ap, sym, subst, arith}
-use Rattle.tb_read.specs.declared.instr.Instr.{Instr}
-use Rattle.tb_read.specs.declared.config.Config.{Config}
-use Rattle.tb_read.specs.declared.planned.Plan.{Plan}
-use Rattle.tb_read.specs.declared.strip.Strip.{Strip}
-use Rattle.tb_read.specs.Bursts.{Follow, IsBurst, IsFollower}
+use Rattle.tb_plan.specs.declared.instr.Instr.{Instr}
+use Rattle.tb_plan.specs.declared.config.Config.{Config}
+use Rattle.tb_plan.specs.declared.planned.Plan.{Plan}
+use Rattle.tb_plan.specs.declared.strip.Strip.{Strip}
+use Rattle.tb_plan.specs.Bursts.{Follow, IsBurst, IsFollower}
 
 pub pushed_before : {A : Type 0} (xs : List A) (x : A) (ys : List A) → xs ++ x ∷ ys ≡ (xs ++ x ∷ []) ++ ys
 pushed_before [] x ys = cc

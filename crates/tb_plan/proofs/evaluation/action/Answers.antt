@@ -3,7 +3,7 @@ use Rattle.tb_model.specs.Program.{action_of, zero_ℤ}
 use Rattle.tb_model.specs.declared.action.Action.{Action}
 use Rattle.tb_model.specs.declared.statement.Statement.{Statement}
 use Rattle.tb_model.specs.declared.statement.Statement.TheVariants.{Taskwait}
-use Rattle.tb_read.proofs.evaluation.action.Goals as goal
+use Rattle.tb_plan.proofs.evaluation.action.Goals as goal
 
 pub returns-in-Load-clause-evaluated : goal.returns-in-Load-clause-evaluated
 returns-in-Load-clause-evaluated c all e =

@@ -2,8 +2,8 @@
 use Rattle.std.specs.Prelude.{Bool, true, false, Option, Some, None, if◌then◌else◌}
 use Rattle.tb_model.specs.declared.statement.Statement.{Statement}
 use Rattle.tb_model.specs.declared.statement.Statement.TheVariants.{Let as DoLet, Compute as DoCompute, Test as DoTest}
-use Rattle.tb_read.specs.declared.private.Private.{Private}
-use Rattle.tb_read.specs.declared.private.Private.TheVariants.{Let, Compute, Test}
+use Rattle.tb_plan.specs.declared.private.Private.{Private}
+use Rattle.tb_plan.specs.declared.private.Private.TheVariants.{Let, Compute, Test}
 
 -- it reads and writes registers of its task, and nothing else
 abbrev pub is_private : Statement → Bool

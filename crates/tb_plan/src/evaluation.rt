@@ -6,9 +6,9 @@ ghost use Rattle.tb_model.specs.Program.{value, computed, compared, is_met, is_d
 ghost use Rattle.tb_model.specs.Names.{child};
 ghost use Rattle.tb_model.specs.declared.action.Action.TheVariants.{Spawn as AsSpawn};
 ghost use Rattle.tb_model.specs.declared.statement.Statement.TheVariants.{Load as AsLoad, Store as AsStore, Taskwait as AsTaskwait};
-ghost use Rattle.tb_read.specs.Statements.{is_sound};
-ghost use Rattle.tb_read.specs.Plans.{is_place, is_placed, names_allowed, line_behind, IsActionOf};
-ghost use Rattle.tb_read.specs.declared.config.Config.{Config as Situation};
+ghost use Rattle.tb_plan.specs.Statements.{is_sound};
+ghost use Rattle.tb_plan.specs.Plans.{is_place, is_placed, names_allowed, line_behind, IsActionOf};
+ghost use Rattle.tb_plan.specs.declared.config.Config.{Config as Situation};
 
 use crate::config::Config;
 use crate::instr::Instr;

@@ -1,0 +1,5 @@
+pub mod Statements
+pub mod Plans
+pub mod Privacy
+pub mod Strips
+pub mod Bursts
