@@ -5,27 +5,29 @@ ghost use Rattle.tb_wait.specs.Numbers.{has, is_empty, IsPut, IsNextAbove};
 ghost use Rattle.tb_wait.specs.Tree.{childless};
 
 use crate::numbers::Numbers;
+use smallvec::SmallVec;
 use std::alloc::{AllocError, Global};
 use std::marker::Model;
 
 /// The places of a task's children, and which of them haven't ended.
 #[derive(Drop)]
 pub(crate) struct Children {
-    places: Vec<usize>,
+    // up to two stand here: most tasks that generate any generate few
+    places: SmallVec<usize, 2>,
     unended: Numbers,
     live: Numbers,
     room: usize,
 }
 
 impl Model for Children {
-    ghost use Rattle.std.specs.Prelude.{◌+◌, ◌≤◌, length, vec_capacity};
+    ghost use Rattle.std.specs.Prelude.{◌+◌, ◌≤◌, length};
     ghost use Rattle.tb_wait.specs.Tree.{Children};
 
     ghost Value = { Children };
 
     ghost view = { λ c. record { places = c.places.items; unended = c.unended.items; live = c.live.items; room = c.room } };
 
-    ghost invariant = { λ c. (length c.places.items + c.room ≤ vec_capacity c.places)
+    ghost invariant = { λ c. (length c.places.items + c.room ≤ c.places.capacity)
         × (length c.places.items + c.room ≤ c.unended.bound)
         × (length c.places.items + c.room ≤ c.live.bound) };
 }
@@ -36,7 +38,7 @@ impl Children {
         ensures { result ≡ childless }
     {
         Children {
-            places: Vec::new(alloc),
+            places: SmallVec::new(alloc),
             unended: Numbers::new(alloc),
             live: Numbers::new(alloc),
             room: 0,
@@ -55,7 +57,7 @@ impl Children {
         requires { 0 < number }
         ensures { result ≡ slice_get self.now.places (number - 1) }
     {
-        self.places.get((number - 1) as usize).copied()
+        self.places.as_slice().get((number - 1) as usize).copied()
     }
 
     /// How many children were ever generated.
