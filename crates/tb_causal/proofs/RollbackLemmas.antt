@@ -13,7 +13,7 @@ use Rattle.tb_model.proofs.PartsLemmas.{own_same}
 use Rattle.tb_model.proofs.RemovalLemmas.{needs_own, in_parts}
 use Rattle.tb_model.proofs.NextLemmas.{removal_for}
 use Rattle.tb_model.proofs.NeedsLemmas.{equivalent_without}
-use Rattle.tb_model.proofs.OneByOneLemmas.{one_unneeded, kept_more, kept_whole}
+use Rattle.tb_laws.proofs.OneByOneLemmas.{one_unneeded, kept_more, kept_whole}
 use Rattle.tb_model.proofs.ReorderingLemmas.{undone}
 use Rattle.tb_causal.specs.Systems.{IsPath, end_of, AreBackward, PathBack}
 use Rattle.tb_causal.specs.Runs.{Label, Step, Undo, Enabled, event, target, undos, runs}

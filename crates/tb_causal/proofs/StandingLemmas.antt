@@ -15,7 +15,7 @@ use Rattle.tb_model.proofs.FactsLemmas.{own_mine, own_other}
 use Rattle.tb_model.proofs.NeighboursLemmas.{same_sym}
 use Rattle.tb_model.proofs.RemovalLemmas.{own_grows, not_step, its_step}
 use Rattle.tb_model.proofs.LeastLemmas.{later_not_step}
-use Rattle.tb_model.proofs.NeedersLemmas.{standing}
+use Rattle.tb_laws.proofs.NeedersLemmas.{standing}
 use Rattle.tb_model.proofs.UndoLemmas.{AreFree, single, singled}
 use Rattle.tb_causal.specs.Runs.{kth}
 

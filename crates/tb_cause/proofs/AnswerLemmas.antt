@@ -7,7 +7,7 @@ use Rattle.tb_model.specs.declared.step_id.StepId.{StepId}
 use Rattle.tb_model.specs.Equivalent.{stands}
 use Rattle.tb_model.specs.Facts.{History, own, prepend_if}
 use Rattle.tb_model.specs.Needs.{needs, is_step, removed, step_of}
-use Rattle.tb_model.proofs.OrderedLemmas.{the_step}
+use Rattle.tb_laws.proofs.OrderedLemmas.{the_step}
 use Rattle.tb_model.proofs.RemovalLemmas.{removed_none}
 use Rattle.tb_core.specs.Rolled.{removed_steps}
 use Rattle.tb_cause.specs.Chains.{needers}

@@ -12,7 +12,7 @@ use Rattle.tb_model.specs.declared.step_id.StepId.{StepId}
 use Rattle.tb_model.specs.Causes.{Placed, some_needs, causes, causes_by_pass}
 use Rattle.tb_model.specs.Facts.{History}
 use Rattle.tb_model.specs.Needs.{needs, step_of}
-use Rattle.tb_model.proofs.CausesLemmas.{one_pass}
+use Rattle.tb_laws.proofs.CausesLemmas.{one_pass}
 use Rattle.tb_model.proofs.LeastLemmas.{later_not_step}
 use Rattle.tb_model.proofs.RemovalLemmas.{its_step}
 use Rattle.tb_core.specs.declared.entry.Entry.{Entry}

@@ -7,7 +7,7 @@ use Rattle.tb_model.specs.Facts.{History}
 use Rattle.tb_model.specs.Legal.{Cells, Legal}
 use Rattle.tb_model.specs.Needs.{needs, step_of}
 use Rattle.tb_model.specs.Needers.{first_needer}
-use Rattle.tb_model.proofs.NeedersLemmas.{none_here, next_needer, needer_stays}
+use Rattle.tb_laws.proofs.NeedersLemmas.{none_here, next_needer, needer_stays}
 use Rattle.tb_core.specs.declared.entry.Entry.{Entry}
 use Rattle.tb_core.specs.Scans.{AreLegal, history_of, step_behind, step_at}
 use Rattle.tb_core.proofs.ScanLemmas.{history_cut, history_more}

@@ -11,7 +11,7 @@ use Rattle.tb_model.specs.Lines.{Departure, events_of, without_lines}
 use Rattle.tb_model.specs.Needs.{is_removed, step_of, kept}
 use Rattle.tb_model.specs.Reordering.{IsUnneeded}
 use Rattle.tb_model.proofs.LinesLemmas.{events_left}
-use Rattle.tb_model.proofs.OneByOneLemmas.{one_unneeded}
+use Rattle.tb_laws.proofs.OneByOneLemmas.{one_unneeded}
 use Rattle.tb_model.proofs.RemovalLemmas.{removal}
 use Rattle.tb_model.proofs.ReorderingLemmas.{undone}
 use Rattle.tb_model.proofs.UndoLemmas.{single}

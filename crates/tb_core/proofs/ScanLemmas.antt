@@ -13,7 +13,7 @@ use Rattle.tb_model.specs.Facts.{History, is_of, own}
 use Rattle.tb_model.specs.Lines.{Departure}
 use Rattle.tb_model.specs.Needs.{is_step}
 use Rattle.tb_model.specs.Equivalent.{stands}
-use Rattle.tb_model.proofs.OrderedLemmas.{the_step}
+use Rattle.tb_laws.proofs.OrderedLemmas.{the_step}
 use Rattle.tb_model.proofs.FactsLemmas.{own_mine, own_other}
 use Rattle.tb_core.specs.declared.entry.Entry.{Entry}
 use Rattle.tb_core.specs.Soundness.{departure}

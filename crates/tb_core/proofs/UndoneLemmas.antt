@@ -13,7 +13,7 @@ use Rattle.tb_model.specs.Needs.{step_of}
 use Rattle.tb_model.specs.Needers.{first_needer}
 use Rattle.tb_model.specs.Equivalent.{Equivalent, stands}
 use Rattle.tb_model.specs.Reordering.{IsUnneeded}
-use Rattle.tb_model.proofs.NeedersLemmas.{unneeded}
+use Rattle.tb_laws.proofs.NeedersLemmas.{unneeded}
 use Rattle.tb_model.proofs.UndoLemmas.{AreFree, single}
 use Rattle.tb_model.proofs.LinesLemmas.{events_left, line_again}
 use Rattle.tb_model.proofs.RemovalLemmas.{removal}

@@ -15,7 +15,7 @@ use Rattle.tb_model.specs.Equivalent.{stands}
 use Rattle.tb_model.specs.Alike.{Alike}
 use Rattle.tb_model.specs.Reordering.{IsUnneeded}
 use Rattle.tb_model.proofs.TestLemmas.{same_refl}
-use Rattle.tb_model.proofs.NeedersLemmas.{unneeded, standing}
+use Rattle.tb_laws.proofs.NeedersLemmas.{unneeded, standing}
 use Rattle.tb_model.proofs.UndoLemmas.{single, moved}
 use Rattle.tb_core.specs.declared.removed.Removed.{Removed}
 use Rattle.tb_core.specs.Rolled.{removals}

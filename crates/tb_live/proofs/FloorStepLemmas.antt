@@ -17,7 +17,7 @@ use Rattle.tb_model.specs.Program.{Program, LegalFor}
 use Rattle.tb_model.specs.Hindrances.{Hindrance, By, can_step, least_ready}
 use Rattle.tb_model.proofs.TestLemmas.{same_true}
 use Rattle.tb_model.proofs.LeastNameLemmas.{one_least, least_found, at_most_itself}
-use Rattle.tb_model.proofs.NextStepLemmas.{next_isnt_refused}
+use Rattle.tb_laws.proofs.NextStepLemmas.{next_isnt_refused}
 use Rattle.tb_plan.specs.declared.planned.Plan.{Plan}
 use Rattle.tb_core.specs.declared.step_refusal.StepRefusal.{StepRefusal}
 use Rattle.tb_core.specs.Seen.{Seen}

@@ -25,7 +25,7 @@ use Rattle.tb_model.proofs.NeedsLemmas.{may_spawned}
 use Rattle.tb_model.proofs.TestLemmas.{same_true}
 use Rattle.tb_model.proofs.NeighboursLemmas.{start_only}
 use Rattle.tb_model.proofs.LinesLemmas.{line_kept, situation_other}
-use Rattle.tb_model.proofs.WellFormedLemmas.{Placed, what_fits, stands}
+use Rattle.tb_laws.proofs.WellFormedLemmas.{Placed, what_fits, stands}
 use Rattle.tb_core.specs.Seen.{Seen, history}
 use Rattle.tb_core.specs.Situation.{config_of}
 use Rattle.tb_core.specs.Filling.{completed}

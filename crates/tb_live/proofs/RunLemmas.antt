@@ -22,7 +22,7 @@ use Rattle.tb_model.proofs.LinesLemmas.{lines_left}
 use Rattle.tb_model.proofs.NextLemmas.{removal_for}
 use Rattle.tb_model.proofs.TestLemmas.{same_refl}
 use Rattle.tb_model.proofs.FactsLemmas.{own_mine}
-use Rattle.tb_model.proofs.NeedersLemmas.{standing, unneeded}
+use Rattle.tb_laws.proofs.NeedersLemmas.{standing, unneeded}
 use Rattle.tb_model.proofs.ReorderingLemmas as reordering
 use Rattle.tb_plan.specs.declared.config.Config.{Config}
 use Rattle.tb_plan.specs.declared.planned.Plan.{Plan}

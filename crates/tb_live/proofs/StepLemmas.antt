@@ -16,7 +16,7 @@ use Rattle.tb_model.specs.Program.{Program, IsNext, LegalFor, planned, situation
 use Rattle.tb_model.specs.Hindrances.{Refusal, By, refusal_of, can_step, least_ready, next_event, in_the_way}
 use Rattle.tb_model.specs.Hindrances.{NoSuchTask as IsMissing, Ended as IsOver}
 use Rattle.tb_model.proofs.LeastNameLemmas.{least_found}
-use Rattle.tb_model.proofs.NextStepLemmas.{next_computed, next_isnt_refused}
+use Rattle.tb_laws.proofs.NextStepLemmas.{next_computed, next_isnt_refused}
 use Rattle.tb_plan.specs.declared.config.Config.{Config}
 use Rattle.tb_plan.specs.declared.planned.Plan.{Plan}
 use Rattle.tb_core.specs.declared.step_refusal.StepRefusal.{StepRefusal}

@@ -18,33 +18,22 @@ pub mod FactsLemmas
 pub mod NeighboursLemmas
 pub mod LeastLemmas
 pub mod UndoLemmas
-pub mod OneByOneLemmas
 pub mod SettledLemmas
 pub mod NextLemmas
 pub mod RunLemmas
 pub mod EquivalenceLemmas
 pub mod NeedsLemmas
-pub mod OrderedLemmas
 pub mod ForProgramLemmas
-pub mod WellFormedLemmas
 pub mod DeadEndLemmas
-pub mod JournalLemmas
 pub mod RecordsLemmas
 pub mod SiblingsLemmas
 pub mod RulesLemmas
-pub mod ItemsLemmas
 pub mod GroupsLemmas
 pub mod StateLemmas
-pub mod SameStateLemmas
 pub mod LinesLemmas
 pub mod ReorderingLemmas
-mod ExampleLemmas
-mod HindranceExampleLemmas
-pub mod NeedersLemmas
 pub mod MembersLemmas
-pub mod CausesLemmas
 pub mod OrderLemmas
 pub mod LeastNameLemmas
 pub mod HindranceLemmas
-pub mod NextStepLemmas
 pub mod NumberTextLemmas

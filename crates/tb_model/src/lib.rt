@@ -1,4 +1,4 @@
-//! Names, events, and what a history of a task program says: the definitions and their laws.
+//! Names, events, and what a history of a task program says: the definitions.
 #![tactic(auto)]
 
 mod action;
@@ -22,7 +22,6 @@ mod item;
 mod item_table;
 mod items;
 mod kind;
-pub mod laws;
 mod lent;
 mod level_text;
 mod levels;
@@ -33,7 +32,6 @@ mod name_hash;
 mod name_order;
 mod name_refusal;
 mod name_text;
-pub mod next_laws;
 mod number_text;
 mod numbers;
 mod operand;

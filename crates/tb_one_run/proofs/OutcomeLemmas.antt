@@ -17,8 +17,8 @@ use Rattle.tb_model.proofs.SettledLemmas.{spawned_later}
 use Rattle.tb_model.proofs.StateLemmas.{over_ended}
 use Rattle.tb_model.proofs.NeedsLemmas.{may_spawned}
 use Rattle.tb_model.proofs.AlikeLemmas.{alike_refl}
-use Rattle.tb_model.proofs.SameStateLemmas.{same_state}
-use Rattle.tb_model.proofs.WellFormedLemmas.{no_dead_end_for}
+use Rattle.tb_laws.proofs.SameStateLemmas.{same_state}
+use Rattle.tb_laws.proofs.WellFormedLemmas.{no_dead_end_for}
 use Rattle.tb_races.specs.Orders.{Synchronised}
 use Rattle.tb_one_run.specs.Outcomes.{IsFinished, HasRace}
 use Rattle.tb_one_run.proofs.SharedLemmas.{has, part, place, older_all, own_longer}

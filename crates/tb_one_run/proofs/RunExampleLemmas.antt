@@ -5,7 +5,7 @@ use Rattle.tb_model.specs.Facts.{History}
 use Rattle.tb_model.specs.WellFormed.{WellFormed}
 use Rattle.tb_model.specs.Hindrances.{next_event, can_step, least_ready}
 use Rattle.tb_model.specs.Program.{Program, LegalFor, IsNext}
-use Rattle.tb_model.proofs.NextStepLemmas.{can_next, done_ended}
+use Rattle.tb_laws.proofs.NextStepLemmas.{can_next, done_ended}
 use Rattle.tb_model.proofs.NeedsLemmas.{may_spawned}
 use Rattle.tb_model.proofs.TestLemmas.{same_refl}
 use Rattle.tb_one_run.specs.Outcomes.{IsFinished}

@@ -15,7 +15,7 @@ use Rattle.tb_model.proofs.FactsLemmas.{own_mine, not_again, spawned_by}
 use Rattle.tb_model.proofs.NeighboursLemmas.{legal_below, same_sym}
 use Rattle.tb_model.proofs.PartsLemmas.{stores_to, last_same}
 use Rattle.tb_model.proofs.SettledLemmas.{spawned_later}
-use Rattle.tb_model.proofs.NextStepLemmas.{next_computed}
+use Rattle.tb_laws.proofs.NextStepLemmas.{next_computed}
 use Rattle.tb_model.proofs.AlikeLemmas.{alike_trans, alike_cons}
 use Rattle.tb_races.specs.Orders.{Synchronised}
 use Rattle.tb_one_run.specs.Outcomes.{HasRace}

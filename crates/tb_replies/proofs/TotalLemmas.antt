@@ -8,8 +8,8 @@ use Rattle.tb_model.specs.Equivalent.{stands}
 use Rattle.tb_model.specs.declared.entry.Entry.TheVariants.{Rolled}
 use Rattle.tb_model.specs.Hindrances.{Refusal}
 use Rattle.tb_model.specs.Program.{Program, IsNext}
-use Rattle.tb_model.proofs.JournalLemmas.{journal_legal}
-use Rattle.tb_model.proofs.NextStepLemmas.{refused_next, least_next}
+use Rattle.tb_laws.proofs.JournalLemmas.{journal_legal}
+use Rattle.tb_laws.proofs.NextStepLemmas.{refused_next, least_next}
 use Rattle.tb_read.specs.Text.{numbered}
 use Rattle.tb_read.proofs.WellFormedLemmas.{accepted_well_formed}
 use Rattle.tb_live.specs.declared.breaks.Break.{Break}

@@ -4,9 +4,9 @@ use Rattle.std.specs.Option.{option_or}
 use Rattle.tb_model.specs.declared.entry.Entry.TheVariants.{Stepped}
 use Rattle.tb_model.specs.Names.{Name}
 use Rattle.tb_model.specs.Hindrances.{Refusal, can_step}
-use Rattle.tb_model.proofs.JournalLemmas.{journal_legal}
+use Rattle.tb_laws.proofs.JournalLemmas.{journal_legal}
 use Rattle.tb_model.proofs.LeastNameLemmas.{least_found}
-use Rattle.tb_model.proofs.NextStepLemmas.{refused_next}
+use Rattle.tb_laws.proofs.NextStepLemmas.{refused_next}
 use Rattle.tb_live.specs.declared.mode.Mode.{Mode}
 use Rattle.tb_live.specs.declared.mode.Mode.TheVariants.{Resumed, Counting, Paused}
 use Rattle.tb_live.specs.declared.paused_by.PausedBy.TheVariants.{Break as ByBreak, Count as ByCount, Pause as ByPause}

@@ -10,7 +10,7 @@ use Rattle.tb_model.specs.Names.{Name}
 use Rattle.tb_model.specs.Needs.{needs, is_step, step_of}
 use Rattle.tb_model.specs.Ordered.{all_first, ordered}
 use Rattle.tb_model.proofs.FactsLemmas.{own_mine}
-use Rattle.tb_model.proofs.OrderedLemmas.{in_order, from_order}
+use Rattle.tb_laws.proofs.OrderedLemmas.{in_order, from_order}
 use Rattle.tb_model.proofs.RemovalLemmas.{its_step, own_grows}
 use Rattle.tb_core.specs.declared.entry.Entry.{Entry}
 use Rattle.tb_core.specs.Scans.{history_of, step_at}

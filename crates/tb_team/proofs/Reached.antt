@@ -13,9 +13,9 @@ use Rattle.tb_model.specs.Journal.{hist, Sound}
 use Rattle.tb_model.specs.Names.{Name, same_name}
 use Rattle.tb_model.specs.Program.{Program, situation}
 use Rattle.tb_model.specs.WellFormed.{WellFormed}
-use Rattle.tb_model.proofs.JournalLemmas.{journal_legal}
+use Rattle.tb_laws.proofs.JournalLemmas.{journal_legal}
 use Rattle.tb_model.proofs.LeastNameLemmas.{least_found}
-use Rattle.tb_model.proofs.NextStepLemmas.{next_computed, next_isnt_refused}
+use Rattle.tb_laws.proofs.NextStepLemmas.{next_computed, next_isnt_refused}
 use Rattle.tb_model.proofs.TestLemmas.{same_refl}
 use Rattle.tb_live.specs.declared.mode.Mode.TheVariants.{Counting, Paused}
 use Rattle.tb_live.specs.declared.paused_by.PausedBy.TheVariants.{Count as ByCount}

@@ -1,4 +1,4 @@
-use Rattle.tb_model.proofs.NeedersLemmas.{unneeded}
+use Rattle.tb_laws.proofs.NeedersLemmas.{unneeded}
 use Rattle.tb_causal.proofs.StandingLemmas.{unneeded_none, unneeded_stands}
 use Rattle.tb_causal.proofs.laws.causal_safety.Goals as goal
 

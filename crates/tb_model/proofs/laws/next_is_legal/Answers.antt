@@ -1,4 +1,0 @@
-use Rattle.tb_model.proofs.laws.next_is_legal.Goals as goal
-
-pub returns : goal.returns
-returns c = λ P H v l. (λ n. ((l.0, n.may), (l.1, n.follows)), λ m. record { may = m.0.1; follows = m.1.1 })

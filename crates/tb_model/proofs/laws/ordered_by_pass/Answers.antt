@@ -1,5 +1,0 @@
-use Rattle.tb_model.proofs.OrderedLemmas.{in_order, from_order}
-use Rattle.tb_model.proofs.laws.ordered_by_pass.Goals as goal
-
-pub returns : goal.returns
-returns c = λ G H. (in_order H G, from_order H G)
