@@ -5,6 +5,7 @@ pub mod AfterLemmas
 pub mod ClockLemmas
 pub mod LinkLemmas
 pub mod StartLemmas
+pub mod ExclusionLemmas
 pub mod SoundLemmas
 pub mod OwnLemmas
 pub mod NumberLemmas

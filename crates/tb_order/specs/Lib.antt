@@ -3,3 +3,4 @@ pub mod Lanes
 pub mod Clocks
 pub mod Numbering
 pub mod Told
+pub mod Exclusion

@@ -3,6 +3,7 @@
 
 mod asking;
 mod clocks;
+mod exclusion;
 mod immediate;
 mod kinds;
 mod lanes;

@@ -9,6 +9,7 @@ ghost use Rattle.tb_order.specs.Lanes.{IsLane};
 ghost use Rattle.tb_order.specs.Linking.{order_of};
 
 use crate::clocks::{Clocks, reaches};
+use crate::exclusion::exclude_some;
 use crate::kinds::conflict;
 use crate::lanes::{lane_for, note};
 use crate::merging::clocks_of;
@@ -29,12 +30,35 @@ pub fn races_among(alloc: Global, entries: &[Entry]) -> Result<Vec<Race>, AllocE
     let tasks = tasks_of(alloc, entries)?;
     let ordinals = ordinals_of(alloc, entries, &tasks)?;
     let loose = clocks_of(alloc, false, entries, &tasks)?;
+    if !exclude_some(entries) {
+        return races_by(alloc, entries, &tasks, &ordinals, &loose, &loose);
+    }
     let strict = clocks_of(alloc, true, entries, &tasks)?;
+    races_by(alloc, entries, &tasks, &ordinals, &loose, &strict)
+}
+
+/// The same by what stands in front of each, where exclusion doesn't count and where it does.
+fn races_by(
+    alloc: Global,
+    entries: &[Entry],
+    tasks: &Tasks,
+    ordinals: &[u32],
+    loose: &Clocks,
+    strict: &Clocks,
+) -> Result<Vec<Race>, AllocError>
+    requires tasks { AreTasks entries.now tasks.now }
+    requires loose { AreClocks (order_of false) entries.now tasks.now (length entries.now) loose.now }
+    requires strict { AreClocks (order_of true) entries.now tasks.now (length entries.now) strict.now }
+    requires listed { length ordinals.now ≡ length entries.now }
+    requires told { AreOrdinals entries.now (length entries.now) ordinals.now }
+    ensures { IfOk result (λ races.
+        races.items ≡ reverse (Racing.races (history_of entries.now))) }
+{
     let mut races = Vec::new(alloc);
     let mut lanes = Vec::new(alloc);
     for at in 0..entries.len() {
         let lane = lane_for(&lanes, &entries[at].event.action);
-        if let Some(race) = race_at(entries, &tasks, &ordinals, &loose, &strict, at, lane)? {
+        if let Some(race) = race_at(entries, tasks, ordinals, loose, strict, at, lane)? {
             races.push(race)?;
         }
         note(alloc, &mut lanes, entries, at)?;

@@ -201,10 +201,11 @@ fn start_kind(
     requires others { others.now ≡ Facts.items_of u.now (history_of front.now) }
     ensures { result ≡ Linking.start_kind (history_of front.now) t.now u.now }
 {
-    if u.is_elder_of(t) && some_before(items, others) {
+    // mostly no items meet, and names take longer to compare
+    if some_before(items, others) && u.is_elder_of(t) {
         Some(NeedKind::Before)
-    } else if (u.is_elder_of(t) && some_apart(items, others))
-        || (t.is_elder_of(u) && some_apart(others, items))
+    } else if (some_apart(items, others) && u.is_elder_of(t))
+        || (some_apart(others, items) && t.is_elder_of(u))
     {
         Some(NeedKind::Apart)
     } else {
@@ -234,7 +235,8 @@ fn named_items(entries: &[Entry], at: usize) -> &[Item]
     action_items(&entries[at].event.action)
 }
 
-fn action_items(action: &Action) -> &[Item]
+/// Those that the action gives to a child.
+pub fn action_items(action: &Action) -> &[Item]
     ensures { result.now ≡ items_in (Some action.now) }
 {
     match action {

@@ -2,7 +2,7 @@ use Rattle.std.proofs.Common.{◌≡◌, take, reverse}
 use Rattle.tb_core.specs.Scans.{history_of}
 use Rattle.tb_races.specs.Racing
 use Rattle.tb_order.specs.Lanes.{AreLanes}
-use Rattle.tb_order.proofs.racing.races_among.Given as goal
+use Rattle.tb_order.proofs.racing.races_by.Given as goal
 
 -- those of the entries so far
 abbrev pub invariant-loop-at : goal.invariant-loop-at

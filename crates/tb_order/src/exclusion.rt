@@ -1,0 +1,32 @@
+//! Whether tasks of a history exclude each other.
+
+ghost use Rattle.std.specs.Prelude.{◌≡◌, ◌<◌, ℕ, false, length, take, Some, IsFalse};
+ghost use Rattle.tb_core.specs.Scans.{history_of};
+ghost use Rattle.tb_model.specs.State.{items_in};
+ghost use Rattle.tb_order.specs.Exclusion.{excludes_some, has_exclusive};
+
+use crate::waiting::action_items;
+use tb_core::Entry;
+use tb_model::{Action, Kind};
+
+/// Whether some task has an item by which it may exclude others.
+pub fn exclude_some(entries: &[Entry]) -> bool
+    ensures { IsFalse result → (p : ℕ) → p < length entries.now →
+        excludes_some (history_of (take p entries.now)) ≡ false }
+{
+    for at in 0..entries.len() {
+        if has_exclusive(&entries[at].event.action) {
+            return true;
+        }
+    }
+    false
+}
+
+/// Whether it generates such a task.
+fn has_exclusive(action: &Action) -> bool
+    ensures { result ≡ has_exclusive (items_in (Some action.now)) }
+{
+    action_items(action)
+        .iter()
+        .any(|item| matches!(item.kind, Kind::Mutexinoutset))
+}
