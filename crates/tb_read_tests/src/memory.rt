@@ -4,7 +4,7 @@ use std::mem;
 use std::process::Abort;
 use std::test::Fail;
 use tb_model::{Action, NameRefusal, TaskName};
-use tb_plan::{Config, plan, plan_burst};
+use tb_plan::{Config, Plan, plan, plan_burst};
 use tb_read::{FaultKind, Program, ReadFault, read, strip_around};
 
 const TEXT: &[u8] =
@@ -45,6 +45,13 @@ fn a_refused_growth_of_read_leaves_its_answer(rt: HostRuntime) -> Result<(), Fai
 #[test]
 fn a_refused_growth_of_plan_leaves_its_answer(rt: HostRuntime) -> Result<(), Fail> {
     let program = read_twice(&rt, TEXT)?;
+    let planned = planned_twice(&rt, &program)?;
+    assert_eq!(rt; planned.to(), 9);
+    expect_spawn(&rt, &planned.action)
+}
+
+/// The plan of the `task` line.
+fn planned_twice(rt: &impl AllocGlobal, program: &Program) -> Result<Plan, Fail> {
     let instr = program.instr(5).ok_or("no task")?;
     let config = Config {
         task: TaskName::root(rt.alloc()),
@@ -52,18 +59,20 @@ fn a_refused_growth_of_plan_leaves_its_answer(rt: HostRuntime) -> Result<(), Fai
         at: instr.line,
         regs: [1, 0, 0, 0, 0, 0, 0, 0, 0, 0, 0, 0, 0, 0, 0, 0],
     };
-    let planned = match plan(rt.alloc(), instr, &config) {
-        Ok(planned) => planned,
-        Err(_) => plan(rt.alloc(), instr, &config)?,
-    };
-    let Action::Spawn(spawned) = &planned.action else {
+    match plan(rt.alloc(), instr, &config) {
+        Ok(planned) => Ok(planned),
+        Err(_) => Ok(plan(rt.alloc(), instr, &config)?),
+    }
+}
+
+fn expect_spawn(rt: &impl Abort, action: &Action) -> Result<(), Fail> {
+    let Action::Spawn(spawned) = action else {
         return Err(Fail::from("no spawn"));
     };
     let spawn = spawned.get();
     assert_eq!(rt; (spawn.body, spawn.deferred), (10, true));
     assert_eq!(rt; spawn.args.as_slice(), [1, 7].as_slice());
     assert_eq!(rt; spawn.items.as_slice().len(), 2);
-    assert_eq!(rt; planned.to(), 9);
     Ok(())
 }
 
@@ -91,10 +100,15 @@ fn a_refused_growth_of_plan_burst_leaves_its_answer(rt: HostRuntime) -> Result<(
         Ok(plans) => plans,
         Err(_) => plan_burst(rt.alloc(), instr, &strip, &config)?,
     };
-    assert_eq!(rt; plans.as_slice().len(), 19);
-    let last = plans.as_slice().last().ok_or("no plan")?;
+    let ends = expect_burst(&rt, plans.as_slice());
+    mem::forget(plans);
+    ends
+}
+
+fn expect_burst(rt: &impl Abort, plans: &[Plan]) -> Result<(), Fail> {
+    assert_eq!(rt; plans.len(), 19);
+    let last = plans.last().ok_or("no plan")?;
     assert_eq!(rt; last.config.regs[0], 9);
     assert_eq!(rt; (last.config.steps, last.to()), (20, 6));
-    mem::forget(plans);
     Ok(())
 }

@@ -4,7 +4,7 @@ use std::process::Abort;
 use std::test::Fail;
 use tb_model::{Action, Spawn, TaskName};
 use tb_plan::{Config, Plan, plan};
-use tb_read::read;
+use tb_read::{Program, read};
 
 /// The plan of a line of a program with two cells and this statement on line 3, for task `0`. Its
 /// registers are 0, 5, -1, the greatest and the least number, and zeros.
@@ -15,6 +15,10 @@ fn planned(rt: &(impl Abort + AllocGlobal), statement: &str, line: u32) -> Resul
         "cells 2\nbody main 0\n{statement}\nend\nbody b 2\nend\n"
     )?;
     let program = read(rt.alloc(), text.as_bytes())?;
+    plan_at(rt, &program, line)
+}
+
+fn plan_at(rt: &impl AllocGlobal, program: &Program, line: u32) -> Result<Plan, Fail> {
     let instr = program.instr(line).ok_or("no statement")?;
     let config = Config {
         task: TaskName::root(rt.alloc()),
@@ -136,7 +140,12 @@ fn a_body_starts_and_a_group_closes(rt: HostRuntime) -> Result<(), Fail> {
 
 /// The spawn of a `task` line: its body, its arguments, its items, whether it is deferred.
 fn spawn(rt: &(impl Abort + AllocGlobal), statement: &str) -> Result<String, Fail> {
-    match &planned(rt, statement, 3)?.action {
+    let planned = planned(rt, statement, 3)?;
+    spawn_text(rt, &planned.action)
+}
+
+fn spawn_text(rt: &(impl Abort + AllocGlobal), action: &Action) -> Result<String, Fail> {
+    match action {
         Action::Spawn(spawned) => {
             let Spawn {
                 child,
