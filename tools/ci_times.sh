@@ -2,4 +2,5 @@
 # Runs the gate, or what it does for some crates and those below them, and stamps each of its lines with the time since its
 # start; last come a table of processor minutes by crate and kind of work, the total, and the most memory of one process.
 #   tools/ci_times.sh [CRATE..] > times.txt
-exec python3 -u "$(dirname "${BASH_SOURCE[0]}")/gate_times.py" "$@"
+tools=$(dirname "${BASH_SOURCE[0]}")
+RT_JOBS=${RT_JOBS:-$("$tools/gate_lanes.sh")} exec python3 -u "$tools/gate_times.py" "$@"
