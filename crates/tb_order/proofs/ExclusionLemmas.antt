@@ -1,10 +1,9 @@
 -- Where no tasks exclude each other, it makes no difference whether exclusion counts.
-use Rattle.std.proofs.Common.{◌≡◌, ◌≢◌, ◌<◌, ◌≤◌, ◌-◌, ◌==◌, ◌⊎◌, inl, inr, ℕ, zero, suc, List, [], ◌∷◌, Bool, true, false, ◌&&◌, ◌||◌, cond, length, take, refl, sym, ap, ap₂, ◌∙◌, Option, Some, None, slice_get, get_or, arith}
+use Rattle.std.proofs.Common.{◌≡◌, ◌<◌, ◌-◌, ◌==◌, ℕ, List, [], ◌∷◌, Bool, true, false, ◌&&◌, ◌||◌, cond, length, take, refl, sym, ap, ap₂, ◌∙◌, Option, Some, None, slice_get, arith}
 use Rattle.std.specs.List.{list_any}
 use Rattle.std.specs.Option.{option_or, option_map}
-use Rattle.std.proofs.lemmas.Bool.{false≢true, cases_eq, or_parts}
+use Rattle.std.proofs.lemmas.Bool.{false≢true, or_parts}
 use Rattle.std.proofs.lemmas.List.Folds.{list_any-append}
-use Rattle.std.proofs.Math.Arith.{le_of_le-suc-ne}
 use Rattle.tb_model.specs.declared.kind.Kind.{Kind}
 use Rattle.tb_model.specs.declared.kind.Kind.TheVariants.{In, Out, Inout, Mutexinoutset, Inoutset}
 use Rattle.tb_model.specs.declared.item.Item.{Item}
@@ -28,7 +27,6 @@ use Rattle.tb_core.specs.Scans.{history_of, step_at}
 use Rattle.tb_order.specs.declared.tasks.Tasks.{Tasks}
 use Rattle.tb_order.specs.declared.clocks.Clocks.{Clocks}
 use Rattle.tb_order.specs.Clocks.{after_so, is_after, is_below, row_at, origin, origin_reaches, AreTasks, AreClocks}
-use Rattle.tb_order.proofs.LaneLemmas.{one_more}
 use Rattle.tb_order.specs.Exclusion.{is_exclusive, has_exclusive, excludes_some}
 
 -- ---- items
@@ -153,20 +151,3 @@ clocks_same entries tasks clocks none t c =
   where
     from : (n q : ℕ) → n - 1 < length entries → origin_reaches Synchronised entries n q ≡ origin_reaches WithExclusion entries n q
     from n q l = ap (λ b. cond (n == 0) false ((n - 1) == q || b)) (after_same entries (n - 1) q (none (n - 1) l))
-
--- ---- what a loop over the entries knows
-
-pub none_first : (entries : List Entry) (p : ℕ) → p ≤ 0 → excludes_some (history_of (take p entries)) ≡ false
-none_first entries zero l = refl
-none_first entries (suc p) l = absurd (omega (arith, l))
-
-pub none_more : (entries : List Entry) (n : ℕ) (y : Entry) → n < length entries → y ≡ get_or entries n y → has_exclusive (items_in (Some y.event.action)) ≡ false
-    → ((p : ℕ) → p ≤ n → excludes_some (history_of (take p entries)) ≡ false) → (p : ℕ) → p ≤ suc n → excludes_some (history_of (take p entries)) ≡ false
-none_more entries n y l is without before p low = by (cases_eq p (suc n))
-  where
-    by : (p ≡ suc n) ⊎ (p ≢ suc n) → excludes_some (history_of (take p entries)) ≡ false
-    by (inl e) =
-        ap (λ m. excludes_some (history_of (take m entries))) e
-        ∙ ap excludes_some (one_more entries n y l is)
-        ∙ ap₂ (λ a b. a || b) without (before n (omega arith))
-    by (inr d) = before p (le_of_le-suc-ne low d)

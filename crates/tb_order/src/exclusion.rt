@@ -9,7 +9,8 @@ use crate::waiting::action_items;
 use tb_core::Entry;
 use tb_model::{Action, Kind};
 
-/// Whether some task has an item by which it may exclude others.
+/// Whether some task has an item by which it may exclude others. The contract says what a no means: a
+/// needless yes would only cost a second table of clocks.
 pub fn exclude_some(entries: &[Entry]) -> bool
     ensures { IsFalse result → (p : ℕ) → p < length entries.now →
         excludes_some (history_of (take p entries.now)) ≡ false }
