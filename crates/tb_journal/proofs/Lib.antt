@@ -1,1 +1,2 @@
 pub mod CompactLemmas
+pub mod TurnLemmas

@@ -11,30 +11,30 @@ use Rattle.tb_journal.specs.declared.compact.Compact.TheVariants.{Apart, Started
 abbrev pub step : ℕ → Name → Action → Entry
 step seat t a = Stepped seat (record { task = t; action = a })
 
--- the entry, for which these stand apart
-abbrev pub entry_of : List Entry → Compact → Entry
-entry_of apart (Apart n) = slice_index_or apart n Opened
-entry_of apart (Started seat t) = step seat t Start
-entry_of apart (Set reg seat value t) = step seat t (Let reg value)
-entry_of apart (Loaded reg seat cell value t) = step seat t (Load reg cell value)
-entry_of apart (Stored seat cell value t) = step seat t (Store cell value)
-entry_of apart (Printed seat value t) = step seat t (Print value)
-entry_of apart (Generated seat s t) = step seat t (Spawn s)
-entry_of apart (Waited seat t) = step seat t (Wait [])
-entry_of apart (WaitedFor seat items t) = step seat t (Wait items)
-entry_of apart (Entered seat t) = step seat t Open
-entry_of apart (Left seat t) = step seat t Close
-entry_of apart (Tested met seat t) = step seat t (Test met)
-entry_of apart (Ended seat t) = step seat t End
-entry_of apart (Faulted seat t) = step seat t Fault
-entry_of apart (RolledBack seat k t) = Rolled seat (record { task = t; k = k })
+-- the task's entry, for which these stand apart
+abbrev pub entry_of : List Entry → Name → Compact → Entry
+entry_of apart t (Apart n) = slice_index_or apart n Opened
+entry_of apart t (Started seat) = step seat t Start
+entry_of apart t (Set reg seat value) = step seat t (Let reg value)
+entry_of apart t (Loaded reg seat cell value) = step seat t (Load reg cell value)
+entry_of apart t (Stored seat cell value) = step seat t (Store cell value)
+entry_of apart t (Printed seat value) = step seat t (Print value)
+entry_of apart t (Generated seat s) = step seat t (Spawn s)
+entry_of apart t (Waited seat) = step seat t (Wait [])
+entry_of apart t (WaitedFor seat items) = step seat t (Wait items)
+entry_of apart t (Entered seat) = step seat t Open
+entry_of apart t (Left seat) = step seat t Close
+entry_of apart t (Tested met seat) = step seat t (Test met)
+entry_of apart t (Ended seat) = step seat t End
+entry_of apart t (Faulted seat) = step seat t Fault
+entry_of apart t (RolledBack seat k) = Rolled seat (record { task = t; k = k })
 
 -- a step that has a number
 abbrev pub IsNumbered : Compact → Type 0
-IsNumbered (Set reg seat value t) = ⊤
-IsNumbered (Loaded reg seat cell value t) = ⊤
-IsNumbered (Stored seat cell value t) = ⊤
-IsNumbered (Printed seat value t) = ⊤
+IsNumbered (Set reg seat value) = ⊤
+IsNumbered (Loaded reg seat cell value) = ⊤
+IsNumbered (Stored seat cell value) = ⊤
+IsNumbered (Printed seat value) = ⊤
 IsNumbered _ = ⊥
 
 -- it stands in the value itself, or as one of so many apart
@@ -42,12 +42,12 @@ abbrev pub IsThere : ℕ → Compact → Type 0
 IsThere count (Apart n) = n < count
 IsThere count _ = ⊤
 
--- it stands for the entry, whatever stands apart
-pub record StandsFor (e : Entry) (k : Compact) : Type 0 where
-  pub is : (apart : List Entry) → entry_of apart k ≡ e
+-- it stands for the entry, which is the task's, whatever stands apart
+pub record StandsFor (e : Entry) (t : Name) (k : Compact) : Type 0 where
+  pub is : (apart : List Entry) → entry_of apart t k ≡ e
   pub there : IsThere 0 k
 
--- the entry in few bytes, or that which stands apart
-abbrev pub entry_in : Result Compact Entry → Entry
-entry_in (Ok k) = entry_of [] k
+-- the entry in few bytes, with its task, or that which stands apart
+abbrev pub entry_in : Result (Name × Compact) Entry → Entry
+entry_in (Ok r) = entry_of [] r.0 r.1
 entry_in (Err e) = e

@@ -11,156 +11,134 @@ use std::alloc::{AllocError, Global};
 use std::mem::size_of;
 use tb_model::{Action, Entry, Event, Items, Spawned, StepId, TaskName, WaitItems};
 
-/// An entry stands in the value itself, by what was done. Only the opening and the entries of a seat
-/// above 255, which no run has, stand apart, each with a number.
+/// An entry stands in the value itself, by what was done; whose it is the journal keeps beside it. Only
+/// the opening and the entries of a seat above 255, which no run has, stand apart, each with a number.
 #[derive(Drop)]
 pub(crate) enum Compact {
     Apart(usize),
     Started {
         seat: u8,
-        task: TaskName,
     },
     Set {
         reg: u8,
         seat: u8,
         value: i64,
-        task: TaskName,
     },
     Loaded {
         reg: u8,
         seat: u8,
         cell: u32,
         value: i64,
-        task: TaskName,
     },
     Stored {
         seat: u8,
         cell: u32,
         value: i64,
-        task: TaskName,
     },
     Printed {
         seat: u8,
         value: i64,
-        task: TaskName,
     },
     Generated {
         seat: u8,
         spawn: Spawned,
-        task: TaskName,
     },
     /// A `taskwait` without items was passed.
     Waited {
         seat: u8,
-        task: TaskName,
     },
     /// A `taskwait` with items was passed.
     WaitedFor {
         seat: u8,
         items: WaitItems,
-        task: TaskName,
     },
     /// A `taskgroup` was entered.
     Entered {
         seat: u8,
-        task: TaskName,
     },
     /// Its end was passed.
     Left {
         seat: u8,
-        task: TaskName,
     },
     Tested {
         yes: bool,
         seat: u8,
-        task: TaskName,
     },
     Ended {
         seat: u8,
-        task: TaskName,
     },
     Faulted {
         seat: u8,
-        task: TaskName,
     },
     RolledBack {
         seat: u8,
         k: u32,
-        task: TaskName,
     },
 }
 
-const _: () = prove!(size_of::<Compact>() == 32);
+const _: () = prove!(size_of::<Compact>() == 16);
 
 impl Compact {
-    /// The entry, for which these stand apart.
-    pub fn entry(&self, alloc: Global, apart: &[Entry]) -> Result<Entry, AllocError>
-        ensures { IfOk result (λ e. e ≡ entry_of apart.now self.now) }
+    /// The task's entry, for which these stand apart.
+    pub fn entry(
+        &self,
+        alloc: Global,
+        apart: &[Entry],
+        task: &TaskName,
+    ) -> Result<Entry, AllocError>
+        ensures { IfOk result (λ e. e ≡ entry_of apart.now task.now self.now) }
     {
         match self {
             Compact::Apart(number) => nth(apart, *number),
-            Compact::Started { seat, task } => stepped(*seat, task, Action::Start),
-            Compact::Generated { seat, spawn, task } => {
+            Compact::Started { seat } => stepped(*seat, task, Action::Start),
+            Compact::Generated { seat, spawn } => {
                 let spawn = spawn.clone()?;
                 stepped(*seat, task, Action::Spawn(spawn))
             }
-            Compact::Waited { seat, task } => {
+            Compact::Waited { seat } => {
                 let items = WaitItems::new(alloc, Items::new(alloc))?;
                 stepped(*seat, task, Action::Wait { items })
             }
-            Compact::WaitedFor { seat, items, task } => {
+            Compact::WaitedFor { seat, items } => {
                 let items = items.clone()?;
                 stepped(*seat, task, Action::Wait { items })
             }
-            Compact::Entered { seat, task } => stepped(*seat, task, Action::Open),
-            Compact::Left { seat, task } => stepped(*seat, task, Action::Close),
-            Compact::Tested { yes, seat, task } => {
-                stepped(*seat, task, Action::Test { yes: *yes })
-            }
-            Compact::Ended { seat, task } => stepped(*seat, task, Action::End),
-            Compact::Faulted { seat, task } => stepped(*seat, task, Action::Fault),
-            Compact::RolledBack { seat, k, task } => rolled(*seat, task, *k),
-            _ => self.numbered(),
+            Compact::Entered { seat } => stepped(*seat, task, Action::Open),
+            Compact::Left { seat } => stepped(*seat, task, Action::Close),
+            Compact::Tested { yes, seat } => { stepped(*seat, task, Action::Test { yes: *yes }) }
+            Compact::Ended { seat } => stepped(*seat, task, Action::End),
+            Compact::Faulted { seat } => stepped(*seat, task, Action::Fault),
+            Compact::RolledBack { seat, k } => rolled(*seat, task, *k),
+            _ => self.numbered(task),
         }
     }
 
     /// The entry of a step that has a number.
-    fn numbered(&self) -> Result<Entry, AllocError>
+    fn numbered(&self, task: &TaskName) -> Result<Entry, AllocError>
         requires { IsNumbered self.now }
-        ensures { IfOk result (λ e. e ≡ entry_of [] self.now) }
+        ensures { IfOk result (λ e. e ≡ entry_of [] task.now self.now) }
     {
         match *self {
-            Compact::Set {
-                reg,
-                seat,
-                value,
-                ref task,
-            } => stepped(seat, task, Action::Let { reg, value }),
+            Compact::Set { reg, seat, value } => stepped(seat, task, Action::Let { reg, value }),
             Compact::Loaded {
                 reg,
                 seat,
                 cell,
                 value,
-                ref task,
             } => stepped(seat, task, Action::Load { reg, cell, value }),
-            Compact::Stored {
+            Compact::Stored { seat, cell, value } => stepped(
                 seat,
-                cell,
-                value,
-                ref task,
-            } => stepped(seat, task, Action::Store { cell, value }),
-            Compact::Printed {
-                seat,
-                value,
-                ref task,
-            } => stepped(seat, task, Action::Print { value }),
+                task,
+                Action::Store { cell, value },
+            ),
+            Compact::Printed { seat, value } => stepped(seat, task, Action::Print { value }),
             _ => unreachable!(),
         }
     }
 
     /// The seat that made the entry.
     pub fn seat(&self, apart: &[Entry]) -> u32
-        ensures { result ≡ seat_of (entry_of apart.now self.now) }
+        ensures { result ≡ seat_of (entry_of apart.now [] self.now) }
     {
         match self {
             Compact::Apart(number) => match apart.get(*number) {
@@ -186,7 +164,7 @@ impl Compact {
 
     /// Whether the entry is that of a step.
     pub fn is_step(&self, apart: &[Entry]) -> bool
-        ensures { result ≡ is_step (entry_of apart.now self.now) }
+        ensures { result ≡ is_step (entry_of apart.now [] self.now) }
     {
         match self {
             Compact::Apart(number) => match apart.get(*number) {

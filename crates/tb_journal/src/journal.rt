@@ -9,18 +9,20 @@ ghost use Rattle.tb_journal.specs.Compact.{entry_in, entry_of, StandsFor};
 
 use crate::compact::Compact;
 use crate::shortening::{short, short_action, short_step};
+use crate::turn::{Turn, begin, task_at};
 use std::alloc::{AllocError, Global};
 use std::marker::Model;
 use tb_model::{Action, Entry, Event, TaskName};
 
 /// The entries of a run, the oldest first. Contracts see them, and for how many more there is room.
 ///
-/// An entry takes 32 bytes. The opening stands whole in a list of its own, and so does the entry of a
-/// seat above 255, which no run has.
+/// An entry takes 16 bytes, and each turn, in which the entries are of one task, 24 more. The opening
+/// stands whole in a list of its own, and so does the entry of a seat above 255, which no run has.
 #[derive(Drop)]
 pub struct Journal {
     alloc: Global,
     compact: Vec<Compact>,
+    turns: Vec<Turn>,
     apart: Vec<Entry>,
 }
 
@@ -28,13 +30,14 @@ impl Model for Journal {
     ghost use Rattle.std.specs.Prelude.{◌-◌, min, map, length, vec_len, vec_capacity};
     ghost use Rattle.std.specs.List.{AllByRecursion};
     ghost use Rattle.tb_journal.specs.Journals.{Written};
-    ghost use Rattle.tb_journal.specs.Compact.{entry_of, IsThere};
+    ghost use Rattle.tb_journal.specs.Compact.{IsThere};
+    ghost use Rattle.tb_journal.specs.Turns.{entries, Rises};
 
     ghost Value = { Written };
 
-    ghost view = { λ j. record { items = map (entry_of j.apart.items) j.compact.items; room = min (vec_capacity j.compact - vec_len j.compact) (vec_capacity j.apart - vec_len j.apart) } };
+    ghost view = { λ j. record { items = entries j.apart.items j.turns.items 0 j.compact.items; room = min (vec_capacity j.compact - vec_len j.compact) (min (vec_capacity j.turns - vec_len j.turns) (vec_capacity j.apart - vec_len j.apart)) } };
 
-    ghost invariant = { λ j. AllByRecursion (IsThere (length j.apart.items)) j.compact.items };
+    ghost invariant = { λ j. AllByRecursion (IsThere (length j.apart.items)) j.compact.items × Rises 0 j.turns.items (length j.compact.items) };
 }
 
 impl Journal {
@@ -45,6 +48,7 @@ impl Journal {
         let mut journal = Journal {
             alloc,
             compact: Vec::new(alloc),
+            turns: Vec::new(alloc),
             apart: Vec::new(alloc),
         };
         journal.reserve()?;
@@ -53,6 +57,7 @@ impl Journal {
     }
 
     /// How many entries there are.
+    #[tactic(auto, using(crate::proofs::TurnLemmas::entries_length))]
     pub fn len(&self) -> usize
         ensures { result ≡ length self.now.items }
     {
@@ -67,6 +72,7 @@ impl Journal {
         ensures kept { self.old.room ≤ self.new.room }
     {
         self.compact.reserve(1)?;
+        self.turns.reserve(1)?;
         self.apart.reserve(1)?;
         Ok(())
     }
@@ -103,14 +109,17 @@ impl Journal {
     }
 
     #[inline(always)]
-    fn add(&mut self, short: Result<Compact, Entry>)
+    fn add(&mut self, short: Result<(TaskName, Compact), Entry>)
         requires room { 0 < self.old.room }
-        requires short { IfOk short (StandsFor (entry_in short)) }
+        requires short { IfOk short (λ r. StandsFor (entry_in short) r.0 r.1) }
         ensures items { self.new.items ≡ self.old.items ++ entry_in short ∷ [] }
         ensures room { self.old.room ≤ self.new.room + 1 }
     {
         match short {
-            Ok(compact) => self.compact.push_reserved(compact),
+            Ok((task, compact)) => {
+                begin(&mut self.turns, self.compact.as_slice().len(), task);
+                self.compact.push_reserved(compact);
+            }
             Err(entry) => {
                 let number = self.apart.as_slice().len();
                 self.compact.push_reserved(Compact::Apart(number));
@@ -120,12 +129,15 @@ impl Journal {
     }
 
     /// The entry at the place, made anew. Its lists share memory with what stands here.
+    #[tactic(auto, using(crate::proofs::TurnLemmas::entries_length))]
     pub fn entry(&self, place: usize) -> Result<Entry, AllocError>
         requires { place < length self.now.items }
         ensures { IfOk result (λ e. (d : Entry) → slice_index_or self.now.items place d ≡ e) }
     {
+        let root = TaskName::root(self.alloc);
+        let task = task_at(&root, self.turns.as_slice(), place);
         let compact = &self.compact.as_slice()[place];
-        compact.entry(self.alloc, self.apart.as_slice())
+        compact.entry(self.alloc, self.apart.as_slice(), task)
     }
 
     /// Whether each entry was made by one of so many seats.
@@ -137,6 +149,7 @@ impl Journal {
     }
 
     /// Whether the entries from the place on are steps of so many workers, the seats from 1 on.
+    #[tactic(auto, using(crate::proofs::TurnLemmas::entries_length))]
     pub fn are_turns(&self, workers: u32, from: usize) -> bool
         requires { from ≤ length self.now.items }
         ensures { result ≡ list_all (is_turn workers) (drop from self.now.items) }
@@ -155,19 +168,19 @@ fn later(compact: &[Compact], from: usize) -> &[Compact]
 }
 
 fn are_below(seats: u32, apart: &[Entry], compact: &[Compact]) -> bool
-    ensures { result ≡ list_all (λ k. nat_lt (seat_of (entry_of apart.now k)) seats) compact.now }
+    ensures { result ≡ list_all (λ k. nat_lt (seat_of (entry_of apart.now [] k)) seats) compact.now }
 {
     compact.iter().all(|one| one.seat(apart) < seats)
 }
 
 fn are_turns(workers: u32, apart: &[Entry], compact: &[Compact]) -> bool
-    ensures { result ≡ list_all (λ k. is_turn workers (entry_of apart.now k)) compact.now }
+    ensures { result ≡ list_all (λ k. is_turn workers (entry_of apart.now [] k)) compact.now }
 {
     compact.iter().all(|one| is_turn(workers, one, apart))
 }
 
 fn is_turn(workers: u32, compact: &Compact, apart: &[Entry]) -> bool
-    ensures { result ≡ is_turn workers (entry_of apart.now compact.now) }
+    ensures { result ≡ is_turn workers (entry_of apart.now [] compact.now) }
 {
     let seat = compact.seat(apart);
     compact.is_step(apart) && 1 <= seat && seat <= workers

@@ -6,6 +6,7 @@ mod copying;
 mod journal;
 mod seat;
 mod shortening;
+mod turn;
 
 pub use copying::copy_of;
 pub use journal::Journal;

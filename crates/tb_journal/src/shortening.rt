@@ -31,9 +31,9 @@ fn is_long(action: &Action) -> bool
     }
 }
 
-/// The entry in few bytes; itself, where it stands apart. Nothing is copied.
-pub(crate) fn short(entry: Entry) -> Result<Compact, Entry>
-    ensures ok { IfOk result (StandsFor entry) }
+/// The entry in few bytes, with its task; itself, where it stands apart. Nothing is copied.
+pub(crate) fn short(entry: Entry) -> Result<(TaskName, Compact), Entry>
+    ensures ok { IfOk result (λ r. StandsFor entry r.0 r.1) }
     ensures is { entry_in result ≡ entry }
 {
     match entry {
@@ -44,14 +44,14 @@ pub(crate) fn short(entry: Entry) -> Result<Compact, Entry>
                 return Err(Entry::Rolled { seat, id });
             };
             let StepId { task, k } = id;
-            Ok(Compact::RolledBack { seat, k, task })
+            Ok((task, Compact::RolledBack { seat, k }))
         }
     }
 }
 
 /// The same of a step.
-pub(crate) fn short_step(seat: u32, event: Event) -> Result<Compact, Entry>
-    ensures ok { IfOk result (StandsFor (Stepped seat event)) }
+pub(crate) fn short_step(seat: u32, event: Event) -> Result<(TaskName, Compact), Entry>
+    ensures ok { IfOk result (λ r. StandsFor (Stepped seat event) r.0 r.1) }
     ensures is { entry_in result ≡ Stepped seat event }
 {
     let Ok(seat) = u8::try_from(seat) else {
@@ -59,50 +59,38 @@ pub(crate) fn short_step(seat: u32, event: Event) -> Result<Compact, Entry>
     };
     let Event { task, action } = event;
     match action {
-        Action::Spawn(spawn) => Ok(Compact::Generated { seat, spawn, task }),
-        Action::Wait { items } if !items.as_slice().is_empty() => Ok(Compact::WaitedFor {
-            seat,
-            items,
-            task,
-        }),
+        Action::Spawn(spawn) => Ok((task, Compact::Generated { seat, spawn })),
+        Action::Wait { items } if !items.as_slice().is_empty() => {
+            Ok((task, Compact::WaitedFor { seat, items }))
+        }
         other => Ok(short_action(seat, task, &other)),
     }
 }
 
 /// The entry of a step whose action has no name or list of its own.
 #[inline(always)]
-pub(crate) fn short_action(seat: u8, task: TaskName, action: &Action) -> Compact
+pub(crate) fn short_action(seat: u8, task: TaskName, action: &Action) -> (TaskName, Compact)
     requires { IsFalse (is_long action.now) }
-    ensures { StandsFor (step seat task action.now) result }
+    ensures { StandsFor (step seat task action.now) result.0 result.1 }
 {
-    match *action {
-        Action::Start => Compact::Started { seat, task },
-        Action::Let { reg, value } => Compact::Set {
-            reg,
-            seat,
-            value,
-            task,
-        },
+    let compact = match *action {
+        Action::Start => Compact::Started { seat },
+        Action::Let { reg, value } => Compact::Set { reg, seat, value },
         Action::Load { reg, cell, value } => Compact::Loaded {
             reg,
             seat,
             cell,
             value,
-            task,
         },
-        Action::Store { cell, value } => Compact::Stored {
-            seat,
-            cell,
-            value,
-            task,
-        },
-        Action::Print { value } => Compact::Printed { seat, value, task },
-        Action::Wait { .. } => Compact::Waited { seat, task },
-        Action::Open => Compact::Entered { seat, task },
-        Action::Close => Compact::Left { seat, task },
-        Action::Test { yes } => Compact::Tested { yes, seat, task },
-        Action::End => Compact::Ended { seat, task },
-        Action::Fault => Compact::Faulted { seat, task },
+        Action::Store { cell, value } => Compact::Stored { seat, cell, value },
+        Action::Print { value } => Compact::Printed { seat, value },
+        Action::Wait { .. } => Compact::Waited { seat },
+        Action::Open => Compact::Entered { seat },
+        Action::Close => Compact::Left { seat },
+        Action::Test { yes } => Compact::Tested { yes, seat },
+        Action::End => Compact::Ended { seat },
+        Action::Fault => Compact::Faulted { seat },
         Action::Spawn(_) => unreachable!(),
-    }
+    };
+    (task, compact)
 }

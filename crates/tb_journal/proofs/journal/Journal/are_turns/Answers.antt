@@ -1,18 +1,18 @@
-use Rattle.std.proofs.Common.{◌∙◌, sym, ap, ap₂, drop}
+use Rattle.std.proofs.Common.{[], ◌∙◌, ◌&&◌, sym, ap, ap₂, drop, nat_le}
 use Rattle.std.specs.List.{list_all}
-use Rattle.std.proofs.lemmas.List.{drop-map}
-use Rattle.std.proofs.lemmas.List.Folds.{list_all-map}
 use Rattle.tb_journal.specs.Journals.{is_turn}
 use Rattle.tb_journal.specs.Compact.{entry_of}
+use Rattle.tb_journal.proofs.CompactLemmas.{same_seat, same_step}
+use Rattle.tb_journal.proofs.TurnLemmas.{entries_all}
 use Rattle.tb_journal.proofs.journal.Journal.are_turns.Goals as goal
 
 pub returns : goal.returns
 returns c =
     let turn = is_turn c.args.workers in
-    let read = entry_of c.self.inside.apart.items in
+    let apart = c.self.inside.apart.items in
     let compact = c.self.inside.compact.items in
+    let turns = c.self.inside.turns.items in
     c.are_turns.ensures
-    ∙ ap₂ (λ apart later. list_all (λ k. turn (entry_of apart k)) later) c.as_slice-apart.ensures.value (c.later.ensures ∙ ap (drop c.args.from) c.as_slice.ensures.value)
-    ∙ sym (list_all-map turn read (drop c.args.from compact))
-    ∙ ap (list_all turn) (sym (drop-map read c.args.from compact))
+    ∙ ap₂ (λ kept later. list_all (λ k. turn (entry_of kept [] k)) later) c.as_slice-apart.ensures.value (c.later.ensures ∙ ap (drop c.args.from) c.as_slice.ensures.value)
+    ∙ sym (entries_all turn apart turns (λ t k. ap₂ (λ step seat. step && (nat_le 1 seat && nat_le seat c.args.workers)) (same_step apart t [] k) (same_seat apart t [] k)) c.args.from 0 compact)
     ∙ ap (λ j. list_all turn (drop c.args.from j.items)) c.self.view_is
