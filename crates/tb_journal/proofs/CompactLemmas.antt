@@ -80,6 +80,29 @@ one_there n (Ended seat) there = there
 one_there n (Faulted seat) there = there
 one_there n (RolledBack seat k) there = there
 
+-- what doesn't stand apart is there whatever does
+pub there_always : (n : ℕ) (k : Compact) → IsThere 0 k → IsThere n k
+there_always n (Apart i) there = absurd (omega (arith, there))
+there_always n (Started seat) there = there
+there_always n (Set reg seat value) there = there
+there_always n (Loaded reg seat cell value) there = there
+there_always n (Stored seat cell value) there = there
+there_always n (Printed seat value) there = there
+there_always n (Generated seat s) there = there
+there_always n (Waited seat) there = there
+there_always n (WaitedFor seat items) there = there
+there_always n (Entered seat) there = there
+there_always n (Left seat) there = there
+there_always n (Tested met seat) there = there
+there_always n (Ended seat) there = there
+there_always n (Faulted seat) there = there
+there_always n (RolledBack seat k) there = there
+
+-- all are there, and so is one more
+pub one_more_there : (n : ℕ) (ks : List Compact) (k : Compact) → AllByRecursion (IsThere n) ks → IsThere n k → AllByRecursion (IsThere n) (ks ++ k ∷ [])
+one_more_there n [] k there new = (new, search rules)
+one_more_there n (x ∷ ks) k there new = (there.0, one_more_there n ks k there.1 new)
+
 -- where one more stands apart, all that stood are there still, and its number is one of those apart
 pub all_there : (n : ℕ) (ks : List Compact) → AllByRecursion (IsThere n) ks → AllByRecursion (IsThere (suc n)) (ks ++ Apart n ∷ [])
 all_there n [] there = (omega arith, search rules)

@@ -61,8 +61,8 @@ last_goes_on t (y ∷ z ∷ zs) low high x r h =
     ∙ last_goes_on y.task (z ∷ zs) (suc y.from) high x r.1 (search (h, rules))
 
 -- the newest turn goes on
-pub goes_on : (ts : List Turn) (at : ℕ) (x : Turn) (t : Name) → Rises 0 ts at → slice_get ts (length ts - 1) ≡ Some x → x.task ≡ t → Begins at t ts ts
-goes_on ts at x t r h same = record { rises = rises_on 0 ts at r; own = last_goes_on [] ts 0 at x r h ∙ same; others = λ i l. refl }
+pub stays : (ts : List Turn) (at : ℕ) → Rises 0 ts at → Begins at (task_at [] ts at) ts ts
+stays ts at r = record { rises = rises_on 0 ts at r; own = refl; others = λ i l. refl }
 
 -- a turn begins
 pub begun : (ts : List Turn) (at : ℕ) (t : Name) → Rises 0 ts at → Begins at t ts (ts ++ record { from = at; task = t } ∷ [])

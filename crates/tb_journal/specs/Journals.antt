@@ -1,15 +1,17 @@
 -- What a contract sees of a journal, and who made its entries.
 use Rattle.std.specs.Prelude.{ℕ, List, [], Bool, true, false, ◌&&◌, ◌||◌, nat_lt, nat_le}
 use Rattle.std.specs.List.{list_all}
+use Rattle.tb_model.specs.Names.{Name}
 use Rattle.tb_model.specs.declared.action.Action.{Action}
 use Rattle.tb_model.specs.declared.action.Action.TheVariants.{Spawn, Wait}
 use Rattle.tb_model.specs.declared.entry.Entry.{Entry}
 use Rattle.tb_model.specs.declared.entry.Entry.TheVariants.{Opened, Stepped, Rolled}
 
--- the entries, the oldest first, and for how many more there is room
+-- the entries, the oldest first, for how many more there is room, and whose turn it is
 pub record Written : Type 0 where
   pub items : List Entry
   pub room : ℕ
+  pub turn : Name
 
 -- whose entry it is
 abbrev pub seat_of : Entry → ℕ

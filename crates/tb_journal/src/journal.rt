@@ -1,15 +1,15 @@
 //! A journal.
 
-ghost use Rattle.std.specs.Prelude.{◌≡◌, ◌<◌, ◌≤◌, ◌+◌, ◌++◌, ◌∷◌, [], IfOk, OnOk, length, drop, slice_index_or, nat_lt, IsFalse};
+ghost use Rattle.std.specs.Prelude.{◌≡◌, ◌<◌, ◌≤◌, ◌+◌, ◌++◌, ◌∷◌, [], IfOk, OnOk, length, drop, slice_index_or, nat_lt, IsFalse, unwrap_or};
 ghost use Rattle.std.specs.List.{list_all};
 ghost use Rattle.tb_model.specs.declared.entry.Entry.{Entry};
 ghost use Rattle.tb_model.specs.declared.entry.Entry.TheVariants.{Opened, Stepped};
 ghost use Rattle.tb_journal.specs.Journals.{all_below, is_turn, seat_of, stands_apart};
-ghost use Rattle.tb_journal.specs.Compact.{entry_in, entry_of, StandsFor};
+ghost use Rattle.tb_journal.specs.Compact.{entry_in, entry_of, IsThere, StandsFor};
 
 use crate::compact::Compact;
 use crate::shortening::{short, short_action, short_step};
-use crate::turn::{Turn, begin, task_at};
+use crate::turn::{Turn, begin, copied_for, kept_for, task_at};
 use std::alloc::{AllocError, Global};
 use std::marker::Model;
 use tb_model::{Action, Entry, Event, TaskName};
@@ -27,15 +27,15 @@ pub struct Journal {
 }
 
 impl Model for Journal {
-    ghost use Rattle.std.specs.Prelude.{◌-◌, min, map, length, vec_len, vec_capacity};
+    ghost use Rattle.std.specs.Prelude.{◌-◌, [], min, length, vec_len, vec_capacity};
     ghost use Rattle.std.specs.List.{AllByRecursion};
     ghost use Rattle.tb_journal.specs.Journals.{Written};
     ghost use Rattle.tb_journal.specs.Compact.{IsThere};
-    ghost use Rattle.tb_journal.specs.Turns.{entries, Rises};
+    ghost use Rattle.tb_journal.specs.Turns.{entries, task_at, Rises};
 
     ghost Value = { Written };
 
-    ghost view = { λ j. record { items = entries j.apart.items j.turns.items 0 j.compact.items; room = min (vec_capacity j.compact - vec_len j.compact) (min (vec_capacity j.turns - vec_len j.turns) (vec_capacity j.apart - vec_len j.apart)) } };
+    ghost view = { λ j. record { items = entries j.apart.items j.turns.items 0 j.compact.items; room = min (vec_capacity j.compact - vec_len j.compact) (min (vec_capacity j.turns - vec_len j.turns) (vec_capacity j.apart - vec_len j.apart)); turn = task_at [] j.turns.items (length j.compact.items) } };
 
     ghost invariant = { λ j. AllByRecursion (IsThere (length j.apart.items)) j.compact.items × Rises 0 j.turns.items (length j.compact.items) };
 }
@@ -96,19 +96,38 @@ impl Journal {
         self.add(short_step(seat, event));
     }
 
-    /// Adds the step of a seat by its action, where that has no name or list of its own, and for which
-    /// there is room. It takes no memory.
+    /// A copy of the task's name, if it hasn't the turn, as `push_short` takes it.
     #[inline(always)]
-    pub fn push_short(&mut self, seat: u32, task: TaskName, action: &Action)
+    pub fn turn_for(&self, task: &TaskName) -> Result<Option<TaskName>, AllocError>
+        ensures { IfOk result (λ new. unwrap_or new self.now.turn ≡ task.now) }
+    {
+        copied_for(self.turns.as_slice(), task)
+    }
+
+    /// Adds the step of a seat by its action, where that has no name or list of its own, and for which
+    /// there is room. It is the task's whose name is handed over, else the task's that has the turn. It
+    /// takes no memory.
+    #[inline(always)]
+    pub fn push_short(&mut self, seat: u32, new: Option<TaskName>, action: &Action)
         requires room { 0 < self.old.room }
         requires short { IsFalse (stands_apart seat action.now) }
-        ensures items { self.new.items ≡ self.old.items ++ Stepped seat (record { task = task; action = action.now }) ∷ [] }
+        ensures items { self.new.items ≡ self.old.items ++ Stepped seat (record { task = unwrap_or new self.old.turn; action = action.now }) ∷ [] }
         ensures room { self.old.room ≤ self.new.room + 1 }
     {
-        self.add(Ok(short_action(seat as u8, task, action)));
+        self.put(new, short_action(seat as u8, action));
     }
 
     #[inline(always)]
+    fn put(&mut self, new: Option<TaskName>, compact: Compact)
+        requires room { 0 < self.old.room }
+        requires there { IsThere 0 compact }
+        ensures items { (e : Entry) → StandsFor e (unwrap_or new self.old.turn) compact → self.new.items ≡ self.old.items ++ e ∷ [] }
+        ensures room { self.old.room ≤ self.new.room + 1 }
+    {
+        begin(&mut self.turns, self.compact.as_slice().len(), new);
+        self.compact.push_reserved(compact);
+    }
+
     fn add(&mut self, short: Result<(TaskName, Compact), Entry>)
         requires room { 0 < self.old.room }
         requires short { IfOk short (λ r. StandsFor (entry_in short) r.0 r.1) }
@@ -117,15 +136,21 @@ impl Journal {
     {
         match short {
             Ok((task, compact)) => {
-                begin(&mut self.turns, self.compact.as_slice().len(), task);
-                self.compact.push_reserved(compact);
+                let new = kept_for(self.turns.as_slice(), task);
+                self.put(new, compact);
             }
-            Err(entry) => {
-                let number = self.apart.as_slice().len();
-                self.compact.push_reserved(Compact::Apart(number));
-                self.apart.push_reserved(entry);
-            }
+            Err(entry) => self.put_apart(entry),
         }
+    }
+
+    fn put_apart(&mut self, entry: Entry)
+        requires { 0 < self.old.room }
+        ensures items { self.new.items ≡ self.old.items ++ entry ∷ [] }
+        ensures room { self.old.room ≤ self.new.room + 1 }
+    {
+        let number = self.apart.as_slice().len();
+        self.compact.push_reserved(Compact::Apart(number));
+        self.apart.push_reserved(entry);
     }
 
     /// The entry at the place, made anew. Its lists share memory with what stands here.

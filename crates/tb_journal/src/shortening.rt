@@ -1,8 +1,9 @@
 //! How an entry is put into few bytes.
 
 ghost use Rattle.std.specs.Prelude.{◌≡◌, IfOk, IsFalse};
+ghost use Rattle.tb_model.specs.Names.{Name};
 ghost use Rattle.tb_model.specs.declared.entry.Entry.TheVariants.{Stepped};
-ghost use Rattle.tb_journal.specs.Compact.{StandsFor, entry_in, step};
+ghost use Rattle.tb_journal.specs.Compact.{IsThere, StandsFor, entry_in, step};
 ghost use Rattle.tb_journal.specs.Journals.{is_long, stands_apart};
 
 use crate::compact::Compact;
@@ -63,17 +64,27 @@ pub(crate) fn short_step(seat: u32, event: Event) -> Result<(TaskName, Compact),
         Action::Wait { items } if !items.as_slice().is_empty() => {
             Ok((task, Compact::WaitedFor { seat, items }))
         }
-        other => Ok(short_action(seat, task, &other)),
+        other => Ok(short_for(seat, task, &other)),
     }
 }
 
-/// The entry of a step whose action has no name or list of its own.
-#[inline(always)]
-pub(crate) fn short_action(seat: u8, task: TaskName, action: &Action) -> (TaskName, Compact)
+/// The same of a step whose action has no name or list of its own.
+fn short_for(seat: u8, task: TaskName, action: &Action) -> (TaskName, Compact)
     requires { IsFalse (is_long action.now) }
     ensures { StandsFor (step seat task action.now) result.0 result.1 }
 {
-    let compact = match *action {
+    let compact = short_action(seat, action);
+    (task, compact)
+}
+
+/// What the entry of such a step has beside its task.
+#[inline(always)]
+pub(crate) fn short_action(seat: u8, action: &Action) -> Compact
+    requires { IsFalse (is_long action.now) }
+    ensures stands { (t : Name) → StandsFor (step seat t action.now) t result }
+    ensures there { IsThere 0 result }
+{
+    match *action {
         Action::Start => Compact::Started { seat },
         Action::Let { reg, value } => Compact::Set { reg, seat, value },
         Action::Load { reg, cell, value } => Compact::Loaded {
@@ -91,6 +102,5 @@ pub(crate) fn short_action(seat: u8, task: TaskName, action: &Action) -> (TaskNa
         Action::End => Compact::Ended { seat },
         Action::Fault => Compact::Faulted { seat },
         Action::Spawn(_) => unreachable!(),
-    };
-    (task, compact)
+    }
 }

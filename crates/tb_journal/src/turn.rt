@@ -1,8 +1,9 @@
 //! Whose entries these are.
 
-ghost use Rattle.std.specs.Prelude.{◌≡◌, ◌<◌, ◌≤◌, ◌+◌, ℕ, vec_len, vec_capacity};
+ghost use Rattle.std.specs.Prelude.{◌≡◌, ◌<◌, ◌≤◌, ◌+◌, ℕ, [], IfOk, IsTrue, unwrap_or, vec_len, vec_capacity};
 ghost use Rattle.tb_journal.specs.Turns.{Rises, task_at, Begins};
 
+use std::alloc::AllocError;
 use tb_model::TaskName;
 
 /// The entries from this place on are the task's, up to where the next turn begins.
@@ -12,22 +13,52 @@ pub(crate) struct Turn {
     task: TaskName,
 }
 
-/// The entry at the place, which is behind all others, is to be the task's. Mostly the newest turn goes on.
+/// Whether the newest turn is the task's, so that it goes on with the task's next entry.
 #[inline(always)]
-#[tactic(auto, using(crate::proofs::TurnLemmas::goes_on, crate::proofs::TurnLemmas::begun))]
-pub(crate) fn begin(turns: &mut Vec<Turn>, at: usize, task: TaskName)
+fn goes_on(turns: &[Turn], task: &TaskName) -> bool
+    ensures { IsTrue result → (at : ℕ) → Rises 0 turns.now at → task_at [] turns.now at ≡ task.now }
+{
+    match turns.last() {
+        Some(turn) => turn.task == *task,
+        None => false,
+    }
+}
+
+/// A copy of the task's name, if a turn has to begin with its next entry.
+#[inline(always)]
+pub(crate) fn copied_for(turns: &[Turn], task: &TaskName) -> Result<Option<TaskName>, AllocError>
+    ensures { IfOk result (λ new. (at : ℕ) → Rises 0 turns.now at → unwrap_or new (task_at [] turns.now at) ≡ task.now) }
+{
+    if goes_on(turns, task) {
+        return Ok(None);
+    }
+    Ok(Some(task.clone()?))
+}
+
+/// The task's name, if a turn has to begin with its next entry.
+#[inline(always)]
+pub(crate) fn kept_for(turns: &[Turn], task: TaskName) -> Option<TaskName>
+    ensures { (at : ℕ) → Rises 0 turns.now at → unwrap_or result (task_at [] turns.now at) ≡ task }
+{
+    if goes_on(turns, &task) {
+        return None;
+    }
+    Some(task)
+}
+
+/// A task's turn begins at the place, which is behind all others; with no task the newest one goes on.
+#[inline(always)]
+pub(crate) fn begin(turns: &mut Vec<Turn>, at: usize, new: Option<TaskName>)
     requires room { vec_len turns.old < vec_capacity turns.old }
     requires rises { Rises 0 turns.old.items at }
-    ensures begun { Begins at task turns.old.items turns.new.items }
+    ensures begun { Begins at (unwrap_or new (task_at [] turns.old.items at)) turns.old.items turns.new.items }
     ensures len { vec_len turns.new ≤ vec_len turns.old + 1 }
     ensures capacity { vec_capacity turns.new ≡ vec_capacity turns.old }
 {
-    if let Some(turn) = turns.last() {
-        if turn.task == task {
-            return;
-        }
+    match new {
+        Some(task) => turns.push_reserved(Turn { from: at, task }),
+        None => {}
     }
-    turns.push_reserved(Turn { from: at, task });
 }
 
 /// The task whose entry stands at the place: the root, where none has begun.

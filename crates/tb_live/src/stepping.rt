@@ -219,10 +219,10 @@ fn take(
         journal.push_step(seat, event);
         return Ok(());
     }
-    let name = task.clone()?;
+    let new = journal.turn_for(task)?;
     core.step_clear(task, action, to)?;
     match core.newest() {
-        Some(event) => journal.push_short(seat, name, &event.action),
+        Some(event) => journal.push_short(seat, new, &event.action),
         None => unreachable!(),
     }
     Ok(())

@@ -1,13 +1,15 @@
-use Rattle.std.proofs.Common.{◌-◌, ◌∙◌, length, slice_get, subst, sym, ap}
-use Rattle.tb_model.proofs.TestLemmas.{same_true}
-use Rattle.tb_journal.specs.Turns.{Begins}
-use Rattle.tb_journal.proofs.TurnLemmas.{goes_on, begun}
+use Rattle.std.proofs.Common.{[], subst, sym, unwrap_or}
+use Rattle.tb_journal.specs.Turns.{Begins, task_at}
+use Rattle.tb_journal.proofs.TurnLemmas.{begun, stays}
 use Rattle.tb_journal.proofs.turn.begin.Goals as goal
 
-pub returns-then-eq-clause-begun : goal.returns-then-eq-clause-begun
-returns-then-eq-clause-begun c =
-    let last = c.in-Some.ensures.value ∙ ap (λ xs. slice_get xs (length xs - 1)) c.deref.ensures.value in
-    goes_on c.args.turns.now.items c.args.at c.in-Some.turn.now c.args.task c.requires.rises (sym last) (same_true c.in-Some.turn.now.task c.args.task (sym c.eq.ensures ∙ c.if-eq.true))
+pub returns-in-Some-clause-begun : goal.returns-in-Some-clause-begun
+returns-in-Some-clause-begun c =
+    let turns = c.args.turns.now.items in
+    let pushed = subst (Begins c.args.at c.in-Some.task turns) (sym c.push_reserved.ensures.items) (begun turns c.args.at c.in-Some.task c.requires.rises) in
+    subst (λ new. Begins c.args.at (unwrap_or new (task_at [] turns c.args.at)) turns c.push_reserved.new.self.items) (sym c.in-Some.is) pushed
 
-pub returns-clause-begun : goal.returns-clause-begun
-returns-clause-begun c = subst (λ xs. Begins c.args.at c.args.task c.args.turns.now.items xs) (sym c.push_reserved.ensures.items) (begun c.args.turns.now.items c.args.at c.args.task c.requires.rises)
+pub returns-in-None-clause-begun : goal.returns-in-None-clause-begun
+returns-in-None-clause-begun c =
+    let turns = c.args.turns.now.items in
+    subst (λ new. Begins c.args.at (unwrap_or new (task_at [] turns c.args.at)) turns turns) (sym c.in-None.is) (stays turns c.args.at c.requires.rises)
