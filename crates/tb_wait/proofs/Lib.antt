@@ -1,5 +1,6 @@
 pub mod NearLemmas
 pub mod NumbersLemmas
+pub mod FewLemmas
 pub mod TreeLemmas
 pub mod RowLemmas
 pub mod WaitLemmas

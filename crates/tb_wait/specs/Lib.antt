@@ -1,4 +1,5 @@
 pub mod Numbers
+pub mod Few
 pub mod Tree
 pub mod Kin
 pub mod Rows

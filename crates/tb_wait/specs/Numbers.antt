@@ -1,5 +1,6 @@
--- A set of numbers that is kept as a rising list.
-use Rattle.std.specs.Prelude.{◌≡◌, ◌<◌, ◌≤◌, ℕ, Bool, true, false, ◌||◌, ◌==◌, List, [], ◌∷◌, Option, Some, if◌then◌else◌, nat_lt, suc}
+-- A set of numbers.
+use Rattle.std.specs.Prelude.{◌≡◌, ◌<◌, ◌≤◌, ℕ, Bool, true, false, ◌||◌, ◌==◌, List, [], ◌∷◌, Option, Some, None, if◌then◌else◌, nat_lt, suc, Box}
+use Rattle.std.specs.Box.{box_value}
 
 -- the numbers, and up to which number each has room
 pub record Numbers : Type 0 where
@@ -27,6 +28,17 @@ IsPut old n there new = (m : ℕ) → has new m ≡ (if n == m then there else h
 pub record IsNextAbove (xs : List ℕ) (low : ℕ) (o : Option ℕ) : Type 0 where
   pub found : (n : ℕ) → o ≡ Some n → (low < n) × (has xs n ≡ true)
   pub least : (n : ℕ) → low < n → has xs n ≡ true → (m : ℕ) × (o ≡ Some m) × (m ≤ n)
+
+-- ---- how the numbers are kept
+
+-- none is below the bound
+abbrev pub AreFrom : ℕ → List ℕ → Type 0
+AreFrom low xs = (n : ℕ) → n < low → has xs n ≡ false
+
+-- the part that may not be made yet
+abbrev pub many_in : {Z : Type 0} → Option (Box Numbers Z) → Numbers
+many_in None = record { items = []; bound = 0 }
+many_in (Some many) = box_value many
 
 -- ---- how the numbers are searched
 

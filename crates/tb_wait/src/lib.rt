@@ -2,7 +2,9 @@
 #![tactic(auto)]
 
 mod children;
+mod few;
 pub mod laws;
+mod many;
 mod near;
 mod node;
 mod nodes;

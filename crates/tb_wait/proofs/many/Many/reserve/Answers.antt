@@ -1,7 +1,7 @@
 use Rattle.std.proofs.Common.{arith, subst, sym}
 use Rattle.tb_wait.specs.Numbers.{Rises}
 use Rattle.tb_wait.proofs.NumbersLemmas.{raised}
-use Rattle.tb_wait.proofs.numbers.Numbers.reserve.Goals as goal
+use Rattle.tb_wait.proofs.many.Many.reserve.Goals as goal
 
 pub invariant_of-self-then-bound-self : goal.invariant_of-self-then-bound-self
 invariant_of-self-then-bound-self c =

@@ -1,6 +1,6 @@
 use Rattle.std.proofs.Common.{arith}
 use Rattle.tb_wait.proofs.NumbersLemmas.{below_len, search_up, search_down}
-use Rattle.tb_wait.proofs.numbers.gap.Goals as goal
+use Rattle.tb_wait.proofs.many.gap.Goals as goal
 
 pub loop-low-init : goal.loop-low-init
 loop-low-init c =

@@ -1,6 +1,6 @@
 use Rattle.std.proofs.Common.{◌≤◌, ◌-◌, length}
 use Rattle.tb_wait.specs.Numbers.{below}
-use Rattle.tb_wait.proofs.numbers.gap.Given as goal
+use Rattle.tb_wait.proofs.many.gap.Given as goal
 
 abbrev pub invariant-loop-low : goal.invariant-loop-low
 invariant-loop-low l = record {

@@ -1,7 +1,7 @@
 use Rattle.std.proofs.Common.{arith, sym, ap, ◌∙◌, subst, true}
 use Rattle.tb_wait.specs.Numbers.{below, has, IsPut}
 use Rattle.tb_wait.proofs.NumbersLemmas.{insert_fits, added, added_rises, not_full, at_ok, put_last}
-use Rattle.tb_wait.proofs.numbers.Numbers.add.Goals as goal
+use Rattle.tb_wait.proofs.many.Many.add.Goals as goal
 
 pub push_back_reserved-requires : goal.push_back_reserved-requires
 push_back_reserved-requires c =

@@ -1,7 +1,7 @@
 use Rattle.std.proofs.Common.{◌≤◌, length, ap, ◌∙◌, subst, arith}
 use Rattle.tb_wait.specs.Numbers.{below, has}
 use Rattle.tb_wait.proofs.NumbersLemmas.{has_test, has_behind}
-use Rattle.tb_wait.proofs.numbers.Numbers.find.Goals as goal
+use Rattle.tb_wait.proofs.many.Many.find.Goals as goal
 
 pub returns-then-at-len : goal.returns-then-at-len
 returns-then-at-len c =

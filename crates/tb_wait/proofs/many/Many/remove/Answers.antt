@@ -1,7 +1,7 @@
 use Rattle.std.proofs.Common.{arith, sym, ap, ◌∙◌, subst, false}
 use Rattle.tb_wait.specs.Numbers.{below, has, IsPut}
 use Rattle.tb_wait.proofs.NumbersLemmas.{removed, removed_rises, has_within, at_some, cut_first}
-use Rattle.tb_wait.proofs.numbers.Numbers.remove.Goals as goal
+use Rattle.tb_wait.proofs.many.Many.remove.Goals as goal
 
 pub invariant_of-self : goal.invariant_of-self
 invariant_of-self c =
