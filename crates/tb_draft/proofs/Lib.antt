@@ -1,4 +1,5 @@
 mod ShortTextLemmas
 mod DigitLemmas
+mod DigitLevelLemmas
 pub mod WrittenLemmas
 pub mod PassageLemmas

@@ -2,6 +2,7 @@
 //! are put together from their end.
 #![tactic(auto)]
 
+mod digit_levels;
 mod digits;
 mod draft;
 mod passage;

@@ -1,9 +1,10 @@
 //! A short text, put together from its end.
 
-ghost use Rattle.std.specs.Prelude.{◌≡◌, ◌+◌, ◌<◌, ◌≤◌, ◌++◌, ◌∷◌, [], IfNone, IfSome, IsSome, decimal, length};
+ghost use Rattle.std.specs.Prelude.{◌≡◌, ◌+◌, ◌<◌, ◌≤◌, ◌++◌, ◌∷◌, [], IfNone, IfSome, IsSome, decimal, if◌then◌else◌, length};
 ghost use Rattle.std.specs.Fmt.{signed_decimal};
 ghost use Rattle.tb_model.specs.Spelling.{levels_text, name_text};
 
+use crate::digit_levels::put_digit_levels;
 use crate::digits::{put_digit_level, put_digits, put_long};
 use std::marker::Model;
 use tb_model::TaskName;
@@ -138,11 +139,30 @@ impl ShortText {
     fn prepend_small_levels(&mut self, numbers: &[u8]) -> Option<()>
         ensures { IfSome result (λ _. self.new ≡ levels_text numbers.now ++ self.old) }
     {
+        if self.prepend_digits(numbers) {
+            return Some(());
+        }
         let others = self.prepend_fours(numbers);
         'levels: for n in others {
             self.prepend_level(u32::from(*n))?;
         }
         Some(())
+    }
+
+    /// The same where they have one digit each, and are not too few.
+    #[inline(always)]
+    fn prepend_digits(&mut self, numbers: &[u8]) -> bool
+        ensures { self.new ≡ (if result then levels_text numbers.now ++ self.old else self.old) }
+    {
+        let wanted = numbers.len() * 2;
+        if wanted > self.at {
+            return false;
+        }
+        let put = put_digit_levels(&mut self.bytes, self.at, numbers);
+        if put {
+            self.at -= wanted;
+        }
+        put
     }
 
     /// Puts levels in front, four at once, as far as they have one digit each and there is room. Returns the others.
