@@ -201,6 +201,26 @@ module _ (old new : Nodes) (l : IsLinked old) (at : ℕ) (b : 0 < at) (w : at < 
           let other : i ≢ at = λ y. false≢true (sym e ∙ eq-eqb j owner (sym (l.owner j k i r) ∙ ap (λ x. (node old x).owner) y ∙ sym o)) in
           ap (λ x. has x (suc k)) (f j (λ y. false≢true (sym e ∙ eq-eqb j owner y))) ∙ h j k i r other ∙ sym same
 
+  -- an owner that hasn't ended itself is live before and after
+  pub live_settled : SameButLive old new → IsPut (node old owner).live number (is_live (node old at)) (node new owner).live
+      → ((i : ℕ) → i ≢ owner → (node new i).live ≡ (node old i).live) → (node old owner).pending ≡ true → KnowsLiveBut old at → KnowsLiveBut new 0
+  live_settled s p f own h j k i q z = by (i == owner) refl
+    where
+      r : IsPlace old j k i
+      r = place_back old new (links_live old new s) j k i q
+
+      alive : (nodes : Nodes) → (node nodes owner).pending ≡ true → is_live (node nodes owner) ≡ true
+      alive nodes e = ap (λ x. x || not (is_empty (node nodes owner).live)) e
+
+      by : (x : Bool) → (i == owner) ≡ x → has (node new j).live (suc k) ≡ is_live (node new i)
+      by true e =
+          let it : i ≡ owner = eqb-true i owner e in
+          let before : j < i = l.before j k i r in
+          let above : owner < at = owner_before old l at b w owner o in
+          ap (λ x. has x (suc k)) (f j (λ y. omega (arith, before, it, y))) ∙ h j k i r (λ y. omega (arith, above, it, y))
+          ∙ ap (λ x. is_live (node old x)) it ∙ alive old own ∙ sym (alive new (ap (λ x. x.pending) (s.same owner) ∙ own)) ∙ ap (λ x. is_live (node new x)) (sym it)
+      by false e = live_step s p f h j k i q (λ y. false≢true (sym e ∙ eq-eqb i owner (y ∙ sym o)))
+
   pub live_done : has (node old owner).live number ≡ is_live (node old at) → KnowsLiveBut old at → KnowsLiveBut old 0
   live_done g h j k i r z = by (i == at) refl
     where

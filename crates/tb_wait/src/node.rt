@@ -66,11 +66,13 @@ impl Node {
     pub fn is_live(&self) -> bool
         ensures { result ≡ is_live self.now }
     {
-        let done = match &self.children {
-            Some(children) => children.is_done(),
-            None => true,
-        };
-        self.pending || !done
+        if self.pending {
+            return true;
+        }
+        match &self.children {
+            Some(children) => !children.is_done(),
+            None => false,
+        }
     }
 
     /// Sets whether the task stands and hasn't ended.

@@ -67,11 +67,14 @@ fn tell_live(nodes: &mut Vec<Node>, at: usize) -> bool
 {
     let child = shown(nodes, at);
     let (owner, number, live) = (child.owner(), child.number(), child.is_live());
-    if shown(nodes, owner).has_live(number) == live {
+    let above = shown(nodes, owner);
+    if above.has_live(number) == live {
         return false;
     }
+    // an owner that hasn't ended itself is live whatever its children are
+    let settled = above.is_pending();
     set_live(nodes, owner, number, live);
-    true
+    !settled
 }
 
 /// The node at the place.
