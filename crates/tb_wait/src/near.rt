@@ -4,6 +4,7 @@ ghost use Rattle.std.specs.Prelude.{◌≡◌, ◌<◌, Some, IsTrue, IfSome, is
 ghost use Rattle.std.specs.List.{position, list_any};
 ghost use Rattle.tb_model.specs.Names.{same_name};
 
+use crate::tree::Tree;
 use indexmap::IndexSet;
 use tb_model::TaskName;
 
@@ -38,6 +39,43 @@ impl Near {
         ensures found { is_some result ≡ list_any (same_name name.now) names.now.keys }
         ensures within { IfSome result (λ i. i < length names.now.keys) }
     {
+        match self.beside(names, name) {
+            Some(at) => Some(at),
+            None => names.get_index_of(name),
+        }
+    }
+
+    /// The place of a name, mostly that of a child of the task: its number leads there.
+    pub fn find_below(
+        &self,
+        names: &IndexSet<TaskName>,
+        tree: &Tree,
+        name: &TaskName,
+    ) -> Option<usize>
+        ensures index { result ≡ position (same_name name.now) names.now.keys }
+        ensures found { is_some result ≡ list_any (same_name name.now) names.now.keys }
+        ensures within { IfSome result (λ i. i < length names.now.keys) }
+    {
+        if stands_at(names, self.own, name) {
+            return Some(self.own);
+        }
+        if let Some(at) = self.beside(names, name) {
+            return Some(at);
+        }
+        let number = name.ordinal().unwrap_or(0);
+        match tree.child(self.own, number) {
+            Some(at) if stands_at(names, at, name) => Some(at),
+            _ => names.get_index_of(name),
+        }
+    }
+
+    // The place of the name, if it is that of the parent or the one after the task's own.
+    #[inline(always)]
+    fn beside(&self, names: &IndexSet<TaskName>, name: &TaskName) -> Option<usize>
+        ensures index { IfSome result (λ i. position (same_name name.now) names.now.keys ≡ Some i) }
+        ensures found { IfSome result (λ i. list_any (same_name name.now) names.now.keys ≡ true) }
+        ensures within { IfSome result (λ i. i < length names.now.keys) }
+    {
         if stands_at(names, self.above, name) {
             return Some(self.above);
         }
@@ -45,7 +83,7 @@ impl Near {
         if stands_at(names, next, name) {
             return Some(next);
         }
-        names.get_index_of(name)
+        None
     }
 }
 

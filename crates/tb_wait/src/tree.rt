@@ -1,7 +1,7 @@
 //! The tree of tasks, whose nodes know of their children.
 
-ghost use Rattle.std.specs.Prelude.{◌≡◌, ◌<◌, ◌≤◌, ◌-◌, ◌↔◌, IsTrue, suc, [], ◌∷◌, OnOk, IsOk, IfOk, length, true};
-ghost use Rattle.tb_wait.specs.Tree.{node, leaf, SameButRoom, SetsPending, AddsNode};
+ghost use Rattle.std.specs.Prelude.{◌≡◌, ◌<◌, ◌≤◌, ◌-◌, ◌↔◌, IsTrue, suc, [], ◌∷◌, OnOk, IsOk, IfOk, IfSome, length, true};
+ghost use Rattle.tb_wait.specs.Tree.{node, leaf, IsPlace, SameButRoom, SetsPending, AddsNode};
 
 use crate::node::Node;
 use crate::nodes;
@@ -61,6 +61,16 @@ impl Tree {
         ensures { IsTrue result ↔ ((0 < number) × (number ≤ length (node self.now.nodes at).places)) }
     {
         number > 0 && number as usize <= nodes::shown(&self.nodes, at).len()
+    }
+
+    /// The place of the child of this number of the task at the place, where both were ever generated.
+    pub fn child(&self, at: usize, number: u32) -> Option<usize>
+        ensures { IfSome result (λ i. (0 < number) × IsPlace self.now.nodes at (number - 1) i) }
+    {
+        match self.nodes.as_slice().get(at) {
+            Some(node) if number > 0 => node.place(number),
+            _ => None,
+        }
     }
 
     /// Sets whether the task at the place stands and hasn't ended, and tells all above it. This goes

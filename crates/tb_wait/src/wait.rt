@@ -72,7 +72,7 @@ impl Wait {
     pub fn turn_to(&mut self, task: &TaskName)
         ensures { self.new ≡ self.old }
     {
-        if let Some(own) = self.near.find(&self.names, task) {
+        if let Some(own) = self.near.find_below(&self.names, &self.tree, task) {
             let above = self.tree.owner(own);
             self.near = Near { own, above };
         }
