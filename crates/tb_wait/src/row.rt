@@ -53,7 +53,8 @@ impl Row {
             groups: SmallVec::new(alloc),
             shut: SmallVec::new(alloc),
             child_room: 0,
-            group_room: 0,
+            // those that stand in the row itself
+            group_room: 4,
         }
     }
 
