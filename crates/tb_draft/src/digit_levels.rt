@@ -75,8 +75,8 @@ fn put_four(bytes: &mut [u8; ROOM], at: usize, numbers: &[u8])
     text.copy_to_slice(&mut bytes[at..at + 8]);
 }
 
-/// Puts levels in front of the place, the last of these first, if they have one digit each, and are four to sixteen. Some
-/// of them are put twice, so that there is no loop.
+/// Puts levels in front of the place, the last of these first, if they have one digit each and are four to sixteen, and
+/// tells whether they were. Some may be put twice, so that there is no loop.
 #[inline(always)]
 pub(crate) fn put_digit_levels(bytes: &mut [u8; ROOM], end: usize, numbers: &[u8]) -> bool
     requires { (length numbers.now * 2 ≤ end) × (end ≤ 96) }
