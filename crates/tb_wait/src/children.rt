@@ -33,15 +33,15 @@ impl Model for Children {
 }
 
 impl Children {
-    /// No children.
+    /// No children, and room for those whose places stand in it.
     pub(crate) fn new(alloc: Global) -> Children
-        ensures { result ≡ childless }
+        ensures { result ≡ record childless { room = 2 } }
     {
         Children {
             places: SmallVec::new(alloc),
             unended: Numbers::new(alloc),
             live: Numbers::new(alloc),
-            room: 0,
+            room: 2,
         }
     }
 

@@ -113,8 +113,7 @@ impl Node {
         if let Some(children) = &mut self.children {
             return children.reserve();
         }
-        let mut children = Box::new(self.alloc, Children::new(self.alloc))?;
-        children.reserve()?;
+        let children = Box::new(self.alloc, Children::new(self.alloc))?;
         self.children = Some(children);
         Ok(())
     }

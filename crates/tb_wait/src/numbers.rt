@@ -32,7 +32,8 @@ impl Model for Numbers {
 impl Numbers {
     /// No number.
     pub fn new(alloc: Global) -> Numbers
-        ensures { result.items ≡ [] }
+        ensures items { result.items ≡ [] }
+        ensures bound { result.bound ≡ 63 }
     {
         Numbers {
             alloc,
