@@ -1,5 +1,5 @@
 -- What a change of one task leaves of the table.
-use Rattle.std.proofs.Common.{◌≡◌, ◌≢◌, ℕ, zero, suc, ◌<◌, ◌≤◌, List, [], ◌∷◌, Bool, true, false, not, cond, ◌||◌, ◌==◌, Option, Some, None, is_some, option_map, length, refl, sym, ap, ◌∙◌, subst, arith, eqb-true, eq-eqb, OnOk, Ok, Err, Result, nat_lt, slice_get, ap₂}
+use Rattle.std.proofs.Common.{◌≡◌, ◌≢◌, ℕ, zero, suc, ◌<◌, ◌≤◌, List, [], ◌∷◌, Bool, true, false, not, cond, ◌||◌, ◌==◌, Option, Some, None, is_some, option_map, length, refl, sym, ap, ◌∙◌, subst, arith, eqb-true, eq-eqb, OnOk, OnErr, Ok, Err, Result, nat_lt, slice_get, ap₂}
 use Rattle.std.specs.List.{zip, position, list_any}
 use Rattle.std.proofs.lemmas.List.Quantifiers.{position-Some}
 use Rattle.std.proofs.lemmas.Bool.{false≢true, or_left}
@@ -137,6 +137,19 @@ module _ (before : Table) (names : List Name) (old : List Slot) (nodes : Nodes) 
 pub on_ok_from : {X E : Type 0} {P Q : Type 0} (r : Result X E) → (P → Q) → OnOk r P → OnOk r Q
 on_ok_from (Ok x) f h = f h
 on_ok_from (Err e) f h = tt
+
+pub on_err_from : {X E : Type 0} {P Q : Type 0} (r : Result X E) → (P → Q) → OnErr r P → OnErr r Q
+on_err_from (Ok x) f h = tt
+on_err_from (Err e) f h = f h
+
+-- what follows from either, follows
+pub on_either : {X E : Type 0} {P Q R : Type 0} (r : Result X E) → OnOk r P → OnErr r Q → (P → R) → (Q → R) → R
+on_either (Ok x) p q f g = f p
+on_either (Err e) p q f g = g q
+
+pub kin_same : (o : Option Kin) → option_map (λ k. k) o ≡ o
+kin_same None = refl
+kin_same (Some k) = refl
 
 -- ---- a task that comes to stand, or stands no longer
 

@@ -175,7 +175,7 @@ impl Row {
     }
 
     /// Opens a group.
-    pub fn open(&mut self)
+    fn open(&mut self)
         requires { 0 < self.old.group_room }
         ensures kin { self.new.kin ≡ option_map opened_kin self.old.kin }
         ensures child_room { self.new.child_room ≡ self.old.child_room }
@@ -184,6 +184,18 @@ impl Row {
             self.groups.push_reserved(self.children);
             self.group_room -= 1;
         }
+    }
+
+    /// The same, and makes the room for it where there is none.
+    pub fn open_reserving(&mut self) -> Result<(), AllocError>
+        ensures ok { OnOk result (self.new.kin ≡ option_map opened_kin self.old.kin) }
+        ensures err { OnErr result (self.new.kin ≡ self.old.kin) }
+        ensures child_room { self.new.child_room ≡ self.old.child_room }
+        ensures succeeds { 0 < self.old.group_room → IsOk result }
+    {
+        self.reserve_group()?;
+        self.open();
+        Ok(())
     }
 
     /// Takes the innermost group off.

@@ -72,15 +72,16 @@ pub fn reserve_group(rows: &mut Vec<Row>, at: usize) -> Result<(), AllocError>
 }
 
 #[tactic(auto, using(crate::proofs::RowLemmas::shown))]
-pub fn open(rows: &mut Vec<Row>, at: usize)
-    requires within { at < length rows.old.items }
-    requires room { 0 < (slot_at rows.old.items at).group_room }
+pub fn open(rows: &mut Vec<Row>, at: usize) -> Result<(), AllocError>
+    requires { at < length rows.old.items }
     ensures slot { ChangesSlot rows.old.items at (slot_at rows.new.items at) rows.new.items }
-    ensures kin { (slot_at rows.new.items at).kin ≡ option_map opened_kin (slot_at rows.old.items at).kin }
+    ensures ok { OnOk result ((slot_at rows.new.items at).kin ≡ option_map opened_kin (slot_at rows.old.items at).kin) }
+    ensures err { OnErr result ((slot_at rows.new.items at).kin ≡ (slot_at rows.old.items at).kin) }
     ensures child_room { (slot_at rows.new.items at).child_room ≡ (slot_at rows.old.items at).child_room }
+    ensures succeeds { 0 < (slot_at rows.old.items at).group_room → IsOk result }
     ensures capacity { vec_capacity rows.new ≡ vec_capacity rows.old }
 {
-    rows[at].open();
+    rows[at].open_reserving()
 }
 
 #[tactic(auto, using(crate::proofs::RowLemmas::shown))]

@@ -262,19 +262,9 @@ impl Wait {
         ensures room { self.old.room ≤ self.new.room }
         ensures succeeds { HasGroupRoom self.old.tasks task.now → IsOk result }
     {
-        self.reserve_opened(task)?;
-        self.open_group(task);
-        Ok(())
-    }
-
-    fn open_group(&mut self, task: &TaskName)
-        requires { HasGroupRoom self.old.tasks task.now }
-        ensures tasks { Changes self.old.tasks task.now opened_kin self.new.tasks }
-        ensures names { KeepsNames self.old.tasks self.new.tasks }
-        ensures room { self.new.room ≡ self.old.room }
-    {
-        if let Some(at) = self.near.find(&self.names, task) {
-            rows::open(&mut self.rows, at);
+        match self.near.find(&self.names, task) {
+            Some(at) => rows::open(&mut self.rows, at),
+            None => Ok(()),
         }
     }
 
