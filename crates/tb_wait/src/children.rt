@@ -79,7 +79,10 @@ impl Children {
             self.unended.reserve(len)?;
             self.live.reserve(len)?;
             self.places.reserve(1)?;
-            self.room = 1;
+            // for all that there is room for, so that mostly the next call has nothing to do
+            let bound = self.unended.bound().min(self.live.bound());
+            let most = self.places.capacity().min(bound);
+            self.room = most.saturating_sub(self.places.len());
         }
         Ok(())
     }

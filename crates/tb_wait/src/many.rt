@@ -57,6 +57,13 @@ impl Many {
         Ok(())
     }
 
+    /// Up to which number each has room.
+    pub fn bound(&self) -> usize
+        ensures { result ≡ self.now.bound }
+    {
+        self.bound
+    }
+
     /// Whether there is no number.
     pub fn is_empty(&self) -> bool
         ensures { result ≡ is_empty self.now.items }

@@ -62,6 +62,17 @@ impl Numbers {
         }
     }
 
+    /// Up to which number each has room.
+    pub fn bound(&self) -> usize
+        ensures { result ≡ self.now.bound }
+    {
+        let many = match &self.many {
+            Some(many) => many.bound(),
+            None => 0,
+        };
+        many.max(63)
+    }
+
     /// Whether there is no number.
     #[inline]
     pub fn is_empty(&self) -> bool
