@@ -1,4 +1,4 @@
-//! A set of many numbers.
+//! A set of numbers, of which there may be many.
 
 ghost use Rattle.std.specs.Prelude.{◌≡◌, ◌<◌, ◌≤◌, [], OnOk, OnErr, IsOk, true, false, length, ℕ, slice_index_or};
 ghost use Rattle.tb_wait.specs.Numbers.{has, is_empty, IsPut, IsNextAbove, Rises, below};

@@ -8,7 +8,7 @@ use crate::many::Many;
 use std::alloc::{AllocError, Global};
 use std::marker::Model;
 
-/// A set of numbers from 1 on. The first ones stand in it as bits.
+/// A set of numbers from 1 on. Those below 64 stand in it as bits.
 #[derive(Drop)]
 pub struct Numbers {
     alloc: Global,
