@@ -206,8 +206,9 @@ fn coming_behind(
     requires passed { IsPassed program.now (history core.now.run) (option_copied task) }
     ensures { IfOk result (IsLeastComing program.now core.now.run) }
 {
+    let mut walk = 0;
     let mut after = task;
-    'tasks: while let Some(task) = core.next_unended(after) {
+    'tasks: while let Some(task) = core.walk_unended(&mut walk, after) {
         match unended_coming(alloc, program, core, task) {
             Ok(Some(coming)) => return named(task, coming),
             Ok(None) => after = Some(task),
@@ -278,8 +279,9 @@ fn work_behind<'c>(
     requires held { IsFreeBeside claims.now seat first.now → ⊥ }
     ensures { IfOk result (IsFound program.now core.now.run claims.now seat) }
 {
+    let mut walk = 0;
     let mut after = first;
-    'tasks: while let Some(task) = core.next_unended(Some(after)) {
+    'tasks: while let Some(task) = core.walk_unended(&mut walk, Some(after)) {
         match can_take(alloc, program, core, claims, seat, task) {
             Ok(true) => return work_on(program, core, task),
             Ok(false) => after = task,

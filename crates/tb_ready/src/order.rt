@@ -191,15 +191,24 @@ pub(crate) fn least<'a>(names: &'a Names, order: &Gapped, skip: &[TaskName]) -> 
     None
 }
 
-/// The place of the first marked name behind this one, or of the first of all: mostly near by, since a task of which it is
-/// asked has mostly just generated its last children.
-fn place_behind(names: &Names, order: &Gapped, near: usize, after: Option<&TaskName>) -> usize
+/// The place of the first marked name behind this one, or of the first of all: mostly right after the place at which a walk
+/// is, or near by, since a task of which it is asked has mostly just generated its last children.
+fn place_behind(
+    names: &Names,
+    order: &Gapped,
+    walk: usize,
+    near: usize,
+    after: Option<&TaskName>,
+) -> usize
     requires { IsOrder names.now.tasks order.now.items }
     ensures { IsFirstBehind names.now.tasks order.now.items (option_copied after.entry) result }
 {
     let Some(name) = after else {
         return 0;
     };
+    if is_named(names, order, walk, name) {
+        return walk + 1;
+    }
     let before = near.saturating_sub(1);
     if is_named(names, order, before, name) {
         return before + 1;
@@ -227,17 +236,19 @@ fn is_named(names: &Names, order: &Gapped, k: usize, name: &TaskName) -> bool
     k < order.len() && *marked(names, order, k) == *name
 }
 
-/// The least marked name behind this one, or the least of all.
+/// The least marked name behind this one, or the least of all. A walk hands on the place where it is.
 pub(crate) fn next_marked<'a>(
     names: &'a Names,
     order: &Gapped,
+    walk: &mut usize,
     near: usize,
     after: Option<&TaskName>,
 ) -> Option<&'a TaskName>
     requires { IsOrder names.now.tasks order.now.items }
     ensures { IsLeastName (IsMarkedBehind names.now.tasks (option_copied after.entry)) (option_copied result) }
 {
-    let place = place_behind(names, order, near, after);
+    let place = place_behind(names, order, *walk, near, after);
+    *walk = place;
     if place < order.len() {
         Some(marked(names, order, place))
     } else {

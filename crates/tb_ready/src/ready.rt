@@ -94,12 +94,20 @@ impl Ready {
         least(&self.names, &self.order, skip)
     }
 
-    /// The least marked name behind this one, or the least of all where none is given. So the marked
-    /// names can be listed in order, each found by a binary search.
+    /// The least marked name behind this one, or the least of all where none is given.
     pub fn next_marked(&self, after: Option<&TaskName>) -> Option<&TaskName>
         ensures { IsLeastName (IsMarkedBehind self.now.tasks (option_copied after.entry)) (option_copied result) }
     {
-        next_marked(&self.names, &self.order, self.near, after)
+        let mut walk = self.near;
+        self.walk_marked(&mut walk, after)
+    }
+
+    /// The same in a walk over the marked names, which hands on the place where it is, at first any: so each is found right
+    /// after the one before it.
+    pub fn walk_marked(&self, walk: &mut usize, after: Option<&TaskName>) -> Option<&TaskName>
+        ensures { IsLeastName (IsMarkedBehind self.now.tasks (option_copied after.entry)) (option_copied result) }
+    {
+        next_marked(&self.names, &self.order, walk, self.near, after)
     }
 
     /// Makes the room that `add` needs, whatever the name, and changes nothing else.

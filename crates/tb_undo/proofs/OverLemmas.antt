@@ -42,6 +42,15 @@ module _ (tasks : Waits) (t : Name) where
   unended_not_over zero h u = absurd (omega (arith, h))
   unended_not_over (suc k) h u = ap is_kin_over u.1.1 ∙ u.1.2
 
+  -- a child of which it is told whether it is unended
+  pub known_over : (n : ℕ) → 0 < n → (b : Bool) → (b ≡ true → IsUnendedChild tasks t (child t n)) → (b ≡ false → IsUnendedChild tasks t (child t n) → ⊥) → not b ≡ is_child_over tasks t n
+  known_over n h true there gone = sym (unended_not_over n h (there refl))
+  known_over n h false there gone = by (is_child_over tasks t n) refl
+    where
+      by : (b : Bool) → is_child_over tasks t n ≡ b → true ≡ is_child_over tasks t n
+      by true e = sym e
+      by false e = absurd (gone refl (unended_where n e))
+
   -- where all are over on which a further child with these items would depend, a `taskwait` with them waits for none
   pub none_covered : (siblings : List (List Item)) (items : List Item) → has_no_items items ≡ false → AreOverFor siblings (is_child_over tasks t) items → IsLeastNumber (IsUnendedWhere tasks t (is_covered siblings items)) None
   none_covered siblings items some all = record {

@@ -44,6 +44,14 @@ impl Tables {
         self.marks.next_marked(after)
     }
 
+    /// The same in a walk over the unended tasks, which hands on the place where it is, at first any.
+    pub fn walk_unended(&self, walk: &mut usize, after: Option<&TaskName>) -> Option<&TaskName>
+        ensures { ForState self.now (λ first root_line D.
+            IsLeastName (IsUnendedBehind (events_of D) (option_copied after.entry)) (option_copied result)) }
+    {
+        self.marks.walk_marked(walk, after)
+    }
+
     /// Where the task stands.
     #[inline(always)]
     pub fn standing(&self, name: &TaskName) -> Option<Standing<'_>>

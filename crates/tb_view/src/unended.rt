@@ -15,8 +15,9 @@ pub(crate) fn unended_tasks(alloc: Global, core: &Core) -> Result<Vec<TaskName>,
     ensures { IfOk result (λ tasks. AreAll (λ t. IsTrue (is_unended (history core.now.run) t)) tasks.items) }
 {
     let mut tasks = Vec::new(alloc);
+    let mut walk = 0;
     let mut after: Option<&TaskName> = None;
-    'tasks: while let Some(task) = core.next_unended(after) {
+    'tasks: while let Some(task) = core.walk_unended(&mut walk, after) {
         tasks.push(task.clone()?)?;
         after = Some(task);
     }

@@ -1,6 +1,7 @@
 -- The search in the tree finds the least name.
 use Rattle.std.proofs.Common.{◌≡◌, ◌≢◌, ℕ, zero, suc, ◌-◌, ◌<◌, ◌≤◌, List, [], ◌∷◌, ◌++◌, Bool, true, false, not, ◌&&◌, ◌||◌, ◌==◌, nat_lt, Option, Some, None, length, slice_get, refl, sym, ap, ap₂, ◌∙◌, subst, arith, eq-eqb, append_assoc, ◌⊎◌, inl, inr, ⊎_elim}
 use Rattle.std.specs.List.{zip, position, list_any}
+use Rattle.std.specs.Option.{option_map_or}
 use Rattle.std.proofs.lemmas.Bool.{false≢true, or_cases, or_left, or_right, and_parts, and_from}
 use Rattle.std.proofs.lemmas.Bool.Decides.{nat_tests}
 use Rattle.tb_model.specs.Names.{Name, same_name, is_child}
@@ -368,6 +369,32 @@ module _ (table : Table) (names : List Name) (slots : List Slot) (nodes : Nodes)
           let m = a.least s.0 s.1 (omega (arith, l, s.2)) s.3 s.4 in
           (m.0, m.1, omega (arith, m.2, s.2));
     }
+
+    -- whether the child of one number stands and isn't over
+    abbrev asked : ℕ → Bool
+    asked m = option_map_or (λ i. (node nodes i).pending) (slice_get (node nodes at).places m) false
+
+    abbrev asked_as : (o : Option ℕ) → Bool
+    asked_as o = option_map_or (λ i. (node nodes i).pending) o false
+
+    pub child_pending : (n : ℕ) → 0 < n → asked (n - 1) ≡ true → IsUnendedChild table.tasks t (n ∷ t)
+    child_pending zero l e = absurd (omega (arith, l))
+    child_pending (suc k) l e = by (slice_get (node nodes at).places k) refl
+      where
+        index : suc k - 1 ≡ k
+        index = omega arith
+
+        by : (o : Option ℕ) → slice_get (node nodes at).places k ≡ o → IsUnendedChild table.tasks t (suc k ∷ t)
+        by None is = let clash : false ≡ true = sym (ap asked_as is) ∙ ap asked (sym index) ∙ e in cc
+        by (Some i) is = (same_refl t, subst (IsUnended table.tasks) (place_name k i is) (unended i (place_in k i is) (sym (ap asked_as is) ∙ ap asked (sym index) ∙ e)))
+
+    pub child_over : (n : ℕ) → 0 < n → asked (n - 1) ≡ false → IsUnendedChild table.tasks t (n ∷ t) → ⊥
+    child_over zero l e h = absurd (omega (arith, l))
+    child_over (suc k) l e h =
+        let s = child_at (suc k ∷ t) (suc k) refl h.1 in
+        let same : s.0 ≡ suc k - 1 = omega (arith, s.2) in
+        let here : slice_get (node nodes at).places (suc k - 1) ≡ Some s.1 = ap (slice_get (node nodes at).places) (sym same) ∙ s.3 in
+        let clash : true ≡ false = sym s.4 ∙ sym (ap asked_as here) ∙ e in cc
 
     -- ---- members of the innermost open group
 

@@ -1,6 +1,7 @@
 //! The tree of tasks, whose nodes know of their children.
 
-ghost use Rattle.std.specs.Prelude.{◌≡◌, ◌<◌, ◌≤◌, ◌-◌, ◌↔◌, IsTrue, suc, [], ◌∷◌, OnOk, IsOk, IfOk, IfSome, length, true};
+ghost use Rattle.std.specs.Prelude.{◌≡◌, ◌<◌, ◌≤◌, ◌-◌, ◌↔◌, IsTrue, suc, [], ◌∷◌, OnOk, IsOk, IfOk, IfSome, length, slice_get, true, false};
+ghost use Rattle.std.specs.Option.{option_map_or};
 ghost use Rattle.tb_wait.specs.Tree.{node, leaf, IsPlace, SameButRoom, SetsPending, AddsNode};
 
 use crate::node::Node;
@@ -70,6 +71,18 @@ impl Tree {
         match self.nodes.as_slice().get(at) {
             Some(node) if number > 0 => node.place(number),
             _ => None,
+        }
+    }
+
+    /// Whether the child of this number of the task at the place was generated, stands and hasn't ended.
+    pub fn is_child_pending(&self, at: usize, number: u32) -> bool
+        requires within { at < length self.now.nodes }
+        requires from_one { 0 < number }
+        ensures { result ≡ option_map_or (λ i. (node self.now.nodes i).pending) (slice_get (node self.now.nodes at).places (number - 1)) false }
+    {
+        match nodes::shown(&self.nodes, at).place(number) {
+            Some(child) => nodes::shown(&self.nodes, child).is_pending(),
+            None => false,
         }
     }
 

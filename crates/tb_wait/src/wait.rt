@@ -1,6 +1,6 @@
 //! The table of waits.
 
-ghost use Rattle.std.specs.Prelude.{◌≡◌, ◌≢◌, ◌<◌, ◌≤◌, ◌-◌, ◌+◌, ℕ, [], ◌∷◌, true, false, OnOk, OnErr, IsOk, IfOk, Some, None, is_some, length, vec_capacity, suc, List, if◌then◌else◌, reverse};
+ghost use Rattle.std.specs.Prelude.{◌≡◌, ◌≢◌, ◌<◌, ◌≤◌, ◌-◌, ◌+◌, ℕ, [], ◌∷◌, true, false, IsTrue, OnOk, OnErr, IsOk, IfOk, Some, None, is_some, length, vec_capacity, suc, List, if◌then◌else◌, reverse};
 ghost use Rattle.std.specs.List.{zip};
 ghost use Rattle.indexmap.specs.IndexSet.{spare};
 ghost use Rattle.tb_wait.specs.Rows.{key, slot_at, groups_of, Fits};
@@ -321,6 +321,18 @@ impl Wait {
             return None;
         };
         self.tree.next_unended(at, low)
+    }
+
+    /// Whether the task's child of this number stands and isn't over. Takes no memory, and no search among the children.
+    pub fn is_child_unended(&self, task: &TaskName, number: u32) -> bool
+        requires { 0 < number }
+        ensures unended { IsTrue result → IsUnendedChild self.now.tasks task.now (child task.now number) }
+        ensures over { result ≡ false → IsUnendedChild self.now.tasks task.now (child task.now number) → ⊥ }
+    {
+        let Some(at) = self.near.find(&self.names, task) else {
+            return false;
+        };
+        self.tree.is_child_pending(at, number)
     }
 
     /// The least member of the task's innermost open group that stands and isn't over.

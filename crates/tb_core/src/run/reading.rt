@@ -40,6 +40,14 @@ impl Core {
         self.tables.next_unended(after)
     }
 
+    /// The same in a walk over the unended tasks, which hands on the place where it is, at first any: so each is found right
+    /// after the one before it.
+    pub fn walk_unended(&self, walk: &mut usize, after: Option<&TaskName>) -> Option<&TaskName>
+        ensures { IsLeastName (IsUnendedBehind (history self.now.run) (option_copied after.entry)) (option_copied result) }
+    {
+        self.tables.walk_unended(walk, after)
+    }
+
     /// How many groups of the task are open.
     pub fn groups(&self, task: &TaskName) -> usize
         ensures { result ≡ length (open_groups (own task.now (history self.now.run))) }
