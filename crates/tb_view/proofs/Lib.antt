@@ -1,6 +1,7 @@
 mod NameLemmas
 pub mod CountLemmas
 pub mod WalkLemmas
+mod NamedLemmas
 mod NeedLemmas
 pub mod ShownLemmas
 mod ReasonLemmas

@@ -19,17 +19,13 @@ use Rattle.tb_model.specs.State.{is_unended}
 use Rattle.tb_model.proofs.TestLemmas.{same_true, same_refl}
 use Rattle.tb_core.specs.Listed.{Rises, AreAll}
 use Rattle.tb_view.specs.Listing.{lines_of}
-use Rattle.tb_view.specs.Tasks.{Named, named_tasks, with_spawned}
+use Rattle.tb_view.specs.Tasks.{Named, named_tasks, names_of, with_spawned}
 use Rattle.tb_view.specs.Waits.{ready_by, ready_line, wait_by, wait_line}
 
 -- ---- names in their order
 
-abbrev names_of : List Named → List Name
-names_of [] = []
-names_of (x ∷ xs) = x.0 ∷ names_of xs
-
 -- u comes after t
-abbrev Follows : Name → Name → Type 0
+abbrev pub Follows : Name → Name → Type 0
 Follows t u = name_cmp t u ≡ Less
 
 abbrev is_in : Name → List Name → Bool
@@ -62,7 +58,7 @@ module _ (k : Name) (v : ℕ) where
       at Equal r = all
       at Greater r = (all.0, r)
 
-  rises_insert : (es : List Named) → Rises (names_of es) → Rises (names_of (insert_entry name_cmp es k v))
+  pub rises_insert : (es : List Named) → Rises (names_of es) → Rises (names_of (insert_entry name_cmp es k v))
   rises_insert [] r = (tt, tt)
   rises_insert (e ∷ es) r = at (name_cmp k e.0) refl (rises_insert es r.1)
     where

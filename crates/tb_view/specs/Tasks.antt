@@ -20,6 +20,10 @@ use Rattle.tb_view.specs.Listing.{listed, lines_of}
 abbrev pub Named : Type 0
 Named = Name × ℕ
 
+abbrev pub names_of : List Named → List Name
+names_of [] = []
+names_of (x ∷ xs) = x.0 ∷ names_of xs
+
 -- one task more, at its place in the order of names, where the action generates one
 abbrev pub with_spawned : Action → List Named → List Named
 with_spawned (Spawn s) tasks = insert_entry name_cmp tasks s.child s.body

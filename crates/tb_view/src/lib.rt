@@ -6,6 +6,7 @@ mod breaks;
 mod counting;
 mod hindrances;
 mod listing;
+mod named_tasks;
 mod numbers;
 mod reasons;
 mod relations;

@@ -8,24 +8,23 @@ ghost use Rattle.tb_live.specs.Soundness.{Fits};
 ghost use Rattle.tb_view.specs.Listing.{joined};
 ghost use Rattle.tb_view.specs.Tasks.{body_text, with_spawned, named_tasks, task_line, tasks_text};
 
+use crate::named_tasks::NamedTasks;
 use crate::states::append_state;
 use crate::step_line::body_name;
 use std::alloc::{AllocError, Global};
-use std::collections::BTreeMap;
 use tb_core::{Core, Entry};
 use tb_draft::Draft;
 use tb_model::{Action, TaskName};
 use tb_read::Program;
 
 /// Adds the task that the action spawns, where it spawns one.
-fn insert_spawned(tasks: &mut BTreeMap<TaskName, u32>, action: &Action) -> Result<(), AllocError>
-    ensures { OnOk result (tasks.new.entries ≡ with_spawned action.now tasks.old.entries) }
+fn insert_spawned(tasks: &mut NamedTasks, action: &Action) -> Result<(), AllocError>
+    ensures { OnOk result (tasks.new ≡ with_spawned action.now tasks.old) }
 {
     match action {
         Action::Spawn(spawned) => {
             let spawn = spawned.get();
-            tasks.insert(spawn.child.clone()?, spawn.body)?;
-            Ok(())
+            tasks.insert(spawn.child.clone()?, spawn.body)
         }
         _ => Ok(()),
     }
@@ -40,12 +39,12 @@ fn named_tasks(
 ) -> Result<Vec<(TaskName, u32)>, AllocError>
     ensures { IfOk result (λ tasks. tasks.items ≡ named_tasks root_line (history_of entries.now)) }
 {
-    let mut tasks = BTreeMap::new(alloc);
+    let mut tasks = NamedTasks::new(alloc);
     tasks.insert(TaskName::root(alloc), root_line)?;
     'entries: for entry in entries {
         insert_spawned(&mut tasks, &entry.event.action)?;
     }
-    tasks.into_iter().collect(alloc)
+    tasks.into_vec()
 }
 
 /// Appends the names of a task and of its body.
