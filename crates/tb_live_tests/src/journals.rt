@@ -11,11 +11,16 @@ use tb_model::{
     WaitItems,
 };
 
-/// A step of a task that is five levels deep.
-fn step(rt: &(impl Abort + AllocGlobal), seat: u32, action: Action) -> Entry {
-    let task = TaskName::parse(rt.alloc(), b"0.1.2.3.4").expect(rt, "a name");
+/// A step of a task.
+fn step_of(rt: &(impl Abort + AllocGlobal), seat: u32, name: &[u8], action: Action) -> Entry {
+    let task = TaskName::parse(rt.alloc(), name).expect(rt, "a name");
     let event = Event { task, action };
     Entry::Stepped { seat, event }
+}
+
+/// A step of a task that is five levels deep.
+fn step(rt: &(impl Abort + AllocGlobal), seat: u32, action: Action) -> Entry {
+    step_of(rt, seat, b"0.1.2.3.4", action)
 }
 
 /// One item, and a second one where there are to be two.
@@ -58,8 +63,8 @@ fn push(rt: &impl Abort, journal: &mut Journal, entry: Entry)
 {
     if let Entry::Stepped { seat, event } = &entry {
         if !stands_apart(*seat, &event.action) {
-            let task = event.task.clone().expect(rt, "a name");
-            journal.push_short(*seat, task, &event.action);
+            let new = journal.turn_for(&event.task).expect(rt, "a name");
+            journal.push_short(*seat, new, &event.action);
             mem::forget(entry);
             return;
         }
@@ -156,5 +161,43 @@ fn entries_of_any_seat_come_back(rt: HostRuntime) {
     assert!(&rt; journal.are_turns(u32::MAX, 1));
     assert!(&rt; journal.are_turns(64, 1) == false);
     add_others(&rt, &mut journal, 256);
+    mem::forget(journal);
+}
+
+/// Whether the entry at the place is that of a group which the task began.
+fn has_opened(rt: &(impl Abort + AllocGlobal), journal: &Journal, place: usize, name: &[u8]) {
+    assert!(rt; place < journal.len());
+    let entry = journal.entry(place).expect(rt, "memory");
+    let wanted = step_of(rt, 1, name, Action::Open);
+    assert!(rt; has_same_text(rt, &entry, &wanted).unwrap_or(false));
+    mem::forget((entry, wanted));
+}
+
+#[test]
+fn entries_of_tasks_in_turn_come_back(rt: HostRuntime) {
+    let mut journal = Journal::open(rt.alloc()).expect(&rt, "memory");
+    enter(
+        &rt,
+        &mut journal,
+        step_of(&rt, 1, b"0", Action::Open),
+        false,
+    );
+    enter(
+        &rt,
+        &mut journal,
+        step_of(&rt, 1, b"0.1", Action::Open),
+        false,
+    );
+    enter(
+        &rt,
+        &mut journal,
+        step_of(&rt, 1, b"0.1", Action::Open),
+        true,
+    );
+    enter(&rt, &mut journal, step_of(&rt, 1, b"0", Action::Open), true);
+    has_opened(&rt, &journal, 1, b"0");
+    has_opened(&rt, &journal, 2, b"0.1");
+    has_opened(&rt, &journal, 3, b"0.1");
+    has_opened(&rt, &journal, 4, b"0");
     mem::forget(journal);
 }
