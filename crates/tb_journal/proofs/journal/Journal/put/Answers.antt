@@ -1,8 +1,8 @@
-use Rattle.std.proofs.Common.{[], ◌∙◌, ◌++◌, ◌∷◌, length, subst, sym, ap, ap₂, unwrap_or}
+use Rattle.std.proofs.Common.{[], ◌∙◌, ◌++◌, ◌∷◌, length, length-append, add-one, arith, subst, sym, ap, ap₂, unwrap_or}
 use Rattle.std.specs.List.{AllByRecursion}
 use Rattle.tb_journal.specs.Compact.{IsThere, StandsFor}
 use Rattle.tb_journal.specs.Turns.{Begins, Rises, entries, task_at}
-use Rattle.tb_journal.proofs.CompactLemmas.{length_push, one_more_there, there_always}
+use Rattle.tb_journal.proofs.CompactLemmas.{one_more_there, there_grows}
 use Rattle.tb_journal.proofs.TurnLemmas.{entry_pushed}
 use Rattle.tb_journal.proofs.journal.Journal.put.Goals as goal
 
@@ -12,8 +12,8 @@ invariant_of-self c =
     let compact = c.self.inside.compact.items in
     let turns = c.self.inside.turns.items in
     let begun = subst (λ ks. Begins (length ks) (unwrap_or c.args.new (task_at [] turns (length ks))) turns c.begin.new.turns.items) c.as_slice.ensures.value c.begin.ensures.begun in
-    let one_more = ap length c.push_reserved.ensures.items ∙ length_push compact c.args.compact in
-    let there = one_more_there (length apart) compact c.args.compact c.self.invariant.0 (there_always (length apart) c.args.compact c.requires.there) in
+    let one_more = ap length c.push_reserved.ensures.items ∙ length-append compact (c.args.compact ∷ []) ∙ add-one (length compact) in
+    let there = one_more_there (length apart) (length apart) (omega arith) compact c.args.compact c.self.invariant.0 (there_grows 0 (length apart) (omega arith) c.args.compact c.requires.there) in
     (subst (AllByRecursion (IsThere (length apart))) (sym c.push_reserved.ensures.items) there, subst (Rises 0 c.begin.new.turns.items) (sym one_more) begun.rises)
 
 pub returns-clause-items : goal.returns-clause-items
