@@ -3,7 +3,7 @@ use Rattle.std.proofs.Common.{◌≡◌, ◌<◌, ◌≤◌, ◌+◌, ◌-◌, �
 use Rattle.std.specs.Prelude.{IsTrue}
 use Rattle.std.specs.List.{list_any, slice_range}
 use Rattle.std.proofs.lemmas.Bool.{cases_lt, and_parts, or_cases, or_right}
-use Rattle.std.proofs.lemmas.List.{length-take}
+use Rattle.std.proofs.lemmas.List.{length-take, get_or_default}
 use Rattle.std.proofs.lemmas.Option.{slice_get_within}
 use Rattle.tb_model.specs.declared.item.Item.{Item}
 use Rattle.tb_model.specs.Items.{is_before, meets, some_meet}
@@ -34,6 +34,17 @@ child_found (e ∷ ends) k zero l low high = ap (λ b. cond b 1 (suc (child_at e
 child_found (e ∷ ends) k (suc r) l low high =
     ap (λ b. cond b 1 (suc (child_at ends k))) (le-ltb k e (low 0 0 (omega arith)))
     ∙ ap suc (child_found ends k r (omega arith) (λ i d h. low (suc i) d (omega arith)) (λ i d h t. high (suc i) d (omega arith) (omega arith)))
+
+-- so it is where the end in front of it doesn't pass the place, and its own does
+pub found_between : (start : ℕ) (ends : List ℕ) (len k r : ℕ) → AreEnds start ends len → r < length ends → 0 < r → get_or ends (r - 1) 0 ≤ k → k < get_or ends r 0 → child_at ends k ≡ suc r
+found_between start ends len k r a l some low high =
+    child_found ends k r (omega (arith, l))
+    (λ i d h.
+    let rises = ends_order start ends len a i (r - 1) 0 (omega (arith, h)) (omega (arith, l, some)) in
+    subst (λ e. e ≤ k) (get_or_default ends i 0 d (omega (arith, h, l))) (omega (arith, rises, low)))
+    (λ i d h t.
+    let rises = ends_order start ends len a r i 0 h t in
+    subst (λ e. k < e) (get_or_default ends i 0 d t) (omega (arith, rises, high)))
 
 start_shifted : (start e : ℕ) (ends : List ℕ) (r : ℕ) → start_at start (e ∷ ends) (suc r) ≡ start_at e ends r
 start_shifted start e ends zero = refl

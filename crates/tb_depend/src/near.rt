@@ -2,7 +2,7 @@
 //! it names the last items of one kind in front of it, and behind those no other. Where these are
 //! over, so is what they depend on, and so down to the first.
 
-ghost use Rattle.std.specs.Prelude.{◌≡◌, ◌<◌, ◌≤◌, ℕ, IsTrue, Some, ◌↔◌, length, slice_get};
+ghost use Rattle.std.specs.Prelude.{◌≡◌, ◌<◌, ◌≤◌, ◌+◌, ℕ, IsTrue, Some, ◌↔◌, length, slice_get};
 ghost use Rattle.tb_model.specs.declared.item.Item.{Item as AnItem};
 ghost use Rattle.tb_model.specs.declared.place.Place.TheVariants.{Cell};
 ghost use Rattle.tb_depend.specs.Chains.{is_met};
@@ -15,12 +15,37 @@ use crate::over::Over;
 use crate::steps::{comes_behind, comes_behind_all, is_before, is_met};
 use tb_model::{Item, Place};
 
-/// The number of the child whose item stands at this place.
+/// The number of the child whose item stands at this place. Mostly the children have as many items each, so it is tried first
+/// where it is by proportion.
 pub(crate) fn child_at(ends: &[usize], at: usize) -> usize
     requires { (len : ℕ) × AreEnds 0 ends.now len }
     ensures { result ≡ child_at ends.now at }
 {
+    let guess = proportion(ends, at);
+    if are_in_front(ends, guess, at) {
+        return guess + 1;
+    }
     ends.partition_point(|end| *end <= at) + 1
+}
+
+/// How many children have their items in front of the place, where all have as many. Any number does.
+fn proportion(ends: &[usize], at: usize) -> usize {
+    match ends.last() {
+        Some(last) if *last > 0 => at.saturating_mul(ends.len()) / *last,
+        _ => 0,
+    }
+}
+
+/// Whether so many children, and no more, have their items in front of the place.
+fn are_in_front(ends: &[usize], count: usize, at: usize) -> bool
+    requires { (len : ℕ) × AreEnds 0 ends.now len }
+    ensures child { IsTrue result → count + 1 ≡ child_at ends.now at }
+    ensures within { IsTrue result → count < length ends.now }
+{
+    if count >= ends.len() || ends[count] <= at {
+        return false;
+    }
+    count == 0 || ends[count - 1] <= at
 }
 
 fn is_over<T: Over>(over: &T, ends: &[usize], at: usize) -> bool
