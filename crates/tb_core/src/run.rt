@@ -123,6 +123,14 @@ impl Core {
         self.tables.has_ended(task)
     }
 
+    /// The same of a task of which it was asked where it stands, so that it isn't looked for again.
+    #[inline(always)]
+    pub fn has_ended_at(&self, standing: &Standing<'_>, task: &TaskName) -> bool
+        ensures { result ≡ has_ended self.now.run task.now }
+    {
+        self.tables.has_ended_at(standing, task)
+    }
+
     /// Whether the step is in the history. It isn't looked for: its task's steps are counted.
     pub fn has_step(&self, id: &StepId) -> bool
         ensures { result ≡ stands id.now (history self.now.run) }
@@ -140,6 +148,14 @@ impl Core {
         ensures none { IfNone result (IsFalse (is_spawned (history self.now.run) task.now)) }
     {
         self.tables.standing(task)
+    }
+
+    /// The same in a walk over tasks, which hands on where the last one was found, at first none.
+    pub fn walk_standing(&self, near: &mut Option<usize>, task: &TaskName) -> Option<Standing<'_>>
+        ensures some { IfSome result (λ k. IsTrue (is_spawned (history self.now.run) task.now) × (config_of self.now.run task.now ≡ config_with task.now k)) }
+        ensures none { IfNone result (IsFalse (is_spawned (history self.now.run) task.now)) }
+    {
+        self.tables.walk_standing(near, task)
     }
 
     /// The situation of a task that is there.
@@ -182,14 +198,19 @@ impl Core {
         self.tables.is_clear_at(standing, task, action)
     }
 
-    /// What keeps a task that goes on from the action.
-    pub fn hindrance(&self, name: &TaskName, action: &Action) -> Option<StepRefusal>
+    /// What keeps a task that goes on from the action. It was asked where the task stands, so that it isn't looked for again.
+    pub fn hindrance(
+        &self,
+        standing: &Standing<'_>,
+        name: &TaskName,
+        action: &Action,
+    ) -> Option<StepRefusal>
         requires there { IsTrue (is_spawned (history self.now.run) name.now) }
         requires going { IsFalse (has_ended self.now.run name.now) }
         ensures some { IfSome result (IsKeptBy self.now.run name.now action.now) }
         ensures none { IfNone result (in_the_way (history self.now.run) name.now action.now ≡ None) }
     {
-        if let Some(obstacle) = self.tables.in_the_way(name, action) {
+        if let Some(obstacle) = self.tables.in_the_way(standing, name, action) {
             return Some(named(name, obstacle));
         }
         None
@@ -211,7 +232,7 @@ impl Core {
         if !stands_so(&plan.config, &standing) {
             return Some(stale(self.alloc, name, &standing));
         }
-        if let Some(hindrance) = self.hindrance(name, &plan.action) {
+        if let Some(hindrance) = self.hindrance(&standing, name, &plan.action) {
             return Some(hindrance);
         }
         if self.limit <= self.count() {

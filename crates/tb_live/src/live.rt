@@ -236,7 +236,20 @@ impl Live {
         ensures some { IfOk result (λ o. IfSome o (Hinders self.now.session task.now)) }
         ensures none { IfOk result (λ o. IfNone o (refusal_for self.now.session task.now ≡ None)) }
     {
-        refusal_of(self.alloc, &self.program, &self.core, task)
+        let mut near = None;
+        self.walk_refusal(&mut near, task)
+    }
+
+    /// The same in a walk over tasks, which hands on where the last one was found, at first none.
+    pub fn walk_refusal(
+        &self,
+        near: &mut Option<usize>,
+        task: &TaskName,
+    ) -> Result<Option<StepRefusal>, AllocError>
+        ensures some { IfOk result (λ o. IfSome o (Hinders self.now.session task.now)) }
+        ensures none { IfOk result (λ o. IfNone o (refusal_for self.now.session task.now ≡ None)) }
+    {
+        refusal_of(self.alloc, &self.program, &self.core, near, task)
     }
 
     /// Takes a step back that nothing needs, for the seat. The step is looked for once. A refusal

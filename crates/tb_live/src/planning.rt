@@ -32,7 +32,7 @@ pub fn coming_of(
     let Some(standing) = core.standing(task) else {
         return Err(StepRefusal::NoSuchTask);
     };
-    if core.has_ended(task) {
+    if core.has_ended_at(&standing, task) {
         return Err(StepRefusal::Ended);
     }
     match coming_at(alloc, program, core, task, &standing) {

@@ -18,7 +18,7 @@ use crate::claim::Claim;
 use crate::claims::Claims;
 use crate::coming::Coming;
 use crate::floor::Floor;
-use crate::planning::{coming_at, coming_of, work_of};
+use crate::planning::{coming_at, work_of};
 use std::alloc::{AllocError, Global};
 use tb_core::{Core, StepRefusal};
 use tb_model::TaskName;
@@ -70,12 +70,14 @@ fn clear_at(
     }
 }
 
-/// The same of a task that was generated and isn't over.
+/// The same of a task that was generated and isn't over, in a walk over such tasks, which hands on where the last one was
+/// found.
 #[inline(always)]
 fn unended_coming(
     alloc: Global,
     program: &Program,
     core: &Core,
+    near: &mut Option<usize>,
     task: &TaskName,
 ) -> Result<Option<Coming>, AllocError>
     requires fits { Fits program.now core.now.run }
@@ -83,28 +85,32 @@ fn unended_coming(
     ensures coming { IfOk result (λ o. IfSome o (IsComing program.now core.now.run task.now)) }
     ensures can { IfOk result (λ o. can_step program.now (history core.now.run) task.now ≡ is_some o) }
 {
-    match core.standing(task) {
+    match core.walk_standing(near, task) {
         Some(standing) => clear_at(alloc, program, core, task, &standing),
         None => unreachable!(),
     }
 }
 
-/// Why the task's next step would be refused now, a full journal aside.
+/// Why the task's next step would be refused now, a full journal aside. In a walk over tasks it hands on where the last one
+/// was found.
 pub fn refusal_of(
     alloc: Global,
     program: &Program,
     core: &Core,
+    near: &mut Option<usize>,
     task: &TaskName,
 ) -> Result<Option<StepRefusal>, AllocError>
     requires { Fits program.now core.now.run }
     ensures { IfOk result (IsRefusalOf program.now core.now.run task.now) }
 {
-    let coming = match coming_of(alloc, program, core, task) {
-        Ok(coming) => coming,
-        Err(StepRefusal::Memory) => return Err(AllocError),
-        Err(refusal) => return Ok(Some(refusal)),
+    let Some(standing) = core.walk_standing(near, task) else {
+        return Ok(Some(StepRefusal::NoSuchTask));
     };
-    match core.hindrance(task, &coming.action) {
+    if core.has_ended_at(&standing, task) {
+        return Ok(Some(StepRefusal::Ended));
+    }
+    let coming = coming_at(alloc, program, core, task, &standing)?;
+    match core.hindrance(&standing, task, &coming.action) {
         Some(refusal) => told(refusal),
         None => Ok(None),
     }
@@ -207,9 +213,10 @@ fn coming_behind(
     ensures { IfOk result (IsLeastComing program.now core.now.run) }
 {
     let mut walk = 0;
+    let mut near = None;
     let mut after = task;
     'tasks: while let Some(task) = core.walk_unended(&mut walk, after) {
-        match unended_coming(alloc, program, core, task) {
+        match unended_coming(alloc, program, core, &mut near, task) {
             Ok(Some(coming)) => return named(task, coming),
             Ok(None) => after = Some(task),
             Err(_) => return Err(AllocError),
@@ -252,13 +259,14 @@ fn can_take(
     core: &Core,
     claims: &Claims,
     seat: u32,
+    near: &mut Option<usize>,
     task: &TaskName,
 ) -> Result<bool, AllocError>
     requires fits { Fits program.now core.now.run }
     requires unended { IsTrue (is_unended (history core.now.run) task.now) }
     ensures { IfOk result (λ can. IsTrue can ↔ CanTake program.now (history core.now.run) claims.now seat task.now) }
 {
-    match unended_coming(alloc, program, core, task) {
+    match unended_coming(alloc, program, core, near, task) {
         Ok(Some(_)) => Ok(claims.held_beside(seat, task).is_none()),
         Ok(None) => Ok(false),
         Err(_) => Err(AllocError),
@@ -280,9 +288,10 @@ fn work_behind<'c>(
     ensures { IfOk result (IsFound program.now core.now.run claims.now seat) }
 {
     let mut walk = 0;
+    let mut near = None;
     let mut after = first;
     'tasks: while let Some(task) = core.walk_unended(&mut walk, Some(after)) {
-        match can_take(alloc, program, core, claims, seat, task) {
+        match can_take(alloc, program, core, claims, seat, &mut near, task) {
             Ok(true) => return work_on(program, core, task),
             Ok(false) => after = task,
             Err(_) => return Err(AllocError),

@@ -253,7 +253,10 @@ pub fn enter_step(
     ensures carried { OnOk result (IsCarried (history core.new.run) floor.old floor.new) }
     ensures stays { OnErr result (floor.new ≡ floor.old) }
 {
-    if let Some(refusal) = core.hindrance(task, &coming.action) {
+    let Some(standing) = core.standing(task) else {
+        unreachable!();
+    };
+    if let Some(refusal) = core.hindrance(&standing, task, &coming.action) {
         return Err(refusal);
     }
     if limit as usize <= journal.len() {

@@ -116,12 +116,31 @@ fn tell_refusal(rt: &impl Abort, text: &mut String, refusal: &StepRefusal) {
     text.push(' ').expect(rt, "memory is there");
 }
 
+/// The number of the refusal that a step of the task would get, a full journal aside, and 100 for a step that would be taken.
+fn foretold(rt: &impl Abort, live: &Live, task: &TaskName) -> u8 {
+    match live.refusal(task).expect(rt, "memory is there") {
+        Some(refusal) => {
+            let number = refusal.number();
+            mem::forget(refusal);
+            number
+        }
+        None => 100,
+    }
+}
+
 /// Adds the refusal of a step of the task, and nothing for a step that is taken.
 fn answer(rt: &(impl Abort + AllocGlobal), live: &mut Live, name: &str, text: &mut String) {
     let task = TaskName::parse(rt.alloc(), name.as_bytes()).expect(rt, name);
+    let mut number = foretold(rt, live, &task);
     if let Err(refusal) = live.step(&task) {
+        if live.is_full() {
+            number = 7;
+        }
+        assert_eq!(rt; refusal.number(), number);
         tell_refusal(rt, text, &refusal);
         mem::forget(refusal);
+    } else {
+        assert_eq!(rt; number, 100);
     }
     mem::forget(task);
 }

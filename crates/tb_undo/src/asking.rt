@@ -22,13 +22,18 @@ use tb_model::{Action, TaskName};
 use tb_wait::Wait;
 
 impl Tables {
-    /// What keeps the task from the action: the undeferred child at which it stands, else what the
-    /// action waits for. Takes no memory.
+    /// What keeps the task, of which it was asked where it stands, from the action: the undeferred child at which it stands,
+    /// else what the action waits for. Takes no memory.
     #[inline(always)]
-    pub fn in_the_way(&self, name: &TaskName, action: &Action) -> Option<Obstacle<'_>>
+    pub fn in_the_way(
+        &self,
+        standing: &Standing<'_>,
+        name: &TaskName,
+        action: &Action,
+    ) -> Option<Obstacle<'_>>
         ensures { ForUnended self.now name.now (λ H. in_the_way H name.now action.now ≡ option_map (hindrance_by name.now) result) }
     {
-        self.in_the_way_near(self.near, name, action)
+        self.in_the_way_near(standing.place(), name, action)
     }
 
     /// The same of a task whose row is looked for at the place `near` first.

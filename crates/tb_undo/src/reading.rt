@@ -35,6 +35,16 @@ impl Tables {
         self.waits.is_over(name).unwrap_or(false)
     }
 
+    /// The same of a task of which it was asked where it stands: mostly its name has the same place in both tables.
+    #[inline(always)]
+    pub fn has_ended_at(&self, standing: &Standing<'_>, name: &TaskName) -> bool
+        ensures { ForHistory self.now (λ H. result ≡ list_any (ends name.now) H) }
+    {
+        self.waits
+            .is_over_near(standing.place(), name)
+            .unwrap_or(false)
+    }
+
     /// The least unended task behind this one, or the least of all where none is given. So the
     /// unended tasks can be listed in order, each found by a binary search.
     pub fn next_unended(&self, after: Option<&TaskName>) -> Option<&TaskName>
@@ -58,6 +68,17 @@ impl Tables {
         ensures { ForState self.now (λ first root_line D. result ≡ option_map standing_of (task_of root_line D name.now)) }
     {
         standing(&self.rows, self.near, name)
+    }
+
+    /// The same in a walk over tasks, which hands on where the last one's row is, at first none.
+    pub fn walk_standing(&self, near: &mut Option<usize>, name: &TaskName) -> Option<Standing<'_>>
+        ensures { ForState self.now (λ first root_line D. result ≡ option_map standing_of (task_of root_line D name.now)) }
+    {
+        let found = standing(&self.rows, near.unwrap_or(self.near), name);
+        if let Some(standing) = &found {
+            *near = Some(standing.place());
+        }
+        found
     }
 
     /// How many children the task generated.

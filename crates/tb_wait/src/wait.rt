@@ -363,6 +363,17 @@ impl Wait {
         rows::is_over(&self.rows, at)
     }
 
+    /// The same of a task that is looked for at this place first, which may be any.
+    #[inline(always)]
+    pub fn is_over_near(&self, near: usize, task: &TaskName) -> Option<bool>
+        ensures { result ≡ option_map (λ (k : Kin). k.over) (kin self.now.tasks task.now) }
+    {
+        let Some(at) = self.near.find_near(&self.names, near, task) else {
+            return None;
+        };
+        rows::is_over(&self.rows, at)
+    }
+
     /// How many children the task generated.
     pub fn children(&self, task: &TaskName) -> Option<u32>
         ensures { result ≡ option_map (λ (k : Kin). k.children) (kin self.now.tasks task.now) }

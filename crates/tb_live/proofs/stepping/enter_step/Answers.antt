@@ -10,13 +10,13 @@ hindrance-requires-clause-there c = next_there c.args.core.now.run c.args.task.n
 pub hindrance-requires-clause-going : goal.hindrance-requires-clause-going
 hindrance-requires-clause-going c = next_goes c.args.core.now.run c.args.task.now c.args.coming c.requires.next
 
-pub returns-in-Some-clause-entered : goal.returns-in-Some-clause-entered
-returns-in-Some-clause-entered c p says current =
-    kept_enters c.args.limit c.args.seat c.args.core.now.run c.args.task.now c.args.coming p c.args.journal.now.items c.args.control.now c.in-Some.refusal says current c.in-Some.ensures.some
+pub returns-in-Some-hindrance-clause-entered : goal.returns-in-Some-hindrance-clause-entered
+returns-in-Some-hindrance-clause-entered c p says current =
+    kept_enters c.args.limit c.args.seat c.args.core.now.run c.args.task.now c.args.coming p c.args.journal.now.items c.args.control.now c.in-Some-hindrance.refusal says current c.in-Some-hindrance.ensures.some
 
 pub returns-then-limit-len-clause-entered : goal.returns-then-limit-len-clause-entered
 returns-then-limit-len-clause-entered c p says current =
-    full_enters c.args.limit c.args.seat c.args.core.now.run c.args.task.now c.args.coming p c.args.journal.now.items c.args.control.now says current c.in_default.ensures.none (no_place c.args.limit c.args.journal.now.items (search rules))
+    full_enters c.args.limit c.args.seat c.args.core.now.run c.args.task.now c.args.coming p c.args.journal.now.items c.args.control.now says current c.in_default-hindrance.ensures.none (no_place c.args.limit c.args.journal.now.items (search rules))
 
 pub returns-in-Err-clause-entered : goal.returns-in-Err-clause-entered
 returns-in-Err-clause-entered c p says current =
@@ -24,7 +24,7 @@ returns-in-Err-clause-entered c p says current =
 
 pub enter_clear-requires-clause-clear : goal.enter_clear-requires-clause-clear
 enter_clear-requires-clause-clear c =
-    subst (λ (t : Name). IsClear c.args.core.now.run t c.args.coming) (sym c.in-Ok.ensures.cases) (record { next = c.requires.next; clear = c.in_default.ensures.none })
+    subst (λ (t : Name). IsClear c.args.core.now.run t c.args.coming) (sym c.in-Ok.ensures.cases) (record { next = c.requires.next; clear = c.in_default-hindrance.ensures.none })
 
 pub returns-in-Ok-clause-entered : goal.returns-in-Ok-clause-entered
 returns-in-Ok-clause-entered c p says current =

@@ -1,0 +1,10 @@
+use Rattle.std.proofs.Common.{sym, ap, ◌∙◌, option_map}
+use Rattle.tb_wait.specs.Kin.{Kin}
+use Rattle.tb_wait.proofs.SearchLemmas.{kin_of_row, kin_of_none}
+use Rattle.tb_wait.proofs.wait.Wait.is_over_near.Goals as goal
+
+pub returns-in_default : goal.returns-in_default
+returns-in_default c = sym (ap (option_map (λ (k : Kin). k.over)) (kin_of_none c.args.self.now c.self.inside.names.keys c.self.inside.rows.items c.self.inside.tree.nodes c.self.inside.room c.self.view_is c.self.invariant.0 c.args.task.now c.in_default.ensures.found))
+
+pub returns : goal.returns
+returns c = c.is_over.ensures ∙ sym (ap (option_map (λ (k : Kin). k.over)) (kin_of_row c.args.self.now c.self.inside.names.keys c.self.inside.rows.items c.self.inside.tree.nodes c.self.inside.room c.self.view_is c.self.invariant.0 c.args.task.now c.in-Some.at c.in-Some.ensures.index))
