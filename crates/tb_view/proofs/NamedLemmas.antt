@@ -1,6 +1,7 @@
 -- Named tasks of which some come after all others.
-use Rattle.std.proofs.Common.{◌≡◌, ◌-◌, ℕ, List, [], ◌∷◌, ◌++◌, Bool, true, length, slice_get, Some, None, Result, Ok, Err, OnOk, OnErr, refl, sym, ap, ◌∙◌, subst, rules, append-nil, is_lt}
+use Rattle.std.proofs.Common.{◌≡◌, ◌-◌, ℕ, List, [], ◌∷◌, ◌++◌, true, length, slice_get, Some, None, Result, Ok, Err, OnOk, OnErr, refl, sym, ap, ap₂, ◌∙◌, subst, rules, append-nil, append_assoc, reverse, is_lt}
 use Rattle.std.proofs.lemmas.Bool.{false≢true}
+use Rattle.std.proofs.lemmas.List.{reverse-append, reverse-reverse}
 use Rattle.std.specs.List.{AllByRecursion}
 use Rattle.std.specs.BTreeMap.{insert_entry}
 use Rattle.std.specs.Ordering.{ordering_reverse, match_ordering}
@@ -9,19 +10,20 @@ use Rattle.std.specs.declared.cmp.Ordering.TheVariants.{Less, Equal, Greater}
 use Rattle.tb_model.specs.Names.{Name, name_cmp}
 use Rattle.tb_model.specs.NameLaws.{name_cmp_total}
 use Rattle.tb_core.specs.Listed.{Rises}
-use Rattle.tb_view.specs.Tasks.{Named, names_of}
+use Rattle.tb_view.specs.Tasks.{Named, Precede, names_of}
 use Rattle.tb_view.proofs.UnendedLemmas.{Follows, rises_insert}
 
--- each of these names comes before k
-abbrev pub Precede : Name → List Name → Type 0
-Precede k ts = AllByRecursion (λ t. name_cmp t k ≡ Less) ts
+-- what comes after some and before the others goes between them
+pub insert_between : (xs ys : List Named) (k : Name) (v : ℕ) → Precede k (names_of xs) → ((y : Named) (zs : List Named) → ys ≡ y ∷ zs → name_cmp k y.0 ≡ Less) → insert_entry name_cmp (xs ++ ys) k v ≡ xs ++ (k, v) ∷ ys
+insert_between [] [] k v before after = refl
+insert_between [] (y ∷ ys) k v before after = ap (λ o. match_ordering o ((k, v) ∷ y ∷ ys) ((y.0, v) ∷ ys) (y ∷ insert_entry name_cmp ys k v)) (after y ys refl)
+insert_between (x ∷ xs) ys k v before after =
+    let greater : name_cmp k x.0 ≡ Greater = cc (name_cmp_total.antisymm k x.0, ap ordering_reverse before.0) in
+    ap (λ o. match_ordering o ((k, v) ∷ x ∷ xs ++ ys) ((x.0, v) ∷ xs ++ ys) (x ∷ insert_entry name_cmp (xs ++ ys) k v)) greater ∙ ap (λ r. x ∷ r) (insert_between xs ys k v before.1 after)
 
 -- what comes after all goes to the end
 pub insert_behind : (es : List Named) (k : Name) (v : ℕ) → Precede k (names_of es) → insert_entry name_cmp es k v ≡ es ++ (k, v) ∷ []
-insert_behind [] k v all = refl
-insert_behind (e ∷ es) k v all =
-    let after : name_cmp k e.0 ≡ Greater = cc (name_cmp_total.antisymm k e.0, ap ordering_reverse all.0) in
-    ap (λ o. match_ordering o ((k, v) ∷ e ∷ es) ((e.0, v) ∷ es) (e ∷ insert_entry name_cmp es k v)) after ∙ ap (λ r. e ∷ r) (insert_behind es k v all.1)
+insert_behind es k v all = ap (λ xs. insert_entry name_cmp xs k v) (sym (append-nil es)) ∙ insert_between es [] k v all (λ y zs none. absurd (search (none, rules)))
 
 -- where the last comes before k, all do
 pub below_last : (es : List Named) (x : Named) (k : Name) → Rises (names_of es) → slice_get es (length es - 1) ≡ Some x → name_cmp x.0 k ≡ Less → Precede k (names_of es)
@@ -71,6 +73,10 @@ none_last [] h = refl
 none_last (y ∷ []) h = absurd (search (h, rules))
 none_last (y ∷ z ∷ zs) h = let clash : z ∷ zs ≡ [] = none_last (z ∷ zs) (search (h, rules)) in cc
 
+-- where no list has a last one, none precede
+pub none_precede : (xs ys : List Named) (k : Name) → slice_get ys (length ys - 1) ≡ None → slice_get xs (length xs - 1) ≡ None → Precede k (names_of (xs ++ ys))
+none_precede xs ys k no_ys no_xs = subst (λ es. Precede k (names_of es)) (sym (ap₂ (λ us ws. us ++ ws) (none_last xs no_xs) (none_last ys no_ys))) tt
+
 -- the last of some comes before k, and none stand behind them
 pub below_front : (xs ys : List Named) (x : Named) (k : Name) → Rises (names_of (xs ++ ys)) → slice_get ys (length ys - 1) ≡ None → slice_get xs (length xs - 1) ≡ Some x → name_cmp x.0 k ≡ Less
     → Precede k (names_of (xs ++ ys))
@@ -83,3 +89,34 @@ pub rises_either : {X E : Type 0} (r : Result X E) (old new : List Named) (k : N
     → Rises (names_of old) → Rises (names_of new)
 rises_either (Ok x) old new k v put same r = subst (λ es. Rises (names_of es)) (sym put) (rises_insert k v old r)
 rises_either (Err x) old new k v put same r = subst (λ es. Rises (names_of es)) (sym same) r
+
+-- ---- on both sides of a gap
+
+-- the first of those after it, which are kept last first
+pub next_is : (ys : List Named) (y : Named) (zs : List Named) → reverse ys ≡ y ∷ zs → slice_get ys (length ys - 1) ≡ Some y
+next_is ys y zs h =
+    let is : ys ≡ reverse zs ++ y ∷ [] = sym (reverse-reverse ys) ∙ ap reverse h ∙ reverse-append (y ∷ []) zs in
+    subst (λ l. slice_get l (length l - 1) ≡ Some y) (sym is) (last_of_both (reverse zs) (y ∷ []) y refl)
+
+-- one passes
+pub passed : (from to : List Named) (t : Named) → from ++ reverse (to ++ t ∷ []) ≡ (from ++ t ∷ []) ++ reverse to
+passed from to t = ap (λ r. from ++ r) (reverse-append to (t ∷ [])) ∙ sym (append_assoc from (t ∷ []) (reverse to))
+
+-- the same from the other side
+pub turned : (a b c d : List Named) → a ++ reverse b ≡ c ++ reverse d → b ++ reverse a ≡ d ++ reverse c
+turned a b c d h = sym (other b a) ∙ ap reverse h ∙ other d c
+  where
+    other : (x y : List Named) → reverse (y ++ reverse x) ≡ x ++ reverse y
+    other x y = reverse-append y (reverse x) ∙ ap (λ r. r ++ reverse y) (reverse-reverse x)
+
+-- the gap moves
+pub gap_moved : (xs ys zs us ws : List Named) → us ++ reverse ws ≡ ys ++ reverse zs → xs ++ us ++ reverse ws ≡ xs ++ ys ++ reverse zs
+gap_moved xs ys zs us ws h = append_assoc xs us (reverse ws) ∙ ap (λ r. xs ++ r) h ∙ sym (append_assoc xs ys (reverse zs))
+
+-- one goes into the gap
+pub put_between : (xs ys zs : List Named) (k : Name) (v : ℕ) → Precede k (names_of (xs ++ ys)) → ((x : Named) → slice_get zs (length zs - 1) ≡ Some x → name_cmp k x.0 ≡ Less)
+    → insert_entry name_cmp (xs ++ ys ++ reverse zs) k v ≡ xs ++ (ys ++ (k, v) ∷ []) ++ reverse zs
+put_between xs ys zs k v before after =
+    insert_between (xs ++ ys) (reverse zs) k v before (λ y rest is. after y (next_is zs y rest is))
+    ∙ sym (append_assoc (xs ++ ys) ((k, v) ∷ []) (reverse zs))
+    ∙ ap (λ es. es ++ reverse zs) (append_assoc xs ys ((k, v) ∷ []))

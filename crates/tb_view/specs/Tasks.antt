@@ -1,7 +1,9 @@
 -- The tasks of a run, and how far each has come, as text.
-use Rattle.std.specs.Prelude.{ℕ, List, [], ◌∷◌, ◌++◌, ℤ, codes, length}
+use Rattle.std.specs.Prelude.{◌≡◌, ℕ, List, [], ◌∷◌, ◌++◌, ℤ, Option, Some, None, codes, length}
 use Rattle.std.specs.Fmt.{decimal}
 use Rattle.std.specs.BTreeMap.{insert_entry}
+use Rattle.std.specs.List.{AllByRecursion}
+use Rattle.std.specs.declared.cmp.Ordering.TheVariants.{Less}
 use Rattle.tb_model.specs.declared.action.Action.{Action}
 use Rattle.tb_model.specs.declared.action.Action.TheVariants.{Spawn}
 use Rattle.tb_model.specs.declared.item.Item.{Item}
@@ -24,6 +26,10 @@ abbrev pub names_of : List Named → List Name
 names_of [] = []
 names_of (x ∷ xs) = x.0 ∷ names_of xs
 
+-- each of these names comes before this one
+abbrev pub Precede : Name → List Name → Type 0
+Precede t us = AllByRecursion (λ u. name_cmp u t ≡ Less) us
+
 -- one task more, at its place in the order of names, where the action generates one
 abbrev pub with_spawned : Action → List Named → List Named
 with_spawned (Spawn s) tasks = insert_entry name_cmp tasks s.child s.body
@@ -42,6 +48,11 @@ status_text at Pending = codes "pending"
 status_text at Running = codes "running " ++ decimal at
 status_text at Ended = codes "ended"
 status_text at Faulted = codes "faulted"
+
+-- nothing where there is no number
+abbrev pub number_if_any : Option ℕ → List ℕ
+number_if_any None = []
+number_if_any (Some n) = decimal n
 
 abbrev pub state_text : Program → History → Name → List ℕ
 state_text P H t = status_text (situation P t H).line (status_of (own t H))

@@ -1,6 +1,6 @@
 //! What keeps a task from its step, as text.
 
-ghost use Rattle.std.specs.Prelude.{◌≡◌, ◌≤◌, ◌++◌, IfOk, OnOk, length, codes};
+ghost use Rattle.std.specs.Prelude.{◌≡◌, ◌≤◌, ◌++◌, IfOk, IfSome, OnOk, length, codes};
 ghost use Rattle.tb_model.specs.Spelling.{name_text};
 ghost use Rattle.tb_view.specs.Lines.{line};
 ghost use Rattle.tb_view.specs.Listing.{joined};
@@ -9,8 +9,38 @@ ghost use Rattle.tb_view.specs.Waits.{wait_by};
 
 use std::alloc::AllocError;
 use tb_core::StepRefusal;
-use tb_draft::Draft;
+use tb_draft::{Draft, ShortText};
 use tb_model::TaskName;
+
+/// Puts the line of a task, of a kind of hindrance and of the task that is in the way in front, if there is room.
+fn put_kind(text: &mut ShortText, task: &TaskName, kind: &str, other: &TaskName) -> Option<()>
+    ensures { IfSome result (λ _. text.new
+        ≡ line (name_text task.now ++ codes " " ++ (kind.now ++ name_text other.now)) ++ text.old) }
+{
+    text.prepend("\n")?;
+    text.prepend_name(other)?;
+    text.prepend(kind)?;
+    text.prepend(" ")?;
+    text.prepend_name(task)
+}
+
+/// Appends the same line, however long it is.
+#[inline(never)]
+fn append_long(
+    text: &mut Draft,
+    task: &TaskName,
+    kind: &str,
+    other: &TaskName,
+) -> Result<(), AllocError>
+    ensures { OnOk result (text.new ≡ text.old
+        ++ line (name_text task.now ++ codes " " ++ (kind.now ++ name_text other.now))) }
+{
+    text.push_name(task)?;
+    text.push(' ')?;
+    text.push_str(kind)?;
+    text.push_name(other)?;
+    text.push('\n')
+}
 
 /// Appends the line of a task, of a kind of hindrance and of the task that is in the way.
 fn append_kind(
@@ -23,11 +53,11 @@ fn append_kind(
         ++ line (name_text task.now ++ codes " " ++ (kind.now ++ name_text other.now))) }
     ensures count { IfOk result (λ n. n ≡ 1) }
 {
-    text.push_name(task)?;
-    text.push(' ')?;
-    text.push_str(kind)?;
-    text.push_name(other)?;
-    text.push('\n')?;
+    let mut line = ShortText::new();
+    match put_kind(&mut line, task, kind, other) {
+        Some(()) => text.push_str(line.as_str())?,
+        None => append_long(text, task, kind, other)?,
+    }
     Ok(1)
 }
 

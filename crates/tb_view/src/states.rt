@@ -1,11 +1,11 @@
 //! How far a task is, as text.
 
-ghost use Rattle.std.specs.Prelude.{◌≡◌, ◌++◌, OnOk, codes, decimal, if◌then◌else◌};
+ghost use Rattle.std.specs.Prelude.{◌≡◌, ◌++◌, OnOk, codes, if◌then◌else◌};
 ghost use Rattle.tb_model.specs.Program.{instr_at};
 ghost use Rattle.tb_read.specs.Followed.{IsFollowed, is_last};
 ghost use Rattle.tb_core.specs.Seen.{history};
 ghost use Rattle.tb_live.specs.Soundness.{Fits};
-ghost use Rattle.tb_view.specs.Tasks.{state_text};
+ghost use Rattle.tb_view.specs.Tasks.{number_if_any, state_text};
 
 use std::alloc::AllocError;
 use tb_core::Core;
@@ -30,36 +30,42 @@ fn ending(last: bool) -> &'static str
     if last { "ended" } else { "faulted" }
 }
 
-/// Appends that a task stands at this line.
-fn append_running(text: &mut Draft, at: u32) -> Result<(), AllocError>
-    ensures { OnOk result (text.new ≡ text.old ++ (codes "running " ++ decimal at)) }
-{
-    text.push_str("running ")?;
-    text.push_number(at)
-}
-
-/// Appends how far the task is. A task that is over keeps its line: an end leaves it at the end of
-/// its body, and a fault doesn't.
-pub(crate) fn append_state(
-    text: &mut Draft,
+/// How far the task is, in a word, and the line at which it stands while it is under way. A task that is over keeps its line:
+/// an end leaves it at the end of its body, and a fault doesn't. In a walk over tasks it hands on where the last one was found.
+pub(crate) fn state(
     program: &Program,
     core: &Core,
+    near: &mut Option<usize>,
     task: &TaskName,
-) -> Result<(), AllocError>
+) -> (&'static str, Option<u32>)
     requires { Fits program.now core.now.run }
-    ensures { OnOk result (text.new
-        ≡ text.old ++ state_text program.now (history core.now.run) task.now) }
+    ensures { state_text program.now (history core.now.run) task.now ≡ result.0.now ++ number_if_any result.1 }
 {
-    let Some(config) = core.config(task)? else {
+    let Some(standing) = core.walk_standing(near, task) else {
         // what isn't there has taken no step
-        return text.push_str("pending");
+        return ("pending", None);
     };
-    if config.steps == 0 {
-        return text.push_str("pending");
+    if standing.steps() == 0 {
+        return ("pending", None);
     }
-    let at = config.at;
-    if !core.has_ended(task) {
-        return append_running(text, at);
+    let at = standing.at();
+    if !core.has_ended_at(&standing, task) {
+        return ("running ", Some(at));
     }
-    text.push_str(ending(is_last(program, at)))
+    (ending(is_last(program, at)), None)
+}
+
+/// Appends a word, and the number where there is one.
+pub(crate) fn append_state(
+    text: &mut Draft,
+    word: &str,
+    number: Option<u32>,
+) -> Result<(), AllocError>
+    ensures { OnOk result (text.new ≡ text.old ++ word.now ++ number_if_any number) }
+{
+    text.push_str(word)?;
+    match number {
+        Some(n) => text.push_number(n),
+        None => Ok(()),
+    }
 }

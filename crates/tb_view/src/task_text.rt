@@ -12,7 +12,7 @@ ghost use Rattle.tb_view.specs.Tasks.{head_text, numbers_text, item_line, task_t
 
 use crate::action_text::{append_args, append_place, kind};
 use crate::listing::append_count;
-use crate::states::append_state;
+use crate::states::{append_state, state};
 use crate::step_line::body_name;
 use std::alloc::{AllocError, Global};
 use tb_core::{Core, Entry};
@@ -65,7 +65,9 @@ fn append_head(
     text.push_str("\nbody ")?;
     text.push_str(body_name(program, begins))?;
     text.push_str("\nstate ")?;
-    append_state(text, program, core, task)?;
+    let mut near = None;
+    let (word, at) = state(program, core, &mut near, task);
+    append_state(text, word, at)?;
     text.push('\n')
 }
 

@@ -1,19 +1,20 @@
 //! The tasks of a run, as text.
 
-ghost use Rattle.std.specs.Prelude.{◌≡◌, ◌++◌, IfOk, OnOk, codes};
+ghost use Rattle.std.specs.Prelude.{◌≡◌, ◌++◌, IfOk, IfSome, OnOk, codes};
 ghost use Rattle.tb_model.specs.Spelling.{name_text};
 ghost use Rattle.tb_core.specs.Scans.{history_of};
 ghost use Rattle.tb_core.specs.Seen.{history};
 ghost use Rattle.tb_live.specs.Soundness.{Fits};
+ghost use Rattle.tb_view.specs.Lines.{line};
 ghost use Rattle.tb_view.specs.Listing.{joined};
-ghost use Rattle.tb_view.specs.Tasks.{body_text, with_spawned, named_tasks, task_line, tasks_text};
+ghost use Rattle.tb_view.specs.Tasks.{with_spawned, named_tasks, number_if_any, task_line, tasks_text};
 
 use crate::named_tasks::NamedTasks;
-use crate::states::append_state;
+use crate::states::{append_state, state};
 use crate::step_line::body_name;
 use std::alloc::{AllocError, Global};
 use tb_core::{Core, Entry};
-use tb_draft::Draft;
+use tb_draft::{Draft, ShortText};
 use tb_model::{Action, TaskName};
 use tb_read::Program;
 
@@ -47,26 +48,54 @@ fn named_tasks(
     tasks.into_vec()
 }
 
-/// Appends the names of a task and of its body.
-fn append_named(
-    text: &mut Draft,
-    program: &Program,
+/// Puts the line of a task in front, if there is room.
+fn put_task(
+    text: &mut ShortText,
     task: &TaskName,
-    body: u32,
+    body: &str,
+    word: &str,
+    number: Option<u32>,
+) -> Option<()>
+    ensures { IfSome result (λ _. text.new
+        ≡ line (name_text task.now ++ codes " " ++ body.now ++ codes " " ++ word.now ++ number_if_any number) ++ text.old) }
+{
+    text.prepend("\n")?;
+    if let Some(n) = number {
+        text.prepend_number(n)?;
+    }
+    text.prepend(word)?;
+    text.prepend(" ")?;
+    text.prepend(body)?;
+    text.prepend(" ")?;
+    text.prepend_name(task)
+}
+
+/// Appends the same line, however long it is.
+#[inline(never)]
+fn append_long(
+    text: &mut Draft,
+    task: &TaskName,
+    body: &str,
+    word: &str,
+    number: Option<u32>,
 ) -> Result<(), AllocError>
     ensures { OnOk result (text.new ≡ text.old
-        ++ (name_text task.now ++ codes " " ++ body_text program.now body)) }
+        ++ line (name_text task.now ++ codes " " ++ body.now ++ codes " " ++ word.now ++ number_if_any number)) }
 {
     text.push_name(task)?;
     text.push(' ')?;
-    text.push_str(body_name(program, body))
+    text.push_str(body)?;
+    text.push(' ')?;
+    append_state(text, word, number)?;
+    text.push('\n')
 }
 
-/// Appends the line of a task.
+/// Appends the line of a task. In a walk over tasks it hands on where the last one was found.
 fn append_task(
     text: &mut Draft,
     program: &Program,
     core: &Core,
+    near: &mut Option<usize>,
     task: &TaskName,
     body: u32,
 ) -> Result<(), AllocError>
@@ -74,10 +103,13 @@ fn append_task(
     ensures { OnOk result (text.new ≡ text.old
         ++ joined (task_line program.now (history core.now.run) (task.now, body))) }
 {
-    append_named(text, program, task, body)?;
-    text.push(' ')?;
-    append_state(text, program, core, task)?;
-    text.push('\n')
+    let body = body_name(program, body);
+    let (word, at) = state(program, core, near, task);
+    let mut line = ShortText::new();
+    match put_task(&mut line, task, body, word, at) {
+        Some(()) => text.push_str(line.as_str()),
+        None => append_long(text, task, body, word, at),
+    }
 }
 
 /// How many tasks there are, and the line of each.
@@ -89,8 +121,9 @@ pub(crate) fn tasks_text(alloc: Global, program: &Program, core: &Core) -> Resul
     let count = tasks.len();
     let head = format!(in alloc; "tasks {count}\n")?;
     let mut text = Draft::of(alloc, head);
+    let mut near = None;
     'tasks: for (task, body) in &tasks {
-        append_task(&mut text, program, core, task, *body)?;
+        append_task(&mut text, program, core, &mut near, task, *body)?;
     }
     Ok(text)
 }

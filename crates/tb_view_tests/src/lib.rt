@@ -8,6 +8,8 @@ mod deep_names;
 #[cfg(test)]
 mod drafts;
 #[cfg(test)]
+mod order_of_tasks;
+#[cfg(test)]
 mod short_texts;
 #[cfg(test)]
 mod steps;

@@ -2,7 +2,7 @@ use Rattle.std.proofs.Common.{◌≡◌, ◌∷◌, ◌++◌, ◌+◌, ◌∙◌
 use Rattle.std.specs.BTreeMap.{insert_entry}
 use Rattle.tb_model.specs.Names.{name_cmp}
 use Rattle.tb_core.specs.Listed.{Rises}
-use Rattle.tb_view.specs.Tasks.{Named, names_of}
+use Rattle.tb_view.specs.Tasks.{names_of}
 use Rattle.tb_view.proofs.NamedLemmas.{insert_behind, precede_next, rises_front}
 use Rattle.tb_view.proofs.named_tasks.put_all.Goals as goal
 
