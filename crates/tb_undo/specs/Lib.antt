@@ -1,3 +1,4 @@
+pub mod Undeferred
 pub mod Tasks
 pub mod Standings
 pub mod Sets

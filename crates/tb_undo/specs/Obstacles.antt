@@ -1,5 +1,5 @@
 -- What keeps a task from an action, with numbers in place of the names of its children and siblings.
-use Rattle.std.specs.Prelude.{◌≡◌, ◌<◌, ◌==◌, ℕ, zero, suc, Bool, true, false, Option, Some, None, IsTrue, List, [], ◌∷◌, drop, length}
+use Rattle.std.specs.Prelude.{◌≡◌, ◌<◌, ℕ, zero, suc, Bool, true, Option, Some, None, IsTrue, List, drop, length}
 use Rattle.tb_model.specs.declared.action.Action.{Action}
 use Rattle.tb_model.specs.Names.{Name, child}
 use Rattle.tb_model.specs.Hindrances.{Hindrance}
@@ -10,6 +10,7 @@ use Rattle.tb_undo.specs.declared.obstacle.Obstacle.{Obstacle}
 use Rattle.tb_undo.specs.declared.obstacle.Obstacle.TheVariants as obstacle
 use Rattle.tb_undo.specs.Tasks.{Task}
 use Rattle.tb_undo.specs.State.{undeferred_at}
+pub use Rattle.tb_undo.specs.Undeferred.{is_first}
 
 -- the child of t's parent with this number
 abbrev pub sibling : Name → ℕ → Name
@@ -38,11 +39,6 @@ pub record IsUnendedWhere (tasks : Waits) (t : Name) (test : ℕ → Bool) (n : 
   pub from_one : 0 < n
   pub unended : IsUnendedChild tasks t (child t n)
   pub passes : IsTrue (test n)
-
--- the number comes first
-abbrev pub is_first : ℕ → List ℕ → Bool
-is_first n [] = false
-is_first n (m ∷ ms) = m == n
 
 -- what is kept of a task with these actions, as far as it tells who is in the way
 pub record IsKnown (acts : List Action) (k : Task) : Type 0 where

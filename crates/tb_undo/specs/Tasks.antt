@@ -1,5 +1,5 @@
 -- What is kept of each task beside the tables that tasks share: where it stands, and its children by their items.
-use Rattle.std.specs.Prelude.{◌≡◌, ◌<◌, ◌-◌, ◌++◌, ℕ, suc, ℤ, Bool, false, List, [], ◌∷◌, Option, Some, None, reverse, take, drop, length, replicate, slice_set, slice_index_or, vec_len, vec_capacity, if◌then◌else◌, ⊤}
+use Rattle.std.specs.Prelude.{◌≡◌, ◌<◌, ◌-◌, ◌++◌, ℕ, suc, ℤ, Bool, false, List, [], ◌∷◌, Option, Some, None, take, drop, length, replicate, slice_set, slice_index_or, if◌then◌else◌, ⊤}
 use Rattle.std.specs.Map.{lookup}
 use Rattle.std.specs.Option.{option_map}
 use Rattle.tb_model.specs.declared.item.Item.{Item}
@@ -33,7 +33,7 @@ row rows t = lookup (same_name t) rows
 
 -- what a row says of its task
 abbrev pub seen_row : Row → Task
-seen_row r = record { parent = r.parent; body = r.body; at = r.at; steps = r.steps; regs = r.regs; undeferred = reverse r.undeferred.items; children = r.children.siblings }
+seen_row r = record { parent = r.parent; body = r.body; at = r.at; steps = r.steps; regs = r.regs; undeferred = r.undeferred.steps; children = r.children.siblings }
 
 -- the same as a task, and None where t wasn't generated
 abbrev pub task : Rows → Name → Option Task
@@ -118,7 +118,7 @@ fresh_task p body args = record { parent = p; body = body; at = body; steps = 0;
 -- the row has the room for a child with these items
 pub record HasChildRoom (r : Row) (items : List Item) (deferred : Bool) : Type 0 where
   pub siblings : HasRoomFor r.children items
-  pub step : deferred ≡ false → vec_len r.undeferred < vec_capacity r.undeferred
+  pub step : deferred ≡ false → 0 < r.undeferred.room
 
 -- and for this step of its task
 abbrev pub HasRowRoom : Row → Action → Type 0

@@ -96,7 +96,7 @@ impl Tables {
         let Some(n) = name.ordinal() else {
             return false;
         };
-        let Some(parent) = get(&self.rows, own.above, &own.parent) else {
+        let Some(parent) = get(&self.rows, own.above(), &own.parent) else {
             return false;
         };
         own.steps == 0
@@ -113,7 +113,7 @@ impl Tables {
         ensures { ForUnended self.now name.now (λ H. IsFree H name.now → in_the_way H name.now Start ≡ option_map (hindrance_by name.now) result) }
     {
         let n = name.ordinal()?;
-        let parent = get(&self.rows, own.above, &own.parent)?;
+        let parent = get(&self.rows, own.above(), &own.parent)?;
         if let Some(sibling) = next_before(&self.waits, &parent.children, &own.parent, n) {
             return Some(Obstacle::Waiting { sibling });
         }

@@ -13,6 +13,7 @@ mod row;
 mod rows;
 mod standing;
 mod tables;
+mod undeferred;
 mod walks;
 
 pub use obstacle::Obstacle;

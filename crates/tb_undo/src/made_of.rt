@@ -17,7 +17,7 @@ fn name_every_field(tables: &Tables, row: &Row) {
     } = tables;
     let Row {
         parent: _,
-        above: _,
+        near_parent: _,
         body: _,
         at: _,
         steps: _,

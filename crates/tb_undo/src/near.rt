@@ -44,7 +44,7 @@ fn find_elsewhere(rows: &IndexMap<TaskName, Row>, near: usize, name: &TaskName) 
 /// Where the row of the parent of the task at this place is looked for first.
 fn above(rows: &IndexMap<TaskName, Row>, at: usize) -> usize {
     match rows.as_slice().get_index(at) {
-        Some((_, row)) => row.above,
+        Some((_, row)) => row.above(),
         None => 0,
     }
 }

@@ -163,7 +163,7 @@ impl Tables {
     {
         let n = name.ordinal()?;
         let row = get(&self.rows, self.near, name)?;
-        let parent = get(&self.rows, row.above, &row.parent)?;
+        let parent = get(&self.rows, row.above(), &row.parent)?;
         Some((n, parent))
     }
 }

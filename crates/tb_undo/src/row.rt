@@ -6,6 +6,7 @@ ghost use Rattle.tb_depend.specs.Relations.{items_at};
 ghost use Rattle.tb_excl.specs.Holders.{holder, HasRoomFor, KeepsRoom, IsSet, IsSame};
 ghost use Rattle.tb_undo.specs.Tasks.{HasChildRoom, seen_row, advanced, retreated, fresh_task, first_registers, HasRowRoom, IsRegister, register_over};
 
+use crate::undeferred::Undeferred;
 use std::alloc::{AllocError, Global};
 use tb_depend::Siblings;
 use tb_excl::Holders;
@@ -16,13 +17,12 @@ use tb_model::{Action, Item, TaskName};
 pub struct Row {
     pub parent: TaskName,
     // where the parent's row is looked for first
-    pub above: usize,
+    pub near_parent: u32,
     pub body: u32,
     pub at: u32,
     pub steps: u32,
     pub regs: [i64; 16],
-    // at which of its steps it generated an undeferred child
-    pub undeferred: Vec<u32>,
+    pub undeferred: Undeferred,
     pub children: Siblings,
     pub holders: Holders,
 }
@@ -45,15 +45,21 @@ impl Row {
     {
         Row {
             parent,
-            above,
+            near_parent: u32::try_from(above).unwrap_or(0),
             body,
             at: body,
             steps: 0,
             regs: first_registers(args),
-            undeferred: Vec::new(alloc),
+            undeferred: Undeferred::new(alloc),
             children: Siblings::new(alloc),
             holders: Holders::new(alloc, name),
         }
+    }
+
+    /// Where the parent's row is looked for first.
+    #[inline(always)]
+    pub fn above(&self) -> usize {
+        self.near_parent as usize
     }
 
     /// The number that the action writes over in the registers.
@@ -87,7 +93,7 @@ impl Row {
                 let spawn = spawned.get();
                 self.children.add_reserved(spawn.items.as_slice());
                 if !spawn.deferred {
-                    self.undeferred.push_reserved(self.steps);
+                    self.undeferred.push(self.steps);
                 }
             }
             _ => {}
@@ -135,7 +141,7 @@ impl Row {
         if deferred {
             Ok(())
         } else {
-            self.undeferred.reserve(1)
+            self.undeferred.reserve()
         }
     }
 
@@ -156,7 +162,7 @@ impl Row {
             Action::Spawn(spawned) => {
                 self.children.drop_last();
                 if !spawned.get().deferred {
-                    let _step = self.undeferred.pop();
+                    self.undeferred.pop();
                 }
             }
             _ => {}

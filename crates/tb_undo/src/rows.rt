@@ -181,6 +181,6 @@ fn place_of(rows: &IndexMap<TaskName, Row>, near: usize, name: &TaskName) -> Opt
 {
     let n = name.ordinal()?;
     let row = get(rows, near, name)?;
-    let at = find(rows, row.above, &row.parent)?;
+    let at = find(rows, row.above(), &row.parent)?;
     Some((at, n))
 }

@@ -18,10 +18,7 @@ use tb_wait::Wait;
 pub fn is_held(row: &Row) -> bool
     ensures { result ≡ is_first row.now.steps (seen_row row.now).undeferred }
 {
-    match row.undeferred.last() {
-        Some(step) => *step == row.steps,
-        None => false,
-    }
+    row.undeferred.is_newest(row.steps)
 }
 
 /// The least of the parent's children that isn't over and on which the nth depends. Whether there is

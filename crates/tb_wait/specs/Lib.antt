@@ -1,4 +1,6 @@
 pub mod Numbers
+pub mod Groups
+pub mod Stored
 pub mod Few
 pub mod Tree
 pub mod Kin

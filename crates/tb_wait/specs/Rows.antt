@@ -23,9 +23,9 @@ abbrev pub groups_of : Option Kin → List ℕ
 groups_of None = []
 groups_of (Some k) = k.groups
 
--- a task that was just generated and doesn't stand yet has room for a few groups
+-- a task that was just generated and doesn't stand yet has room for a group
 abbrev pub blank : Slot
-blank = record { kin = None; child_room = 0; group_room = 4 }
+blank = record { kin = None; child_room = 0; group_room = 1 }
 
 abbrev pub key : List Name → ℕ → Name
 key names i = slice_index_or names i []

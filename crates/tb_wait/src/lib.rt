@@ -3,6 +3,7 @@
 
 mod children;
 mod few;
+mod groups;
 pub mod laws;
 mod many;
 mod near;
@@ -12,7 +13,9 @@ mod numbers;
 mod row;
 mod rows;
 mod search;
+mod stacks;
 mod standing;
+mod stored;
 mod tree;
 mod wait;
 

@@ -5,7 +5,7 @@ ghost use Rattle.tb_wait.specs.Rows.{blank, is_pending, children_of, groups_of};
 ghost use Rattle.std.specs.Option.{option_map};
 ghost use Rattle.tb_wait.specs.Kin.{fresh, with_over, with_children, opened_kin, unopened_kin, closed_kin, unclosed_kin, first_of, is_fresh, Kin};
 
-use smallvec::SmallVec;
+use crate::groups::Groups;
 use std::alloc::{AllocError, Global};
 use std::marker::Model;
 
@@ -15,30 +15,24 @@ pub struct Row {
     stands: bool,
     over: bool,
     children: u32,
-    // up to four of each stand in the row itself
-    groups: SmallVec<u32, 4>,
-    shut: SmallVec<u32, 4>,
+    groups: Groups,
     child_room: usize,
-    group_room: usize,
 }
 
 impl Model for Row {
-    ghost use Rattle.std.specs.Prelude.{◌≡◌, ◌≤◌, ◌+◌, [], reverse, false};
-    ghost use Rattle.smallvec.specs.SmallVec.{small_vec_len};
+    ghost use Rattle.std.specs.Prelude.{◌≡◌, [], false};
     ghost use Rattle.tb_wait.specs.Kin.{Slot};
     ghost use Rattle.tb_wait.specs.Rows.{kin_if};
 
     ghost Value = { Slot };
 
     ghost view = { λ r. record {
-      kin = kin_if r.stands (record { over = r.over; children = r.children; groups = reverse r.groups.items; shut = reverse r.shut.items });
+      kin = kin_if r.stands (record { over = r.over; children = r.children; groups = r.groups.groups; shut = r.groups.shut });
       child_room = r.child_room;
-      group_room = r.group_room;
+      group_room = r.groups.room;
     } };
 
-    ghost invariant = { λ r. (small_vec_len r.groups + small_vec_len r.shut + r.group_room ≤ r.groups.capacity)
-        × (small_vec_len r.groups + small_vec_len r.shut + r.group_room ≤ r.shut.capacity)
-        × (r.stands ≡ false → (r.over ≡ false) × (r.children ≡ 0) × (r.groups.items ≡ []) × (r.shut.items ≡ [])) };
+    ghost invariant = { λ r. r.stands ≡ false → (r.over ≡ false) × (r.children ≡ 0) × (r.groups.groups ≡ []) × (r.groups.shut ≡ []) };
 }
 
 impl Row {
@@ -50,11 +44,8 @@ impl Row {
             stands: false,
             over: false,
             children: 0,
-            groups: SmallVec::new(alloc),
-            shut: SmallVec::new(alloc),
+            groups: Groups::new(alloc),
             child_room: 0,
-            // those that stand in the row itself
-            group_room: 4,
         }
     }
 
@@ -83,23 +74,21 @@ impl Row {
     pub fn groups(&self) -> &[u32]
         ensures { result.now ≡ reverse (groups_of self.now.kin) }
     {
-        self.groups.as_slice()
+        self.groups.opened()
     }
 
     /// What that number was at the beginning of the innermost open group.
     pub fn innermost(&self) -> Option<u32>
         ensures { result ≡ first_of (groups_of self.now.kin) }
     {
-        self.groups.as_slice().last().copied()
+        self.groups.innermost()
     }
 
     /// Whether it stands, and nothing is kept of it yet.
-    #[tactic(auto, using(crate::proofs::RowLemmas::is_none_reverse))]
     pub fn is_fresh(&self) -> bool
         ensures { result ≡ is_fresh self.now.kin }
     {
-        let no_group = self.groups.is_empty() && self.shut.is_empty();
-        self.stands && !self.over && self.children == 0 && no_group
+        self.stands && !self.over && self.children == 0 && self.groups.is_empty()
     }
 
     /// Whether it is over, where it stands.
@@ -164,14 +153,7 @@ impl Row {
         ensures keeps { self.old.group_room ≤ self.new.group_room }
         ensures succeeds { 0 < self.old.group_room → IsOk result }
     {
-        if self.group_room == 0 {
-            let shut = self.shut.len().checked_add(1).ok_or(AllocError)?;
-            let groups = self.groups.len().checked_add(1).ok_or(AllocError)?;
-            self.groups.reserve(shut)?;
-            self.shut.reserve(groups)?;
-            self.group_room = 1;
-        }
-        Ok(())
+        self.groups.reserve()
     }
 
     /// Opens a group.
@@ -181,8 +163,7 @@ impl Row {
         ensures child_room { self.new.child_room ≡ self.old.child_room }
     {
         if self.stands {
-            self.groups.push_reserved(self.children);
-            self.group_room -= 1;
+            self.groups.push(self.children);
         }
     }
 
@@ -205,27 +186,20 @@ impl Row {
         ensures keeps { self.old.group_room ≤ self.new.group_room }
         ensures group_room { groups_of self.old.kin ≢ [] → self.new.group_room ≡ self.old.group_room + 1 }
     {
-        let _places = self.groups.capacity();
-        if self.groups.pop().is_some() {
-            self.group_room += 1;
-        }
+        self.groups.pop();
     }
 
     /// Closes the innermost group.
     pub fn close(&mut self)
         ensures { self.new ≡ record self.old { kin = option_map closed_kin self.old.kin } }
     {
-        if let Some(group) = self.groups.pop() {
-            self.shut.push_reserved(group);
-        }
+        self.groups.close();
     }
 
     /// Opens the last closed group again.
     pub fn unclose(&mut self)
         ensures { self.new ≡ record self.old { kin = option_map unclosed_kin self.old.kin } }
     {
-        if let Some(group) = self.shut.pop() {
-            self.groups.push_reserved(group);
-        }
+        self.groups.unclose();
     }
 }
