@@ -158,6 +158,16 @@ impl Core {
         self.tables.walk_standing(near, task)
     }
 
+    /// Turns to the task that steps next, which a walk found here. Nothing that the core says changes: what is kept of the
+    /// task is looked for where it is.
+    pub fn turn_to(&mut self, near: Option<usize>, task: &TaskName)
+        ensures { self.new ≡ self.old }
+    {
+        if let Some(near) = near {
+            self.tables.turn_near(near, task);
+        }
+    }
+
     /// The situation of a task that is there.
     pub fn config(&self, task: &TaskName) -> Result<Option<Config>, AllocError>
         ensures { IfOk result (λ o. o ≡ (if is_spawned (history self.now.run) task.now then Some (config_of self.now.run task.now) else None)) }

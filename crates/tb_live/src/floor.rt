@@ -13,6 +13,8 @@ use tb_model::{Action, TaskName};
 #[derive(Drop)]
 pub struct Floor {
     task: Option<TaskName>,
+    // where the look for the task found it
+    near: Option<usize>,
     // the name that the end to come would want
     parent: Option<TaskName>,
 }
@@ -34,6 +36,7 @@ impl Floor {
     {
         Floor {
             task: None,
+            near: None,
             parent: None,
         }
     }
@@ -49,11 +52,18 @@ impl Floor {
         }
     }
 
-    /// Takes the task in place of the former one. Where memory for its name is refused, none is known.
+    /// Where the look for the task found it, to be looked for there first.
+    #[inline]
+    pub fn near(&self) -> Option<usize> {
+        self.near
+    }
+
+    /// Takes the task, which was found here, in place of the former one. Where memory for its name is refused, none is known.
     #[inline(always)]
-    pub fn raise(&mut self, task: &TaskName)
+    pub fn raise(&mut self, task: &TaskName, near: Option<usize>)
         ensures { IsRaised task.now self.new }
     {
+        self.near = near;
         if !self.is_at(task) {
             self.set(task.clone().ok());
         }

@@ -185,9 +185,10 @@ pub fn least_behind(
     ensures least { IfOk result (IsLeastComing program.now core.now.run) }
     ensures floor { IsFloor program.now (history core.now.run) floor.new }
 {
-    let found = coming_behind(alloc, program, core, floor.task())?;
+    let mut near = None;
+    let found = coming_behind(alloc, program, core, &mut near, floor.task())?;
     if let Some(found) = &found {
-        floor.raise(&found.0);
+        floor.raise(&found.0, near);
     }
     Ok(found)
 }
@@ -201,11 +202,12 @@ fn named(task: &TaskName, coming: Coming) -> Result<Option<(TaskName, Coming)>, 
     Ok(Some((name, coming)))
 }
 
-/// The same where none can step but those that come after this one.
+/// The same where none can step but those that come after this one. It says too where the task was found.
 fn coming_behind(
     alloc: Global,
     program: &Program,
     core: &Core,
+    near: &mut Option<usize>,
     task: Option<&TaskName>,
 ) -> Result<Option<(TaskName, Coming)>, AllocError>
     requires fits { Fits program.now core.now.run }
@@ -213,10 +215,9 @@ fn coming_behind(
     ensures { IfOk result (IsLeastComing program.now core.now.run) }
 {
     let mut walk = 0;
-    let mut near = None;
     let mut after = task;
-    'tasks: while let Some(task) = core.walk_unended(&mut walk, after) {
-        match unended_coming(alloc, program, core, &mut near, task) {
+    'tasks: while let Some(task) = core.walk_unended(&mut walk, near, after) {
+        match unended_coming(alloc, program, core, near, task) {
             Ok(Some(coming)) => return named(task, coming),
             Ok(None) => after = Some(task),
             Err(_) => return Err(AllocError),
@@ -290,7 +291,7 @@ fn work_behind<'c>(
     let mut walk = 0;
     let mut near = None;
     let mut after = first;
-    'tasks: while let Some(task) = core.walk_unended(&mut walk, Some(after)) {
+    'tasks: while let Some(task) = core.walk_unended(&mut walk, &mut near, Some(after)) {
         match can_take(alloc, program, core, claims, seat, &mut near, task) {
             Ok(true) => return work_on(program, core, task),
             Ok(false) => after = task,

@@ -145,7 +145,7 @@ pub fn enter_clear(
     }
 }
 
-/// The same of a task with what it does next. It stands apart, so that a task's step after its own doesn't pay for its room.
+/// The same of the floor's task with what it does next. It stands apart, so that a task's step after its own doesn't pay for its room.
 #[inline(never)]
 pub fn enter_apart(
     core: &mut Core,
@@ -169,6 +169,7 @@ pub fn enter_apart(
     ensures carried { OnOk result (IsCarried (history core.new.run) floor.old floor.new) }
     ensures stays { OnErr result (floor.new ≡ floor.old) }
 {
+    core.turn_to(floor.near(), &found.0);
     enter_clear(
         core, journal, control, prepared, floor, limit, seat, found.0, found.1,
     )

@@ -76,9 +76,27 @@ impl Names {
         self.keys.get_index_of(name)
     }
 
+    /// The place of a name, mostly this one.
+    pub(crate) fn find_near(&self, near: usize, name: &TaskName) -> Option<usize>
+        ensures found { IfSome result (StandsAt self.now.tasks name.now) }
+        ensures absent { result ≡ None → mark_of self.now.tasks name.now ≡ None }
+        ensures unique { AreUnique self.now.tasks }
+    {
+        if self.stands_at(near, name) {
+            return Some(near);
+        }
+        self.find(name)
+    }
+
+    /// The place that changed last.
+    pub(crate) fn near(&self) -> usize {
+        self.near
+    }
+
     /// Whether the name stands at the place.
     fn stands_at(&self, at: usize, name: &TaskName) -> bool
-        ensures { IsTrue result → StandsAt self.now.tasks name.now at }
+        ensures stands { IsTrue result → StandsAt self.now.tasks name.now at }
+        ensures unique { AreUnique self.now.tasks }
     {
         match self.keys.get_index(at) {
             Some((key, _)) => *key == *name,

@@ -1,6 +1,6 @@
 //! The order of the marked names, as a list of their places.
 
-ghost use Rattle.std.specs.Prelude.{◌≡◌, ◌≢◌, ◌<◌, ◌≤◌, ◌+◌, ◌^◌, IsTrue, false, true, length, remove, slice_index};
+ghost use Rattle.std.specs.Prelude.{◌≡◌, ◌≢◌, ◌<◌, ◌≤◌, ◌+◌, ◌^◌, IfSome, IsTrue, false, true, length, remove, slice_index};
 ghost use Rattle.std.specs.Option.{option_copied};
 ghost use Rattle.tb_model.specs.LeastNames.{IsLeastName};
 ghost use Rattle.tb_ready.specs.Tasks.{IsLeast, IsMarkedBehind};
@@ -251,6 +251,18 @@ pub(crate) fn next_marked<'a>(
     *walk = place;
     if place < order.len() {
         Some(marked(names, order, place))
+    } else {
+        None
+    }
+}
+
+/// The place of the kth of the marked names, if there are as many.
+pub(crate) fn index_of(names: &Names, order: &Gapped, k: usize) -> Option<usize>
+    requires { IsOrder names.now.tasks order.now.items }
+    ensures { IfSome result (λ i. i < length names.now.tasks) }
+{
+    if k < order.len() {
+        Some(order.at(k))
     } else {
         None
     }

@@ -1,6 +1,6 @@
 //! The tasks by name.
 
-ghost use Rattle.std.specs.Prelude.{◌≡◌, ◌<◌, ◌≤◌, ◌+◌, [], IsOk, OnOk, OnErr, IsSome, is_some, None, unwrap_or, false, length, slice_get};
+ghost use Rattle.std.specs.Prelude.{◌≡◌, ◌<◌, ◌≤◌, ◌+◌, [], IsOk, OnOk, OnErr, IfSome, IsSome, is_some, None, unwrap_or, false, length, slice_get};
 ghost use Rattle.std.specs.Option.{option_copied};
 ghost use Rattle.std.specs.List.{IsDistinct};
 ghost use Rattle.std.specs.Map.{keys_of};
@@ -10,7 +10,7 @@ ghost use Rattle.tb_ready.specs.Tasks.{mark_of, with_name, without_name, with_ma
 
 use crate::gapped::Gapped;
 use crate::names::Names;
-use crate::order::{forget, least, next_marked, set_mark};
+use crate::order::{forget, index_of, least, next_marked, set_mark};
 use std::alloc::{AllocError, Global};
 use std::marker::Model;
 use tb_model::TaskName;
@@ -110,6 +110,13 @@ impl Ready {
         next_marked(&self.names, &self.order, walk, self.near, after)
     }
 
+    /// Where the name stands that such a walk found last, in the order of spawning.
+    pub fn index_in(&self, walk: usize) -> Option<usize>
+        ensures { IfSome result (λ i. i < length self.now.tasks) }
+    {
+        index_of(&self.names, &self.order, walk)
+    }
+
     /// Makes the room that `add` needs, whatever the name, and changes nothing else.
     pub fn reserve_add(&mut self, _name: &TaskName) -> Result<(), AllocError>
         ensures tasks { self.new.tasks ≡ self.old.tasks }
@@ -165,7 +172,16 @@ impl Ready {
         ensures tasks { self.new.tasks ≡ with_mark self.old.tasks name.now marked }
         ensures room { self.old.room ≤ self.new.room }
     {
-        if let Some(at) = self.names.find(name) {
+        let near = self.names.near();
+        self.mark_near(near, name, marked);
+    }
+
+    /// The same of a name that is looked for at this index first, which may be any.
+    pub fn mark_near(&mut self, near: usize, name: &TaskName, marked: bool)
+        ensures tasks { self.new.tasks ≡ with_mark self.old.tasks name.now marked }
+        ensures room { self.old.room ≤ self.new.room }
+    {
+        if let Some(at) = self.names.find_near(near, name) {
             let near = set_mark(&mut self.names, &mut self.order, self.near, at, marked);
             self.near = near;
         }

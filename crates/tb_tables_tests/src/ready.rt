@@ -90,11 +90,20 @@ fn mark_all(ready: &mut Ready, names: &[TaskName], places: &[usize]) -> Result<(
     Ok(())
 }
 
-/// Whether these are all the marked names, in order.
+/// Whether the walk tells where the name stands.
+fn is_at(ready: &Ready, walk: usize, name: &TaskName) -> bool {
+    match ready.index_in(walk) {
+        Some(index) => ready.nth(index) == Some(name),
+        None => false,
+    }
+}
+
+/// Whether these are all the marked names, in order, each where a walk over them tells.
 fn are_marked(ready: &Ready, names: &[TaskName]) -> bool {
+    let mut walk = 0;
     let mut after = None;
     for name in names {
-        if ready.next_marked(after) != Some(name) {
+        if ready.walk_marked(&mut walk, after) != Some(name) || !is_at(ready, walk, name) {
             return false;
         }
         after = Some(name);
@@ -107,7 +116,8 @@ fn follow_without_the_first(ready: &mut Ready, names: &[TaskName]) -> bool {
     let Some((first, others)) = names.split_first() else {
         return false;
     };
-    ready.mark(first, false);
+    // wherever it is looked for first
+    ready.mark_near(1, first, false);
     are_marked(ready, others)
 }
 

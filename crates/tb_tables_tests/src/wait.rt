@@ -148,9 +148,9 @@ fn change(table: &mut Wait, tasks: &mut Vec<Task>, seed: u64) -> Result<(), Allo
         Some(task) => task.name.clone()?,
         None => return Ok(()),
     };
-    // the table may be turned to the task or to another
+    // the table may be turned to the task, looked for at its place or another, or to another task
     if (seed >> 30) % 2 == 0 {
-        table.turn_to(&name);
+        table.turn_to(which, &name);
     }
     if (seed >> 40) % 4 == 0 {
         undo(table, tasks, which, &name)

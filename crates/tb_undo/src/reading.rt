@@ -54,12 +54,21 @@ impl Tables {
         self.marks.next_marked(after)
     }
 
-    /// The same in a walk over the unended tasks, which hands on the place where it is, at first any.
-    pub fn walk_unended(&self, walk: &mut usize, after: Option<&TaskName>) -> Option<&TaskName>
+    /// The same in a walk over the unended tasks, which hands on the place where it is, at first any, and where the row of the
+    /// one that was found is looked for first.
+    pub fn walk_unended(
+        &self,
+        walk: &mut usize,
+        near: &mut Option<usize>,
+        after: Option<&TaskName>,
+    ) -> Option<&TaskName>
         ensures { ForState self.now (λ first root_line D.
             IsLeastName (IsUnendedBehind (events_of D) (option_copied after.entry)) (option_copied result)) }
     {
-        self.marks.walk_marked(walk, after)
+        let found = self.marks.walk_marked(walk, after);
+        // mostly a name has the same place in both tables
+        *near = self.marks.index_in(*walk);
+        found
     }
 
     /// Where the task stands.

@@ -113,7 +113,14 @@ impl Tables {
     fn turn_to(&mut self, name: &TaskName)
         ensures { self.new ≡ self.old }
     {
-        if let Some(at) = find(&self.rows, self.near, name) {
+        self.turn_near(self.near, name);
+    }
+
+    /// The same of a task whose row is looked for at this place first, which may be any.
+    pub fn turn_near(&mut self, near: usize, name: &TaskName)
+        ensures { self.new ≡ self.old }
+    {
+        if let Some(at) = find(&self.rows, near, name) {
             self.turn_to_place(at, name);
         }
     }
@@ -125,7 +132,8 @@ impl Tables {
     {
         if at != self.near {
             self.near = at;
-            self.waits.turn_to(name);
+            // mostly a name has the same place in both tables
+            self.waits.turn_to(at, name);
         }
     }
 
@@ -320,7 +328,7 @@ impl Tables {
         ensures rows { Sets self.old.rows name.now None self.new.rows }
     {
         self.waits.ended(name);
-        self.marks.mark(name, false);
+        self.marks.mark_near(self.near, name, false);
         rows::hold(&mut self.rows, self.near, name, false);
     }
 
@@ -394,7 +402,7 @@ impl Tables {
         ensures rows { Sets self.old.rows name.now (number_of name.now) self.new.rows }
     {
         self.waits.unended(name);
-        self.marks.mark(name, true);
+        self.marks.mark_near(self.near, name, true);
         rows::hold(&mut self.rows, self.near, name, true);
     }
 }

@@ -16,8 +16,9 @@ pub(crate) fn unended_tasks(alloc: Global, core: &Core) -> Result<Vec<TaskName>,
 {
     let mut tasks = Vec::new(alloc);
     let mut walk = 0;
+    let mut near = None;
     let mut after: Option<&TaskName> = None;
-    'tasks: while let Some(task) = core.walk_unended(&mut walk, after) {
+    'tasks: while let Some(task) = core.walk_unended(&mut walk, &mut near, after) {
         tasks.push(task.clone()?)?;
         after = Some(task);
     }

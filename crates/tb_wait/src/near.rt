@@ -63,17 +63,21 @@ impl Near {
         self.find(names, name)
     }
 
-    /// The place of a name, mostly that of a child of the task: its number leads there.
+    /// The same, and else mostly that of a child of the task: its number leads there.
     pub fn find_below(
         &self,
         names: &IndexSet<TaskName>,
         tree: &Tree,
+        near: usize,
         name: &TaskName,
     ) -> Option<usize>
         ensures index { result ≡ position (same_name name.now) names.now.keys }
         ensures found { is_some result ≡ list_any (same_name name.now) names.now.keys }
         ensures within { IfSome result (λ i. i < length names.now.keys) }
     {
+        if stands_at(names, near, name) {
+            return Some(near);
+        }
         if stands_at(names, self.own, name) {
             return Some(self.own);
         }

@@ -67,12 +67,13 @@ impl Wait {
         })
     }
 
-    /// Turns to the task, which is asked of next: it, its parent and the one that was generated after
-    /// it are looked for at their own places first. Nothing that the table tells changes.
-    pub fn turn_to(&mut self, task: &TaskName)
+    /// Turns to the task, which is asked of next, and is looked for at this place first, which may be any: it,
+    /// its parent and the one that was generated after it are looked for at their own places from now on.
+    /// Nothing that the table tells changes.
+    pub fn turn_to(&mut self, near: usize, task: &TaskName)
         ensures { self.new ≡ self.old }
     {
-        if let Some(own) = self.near.find_below(&self.names, &self.tree, task) {
+        if let Some(own) = self.near.find_below(&self.names, &self.tree, near, task) {
             let above = self.tree.owner(own);
             self.near = Near { own, above };
         }

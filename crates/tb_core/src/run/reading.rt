@@ -41,11 +41,16 @@ impl Core {
     }
 
     /// The same in a walk over the unended tasks, which hands on the place where it is, at first any: so each is found right
-    /// after the one before it.
-    pub fn walk_unended(&self, walk: &mut usize, after: Option<&TaskName>) -> Option<&TaskName>
+    /// after the one before it. It says too where `walk_standing` looks for the one that was found first.
+    pub fn walk_unended(
+        &self,
+        walk: &mut usize,
+        near: &mut Option<usize>,
+        after: Option<&TaskName>,
+    ) -> Option<&TaskName>
         ensures { IsLeastName (IsUnendedBehind (history self.now.run) (option_copied after.entry)) (option_copied result) }
     {
-        self.tables.walk_unended(walk, after)
+        self.tables.walk_unended(walk, near, after)
     }
 
     /// How many groups of the task are open.

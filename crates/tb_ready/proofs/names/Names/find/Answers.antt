@@ -16,13 +16,3 @@ pub returns-clause-unique : goal.returns-clause-unique
 returns-clause-unique c =
     let tasks = ap (λ v. v.tasks) c.self.view_is in
     rw (← tasks) (lemma.unique c.self.inside.keys.entries c.self.inside.marks.slots c.self.invariant.1)
-
-pub returns-then-stands_at-clause-unique : goal.returns-then-stands_at-clause-unique
-returns-then-stands_at-clause-unique c =
-    let tasks = ap (λ v. v.tasks) c.self.view_is in
-    rw (← tasks) (lemma.unique c.self.inside.keys.entries c.self.inside.marks.slots c.self.invariant.1)
-
-pub returns-then-stands_at-2-clause-unique : goal.returns-then-stands_at-2-clause-unique
-returns-then-stands_at-2-clause-unique c =
-    let tasks = ap (λ v. v.tasks) c.self.view_is in
-    rw (← tasks) (lemma.unique c.self.inside.keys.entries c.self.inside.marks.slots c.self.invariant.1)

@@ -8,4 +8,4 @@ use Rattle.tb_undo.proofs.tables.Tables.walk_unended.Goals as goal
 pub returns : goal.returns
 returns c first root_line D state =
     let s = subst (IsState first root_line D) (sym c.self.view_is) state in
-    next_told (events_of D) c.self.inside.marks.tasks (option_copied c.args.after) (option_copied c.walk_marked.result) s.marked c.walk_marked.ensures
+    next_told (events_of D) c.self.inside.marks.tasks (option_copied c.args.after) (option_copied c.walk_marked-found.result) s.marked c.walk_marked-found.ensures
