@@ -398,3 +398,58 @@ fn the_unended_children_are_walked_by_number(rt: HostRuntime) {
     mem::forget(root);
     mem::forget(table);
 }
+
+// The name of the task so many levels below the root, by the first child and the second in turn.
+fn name_down(rt: &(impl Abort + AllocGlobal), levels: u32) -> TaskName {
+    let mut task = TaskName::root(rt.alloc());
+    for level in 0..levels {
+        task = child_again(rt, &task, 1 + level % 2);
+    }
+    task
+}
+
+// Each task on the way there generates two children.
+fn spawn_down(rt: &(impl Abort + AllocGlobal), table: &mut Wait, levels: u32) {
+    let mut task = TaskName::root(rt.alloc());
+    for level in 0..levels {
+        assert!(rt; has_child(spawn(table, &task)));
+        assert!(rt; has_child(spawn(table, &task)));
+        task = child_again(rt, &task, 1 + level % 2);
+    }
+    mem::forget(task);
+}
+
+// Whether the child of the task with this number is over, where it was ever generated.
+fn is_child_over(
+    rt: &(impl Abort + AllocGlobal),
+    table: &Wait,
+    task: &TaskName,
+    number: u32,
+) -> Option<bool> {
+    let child = child_again(rt, task, number);
+    let over = table.is_over(&child);
+    mem::forget(child);
+    over
+}
+
+/// A task is found by its numbers from the root on, where nothing near it was asked of.
+#[test]
+fn a_deep_task_is_found_by_its_numbers(rt: HostRuntime) {
+    let mut table = Wait::open(rt.alloc()).expect(&rt, "memory is there");
+    spawn_down(&rt, &mut table, 300);
+    let root = TaskName::root(rt.alloc());
+    let middle = name_down(&rt, 150);
+    let deepest = name_down(&rt, 300);
+    table.turn_to(0, &root);
+    assert_eq!(rt; table.children(&middle), Some(2));
+    assert_eq!(rt; table.children(&deepest), Some(0));
+    table.ended(&deepest);
+    assert_eq!(rt; table.is_over(&deepest), Some(true));
+    assert_eq!(rt; is_child_over(&rt, &table, &middle, 2), Some(false));
+    assert_eq!(rt; is_child_over(&rt, &table, &middle, 3), None);
+    assert_eq!(rt; is_child_over(&rt, &table, &deepest, 1), None);
+    mem::forget(middle);
+    mem::forget(deepest);
+    mem::forget(root);
+    mem::forget(table);
+}

@@ -1,3 +1,4 @@
+mod FindingLemmas
 pub mod NearLemmas
 pub mod NumbersLemmas
 pub mod FewLemmas

@@ -1,11 +1,13 @@
 -- A name that stands at a place of a list of distinct names is found there.
-use Rattle.std.proofs.Common.{◌≡◌, ◌+◌, ℕ, zero, suc, true, false, not, cond, List, [], ◌∷◌, Some, None, length, slice_get, sym, ap, ◌∙◌, subst, arith, unwrap_or, nat_lt, lt-ltb}
+use Rattle.std.proofs.Common.{◌≡◌, ◌+◌, ◌<◌, ◌++◌, ◌||◌, ℕ, zero, suc, Bool, true, false, not, cond, List, [], ◌∷◌, Option, Some, None, is_some, length, slice_get, refl, sym, ap, ◌∙◌, subst, arith, unwrap_or, nat_lt, lt-ltb}
+use Rattle.std.specs.Prelude.{IfSome}
 use Rattle.std.specs.List.{position, position_or_len, list_any, IsDistinct, AllByRecursion}
 use Rattle.std.proofs.lemmas.Option.{slice_get_within, get_or_from_slice_get}
 use Rattle.std.proofs.lemmas.List.Folds.{list_any_at}
-use Rattle.std.proofs.lemmas.Bool.{false_from_ne_true, false≢true}
+use Rattle.std.proofs.lemmas.Bool.{false_from_ne_true, false≢true, le-ltb}
 use Rattle.tb_model.specs.Names.{Name, same_name}
 use Rattle.tb_model.proofs.TestLemmas.{same_true, same_refl}
+use Rattle.tb_wait.specs.Rows.{key, IsPlaceOf}
 
 apart_at : (n t : Name) (names : List Name) (i : ℕ) → AllByRecursion (λ y. same_name n y ≡ false) names → slice_get names i ≡ Some t → same_name n t ≡ false
 apart_at n t [] i h e = absurd (cc)
@@ -34,3 +36,64 @@ pub any_at : (t : Name) (names : List Name) (i : ℕ) → slice_get names i ≡ 
 any_at t names i e =
     list_any_at (same_name t) names i t (slice_get_within names i t e)
     (subst (λ y. same_name t y ≡ true) (sym (get_or_from_slice_get names i t t e)) (same_refl t))
+
+-- ---- one more name
+
+or_false : (a b : Bool) → (a || b) ≡ false → (a ≡ false) × (b ≡ false)
+or_false true b h = cc
+or_false false b h = (refl, h)
+
+all_push : (x t : Name) (names : List Name) → AllByRecursion (λ y. same_name x y ≡ false) names → same_name x t ≡ false → AllByRecursion (λ y. same_name x y ≡ false) (names ++ t ∷ [])
+all_push x t [] a e = (e, tt)
+all_push x t (y ∷ names) a e = (a.0, all_push x t names a.1 e)
+
+-- the names stay distinct where one is added that isn't there
+pub distinct_push : (t : Name) (names : List Name) → IsDistinct same_name names → list_any (same_name t) names ≡ false → IsDistinct same_name (names ++ t ∷ [])
+unfolding IsDistinct
+distinct_push t [] d h = (tt, tt)
+distinct_push t (x ∷ names) d h =
+    let o = or_false (same_name t x) (list_any (same_name t) names) h in
+    let other : same_name x t ≡ false = false_from_ne_true (same_name x t) (λ s. false≢true (sym o.0 ∙ subst (λ y. same_name t y ≡ true) (sym (same_true x t s)) (same_refl t))) in
+    (all_push x t names d.0 other, distinct_push t names d.1 o.1)
+
+-- and one alone is
+pub distinct_one : (names : List Name) (t : Name) → names ≡ t ∷ [] → IsDistinct same_name names
+unfolding IsDistinct
+distinct_one names t e = subst (IsDistinct same_name) (sym e) (tt, tt)
+
+-- ---- the place that the tree leads to
+
+at_get : (names : List Name) (i : ℕ) → i < length names → slice_get names i ≡ Some (key names i)
+at_get [] i w = absurd (omega (arith, w))
+at_get (x ∷ names) zero w = refl
+at_get (x ∷ names) (suc i) w = at_get names i (omega (arith, w))
+
+none_at : (t : Name) (names : List Name) → ((i : ℕ) → i < length names → key names i ≡ t → ⊥) → list_any (same_name t) names ≡ false
+none_at t [] n = refl
+none_at t (x ∷ names) n = at (none_at t names (λ i w e. n (suc i) (omega (arith, w)) e)) (same_name t x) refl
+  where
+    at : list_any (same_name t) names ≡ false → (b : Bool) → same_name t x ≡ b → (b || list_any (same_name t) names) ≡ false
+    at rest false e = rest
+    at rest true e = absurd (n 0 (omega arith) (sym (same_true t x e)))
+
+none_len : (t : Name) (names : List Name) → list_any (same_name t) names ≡ false → position_or_len (same_name t) names ≡ length names
+none_len t [] h = refl
+none_len t (x ∷ names) h =
+    let o = or_false (same_name t x) (list_any (same_name t) names) h in
+    ap (λ b. cond (not b) (1 + position_or_len (same_name t) names) 0) o.0 ∙ ap (λ n. 1 + n) (none_len t names o.1) ∙ omega arith
+
+none_position : (t : Name) (names : List Name) → list_any (same_name t) names ≡ false → position (same_name t) names ≡ None
+none_position t names h =
+    ap (λ n. cond (nat_lt n (length names)) (Some n) None) (none_len t names h) ∙ ap (λ b. cond b (Some (length names)) None) (le-ltb (length names) (length names) (omega arith))
+
+pub place_index : (t : Name) (names : List Name) (o : Option ℕ) → IsDistinct same_name names → IsPlaceOf names t o → o ≡ position (same_name t) names
+place_index t names None d p = sym (none_position t names (none_at t names (λ i. p.absent refl i [])))
+place_index t names (Some i) d p = let it = p.found i refl in sym (position_at t names i d (at_get names i it.0 ∙ ap Some it.1))
+
+pub place_within : (t : Name) (names : List Name) (o : Option ℕ) → IsPlaceOf names t o → IfSome o (λ i. i < length names)
+place_within t names None p = tt
+place_within t names (Some i) p = (p.found i refl).0
+
+pub place_found : (t : Name) (names : List Name) (o : Option ℕ) → IsPlaceOf names t o → is_some o ≡ list_any (same_name t) names
+place_found t names None p = sym (none_at t names (λ i. p.absent refl i []))
+place_found t names (Some i) p = let it = p.found i refl in sym (any_at t names i (at_get names i it.0 ∙ ap Some it.1))

@@ -69,15 +69,15 @@ head_is e = cc
 
 module _ (names : List Name) (slots : List Slot) (nodes : Nodes) (f : Fits names slots nodes) where
   -- what is named as a child isn't the root, and stands below its parent
-  record Above (j : ℕ) (t : Name) (n : ℕ) : Type 0 where
-    parent : ℕ
-    place : ℕ
-    is_place : IsPlace nodes parent place j
-    named : key names parent ≡ t
-    numbered : suc place ≡ n
-    within : parent < length names
+  pub record Above (j : ℕ) (t : Name) (n : ℕ) : Type 0 where
+    pub parent : ℕ
+    pub place : ℕ
+    pub is_place : IsPlace nodes parent place j
+    pub named : key names parent ≡ t
+    pub numbered : suc place ≡ n
+    pub within : parent < length names
 
-  above : (j : ℕ) (t : Name) (n : ℕ) → j < length names → key names j ≡ n ∷ t → Above j t n
+  pub above : (j : ℕ) (t : Name) (n : ℕ) → j < length names → key names j ≡ n ∷ t → Above j t n
   above j t n w e = by j refl
     where
       by : (i : ℕ) → j ≡ i → Above j t n
@@ -89,7 +89,7 @@ module _ (names : List Name) (slots : List Slot) (nodes : Nodes) (f : Fits names
           record { parent = (node nodes j).owner; place = up.0; is_place = up.2; named = tail_is is; numbered = head_is is; within = omega (arith, b, w) }
 
   -- each ancestor of a name that is there is there
-  ancestor : (x s : Name) (j : ℕ) → j < length names → key names j ≡ x ++ s → (i : ℕ) × (i < length names) × (key names i ≡ s)
+  pub ancestor : (x s : Name) (j : ℕ) → j < length names → key names j ≡ x ++ s → (i : ℕ) × (i < length names) × (key names i ≡ s)
   ancestor [] s j w e = (j, w, e)
   ancestor (m ∷ x) s j w e = let a = above j (x ++ s) m w e in ancestor x s a.parent a.within a.named
 

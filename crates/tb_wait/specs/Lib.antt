@@ -3,6 +3,7 @@ pub mod Groups
 pub mod Stored
 pub mod Few
 pub mod Tree
+pub mod Names
 pub mod Kin
 pub mod Rows
 pub mod Histories

@@ -63,3 +63,12 @@ pub record SetsStanding (old : List Slot) (at owner : ℕ) (k : Option Kin) (chi
 pub record IsFirstWithin (names : List Name) (nodes : Nodes) (start i : ℕ) : Type 0 where
   pub below : (x : Name) × (key names i ≡ x ++ key names start)
   pub least : (j : ℕ) (x : Name) → j < length names → key names j ≡ x ++ key names start → (node nodes j).pending ≡ true → IsAtMost (key names i) (key names j)
+
+-- the nodes have the names' tree
+abbrev pub AreNamed : List Name → Nodes → Type 0
+AreNamed names nodes = (slots : List Slot) × Fits names slots nodes
+
+-- o is the place of t, and None where neither t nor a task within it was ever generated
+pub record IsPlaceOf (names : List Name) (t : Name) (o : Option ℕ) : Type 0 where
+  pub found : (i : ℕ) → o ≡ Some i → (i < length names) × (key names i ≡ t)
+  pub absent : o ≡ None → (i : ℕ) (x : Name) → i < length names → key names i ≡ x ++ t → ⊥

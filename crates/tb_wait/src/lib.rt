@@ -3,9 +3,11 @@
 
 mod children;
 mod few;
+mod finding;
 mod groups;
 pub mod laws;
 mod many;
+mod names;
 mod near;
 mod node;
 mod nodes;

@@ -1,16 +1,17 @@
 //! Where a name is looked for first.
 
 ghost use Rattle.std.specs.Prelude.{◌≡◌, ◌<◌, Some, IsTrue, IfSome, is_some, length, true};
-ghost use Rattle.std.specs.List.{position, list_any};
+ghost use Rattle.std.specs.List.{position, list_any, IsDistinct};
 ghost use Rattle.tb_model.specs.Names.{same_name};
+ghost use Rattle.tb_wait.specs.Rows.{AreNamed};
 
+use crate::names::Names;
 use crate::tree::Tree;
-use indexmap::IndexSet;
 use tb_model::TaskName;
 
 /// The places of a task and of its parent. Mostly the task that took the last step is asked of
 /// again, or its parent, or the task that was generated after it; so their places are tried before
-/// the name's hash is taken. A place counts only where the very name stands, so any places do.
+/// the tree is asked from its root on. A place counts only where the very name stands, so any places do.
 #[derive(Clone, Copy)]
 pub struct Near {
     pub own: usize,
@@ -20,7 +21,8 @@ pub struct Near {
 impl Near {
     /// The place of a name.
     #[inline(always)]
-    pub fn find(&self, names: &IndexSet<TaskName>, name: &TaskName) -> Option<usize>
+    pub fn find(&self, names: &Names, tree: &Tree, name: &TaskName) -> Option<usize>
+        requires { AreNamed names.now.keys tree.now.nodes }
         ensures index { result ≡ position (same_name name.now) names.now.keys }
         ensures found { is_some result ≡ list_any (same_name name.now) names.now.keys }
         ensures within { IfSome result (λ i. i < length names.now.keys) }
@@ -28,20 +30,21 @@ impl Near {
         if stands_at(names, self.own, name) {
             return Some(self.own);
         }
-        self.find_elsewhere(names, name)
+        self.find_elsewhere(names, tree, name)
     }
 
     /// The same where it isn't the task's own place. It stands apart, so that most calls don't pay for
     /// its room.
     #[inline(never)]
-    fn find_elsewhere(&self, names: &IndexSet<TaskName>, name: &TaskName) -> Option<usize>
+    fn find_elsewhere(&self, names: &Names, tree: &Tree, name: &TaskName) -> Option<usize>
+        requires { AreNamed names.now.keys tree.now.nodes }
         ensures index { result ≡ position (same_name name.now) names.now.keys }
         ensures found { is_some result ≡ list_any (same_name name.now) names.now.keys }
         ensures within { IfSome result (λ i. i < length names.now.keys) }
     {
         match self.beside(names, name) {
             Some(at) => Some(at),
-            None => names.get_index_of(name),
+            None => tree.place_of(name),
         }
     }
 
@@ -49,10 +52,12 @@ impl Near {
     #[inline(always)]
     pub fn find_near(
         &self,
-        names: &IndexSet<TaskName>,
+        names: &Names,
+        tree: &Tree,
         near: usize,
         name: &TaskName,
     ) -> Option<usize>
+        requires { AreNamed names.now.keys tree.now.nodes }
         ensures index { result ≡ position (same_name name.now) names.now.keys }
         ensures found { is_some result ≡ list_any (same_name name.now) names.now.keys }
         ensures within { IfSome result (λ i. i < length names.now.keys) }
@@ -60,17 +65,18 @@ impl Near {
         if stands_at(names, near, name) {
             return Some(near);
         }
-        self.find(names, name)
+        self.find(names, tree, name)
     }
 
     /// The same, and else mostly that of a child of the task: its number leads there.
     pub fn find_below(
         &self,
-        names: &IndexSet<TaskName>,
+        names: &Names,
         tree: &Tree,
         near: usize,
         name: &TaskName,
     ) -> Option<usize>
+        requires { AreNamed names.now.keys tree.now.nodes }
         ensures index { result ≡ position (same_name name.now) names.now.keys }
         ensures found { is_some result ≡ list_any (same_name name.now) names.now.keys }
         ensures within { IfSome result (λ i. i < length names.now.keys) }
@@ -87,16 +93,17 @@ impl Near {
         let number = name.ordinal().unwrap_or(0);
         match tree.child(self.own, number) {
             Some(at) if stands_at(names, at, name) => Some(at),
-            _ => names.get_index_of(name),
+            _ => tree.place_of(name),
         }
     }
 
     // The place of the name, if it is that of the parent or the one after the task's own.
     #[inline(always)]
-    fn beside(&self, names: &IndexSet<TaskName>, name: &TaskName) -> Option<usize>
+    fn beside(&self, names: &Names, name: &TaskName) -> Option<usize>
         ensures index { IfSome result (λ i. position (same_name name.now) names.now.keys ≡ Some i) }
         ensures found { IfSome result (λ i. list_any (same_name name.now) names.now.keys ≡ true) }
         ensures within { IfSome result (λ i. i < length names.now.keys) }
+        ensures distinct { IsDistinct same_name names.now.keys }
     {
         if stands_at(names, self.above, name) {
             return Some(self.above);
@@ -111,12 +118,13 @@ impl Near {
 
 /// Whether the name stands at the place.
 #[inline(always)]
-fn stands_at(names: &IndexSet<TaskName>, at: usize, name: &TaskName) -> bool
+fn stands_at(names: &Names, at: usize, name: &TaskName) -> bool
     ensures index { IsTrue result → position (same_name name.now) names.now.keys ≡ Some at }
     ensures found { IsTrue result → list_any (same_name name.now) names.now.keys ≡ true }
     ensures within { IsTrue result → at < length names.now.keys }
+    ensures distinct { IsDistinct same_name names.now.keys }
 {
-    match names.as_slice().get(at) {
+    match names.get(at) {
         Some(key) => *key == *name,
         None => false,
     }

@@ -1,6 +1,6 @@
 //! The tree of tasks, whose nodes know of their children.
 
-ghost use Rattle.std.specs.Prelude.{◌≡◌, ◌<◌, ◌≤◌, ◌-◌, ◌↔◌, IsTrue, suc, [], ◌∷◌, OnOk, IsOk, IfOk, IfSome, length, slice_get, true, false};
+ghost use Rattle.std.specs.Prelude.{◌≡◌, ◌<◌, ◌≤◌, ◌-◌, ◌↔◌, IsTrue, suc, [], ◌∷◌, ℕ, OnOk, IsOk, IfOk, IfSome, IfNone, length, slice_get, true, false};
 ghost use Rattle.std.specs.Option.{option_map_or};
 ghost use Rattle.tb_wait.specs.Tree.{node, leaf, IsPlace, SameButRoom, SetsPending, AddsNode};
 
@@ -66,7 +66,8 @@ impl Tree {
 
     /// The place of the child of this number of the task at the place, where both were ever generated.
     pub fn child(&self, at: usize, number: u32) -> Option<usize>
-        ensures { IfSome result (λ i. (0 < number) × IsPlace self.now.nodes at (number - 1) i) }
+        ensures some { IfSome result (λ i. (0 < number) × IsPlace self.now.nodes at (number - 1) i) }
+        ensures none { IfNone result ((k i : ℕ) → suc k ≡ number → IsPlace self.now.nodes at k i → ⊥) }
     {
         match self.nodes.as_slice().get(at) {
             Some(node) if number > 0 => node.place(number),

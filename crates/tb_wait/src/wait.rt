@@ -2,7 +2,6 @@
 
 ghost use Rattle.std.specs.Prelude.{◌≡◌, ◌≢◌, ◌<◌, ◌≤◌, ◌-◌, ◌+◌, ℕ, [], ◌∷◌, true, false, IsTrue, OnOk, OnErr, IsOk, IfOk, Some, None, is_some, length, vec_capacity, suc, List, if◌then◌else◌, reverse};
 ghost use Rattle.std.specs.List.{zip};
-ghost use Rattle.indexmap.specs.IndexSet.{spare};
 ghost use Rattle.tb_wait.specs.Rows.{key, slot_at, groups_of, Fits};
 ghost use Rattle.tb_wait.specs.Kin.{Kin, slot};
 ghost use Rattle.std.specs.Option.{option_copied, option_map};
@@ -10,11 +9,11 @@ ghost use Rattle.tb_model.specs.Names.{same_name, child};
 ghost use Rattle.tb_model.specs.LeastNames.{IsLeastName};
 ghost use Rattle.tb_wait.specs.Kin.{kin, fresh, with_over, opened_kin, unopened_kin, closed_kin, unclosed_kin, Changes, IsSame, KeepsNames, KeepsRoom, HasGroupRoom, HasChildRoom, HasRoomFor, HasOpenGroup, is_known, Adds, Drops, IsNext, IsLast, is_fresh, IsUnendedChild, IsNextUnended, IsUnendedMember};
 
+use crate::names::Names;
 use crate::near::Near;
 use crate::row::Row;
 use crate::tree::Tree;
 use crate::{rows, standing};
-use indexmap::IndexSet;
 use std::alloc::{AllocError, Global};
 use std::marker::Model;
 use tb_model::TaskName;
@@ -24,7 +23,7 @@ use tb_model::TaskName;
 #[derive(Drop)]
 pub struct Wait {
     alloc: Global,
-    names: IndexSet<TaskName>,
+    names: Names,
     rows: Vec<Row>,
     tree: Tree,
     room: usize,
@@ -34,7 +33,6 @@ pub struct Wait {
 
 impl Model for Wait {
     ghost use Rattle.std.specs.Prelude.{◌≤◌, ◌+◌, length, vec_capacity};
-    ghost use Rattle.indexmap.specs.IndexSet.{spare};
     ghost use Rattle.tb_wait.specs.Kin.{Table};
     ghost use Rattle.std.specs.List.{zip};
     ghost use Rattle.tb_wait.specs.Rows.{Fits};
@@ -44,7 +42,7 @@ impl Model for Wait {
     ghost view = { λ w. record { tasks = zip w.names.keys w.rows.items; room = w.room } };
 
     ghost invariant = { λ w. Fits w.names.keys w.rows.items w.tree.nodes
-        × (w.room ≤ spare w.names)
+        × (w.room ≤ w.names.spare)
         × (length w.rows.items + w.room ≤ vec_capacity w.rows)
         × (w.room ≤ w.tree.room) };
 }
@@ -54,7 +52,7 @@ impl Wait {
     pub fn open(alloc: Global) -> Result<Wait, AllocError>
         ensures { IfOk result (λ w. (t : List ℕ) → kin w.tasks t ≡ (if same_name [] t then Some fresh else None)) }
     {
-        let names = root_names(alloc)?;
+        let names = Names::root(alloc)?;
         let rows = rows::root_rows(alloc)?;
         let tree = Tree::root(alloc)?;
         Ok(Wait {
@@ -97,11 +95,11 @@ impl Wait {
     fn is_known(&self, parent: &TaskName, child: &TaskName) -> bool
         ensures { result ≡ is_known self.now.tasks child.now }
     {
-        match self.near.find(&self.names, parent) {
+        match self.near.find(&self.names, &self.tree, parent) {
             Some(owner) if parent.is_parent_of(child) => {
                 self.tree.has_child(owner, number_of(child))
             }
-            _ => self.names.contains(child),
+            _ => self.near.find(&self.names, &self.tree, child).is_some(),
         }
     }
 
@@ -111,7 +109,7 @@ impl Wait {
         ensures room { KeepsRoom self.old self.new }
         ensures succeeds { HasChildRoom self.old.tasks task.now → IsOk result }
     {
-        match self.near.find(&self.names, task) {
+        match self.near.find(&self.names, &self.tree, task) {
             Some(at) => {
                 if rows::child_room(&self.rows, at) == 0 {
                     self.tree.reserve_child(at)?;
@@ -130,7 +128,7 @@ impl Wait {
         ensures succeeds { 0 < self.old.room → IsOk result }
     {
         if self.room == 0 {
-            self.names.reserve(1)?;
+            self.names.reserve()?;
             self.rows.reserve(1)?;
             self.tree.reserve()?;
             self.room = 1;
@@ -173,9 +171,9 @@ impl Wait {
         requires { IsNext self.now.tasks parent.now child.now }
         ensures { result ≡ is_known self.now.tasks child.now }
     {
-        match self.near.find(&self.names, parent) {
+        match self.near.find(&self.names, &self.tree, parent) {
             Some(owner) => self.tree.has_child(owner, number_of(child)),
-            None => self.names.contains(child),
+            None => self.near.find(&self.names, &self.tree, child).is_some(),
         }
     }
 
@@ -186,7 +184,7 @@ impl Wait {
         ensures names { KeepsNames self.old.tasks self.new.tasks }
         ensures room { self.new.room ≡ self.old.room }
     {
-        if let Some(at) = self.near.find(&self.names, child) {
+        if let Some(at) = self.near.find(&self.names, &self.tree, child) {
             standing::enter(&mut self.rows, &mut self.tree, at);
         }
     }
@@ -200,7 +198,7 @@ impl Wait {
         ensures names { KeepsNames self.old.tasks self.new.tasks }
         ensures room { self.old.room ≤ self.new.room + 1 }
     {
-        if let Some(owner) = self.near.find(&self.names, parent) {
+        if let Some(owner) = self.near.find(&self.names, &self.tree, parent) {
             let at = self.rows.len();
             make_place(
                 &mut self.names,
@@ -221,7 +219,7 @@ impl Wait {
         ensures tasks { Drops self.old.tasks parent.now child.now self.new.tasks }
         ensures room { KeepsRoom self.old self.new }
     {
-        if let Some(at) = self.near.find(&self.names, child) {
+        if let Some(at) = self.near.find(&self.names, &self.tree, child) {
             standing::leave(&mut self.rows, &mut self.tree, at);
         }
     }
@@ -249,7 +247,7 @@ impl Wait {
         ensures room { KeepsRoom self.old self.new }
         ensures succeeds { HasGroupRoom self.old.tasks task.now → IsOk result }
     {
-        match self.near.find(&self.names, task) {
+        match self.near.find(&self.names, &self.tree, task) {
             Some(at) => rows::reserve_group(&mut self.rows, at),
             None => Ok(()),
         }
@@ -263,7 +261,7 @@ impl Wait {
         ensures room { self.old.room ≤ self.new.room }
         ensures succeeds { HasGroupRoom self.old.tasks task.now → IsOk result }
     {
-        match self.near.find(&self.names, task) {
+        match self.near.find(&self.names, &self.tree, task) {
             Some(at) => rows::open(&mut self.rows, at),
             None => Ok(()),
         }
@@ -275,7 +273,7 @@ impl Wait {
         ensures room { KeepsRoom self.old self.new }
         ensures group_room { HasOpenGroup self.old.tasks task.now → HasGroupRoom self.new.tasks task.now }
     {
-        if let Some(at) = self.near.find(&self.names, task) {
+        if let Some(at) = self.near.find(&self.names, &self.tree, task) {
             rows::unopen(&mut self.rows, at);
         }
     }
@@ -285,7 +283,7 @@ impl Wait {
         ensures tasks { Changes self.old.tasks task.now closed_kin self.new.tasks }
         ensures room { KeepsRoom self.old self.new }
     {
-        if let Some(at) = self.near.find(&self.names, task) {
+        if let Some(at) = self.near.find(&self.names, &self.tree, task) {
             rows::close(&mut self.rows, at);
         }
     }
@@ -295,7 +293,7 @@ impl Wait {
         ensures tasks { Changes self.old.tasks task.now unclosed_kin self.new.tasks }
         ensures room { KeepsRoom self.old self.new }
     {
-        if let Some(at) = self.near.find(&self.names, task) {
+        if let Some(at) = self.near.find(&self.names, &self.tree, task) {
             rows::unclose(&mut self.rows, at);
         }
     }
@@ -304,13 +302,13 @@ impl Wait {
     pub fn first_child(&self, task: &TaskName) -> Option<&TaskName>
         ensures { IsLeastName (IsUnendedChild self.now.tasks task.now) (option_copied result) }
     {
-        let Some(at) = self.near.find(&self.names, task) else {
+        let Some(at) = self.near.find(&self.names, &self.tree, task) else {
             return None;
         };
         let Some(first) = self.tree.first_unended(at) else {
             return None;
         };
-        self.names.get_index(first)
+        self.names.get(first)
     }
 
     /// The least number above `low` of a child of the task that stands and isn't over. Takes no
@@ -318,7 +316,7 @@ impl Wait {
     pub fn next_unended(&self, task: &TaskName, low: u32) -> Option<u32>
         ensures { IsNextUnended self.now.tasks task.now low result }
     {
-        let Some(at) = self.near.find(&self.names, task) else {
+        let Some(at) = self.near.find(&self.names, &self.tree, task) else {
             return None;
         };
         self.tree.next_unended(at, low)
@@ -330,7 +328,7 @@ impl Wait {
         ensures unended { IsTrue result → IsUnendedChild self.now.tasks task.now (child task.now number) }
         ensures over { result ≡ false → IsUnendedChild self.now.tasks task.now (child task.now number) → ⊥ }
     {
-        let Some(at) = self.near.find(&self.names, task) else {
+        let Some(at) = self.near.find(&self.names, &self.tree, task) else {
             return false;
         };
         self.tree.is_child_pending(at, number)
@@ -340,7 +338,7 @@ impl Wait {
     pub fn first_member(&self, task: &TaskName) -> Option<&TaskName>
         ensures { IsLeastName (IsUnendedMember self.now.tasks task.now) (option_copied result) }
     {
-        let Some(at) = self.near.find(&self.names, task) else {
+        let Some(at) = self.near.find(&self.names, &self.tree, task) else {
             return None;
         };
         let Some(from) = rows::innermost(&self.rows, at) else {
@@ -350,7 +348,7 @@ impl Wait {
             return None;
         };
         let first = self.tree.first_within(child);
-        self.names.get_index(first)
+        self.names.get(first)
     }
 
     /// What is kept of the task: whether it is over.
@@ -358,7 +356,7 @@ impl Wait {
     pub fn is_over(&self, task: &TaskName) -> Option<bool>
         ensures { result ≡ option_map (λ (k : Kin). k.over) (kin self.now.tasks task.now) }
     {
-        let Some(at) = self.near.find(&self.names, task) else {
+        let Some(at) = self.near.find(&self.names, &self.tree, task) else {
             return None;
         };
         rows::is_over(&self.rows, at)
@@ -369,7 +367,7 @@ impl Wait {
     pub fn is_over_near(&self, near: usize, task: &TaskName) -> Option<bool>
         ensures { result ≡ option_map (λ (k : Kin). k.over) (kin self.now.tasks task.now) }
     {
-        let Some(at) = self.near.find_near(&self.names, near, task) else {
+        let Some(at) = self.near.find_near(&self.names, &self.tree, near, task) else {
             return None;
         };
         rows::is_over(&self.rows, at)
@@ -379,7 +377,7 @@ impl Wait {
     pub fn children(&self, task: &TaskName) -> Option<u32>
         ensures { result ≡ option_map (λ (k : Kin). k.children) (kin self.now.tasks task.now) }
     {
-        let Some(at) = self.near.find(&self.names, task) else {
+        let Some(at) = self.near.find(&self.names, &self.tree, task) else {
             return None;
         };
         rows::children(&self.rows, at)
@@ -389,7 +387,7 @@ impl Wait {
     pub fn is_fresh(&self, task: &TaskName) -> bool
         ensures { result ≡ is_fresh (kin self.now.tasks task.now) }
     {
-        let Some(at) = self.near.find(&self.names, task) else {
+        let Some(at) = self.near.find(&self.names, &self.tree, task) else {
             return false;
         };
         rows::is_fresh(&self.rows, at)
@@ -400,7 +398,7 @@ impl Wait {
     pub fn groups(&self, task: &TaskName) -> &[u32]
         ensures { result.now ≡ reverse (groups_of (kin self.now.tasks task.now)) }
     {
-        let Some(at) = self.near.find(&self.names, task) else {
+        let Some(at) = self.near.find(&self.names, &self.tree, task) else {
             return &[];
         };
         rows::groups(&self.rows, at)
@@ -410,7 +408,7 @@ impl Wait {
         ensures tasks { Changes self.old.tasks task.now (with_over over) self.new.tasks }
         ensures room { KeepsRoom self.old self.new }
     {
-        if let Some(at) = self.near.find(&self.names, task) {
+        if let Some(at) = self.near.find(&self.names, &self.tree, task) {
             rows::set_over(&mut self.rows, at, over);
             let pending = rows::is_pending(&self.rows, at);
             self.tree.set_pending(at, pending);
@@ -420,7 +418,7 @@ impl Wait {
 
 // A place for a child that was never there. It doesn't stand yet.
 fn make_place(
-    names: &mut IndexSet<TaskName>,
+    names: &mut Names,
     rows: &mut Vec<Row>,
     tree: &mut Tree,
     alloc: Global,
@@ -432,7 +430,7 @@ fn make_place(
     requires unknown { slot (zip names.old.keys rows.old.items) child ≡ None }
     requires next { (k : Kin) × ((slot_at rows.old.items owner).kin ≡ Some k) × (child ≡ suc k.children ∷ key names.old.keys owner) }
     requires child_room { 0 < (slot_at rows.old.items owner).child_room }
-    requires names_room { 0 < spare names.old }
+    requires names_room { 0 < names.old.spare }
     requires rows_room { length rows.old.items < vec_capacity rows.old }
     requires tree_room { 0 < tree.old.room }
     ensures fits { Fits names.new.keys rows.new.items tree.new.nodes }
@@ -440,7 +438,7 @@ fn make_place(
     ensures names { KeepsNames (zip names.old.keys rows.old.items) (zip names.new.keys rows.new.items) }
     ensures named { key names.new.keys (length names.old.keys) ≡ child }
     ensures len { length names.new.keys ≡ length names.old.keys + 1 }
-    ensures spare { spare names.old ≤ spare names.new + 1 }
+    ensures spare { names.old.spare ≤ names.new.spare + 1 }
     ensures rows_capacity { vec_capacity rows.new ≡ vec_capacity rows.old }
     ensures tree_room { tree.new.room ≡ tree.old.room - 1 }
 {
@@ -448,7 +446,7 @@ fn make_place(
     tree.add(alloc, owner, number_of(&child));
     rows::set_child_room(rows, owner, room - 1);
     rows::push(rows, alloc);
-    names.insert(child).unwrap();
+    names.push(child);
 }
 
 // The task's number among the children of its parent.
@@ -456,13 +454,4 @@ fn number_of(task: &TaskName) -> u32
     ensures { (n : ℕ) (t : List ℕ) → task.now ≡ n ∷ t → result ≡ n }
 {
     task.ordinal().unwrap_or(0)
-}
-
-fn root_names(alloc: Global) -> Result<IndexSet<TaskName>, AllocError>
-    ensures { IfOk result (λ s. s.keys ≡ [] ∷ []) }
-{
-    let mut names = IndexSet::new(alloc);
-    names.reserve(1)?;
-    names.insert(TaskName::root(alloc)).unwrap();
-    Ok(names)
 }

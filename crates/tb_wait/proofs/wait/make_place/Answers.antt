@@ -2,8 +2,7 @@ use Rattle.std.proofs.Common.{◌≡◌, ◌++◌, [], ◌∷◌, length, refl, 
 use Rattle.std.specs.List.{zip}
 use Rattle.tb_wait.specs.Kin.{IsSame, KeepsNames}
 use Rattle.tb_wait.specs.Rows.{key, Fits}
-use Rattle.tb_wait.proofs.NumbersLemmas.{at_ok}
-use Rattle.tb_wait.proofs.SpawnLemmas.{next_number, fits_pushed, pushed_kin, pushed_names, pushed_key, inserted, none_known, length-push, all_ok}
+use Rattle.tb_wait.proofs.SpawnLemmas.{next_number, fits_pushed, pushed_kin, pushed_names, pushed_key, none_known, length-push}
 use Rattle.tb_wait.proofs.wait.make_place.Goals as goal
 
 pub add-requires-clause-number : goal.add-requires-clause-number
@@ -12,31 +11,29 @@ add-requires-clause-number c =
 
 pub returns-clause-fits : goal.returns-clause-fits
 returns-clause-fits c =
-    let keys = inserted c.args.names.now.keys c.insert.new.self.keys c.args.child (none_known c.args.names.now.keys c.args.rows.now.items c.args.child c.requires.fits.slots_len c.requires.unknown) (at_ok c.insert.result c.unwrap.result c.unwrap.ensures (all_ok _ c.insert.result c.insert.ensures.keys)) in
-    subst (λ ks. Fits ks c.push.new.rows.items c.add.new.self.nodes) (sym keys)
+    subst (λ ks. Fits ks c.push.new.rows.items c.add.new.self.nodes) (sym c.push-2.ensures.keys)
     (subst (λ ss. Fits (c.args.names.now.keys ++ c.args.child ∷ []) ss c.add.new.self.nodes) (sym c.push.ensures.rows)
     (fits_pushed c.args.names.now.keys c.args.rows.now.items c.args.tree.now.nodes c.requires.fits (key c.args.names.now.keys c.args.owner) c.args.child c.args.owner c.requires.within refl c.requires.unknown c.requires.next.0 c.requires.next.1 c.requires.next.2 c.set_child_room.new.rows.items c.add.new.self.nodes c.child_room-room.result c.set_child_room.ensures.slot c.child_room-room.ensures c.add.ensures.added (omega (arith, c.child_room-room.ensures, c.requires.child_room))))
 
 pub returns-clause-same : goal.returns-clause-same
 returns-clause-same c =
-    let keys = inserted c.args.names.now.keys c.insert.new.self.keys c.args.child (none_known c.args.names.now.keys c.args.rows.now.items c.args.child c.requires.fits.slots_len c.requires.unknown) (at_ok c.insert.result c.unwrap.result c.unwrap.ensures (all_ok _ c.insert.result c.insert.ensures.keys)) in
-    subst (λ ks. IsSame (zip c.args.names.now.keys c.args.rows.now.items) (zip ks c.push.new.rows.items)) (sym keys)
+    subst (λ ks. IsSame (zip c.args.names.now.keys c.args.rows.now.items) (zip ks c.push.new.rows.items)) (sym c.push-2.ensures.keys)
     (subst (λ ss. IsSame (zip c.args.names.now.keys c.args.rows.now.items) (zip (c.args.names.now.keys ++ c.args.child ∷ []) ss)) (sym c.push.ensures.rows)
     (λ u. pushed_kin c.args.names.now.keys c.args.rows.now.items c.args.tree.now.nodes c.requires.fits (key c.args.names.now.keys c.args.owner) c.args.child c.args.owner c.requires.within refl c.requires.unknown c.requires.next.0 c.requires.next.1 c.requires.next.2 c.set_child_room.new.rows.items c.add.new.self.nodes c.child_room-room.result c.set_child_room.ensures.slot c.child_room-room.ensures c.add.ensures.added u))
 
 pub returns-clause-names : goal.returns-clause-names
 returns-clause-names c =
-    let keys = inserted c.args.names.now.keys c.insert.new.self.keys c.args.child (none_known c.args.names.now.keys c.args.rows.now.items c.args.child c.requires.fits.slots_len c.requires.unknown) (at_ok c.insert.result c.unwrap.result c.unwrap.ensures (all_ok _ c.insert.result c.insert.ensures.keys)) in
-    subst (λ ks. KeepsNames (zip c.args.names.now.keys c.args.rows.now.items) (zip ks c.push.new.rows.items)) (sym keys)
+    subst (λ ks. KeepsNames (zip c.args.names.now.keys c.args.rows.now.items) (zip ks c.push.new.rows.items)) (sym c.push-2.ensures.keys)
     (subst (λ ss. KeepsNames (zip c.args.names.now.keys c.args.rows.now.items) (zip (c.args.names.now.keys ++ c.args.child ∷ []) ss)) (sym c.push.ensures.rows)
     (λ u. pushed_names c.args.names.now.keys c.args.rows.now.items c.args.tree.now.nodes c.requires.fits (key c.args.names.now.keys c.args.owner) c.args.child c.args.owner c.requires.within refl c.requires.unknown c.requires.next.0 c.requires.next.1 c.requires.next.2 c.set_child_room.new.rows.items c.add.new.self.nodes c.child_room-room.result c.set_child_room.ensures.slot c.child_room-room.ensures c.add.ensures.added u))
 
 pub returns-clause-named : goal.returns-clause-named
 returns-clause-named c =
-    let keys = inserted c.args.names.now.keys c.insert.new.self.keys c.args.child (none_known c.args.names.now.keys c.args.rows.now.items c.args.child c.requires.fits.slots_len c.requires.unknown) (at_ok c.insert.result c.unwrap.result c.unwrap.ensures (all_ok _ c.insert.result c.insert.ensures.keys)) in
-    subst (λ ks. key ks (length c.args.names.now.keys) ≡ c.args.child) (sym keys) (pushed_key c.args.names.now.keys c.args.rows.now.items c.args.tree.now.nodes c.requires.fits (key c.args.names.now.keys c.args.owner) c.args.child c.args.owner c.requires.within refl c.requires.unknown c.requires.next.0 c.requires.next.1 c.requires.next.2 c.set_child_room.new.rows.items c.add.new.self.nodes c.child_room-room.result c.set_child_room.ensures.slot c.child_room-room.ensures c.add.ensures.added)
+    subst (λ ks. key ks (length c.args.names.now.keys) ≡ c.args.child) (sym c.push-2.ensures.keys) (pushed_key c.args.names.now.keys c.args.rows.now.items c.args.tree.now.nodes c.requires.fits (key c.args.names.now.keys c.args.owner) c.args.child c.args.owner c.requires.within refl c.requires.unknown c.requires.next.0 c.requires.next.1 c.requires.next.2 c.set_child_room.new.rows.items c.add.new.self.nodes c.child_room-room.result c.set_child_room.ensures.slot c.child_room-room.ensures c.add.ensures.added)
 
 pub returns-clause-len : goal.returns-clause-len
 returns-clause-len c =
-    let keys = inserted c.args.names.now.keys c.insert.new.self.keys c.args.child (none_known c.args.names.now.keys c.args.rows.now.items c.args.child c.requires.fits.slots_len c.requires.unknown) (at_ok c.insert.result c.unwrap.result c.unwrap.ensures (all_ok _ c.insert.result c.insert.ensures.keys)) in
-    ap length keys ∙ length-push c.args.names.now.keys c.args.child
+    ap length c.push-2.ensures.keys ∙ length-push c.args.names.now.keys c.args.child
+
+pub push-requires-2-clause-absent : goal.push-requires-2-clause-absent
+push-requires-2-clause-absent c = none_known c.args.names.now.keys c.args.rows.now.items c.args.child c.requires.fits.slots_len c.requires.unknown

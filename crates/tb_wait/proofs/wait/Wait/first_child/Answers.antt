@@ -19,5 +19,5 @@ returns c =
     let it = c.in-Some-first_unended.ensures.found c.in-Some-first_unended.first refl in
     let f = c.self.invariant.0 in
     let within = f.linked.within c.in-Some.at it.0 c.in-Some-first_unended.first it.2 in
-    subst (IsLeastName (IsUnendedChild c.args.self.now.tasks c.args.task.now)) (sym (c.get_index.ensures.key ∙ slice_get-key c.self.inside.names.keys c.in-Some-first_unended.first (omega (arith, within, f.nodes_len))))
+    subst (IsLeastName (IsUnendedChild c.args.self.now.tasks c.args.task.now)) (sym (c.get.ensures.key ∙ slice_get-key c.self.inside.names.keys c.in-Some-first_unended.first (omega (arith, within, f.nodes_len))))
     (child_some c.args.self.now c.self.inside.names.keys c.self.inside.rows.items c.self.inside.tree.nodes c.self.inside.room c.self.view_is c.self.invariant.0 c.args.task.now c.in-Some.at k.0 k.1 c.in-Some-first_unended.first c.in-Some-first_unended.ensures)

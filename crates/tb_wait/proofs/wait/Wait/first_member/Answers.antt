@@ -23,6 +23,6 @@ returns c =
     let k = at_key c.args.task.now c.self.inside.names.keys c.in-Some.at c.in-Some.ensures.index in
     let f = c.self.invariant.0 in
     let within = c.first_within-first.ensures.within in
-    subst (IsLeastName (IsUnendedMember c.args.self.now.tasks c.args.task.now)) (sym (c.get_index.ensures.key ∙ slice_get-key c.self.inside.names.keys c.first_within-first.result (omega (arith, within, f.nodes_len))))
+    subst (IsLeastName (IsUnendedMember c.args.self.now.tasks c.args.task.now)) (sym (c.get.ensures.key ∙ slice_get-key c.self.inside.names.keys c.first_within-first.result (omega (arith, within, f.nodes_len))))
     (member_some c.args.self.now c.self.inside.names.keys c.self.inside.rows.items c.self.inside.tree.nodes c.self.inside.room c.self.view_is c.self.invariant.0 c.args.task.now c.in-Some.at k.0 k.1 c.in-Some-innermost.from (sym c.innermost.ensures ∙ c.in-Some-innermost.is) c.in-Some-first_live.ensures.known c.in-Some-first_live.child c.first_within-first.result c.in-Some-first_live.ensures.first (omega (arith, within, f.nodes_len)) c.first_within-first.ensures.pending
     (c.first_within-first.ensures.first c.self.inside.names.keys c.self.inside.rows.items f))

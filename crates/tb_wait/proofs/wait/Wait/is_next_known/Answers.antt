@@ -14,5 +14,5 @@ returns-in-Some c =
 
 pub returns-in-None : goal.returns-in-None
 returns-in-None c =
-    c.contains.ensures ∙ known_any c.args.child.now c.self.inside.names.keys c.self.inside.rows.items c.self.invariant.0.slots_len
+    c.is_some.ensures ∙ c.find-in-None.ensures.found ∙ known_any c.args.child.now c.self.inside.names.keys c.self.inside.rows.items c.self.invariant.0.slots_len
     ∙ ap (λ v. is_known v.tasks c.args.child.now) c.self.view_is
