@@ -17,7 +17,9 @@ use Rattle.tb_core.specs.declared.entry.Entry.{Entry}
 use Rattle.tb_core.specs.declared.removed.Removed.{Removed}
 use Rattle.tb_core.specs.Rolled.{removed_places}
 use Rattle.tb_core.specs.Seen.{Seen, history}
-use Rattle.tb_core.specs.Soundness.{departure, seen, IsSound}
+use Rattle.tb_core.specs.Soundness.{departure, names_in, seen, IsSound}
+use Rattle.tb_wait.specs.Kin.{KeepsNames}
+use Rattle.tb_core.proofs.NumberLemmas.{index_kept}
 use Rattle.tb_core.specs.Renumbering.{events_in, left_from}
 use Rattle.tb_core.specs.Unwinding.{Unwound}
 use Rattle.tb_core.proofs.MiddleLemmas.{departures_append}
@@ -42,15 +44,16 @@ pub few_entries : (first : Cells) (root_line limit : ℕ) (es : List Entry) (tab
 few_entries first root_line limit es tables sound = omega (arith, sound.within, sound.bound, length-reverse es)
 
 -- one entry was taken out
-pub index_removed : (es xs left : List Entry) (at : ℕ) (going : List ℕ) (p : Places) → xs ≡ es → going ≡ at ∷ [] → left ≡ remove es at → IsIndexOf (left_from 0 going (events_in xs)) p → IsIndexOf (events_in left) p
-index_removed es xs left at going p same one gone index =
-    subst (λ l. IsIndexOf l p) (ap₂ (λ g l. left_from 0 g (events_in l)) one same ∙ left_removed es left at gone) index
+pub index_removed : (es xs left : List Entry) (at : ℕ) (going : List ℕ) (p : Places) (was now : Tables) → xs ≡ es → going ≡ at ∷ [] → left ≡ remove es at → KeepsNames was.waits.tasks now.waits.tasks
+    → IsIndexOf (names_in was) (left_from 0 going (events_in xs)) p → IsIndexOf (names_in now) (events_in left) p
+index_removed es xs left at going p was now same one gone keeps index =
+    index_kept was now (events_in left) p keeps (subst (λ l. IsIndexOf (names_in was) l p) (ap₂ (λ g l. left_from 0 g (events_in l)) one same ∙ left_removed es left at gone) index)
 
 -- a step was taken out with all that need it
 pub index_unwound : (e : StepId) (es xs entries kept new : List Entry) (before tables : Tables) (removed : List Removed) (going : List ℕ) (H : History) (p : Places)
     → Unwound e es before entries kept tables removed → new ≡ entries ++ reverse kept → xs ≡ es → H ≡ events_of (map departure (reverse es)) → going ≡ reverse (removed_places e H)
-    → IsIndexOf (left_from 0 going (events_in xs)) p → IsIndexOf (events_in new) p
-index_unwound e es xs entries kept new before tables removed going H p u put same is places index =
+    → KeepsNames before.waits.tasks tables.waits.tasks → IsIndexOf (names_in before) (left_from 0 going (events_in xs)) p → IsIndexOf (names_in tables) (events_in new) p
+index_unwound e es xs entries kept new before tables removed going H p u put same is places keeps index =
     let old : events_in es ≡ reverse H = sym (from_oldest es) ∙ ap reverse (sym is) in
     let left : reverse new ≡ kept ++ reverse entries = ap reverse put ∙ reverse-append entries (reverse kept) ∙ ap (λ l. l ++ reverse entries) (reverse-reverse kept) in
     let rest : events_of (map departure (reverse new)) ≡ without e H =
@@ -59,4 +62,4 @@ index_unwound e es xs entries kept new before tables removed going H p u put sam
     let stays : left_from 0 going (events_in xs) ≡ events_in new =
     ap₂ (left_from 0) places (ap events_in same ∙ old) ∙ left_without e H ∙ ap reverse (sym rest) ∙ from_oldest new
     in
-    subst (λ l. IsIndexOf l p) stays index
+    index_kept before tables (events_in new) p keeps (subst (λ l. IsIndexOf (names_in before) l p) stays index)

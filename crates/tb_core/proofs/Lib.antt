@@ -8,6 +8,7 @@ pub mod FillingLemmas
 pub mod ShownLemmas
 pub mod MiddleLemmas
 pub mod PlaceLemmas
+pub mod NumberLemmas
 pub mod TakenLemmas
 pub mod RefusedLemmas
 pub mod UndoneLemmas

@@ -4,13 +4,14 @@ use Rattle.std.proofs.lemmas.List.{length-append, length-map, length-reverse, re
 use Rattle.std.proofs.lemmas.Bool.Decides.{nat_tests}
 use Rattle.tb_model.specs.declared.event.Event.{Event}
 use Rattle.tb_model.specs.declared.step_id.StepId.{StepId}
+use Rattle.tb_model.specs.Names.{Name}
 use Rattle.tb_model.specs.Facts.{History, prepend_if}
 use Rattle.tb_model.specs.Needs.{is_removed, without}
 use Rattle.tb_core.specs.declared.entry.Entry.{Entry}
 use Rattle.tb_core.specs.Rolled.{removed_places}
 use Rattle.tb_places.specs.declared.places.Places.{Places}
-use Rattle.tb_places.specs.Places.{IsIndexOf, HasRoomFor, HasRoomForAll, KeepsRoom}
-use Rattle.tb_places.proofs.RoomLemmas.{room_of_index, room_next, room_without, room_kept}
+use Rattle.tb_places.specs.Places.{IsIndexOf, IsNamed, HasRoomFor, HasRoomForAll, KeepsRoom}
+use Rattle.tb_places.proofs.RoomLemmas.{room_of_index, room_next, room_without, room_kept, named_next}
 use Rattle.tb_core.specs.Renumbering.{events_in, goes_at, left_from, Refills, Cuts}
 
 -- ---- nothing goes in front of the first
@@ -192,7 +193,7 @@ drop_one (suc n) (m ∷ ns) =
     let same : suc (n + 1) ≡ suc n + 1 = omega arith in
     drop_one n ns ∙ ap (λ k. drop k (m ∷ ns)) same
 
-module _ (first : ℕ) (es : List Entry) (at k : ℕ) (x : Entry) (old new : Places) (cuts : Cuts first (events_in es) at old) (more : first < at) (before : at ≡ suc k) (here : x ≡ get_or es k x) where
+module _ (names : List Name) (first : ℕ) (es : List Entry) (at k : ℕ) (x : Entry) (old new : Places) (cuts : Cuts names first (events_in es) at old) (more : first < at) (before : at ≡ suc k) (here : x ≡ get_or es k x) where
   abbrev whole_events : List Event
   whole_events = events_in es
 
@@ -203,12 +204,12 @@ module _ (first : ℕ) (es : List Entry) (at k : ℕ) (x : Entry) (old new : Pla
   front = ap (λ n. take n whole_events) before ∙ take_last es k x inside here
 
   -- the newest of the entries is taken off
-  pub cuts_more : ((events : List Event) → IsIndexOf (events ++ x.event ∷ []) old → IsIndexOf events new) → KeepsRoom old new → Cuts first whole_events k new
+  pub cuts_more : ((events : List Event) → IsIndexOf names (events ++ x.event ∷ []) old → IsIndexOf names events new) → KeepsRoom old new → Cuts names first whole_events k new
   cuts_more popped keeps = record {
     from = omega (arith, more, before);
     within = omega (arith, before, cuts.within);
-    index = popped (take k whole_events) (subst (λ l. IsIndexOf l old) front cuts.index);
-    room = room_kept whole_events old new keeps cuts.room;
+    index = popped (take k whole_events) (subst (λ l. IsIndexOf names l old) front cuts.index);
+    room = room_kept names whole_events old new keeps cuts.room;
   }
 
 all_taken : (n : ℕ) (es : List Event) → n ≡ length es → take n es ≡ es
@@ -217,15 +218,15 @@ all_taken zero (e ∷ es) h = absurd (omega (arith, h))
 all_taken (suc n) [] h = absurd (omega (arith, h))
 all_taken (suc n) (e ∷ es) h = ap (λ l. e ∷ l) (all_taken n es (omega (arith, h)))
 
-pub cuts_first : (first : ℕ) (es : List Event) (n : ℕ) (p : Places) → first ≤ n → n ≡ length es → IsIndexOf es p → Cuts first es n p
-cuts_first first es n p from whole index = record {
+pub cuts_first : (names : List Name) (first : ℕ) (es : List Event) (n : ℕ) (p : Places) → first ≤ n → n ≡ length es → IsIndexOf names es p → Cuts names first es n p
+cuts_first names first es n p from whole index = record {
   from = from;
   within = omega (arith, whole);
-  index = subst (λ l. IsIndexOf l p) (sym (all_taken n es whole)) index;
-  room = room_of_index es p index;
+  index = subst (λ l. IsIndexOf names l p) (sym (all_taken n es whole)) index;
+  room = room_of_index names es p index;
 }
 
-module _ (first : ℕ) (going : List ℕ) (es : List Entry) (at next place : ℕ) (p : Places) (r : Refills first going (events_in es) at next place p) (within : at < length es) (x : Entry) (here : x ≡ get_or es at x) where
+module _ (names : List Name) (first : ℕ) (going : List ℕ) (es : List Entry) (at next place : ℕ) (p : Places) (r : Refills names first going (events_in es) at next place p) (within : at < length es) (x : Entry) (here : x ≡ get_or es at x) where
   rest_is : drop at (events_in es) ≡ x.event ∷ drop (suc at) (events_in es)
   rest_is = drop_next es at x within here
 
@@ -234,15 +235,19 @@ module _ (first : ℕ) (going : List ℕ) (es : List Entry) (at next place : ℕ
       let same : suc at ≡ at + 1 = omega arith in
       ap (λ k. drop k (events_in es)) same
 
-  next_room : HasRoomForAll (r.done ++ x.event ∷ drop (suc at) (events_in es)) p
-  next_room = subst (λ l. HasRoomForAll (r.done ++ l) p) rest_is r.room
+  next_room : HasRoomForAll names (r.done ++ x.event ∷ drop (suc at) (events_in es)) p
+  next_room = subst (λ l. HasRoomForAll names (r.done ++ l) p) rest_is r.room
 
   -- the entry has room
-  pub refills_room : HasRoomFor p x.event
-  refills_room = room_next r.done (drop (suc at) (events_in es)) x.event p r.index next_room
+  pub refills_room : HasRoomFor names p x.event
+  refills_room = room_next names r.done (drop (suc at) (events_in es)) x.event p r.index next_room
+
+  -- and its task a number
+  pub refills_named : IsNamed names x.event
+  refills_named = named_next names r.done (drop (suc at) (events_in es)) x.event p next_room
 
   -- it goes
-  pub refills_gone : goes_at at (drop next going) ≡ true → Refills first going (events_in es) (at + 1) (next + 1) place p
+  pub refills_gone : goes_at at (drop next going) ≡ true → Refills names first going (events_in es) (at + 1) (next + 1) place p
   refills_gone goes = record {
     done = r.done;
     index = r.index;
@@ -253,11 +258,11 @@ module _ (first : ℕ) (going : List ℕ) (es : List Entry) (at next place : ℕ
         (ap₂ (left_from (at + 1)) (sym (drop_one next going)) (sym more)
         ∙ sym (ap (left_from at (drop next going)) rest_is ∙ left_gone at (drop next going) x.event (drop (suc at) (events_in es)) goes))
         ∙ r.whole;
-    room = subst (λ l. HasRoomForAll (r.done ++ l) p) more (room_without r.done (drop (suc at) (events_in es)) x.event p next_room);
+    room = subst (λ l. HasRoomForAll names (r.done ++ l) p) more (room_without names r.done (drop (suc at) (events_in es)) x.event p next_room);
   }
 
   -- it stays
-  pub refills_kept : (new : Places) → goes_at at (drop next going) ≡ false → ((events : List Event) → IsIndexOf events p → place ≡ length events → IsIndexOf (events ++ x.event ∷ []) new) → KeepsRoom p new → Refills first going (events_in es) (at + 1) next (place + 1) new
+  pub refills_kept : (new : Places) → goes_at at (drop next going) ≡ false → ((events : List Event) → IsIndexOf names events p → place ≡ length events → IsIndexOf names (events ++ x.event ∷ []) new) → KeepsRoom p new → Refills names first going (events_in es) (at + 1) next (place + 1) new
   refills_kept new stays pushed keeps = record {
     done = r.done ++ x.event ∷ [];
     index = pushed r.done r.index r.count;
@@ -270,7 +275,7 @@ module _ (first : ℕ) (going : List ℕ) (es : List Entry) (at next place : ℕ
         ∙ sym (ap (left_from at (drop next going)) rest_is ∙ left_kept at (drop next going) x.event (drop (suc at) (events_in es)) stays))
         ∙ r.whole;
     room =
-        subst (λ l. HasRoomForAll l new)
+        subst (λ l. HasRoomForAll names l new)
         (ap (λ l. r.done ++ x.event ∷ l) more ∙ sym (append_assoc r.done (x.event ∷ []) (drop (at + 1) (events_in es))))
-        (room_kept _ p new keeps next_room);
+        (room_kept names _ p new keeps next_room);
   }

@@ -1,7 +1,8 @@
 -- A step and all that need it are taken off the entries from the newest on: each then is a step that nothing needs.
 use Rattle.std.proofs.Common.{◌≡◌, ◌≢◌, ◌<◌, ◌≤◌, ◌+◌, ℕ, suc, List, [], ◌∷◌, ◌++◌, Bool, true, false, not, length, map, reverse, refl, sym, ap, ap₂, ◌∙◌, subst, arith, append_assoc, append-nil, Option, Some, None, IsSome, IsNone}
 use Rattle.std.specs.Option.{option_to_list}
-use Rattle.std.specs.List.{AllByRecursion}
+use Rattle.std.specs.List.{All, AllByRecursion}
+use Rattle.std.proofs.lemmas.List.Elements.{recursion_from_All}
 use Rattle.std.proofs.lemmas.List.{reverse-append, reverse-reverse, length-map, length-reverse, length-append, same_from_push}
 use Rattle.tb_model.specs.declared.event.Event.{Event}
 use Rattle.tb_model.specs.declared.step_id.StepId.{StepId}
@@ -317,6 +318,10 @@ room_left n room ps ps' next at is same a =
 pub room_stays : (n room room' : ℕ) (ps : List ℕ) (next : Option ℕ) (at : ℕ) → next ≡ Some at → room' ≡ room → AllByRecursion (λ p. n ≤ p + room) (ps ++ option_to_list next) → AllByRecursion (λ p. n ≤ p + room') (ps ++ at ∷ [])
 room_stays n room room' ps next at is same a =
     subst (λ r. AllByRecursion (λ p. n ≤ p + r) (ps ++ at ∷ [])) (sym same) (subst (λ o. AllByRecursion (λ p. n ≤ p + room) (ps ++ option_to_list o)) is a)
+
+-- the room that a rollback has
+pub room_first : (count n room : ℕ) (ps qs : List ℕ) → All (λ at. count ≤ at + room) ps → count ≡ n → ps ≡ qs → AllByRecursion (λ at. n ≤ at + room) qs
+room_first count n room ps qs all is same = subst (λ m. AllByRecursion (λ at. m ≤ at + room) qs) is (subst (AllByRecursion (λ at. count ≤ at + room)) same (recursion_from_All (λ at. count ≤ at + room) ps all))
 
 -- where no place is next, none is left
 pub none_next : (ps : List ℕ) (next : Option ℕ) → next ≡ None → (IsNone next → ps ≡ []) → ps ++ option_to_list next ≡ []

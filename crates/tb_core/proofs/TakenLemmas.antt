@@ -29,10 +29,12 @@ use Rattle.tb_core.specs.Soundness.{departure}
 use Rattle.tb_core.specs.Seen.{Seen, history}
 use Rattle.tb_core.specs.Filling.{completed, IsRunOf, Fills}
 use Rattle.tb_core.specs.Outcomes.{MayTake, Takes, event_for, grown_by}
-use Rattle.tb_core.specs.Soundness.{seen, IsSound, HasReserved}
+use Rattle.tb_core.specs.Soundness.{seen, names_in, IsSound, HasReserved}
 use Rattle.tb_core.specs.Renumbering.{events_in}
 use Rattle.tb_places.specs.declared.places.Places.{Places}
-use Rattle.tb_places.specs.Places.{IsIndexOf, HasRoomFor as HasRoomForPlaces}
+use Rattle.tb_places.specs.Places.{event_number, IsIndexOf, IsNamed, HasRoomFor as HasRoomForPlaces}
+use Rattle.tb_wait.specs.Kin.{KeepsNames}
+use Rattle.tb_core.proofs.NumberLemmas.{index_kept}
 use Rattle.tb_core.proofs.ShownLemmas.{may_take}
 
 -- ---- what is filled in is settled by the tables
@@ -204,25 +206,29 @@ takes_so s t a to new v e may now = record {
 }
 
 -- the room for a copy of the event is that for the event
-pub some_reserved : (copy v : Event) (room : ℕ) (s : Tables) (p : Places) → copy ≡ v → 0 < room → HasRoomFor s v → HasRoomForPlaces p v → HasReserved (Some copy) room s p
+pub some_reserved : (copy v : Event) (room : ℕ) (s : Tables) (p : Places) → copy ≡ v → 0 < room → HasRoomFor s v → HasRoomForPlaces (names_in s) p v → HasReserved (Some copy) room s p
 some_reserved copy v room s p e some has place = record {
   entry = λ w h. some;
   tables = λ w h. subst (λ (x : Event). HasRoomFor s x) (sym e ∙ ap (λ o. unwrap_or o copy) h) has;
-  places = λ w h. subst (λ (x : Event). HasRoomForPlaces p x) (sym e ∙ ap (λ o. unwrap_or o copy) h) place;
+  places = λ w h. subst (λ (x : Event). HasRoomForPlaces (names_in s) p x) (sym e ∙ ap (λ o. unwrap_or o copy) h) place;
 }
 
 -- ---- the places
 
 -- the entries stay
-pub index_same : (es left : List Entry) (old new : Places) → left ≡ es → ((events : List Event) → IsIndexOf events old → IsIndexOf events new) → IsIndexOf (events_in es) old → IsIndexOf (events_in left) new
-index_same es left old new same kept index = subst (λ l. IsIndexOf (events_in l) new) (sym same) (kept (events_in es) index)
+pub index_same : (es left : List Entry) (old new : Places) (was now : Tables) → left ≡ es → ((names : List Name) (events : List Event) → IsIndexOf names events old → IsIndexOf names events new)
+    → KeepsNames was.waits.tasks now.waits.tasks → IsIndexOf (names_in was) (events_in es) old → IsIndexOf (names_in now) (events_in left) new
+index_same es left old new was now same kept keeps index =
+    subst (λ l. IsIndexOf (names_in now) (events_in l) new) (sym same) (index_kept was now (events_in es) new keeps (kept (names_in was) (events_in es) index))
 
 -- one is added
-pub index_added : (es more : List Entry) (e : Entry) (at : ℕ) (run : List Departure) (old new : Places) → run ≡ map departure (reverse es) → at ≡ length run → more ≡ es ++ e ∷ []
-    → ((events : List Event) → IsIndexOf events old → at ≡ length events → IsIndexOf (events ++ e.event ∷ []) new) → IsIndexOf (events_in es) old → IsIndexOf (events_in more) new
-index_added es more e at run old new is count added pushed index =
+pub index_added : (es more : List Entry) (e : Entry) (at : ℕ) (run : List Departure) (old new : Places) (was now : Tables) (number : Option ℕ) → run ≡ map departure (reverse es) → at ≡ length run → more ≡ es ++ e ∷ []
+    → ((names : List Name) (events : List Event) → number ≡ event_number names e.event → IsNamed names e.event → IsIndexOf names events old → at ≡ length events → IsIndexOf names (events ++ e.event ∷ []) new)
+    → number ≡ event_number (names_in was) e.event → IsNamed (names_in was) e.event → KeepsNames was.waits.tasks now.waits.tasks → IsIndexOf (names_in was) (events_in es) old → IsIndexOf (names_in now) (events_in more) new
+index_added es more e at run old new was now number is count added pushed numbered named keeps index =
     let place : at ≡ length (events_in es) = omega (arith, count, ap length is, length-map (reverse es) departure, length-reverse es, length-map es (λ (x : Entry). x.event)) in
-    subst (λ l. IsIndexOf l new) (sym (ap events_in added ∙ events_append es)) (pushed (events_in es) index place)
+    index_kept was now (events_in more) new keeps
+    (subst (λ l. IsIndexOf (names_in was) l new) (sym (ap events_in added ∙ events_append es)) (pushed (names_in was) (events_in es) numbered named index place))
   where
     events_append : (xs : List Entry) → events_in (xs ++ e ∷ []) ≡ events_in xs ++ e.event ∷ []
     events_append [] = refl

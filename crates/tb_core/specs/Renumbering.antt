@@ -1,6 +1,7 @@
 -- The entries that stay where those at some places go. Public clauses cite the events alone.
 use Rattle.std.specs.Prelude.{◌≡◌, ◌≤◌, ℕ, ◌+◌, ◌==◌, List, [], ◌∷◌, ◌++◌, Bool, false, length, take, drop, map, if◌then◌else◌}
 use Rattle.tb_model.specs.declared.event.Event.{Event}
+use Rattle.tb_model.specs.Names.{Name}
 use Rattle.tb_places.specs.declared.places.Places.{Places}
 use Rattle.tb_places.specs.Places.{IsIndexOf, HasRoomForAll}
 use Rattle.tb_core.specs.declared.entry.Entry.{Entry}
@@ -20,17 +21,17 @@ left_from at going [] = []
 left_from at going (e ∷ es) = if goes_at at going then left_from (at + 1) (drop 1 going) es else e ∷ left_from (at + 1) going es
 
 -- of the entries in front of this place so many stay, and their places are noted; those behind it are to come
-pub record Refills (first : ℕ) (going : List ℕ) (events : List Event) (at next place : ℕ) (places : Places) : Type 0 where
+pub record Refills (names : List Name) (first : ℕ) (going : List ℕ) (events : List Event) (at next place : ℕ) (places : Places) : Type 0 where
   pub done : List Event
-  pub index : IsIndexOf done places
+  pub index : IsIndexOf names done places
   pub count : place ≡ length done
   pub few : place ≤ at
   pub whole : done ++ left_from at (drop next going) (drop at events) ≡ take first events ++ left_from first going (drop first events)
-  pub room : HasRoomForAll (done ++ drop at events) places
+  pub room : HasRoomForAll names (done ++ drop at events) places
 
 -- the entries in front of this place are those of the indexes, which have room for all
-pub record Cuts (first : ℕ) (events : List Event) (at : ℕ) (places : Places) : Type 0 where
+pub record Cuts (names : List Name) (first : ℕ) (events : List Event) (at : ℕ) (places : Places) : Type 0 where
   pub from : first ≤ at
   pub within : at ≤ length events
-  pub index : IsIndexOf (take at events) places
-  pub room : HasRoomForAll events places
+  pub index : IsIndexOf names (take at events) places
+  pub room : HasRoomForAll names events places

@@ -1,6 +1,8 @@
 -- What always holds of a core.
 use Rattle.std.specs.Prelude.{◌≡◌, ◌<◌, ◌≤◌, ℕ, List, [], ◌∷◌, length, map, Option, Some, ⊤}
+use Rattle.std.specs.Map.{keys_of}
 use Rattle.tb_model.specs.declared.event.Event.{Event}
+use Rattle.tb_model.specs.Names.{Name}
 use Rattle.tb_model.specs.Legal.{Cells, Legal}
 use Rattle.tb_model.specs.Lines.{Departure, events_of}
 use Rattle.tb_undo.specs.State.{Seen as Tables, IsState}
@@ -32,8 +34,12 @@ pub record IsSound (first : Cells) (root_line limit : ℕ) (entries : List Entry
   pub within : length entries ≤ limit
   pub bound : limit ≤ 1000000
 
+-- the names of all tasks that were ever generated, each at its task's number
+abbrev pub names_in : Tables → List Name
+names_in tables = keys_of tables.waits.tasks
+
 -- the room for the event that is reserved is there
 pub record HasReserved (reserved : Option Event) (room : ℕ) (held : Tables) (stand : Places) : Type 0 where
   pub entry : (v : Event) → reserved ≡ Some v → 0 < room
   pub tables : (v : Event) → reserved ≡ Some v → HasRoomFor held v
-  pub places : (v : Event) → reserved ≡ Some v → HasRoomForPlaces stand v
+  pub places : (v : Event) → reserved ≡ Some v → HasRoomForPlaces (names_in held) stand v

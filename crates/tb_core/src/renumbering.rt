@@ -1,22 +1,25 @@
 //! The places of the entries, where some of these go. Those that come after the first that goes are
-//! taken off the indexes, and put back with their new numbers; the rest isn't looked at.
+//! taken off the indexes, and put back one lower for each that went; the rest isn't looked at. The tables
+//! tell each task's number.
 
 ghost use Rattle.std.specs.Prelude.{◌≡◌, ◌≤◌, ◌<◌, ◌++◌, ℕ, IsTrue, false, length, take, drop};
 ghost use Rattle.tb_places.specs.Places.{IsIndexOf, HasRoomForAll};
 ghost use Rattle.tb_core.specs.Renumbering.{events_in, goes_at, left_from};
+ghost use Rattle.tb_core.specs.Soundness.{names_in};
 
 use crate::entry::Entry;
 use tb_places::Places;
+use tb_undo::Tables;
 
 /// Renumbers the entries that stay where those at these places, which rise, go.
-pub fn renumber(places: &mut Places, entries: &[Entry], going: &[u32])
-    requires index { IsIndexOf (events_in entries.now) places.old }
+pub fn renumber(places: &mut Places, tables: &Tables, entries: &[Entry], going: &[u32])
+    requires index { IsIndexOf (names_in tables.now) (events_in entries.now) places.old }
     requires bound { length entries.now ≤ 1000000 }
-    ensures { IsIndexOf (left_from 0 going.now (events_in entries.now)) places.new }
+    ensures { IsIndexOf (names_in tables.now) (left_from 0 going.now (events_in entries.now)) places.new }
 {
     let first = first_of(going, entries.len());
-    cut(places, entries, first);
-    refill(places, entries, first, going);
+    cut(places, tables, entries, first);
+    refill(places, tables, entries, first, going);
 }
 
 /// The first place that goes, or the end.
@@ -31,35 +34,41 @@ fn first_of(going: &[u32], end: usize) -> usize
 }
 
 /// Takes the entries from this place on off the indexes.
-fn cut(places: &mut Places, entries: &[Entry], first: usize)
-    requires index { IsIndexOf (events_in entries.now) places.old }
+fn cut(places: &mut Places, tables: &Tables, entries: &[Entry], first: usize)
+    requires index { IsIndexOf (names_in tables.now) (events_in entries.now) places.old }
     requires within { first ≤ length entries.now }
-    ensures index { IsIndexOf (take first (events_in entries.now)) places.new }
-    ensures room { HasRoomForAll (events_in entries.now) places.new }
+    ensures index { IsIndexOf (names_in tables.now) (take first (events_in entries.now)) places.new }
+    ensures room { HasRoomForAll (names_in tables.now) (events_in entries.now) places.new }
 {
     let mut at = entries.len();
+    let mut near = 0;
     'back: while first < at {
         at -= 1;
-        places.pop(&entries[at].event);
+        let event = &entries[at].event;
+        let number = tables.walk_place(&mut near, &event.task);
+        places.pop(number, event);
     }
 }
 
 /// Puts those that stay back, each with its new place.
-fn refill(places: &mut Places, entries: &[Entry], first: usize, going: &[u32])
-    requires index { IsIndexOf (take first (events_in entries.now)) places.old }
-    requires room { HasRoomForAll (events_in entries.now) places.old }
+fn refill(places: &mut Places, tables: &Tables, entries: &[Entry], first: usize, going: &[u32])
+    requires index { IsIndexOf (names_in tables.now) (take first (events_in entries.now)) places.old }
+    requires room { HasRoomForAll (names_in tables.now) (events_in entries.now) places.old }
     requires within { first ≤ length entries.now }
     requires bound { length entries.now ≤ 1000000 }
-    ensures { IsIndexOf (take first (events_in entries.now)
+    ensures { IsIndexOf (names_in tables.now) (take first (events_in entries.now)
         ++ left_from first going.now (drop first (events_in entries.now))) places.new }
 {
     let mut next = 0;
+    let mut near = 0;
     let mut place = first as u32;
     for at in first..entries.len() {
         if goes(going, next, at) {
             next += 1;
         } else {
-            places.push_reserved(&entries[at].event, place);
+            let event = &entries[at].event;
+            let number = tables.walk_place(&mut near, &event.task);
+            places.push_reserved(number, event, place);
             place += 1;
         }
     }

@@ -3,8 +3,9 @@
 mod clear;
 mod reading;
 mod state;
+mod undoing;
 
-ghost use Rattle.std.specs.Prelude.{◌≡◌, ◌≢◌, ◌<◌, ◌≤◌, ◌+◌, ◌↔◌, [], ◌∷◌, OnOk, IfOk, IfErr, OnErr, IfSome, IfNone, IsOk, IsSome, IsErrOf, IsTrue, IsFalse, length, reverse, slice_get, Some, None, if◌then◌else◌, map, vec_len, vec_capacity};
+ghost use Rattle.std.specs.Prelude.{◌≡◌, ◌≢◌, ◌<◌, ◌≤◌, ◌+◌, ◌↔◌, [], ◌∷◌, OnOk, IfOk, IfErr, OnErr, IfSome, IfNone, IsOk, IsTrue, IsFalse, length, reverse, slice_get, Some, None, if◌then◌else◌, map, vec_len, vec_capacity};
 ghost use Rattle.std.specs.Option.{option_copied};
 ghost use Rattle.tb_model.specs.Facts.{is_spawned};
 ghost use Rattle.tb_model.specs.Equivalent.{stands};
@@ -14,23 +15,16 @@ ghost use Rattle.tb_core.specs.Soundness.{departure};
 ghost use Rattle.tb_core.specs.Naming.{config_with};
 ghost use Rattle.tb_core.specs.Seen.{history};
 ghost use Rattle.tb_core.specs.Situation.{config_of};
-ghost use Rattle.tb_core.specs.Outcomes.{event_for, event_of, has_ended, Fits, IsOpen, IsKept, IsKeptBy, MayTake, Takes, grown_by, Refuses, Steps, Stepped, IsFree, IsPlaceOf, TakesBack, Keeps, Undone};
+ghost use Rattle.tb_core.specs.Outcomes.{event_of, has_ended, Fits, IsOpen, IsKept, IsKeptBy, Takes, grown_by, Refuses, Steps, Stepped};
 ghost use Rattle.tb_core.specs.Soundness.{AreRecords, seen};
 ghost use Rattle.tb_core.specs.declared.step_refusal.StepRefusal.TheVariants.{Memory};
-ghost use Rattle.tb_core.specs.Rolled.{IsOfHistory, RollsBack};
 ghost use Rattle.tb_core.specs.Scans.{AreLegal};
 
 use crate::answers::{config, named, stale, stands_so};
 use crate::entry::Entry;
 use crate::filling::{copy_event, copy_of, fill_in, forget, planned, spares};
-use crate::needing::first_needer;
-use crate::places::{is_number_of, place_in, step_among};
-use crate::removed::Removed;
-use crate::renumbering::renumber;
-use crate::rollback::Rollback;
+use crate::places::is_number_of;
 use crate::step_refusal::StepRefusal;
-use crate::undo_refusal::UndoRefusal;
-use crate::unwinding::{put_back, unwind};
 use std::alloc::{AllocError, Global};
 use std::marker::Model;
 use tb_model::{Action, Event, StepId, TaskName};
@@ -56,7 +50,7 @@ pub struct Core {
 impl Model for Core {
     ghost use Rattle.std.specs.Prelude.{◌-◌, reverse, vec_len, vec_capacity};
     ghost use Rattle.tb_core.specs.Seen.{Held};
-    ghost use Rattle.tb_core.specs.Soundness.{seen, IsSound, HasReserved};
+    ghost use Rattle.tb_core.specs.Soundness.{seen, names_in, IsSound, HasReserved};
     ghost use Rattle.tb_core.specs.Renumbering.{events_in};
     ghost use Rattle.tb_places.specs.Places.{IsIndexOf};
 
@@ -64,7 +58,7 @@ impl Model for Core {
 
     ghost view = { λ c. record { run = seen c.first.items c.root_line c.limit (reverse c.entries.items); reserved = c.reserved } };
 
-    ghost invariant = { λ c. IsSound c.first.items c.root_line c.limit (reverse c.entries.items) c.tables × HasReserved c.reserved (vec_capacity c.entries - vec_len c.entries) c.tables c.places × IsIndexOf (events_in c.entries.items) c.places };
+    ghost invariant = { λ c. IsSound c.first.items c.root_line c.limit (reverse c.entries.items) c.tables × HasReserved c.reserved (vec_capacity c.entries - vec_len c.entries) c.tables c.places × IsIndexOf (names_in c.tables) (events_in c.entries.items) c.places };
 }
 
 impl Core {
@@ -311,9 +305,10 @@ impl Core {
         let at = self.count();
         reserve_one(&mut self.entries)?;
         forget(&mut self.reserved);
-        self.places.reserve(&event)?;
+        let number = self.tables.place(&event.task);
+        self.places.reserve(number, &event)?;
         let replaced = self.tables.apply(&event, to)?;
-        self.places.push_reserved(&event, at);
+        self.places.push_reserved(number, &event, at);
         self.entries.push_reserved(Entry::new(event, to, replaced));
         Ok(())
     }
@@ -330,8 +325,9 @@ impl Core {
         let copy = copy_event(&event)?;
         self.entries.reserve(1)?;
         self.reserved = None;
-        self.places.reserve(&event)?;
         self.tables.reserve_apply(&event)?;
+        let number = self.tables.place(&event.task);
+        self.places.reserve(number, &event)?;
         self.reserved = Some(copy);
         Ok(event)
     }
@@ -355,93 +351,15 @@ impl Core {
         let task = copy_of(&config.task, its_name)?;
         let event = fill_in(&self.tables, config.task, action, its_spawn)?;
         self.entries.reserve(1)?;
-        self.places.reserve(&event)?;
+        let number = self.tables.place(&event.task);
+        self.places.reserve(number, &event)?;
         let replaced = self.tables.apply(&event, to)?;
-        self.places.push_reserved(&event, at);
+        self.places.push_reserved(number, &event, at);
         self.entries.push_reserved(Entry::new(event, to, replaced));
         Ok(StepId {
             task,
             k: config.steps + 1,
         })
-    }
-
-    /// Takes the entry at this place out, of a step that nothing needs.
-    fn take_out(&mut self, at: usize, id: &StepId) -> Removed
-        requires free { IsFree self.old.run id.now }
-        requires here { IsPlaceOf self.old.run id.now at }
-        ensures { TakesBack self.old.run id.now self.new.run result }
-    {
-        self.reserved = None;
-        renumber(&mut self.places, self.entries.as_slice(), &[at as u32]);
-        let entry = self.entries.remove(at);
-        let replaced = entry.replaced();
-        let event = entry.event;
-        self.tables.revert(&event, replaced);
-        Removed {
-            id: StepId {
-                task: event.task,
-                k: id.k,
-            },
-            action: event.action,
-        }
-    }
-
-    /// The place of a step that nothing needs.
-    fn free_place(&self, id: &StepId) -> Result<usize, UndoRefusal>
-        ensures place { IfOk result (IsPlaceOf self.now.run id.now) }
-        ensures free { OnOk result (IsFree self.now.run id.now) }
-        ensures kept { IfErr result (Keeps self.now.run id.now) }
-    {
-        let Some(at) = place_in(self.places.events_of(&id.task), &self.entries, id) else {
-            return Err(UndoRefusal::NoSuchStep);
-        };
-        let Some(by) = first_needer(&self.entries, at) else {
-            return Ok(at);
-        };
-        let own = self.places.events_of(&self.entries[by].event.task);
-        match step_among(own, &self.entries, by) {
-            Ok(by) => Err(UndoRefusal::Needed { by }),
-            Err(_) => Err(UndoRefusal::Memory),
-        }
-    }
-
-    /// Why the step stays, if it does: it isn't there, or something needs it.
-    pub fn keeps(&self, id: &StepId) -> Option<UndoRefusal>
-        ensures some { IfSome result (Keeps self.now.run id.now) }
-        ensures none { IfNone result (IsFree self.now.run id.now) }
-    {
-        self.free_place(id).err()
-    }
-
-    /// Takes a step back that nothing needs, wherever it stands. It takes no memory where that is
-    /// done. Where it stands is known.
-    pub fn undo(&mut self, id: &StepId) -> Result<Removed, UndoRefusal>
-        ensures undone { Undone self.old.run id.now self.new.run result }
-        ensures err { OnErr result (self.new ≡ self.old) }
-        ensures succeeds { IsFree self.old.run id.now → IsOk result }
-    {
-        match self.free_place(id) {
-            Ok(at) => Ok(self.take_out(at, id)),
-            Err(refusal) => Err(refusal),
-        }
-    }
-
-    /// Takes a step back with all that need it, each by its own record, from the newest on. It
-    /// takes no memory, and what stands behind the first of them is moved once.
-    pub fn take_out_all(&mut self, rollback: Rollback) -> Vec<Removed>
-        requires { IsOfHistory (history self.old.run) rollback }
-        ensures { RollsBack self.old.run rollback.step self.new.run result.items }
-    {
-        self.reserved = None;
-        renumber(
-            &mut self.places,
-            self.entries.as_slice(),
-            rollback.places.as_slice(),
-        );
-        let (kept, mut removed) = unwind(&mut self.entries, &mut self.tables, rollback);
-        put_back(&mut self.entries, kept);
-        removed.reverse();
-        removed
     }
 
     /// The steps that stand, from the oldest to the newest, each with the line at which it left its

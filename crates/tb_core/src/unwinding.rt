@@ -2,6 +2,7 @@
 //! it. So each is moved twice at most, however many go.
 
 ghost use Rattle.std.specs.Prelude.{◌≡◌, ◌≤◌, ◌+◌, ◌++◌, reverse, vec_len, vec_capacity};
+ghost use Rattle.tb_wait.specs.Kin.{KeepsNames};
 ghost use Rattle.tb_core.specs.Rolled.{IsOfHistory};
 ghost use Rattle.tb_core.specs.Unwinding.{events, AreTied, Unwound};
 
@@ -22,6 +23,7 @@ pub fn unwind(
     requires ready { IsOfHistory (events (reverse entries.old.items)) rollback }
     ensures unwound { Unwound rollback.step entries.old.items tables.old entries.new.items
         result.0.items tables.new result.1.items }
+    ensures names { KeepsNames tables.old.waits.tasks tables.new.waits.tasks }
     ensures capacity { vec_capacity entries.new ≡ vec_capacity entries.old }
     ensures count { vec_len entries.new + vec_len result.0 ≤ vec_len entries.old }
 {

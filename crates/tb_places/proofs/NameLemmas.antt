@@ -1,7 +1,8 @@
 -- The number of a name among those that have one.
-use Rattle.std.proofs.Common.{◌≡◌, ◌<◌, ◌==◌, ℕ, List, [], Bool, true, false, cond, ltb, Option, Some, None, length, get_or, slice_get, is_some, refl, sym, ap, ◌∙◌, subst, arith, rules, tests}
+use Rattle.std.proofs.Common.{◌≡◌, ◌<◌, ◌==◌, ◌+◌, ◌++◌, ℕ, suc, List, [], ◌∷◌, Bool, true, false, not, cond, ltb, Option, Some, None, length, get_or, slice_get, is_some, refl, sym, ap, ◌∙◌, subst, arith, rules, tests}
 use Rattle.std.specs.List.{IsDistinct, list_any, position_or_len}
-use Rattle.std.proofs.lemmas.Bool.{true≢false}
+use Rattle.std.proofs.lemmas.Bool.{true≢false, ltb-true, lt-ltb}
+use Rattle.std.proofs.lemmas.List.{length-append}
 use Rattle.std.proofs.lemmas.Bool.Decides.{nat_tests}
 use Rattle.std.proofs.lemmas.Map.Keys.{apart_from_distinct}
 use Rattle.std.proofs.lemmas.List.Folds.{list_any_at}
@@ -74,3 +75,30 @@ numbered ks t some = by (number_of ks t) refl
     by (Some k) e =
         let x = position-Some (same_name t) ks k [] e in
         list_any_at (same_name t) ks k [] x.0 x.1
+
+-- ---- it keeps its number where others come after it
+
+first_grown : (p : Name → Bool) (ks more : List Name) → position_or_len p ks < length ks → position_or_len p (ks ++ more) ≡ position_or_len p ks
+first_grown p [] more w = absurd (omega (arith, w))
+first_grown p (k ∷ ks) more w = by (first_grown p ks more) (p k) refl
+  where
+    by : (position_or_len p ks < length ks → position_or_len p (ks ++ more) ≡ position_or_len p ks) → (b : Bool) → p k ≡ b → cond (not (p k)) (1 + position_or_len p (ks ++ more)) 0 ≡ cond (not (p k)) (1 + position_or_len p ks) 0
+    by rest true h = ap (λ b. cond (not b) (1 + position_or_len p (ks ++ more)) 0) h ∙ sym (ap (λ b. cond (not b) (1 + position_or_len p ks) 0) h)
+    by rest false h =
+        let within : 1 + position_or_len p ks < suc (length ks) = subst (λ n. n < suc (length ks)) (ap (λ b. cond (not b) (1 + position_or_len p ks) 0) h) w in
+        ap (λ b. cond (not b) (1 + position_or_len p (ks ++ more)) 0) h ∙ ap (λ n. 1 + n) (rest (omega (arith, within))) ∙ sym (ap (λ b. cond (not b) (1 + position_or_len p ks) 0) h)
+
+pub number_grown : (ks more : List Name) (t : Name) → is_some (number_of ks t) ≡ true → number_of (ks ++ more) t ≡ number_of ks t
+number_grown ks more t some =
+    by (ltb (position_or_len (same_name t) ks) (length ks)) refl
+  where
+    n : ℕ
+    n = position_or_len (same_name t) ks
+
+    by : (b : Bool) → ltb n (length ks) ≡ b → number_of (ks ++ more) t ≡ number_of ks t
+    by false h = absurd (true≢false (sym some ∙ ap (λ b. is_some (cond b (Some n) None)) h))
+    by true h =
+        let within = ltb-true n (length ks) h in
+        let longer : n < length (ks ++ more) = omega (arith, within, length-append ks more) in
+        ap (λ m. cond (ltb m (length (ks ++ more))) (Some m) None) (first_grown (same_name t) ks more within)
+        ∙ ap (λ b. cond b (Some n) None) (lt-ltb n (length (ks ++ more)) longer) ∙ sym (ap (λ b. cond b (Some n) None) h)

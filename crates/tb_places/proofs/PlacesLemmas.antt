@@ -1,5 +1,5 @@
 -- How the places change where an event is added at the end, and where the last is taken off.
-use Rattle.std.proofs.Common.{◌≡◌, ◌+◌, ℕ, List, [], ◌∷◌, ◌++◌, Bool, true, false, cond, Some, None, refl, sym, ap, ◌∙◌, subst, is_some}
+use Rattle.std.proofs.Common.{◌≡◌, ◌+◌, ℕ, List, [], ◌∷◌, ◌++◌, Bool, false, cond, Some, None, refl, sym, ap, ◌∙◌, is_some}
 use Rattle.std.specs.List.{AllByRecursion}
 use Rattle.tb_model.specs.declared.event.Event.{Event}
 use Rattle.tb_model.specs.Names.{Name}
@@ -9,7 +9,7 @@ use Rattle.tb_places.specs.Where.{places_from, places_where}
 use Rattle.tb_places.specs.Numbers.{number_of}
 use Rattle.tb_places.specs.Rows.{row_of, is_in_row, is_of_row, AreRows}
 use Rattle.tb_places.specs.Places.{event_mark, event_number, IsNamed, IsIndexOf}
-use Rattle.tb_places.proofs.NameLemmas.{one_number, no_number}
+use Rattle.tb_places.proofs.NameLemmas.{one_number, no_number, number_grown}
 use Rattle.tb_places.proofs.WhereLemmas.{places_cons}
 
 -- ---- lists
@@ -46,38 +46,42 @@ always P (x ∷ es) f = (f x, always P es f)
 
 -- ---- what is read
 
-module _ (es : List Event) (p : Places) (index : IsIndexOf es p) (t : Name) where
-  pub own_row : (k : ℕ) → number_of p.names.keys.keys t ≡ Some k → row_of p.own k ≡ places_where (is_of t) es
-  own_row k at = index.own k ∙ places_alike 0 _ (is_of t) es (always _ es (λ e. one_number p.names.keys.keys k t e.task at))
+module _ (names : List Name) (es : List Event) (p : Places) (index : IsIndexOf names es p) (t : Name) where
+  pub own_row : (k : ℕ) → number_of names t ≡ Some k → row_of p.own k ≡ places_where (is_of t) es
+  own_row k at = index.own k ∙ places_alike 0 _ (is_of t) es (always _ es (λ e. one_number names k t e.task at))
 
-  pub own_none : number_of p.names.keys.keys t ≡ None → [] ≡ places_where (is_of t) es
-  own_none none = sym (places_none 0 (is_of t) es (all_map (IsNamed p.names.keys.keys) (λ e. is_of t e ≡ false) es (λ e named. no_number p.names.keys.keys t e.task none named) index.named))
+  pub own_none : number_of names t ≡ None → [] ≡ places_where (is_of t) es
+  own_none none = sym (places_none 0 (is_of t) es (all_map (IsNamed names) (λ e. is_of t e ≡ false) es (λ e named. no_number names t e.task none named) index.named))
 
 -- ---- more names
 
-module _ (old new : Places) (others : (t : Name) → is_some (number_of old.names.keys.keys t) ≡ true → number_of new.names.keys.keys t ≡ number_of old.names.keys.keys t)
-    (own : (k : ℕ) → row_of new.own k ≡ row_of old.own k) (marks : (k : ℕ) → row_of new.marks k ≡ row_of old.marks k) where
-  pub index_renamed : (es : List Event) → IsIndexOf es old → IsIndexOf es new
-  index_renamed es index = record {
-    named = all_map (IsNamed old.names.keys.keys) (IsNamed new.names.keys.keys) es (λ e named. ap is_some (others e.task named) ∙ named) index.named;
-    own = λ k. own k ∙ index.own k ∙ places_alike 0 (is_of_row (event_number old.names.keys.keys) k) (is_of_row (event_number new.names.keys.keys) k) es
-        (all_map (IsNamed old.names.keys.keys) (λ e. is_of_row (event_number old.names.keys.keys) k e ≡ is_of_row (event_number new.names.keys.keys) k e) es (λ e named. ap (is_in_row k) (sym (others e.task named))) index.named);
-    marks = λ k. marks k ∙ index.marks k;
-  }
+-- names that come last change nothing
+pub index_grown : (names more : List Name) (es : List Event) (p : Places) → IsIndexOf names es p → IsIndexOf (names ++ more) es p
+index_grown names more es p index = record {
+  named = all_map (IsNamed names) (IsNamed (names ++ more)) es (λ e named. ap is_some (number_grown names more e.task named) ∙ named) index.named;
+  own = λ k. index.own k ∙ places_alike 0 (is_of_row (event_number names) k) (is_of_row (event_number (names ++ more)) k) es
+      (all_map (IsNamed names) (λ e. is_of_row (event_number names) k e ≡ is_of_row (event_number (names ++ more)) k e) es (λ e named. ap (is_in_row k) (sym (number_grown names more e.task named))) index.named);
+  marks = index.marks;
+}
+
+-- ---- the rows change
+
+pub index_reserved : (names : List Name) (es : List Event) (old new : Places) → ((k : ℕ) → row_of new.own k ≡ row_of old.own k) → ((k : ℕ) → row_of new.marks k ≡ row_of old.marks k) → IsIndexOf names es old → IsIndexOf names es new
+index_reserved names es old new own marks index = record { named = index.named; own = λ k. own k ∙ index.own k; marks = λ k. marks k ∙ index.marks k }
 
 -- ---- one event more, one less
 
-module _ (es : List Event) (e : Event) (old new : Places) (same : new.names.keys ≡ old.names.keys) where
-  pub index_pushed : IsNamed old.names.keys.keys e → IsIndexOf es old → AreRows (event_number old.names.keys.keys) (es ++ e ∷ []) new.own → AreRows event_mark (es ++ e ∷ []) new.marks → IsIndexOf (es ++ e ∷ []) new
+module _ (names : List Name) (es : List Event) (e : Event) (old new : Places) where
+  pub index_pushed : IsNamed names e → IsIndexOf names es old → AreRows (event_number names) (es ++ e ∷ []) new.own → AreRows event_mark (es ++ e ∷ []) new.marks → IsIndexOf names (es ++ e ∷ []) new
   index_pushed named index own marks = record {
-    named = subst (λ s. AllByRecursion (IsNamed s.keys) (es ++ e ∷ [])) (sym same) (all_append (IsNamed old.names.keys.keys) es (e ∷ []) index.named (named, tt));
-    own = subst (λ s. AreRows (event_number s.keys) (es ++ e ∷ []) new.own) (sym same) own;
+    named = all_append (IsNamed names) es (e ∷ []) index.named (named, tt);
+    own = own;
     marks = marks;
   }
 
-  pub index_popped : IsIndexOf (es ++ e ∷ []) old → AreRows (event_number old.names.keys.keys) es new.own → AreRows event_mark es new.marks → IsIndexOf es new
+  pub index_popped : IsIndexOf names (es ++ e ∷ []) old → AreRows (event_number names) es new.own → AreRows event_mark es new.marks → IsIndexOf names es new
   index_popped index own marks = record {
-    named = subst (λ s. AllByRecursion (IsNamed s.keys) es) (sym same) (all_parts (IsNamed old.names.keys.keys) es (e ∷ []) index.named).0;
-    own = subst (λ s. AreRows (event_number s.keys) es new.own) (sym same) own;
+    named = (all_parts (IsNamed names) es (e ∷ []) index.named).0;
+    own = own;
     marks = marks;
   }

@@ -1,11 +1,11 @@
 -- The room of the rows holds for all events that they have, and stays.
-use Rattle.std.proofs.Common.{◌≡◌, ◌+◌, ◌≤◌, ℕ, suc, List, [], ◌∷◌, ◌++◌, Bool, true, false, cond, filter, Option, Some, None, length, slice_get, refl, sym, ap, ◌∙◌, subst, arith, Vec, vec_capacity}
+use Rattle.std.proofs.Common.{◌≡◌, ◌+◌, ◌≤◌, ℕ, suc, List, [], ◌∷◌, ◌++◌, Bool, true, false, cond, filter, Option, Some, None, length, slice_get, refl, ap, ◌∙◌, arith, Vec, vec_capacity}
 use Rattle.std.specs.declared.alloc.Global.{Global}
-use Rattle.std.specs.List.{AllByRecursion}
 use Rattle.std.specs.Option.{option_map_or}
 use Rattle.std.proofs.lemmas.List.{length-append}
 use Rattle.std.proofs.lemmas.List.Elements.{filter-append}
 use Rattle.tb_model.specs.declared.event.Event.{Event}
+use Rattle.tb_model.specs.Names.{Name}
 use Rattle.tb_places.specs.declared.places.Places.{Places}
 use Rattle.tb_places.specs.declared.rows.Rows.{Rows}
 use Rattle.tb_places.specs.Where.{places_from}
@@ -67,34 +67,37 @@ rows_without number xs ys e r room k =
 -- ---- the places
 
 -- there is room for the events that are there
-pub room_of_index : (es : List Event) (p : Places) → IsIndexOf es p → HasRoomForAll es p
-room_of_index es p index = record {
+pub room_of_index : (names : List Name) (es : List Event) (p : Places) → IsIndexOf names es p → HasRoomForAll names es p
+room_of_index names es p index = record {
   named = index.named;
-  own = rows_within (event_number p.names.keys.keys) es p.own index.own;
+  own = rows_within (event_number names) es p.own index.own;
   marks = rows_within event_mark es p.marks index.marks;
 }
 
 -- for the next of them
-pub room_next : (xs ys : List Event) (e : Event) (p : Places) → IsIndexOf xs p → HasRoomForAll (xs ++ e ∷ ys) p → HasRoomFor p e
-room_next xs ys e p index room = record {
-  named = (all_parts (IsNamed p.names.keys.keys) xs (e ∷ ys) room.named).1.0;
-  own = row_next (event_number p.names.keys.keys) xs ys e p.own index.own room.own;
+pub room_next : (names : List Name) (xs ys : List Event) (e : Event) (p : Places) → IsIndexOf names xs p → HasRoomForAll names (xs ++ e ∷ ys) p → HasRoomFor names p e
+room_next names xs ys e p index room = record {
+  own = row_next (event_number names) xs ys e p.own index.own room.own;
   mark = row_next event_mark xs ys e p.marks index.marks room.marks;
 }
 
 -- and without one of them
-pub room_without : (xs ys : List Event) (e : Event) (p : Places) → HasRoomForAll (xs ++ e ∷ ys) p → HasRoomForAll (xs ++ ys) p
-room_without xs ys e p room = record {
+pub room_without : (names : List Name) (xs ys : List Event) (e : Event) (p : Places) → HasRoomForAll names (xs ++ e ∷ ys) p → HasRoomForAll names (xs ++ ys) p
+room_without names xs ys e p room = record {
   named =
-      let parts = all_parts (IsNamed p.names.keys.keys) xs (e ∷ ys) room.named in
-      all_append (IsNamed p.names.keys.keys) xs ys parts.0 parts.1.1;
-  own = rows_without (event_number p.names.keys.keys) xs ys e p.own room.own;
+      let parts = all_parts (IsNamed names) xs (e ∷ ys) room.named in
+      all_append (IsNamed names) xs ys parts.0 parts.1.1;
+  own = rows_without (event_number names) xs ys e p.own room.own;
   marks = rows_without event_mark xs ys e p.marks room.marks;
 }
 
-pub room_kept : (es : List Event) (old new : Places) → KeepsRoom old new → HasRoomForAll es old → HasRoomForAll es new
-room_kept es old new keeps room = record {
-  named = subst (λ s. AllByRecursion (IsNamed s.keys) es) (sym keeps.names) room.named;
-  own = subst (λ s. (k : ℕ) → length (filter (is_of_row (event_number s.keys) k) es) ≤ room_of new.own k) (sym keeps.names) (λ k. omega (arith, room.own k, keeps.own k));
+pub room_kept : (names : List Name) (es : List Event) (old new : Places) → KeepsRoom old new → HasRoomForAll names es old → HasRoomForAll names es new
+room_kept names es old new keeps room = record {
+  named = room.named;
+  own = λ k. omega (arith, room.own k, keeps.own k);
   marks = λ k. omega (arith, room.marks k, keeps.marks k);
 }
+
+-- the event that comes next is named
+pub named_next : (names : List Name) (xs ys : List Event) (e : Event) (p : Places) → HasRoomForAll names (xs ++ e ∷ ys) p → IsNamed names e
+named_next names xs ys e p room = (all_parts (IsNamed names) xs (e ∷ ys) room.named).1.0

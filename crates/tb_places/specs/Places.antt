@@ -26,29 +26,31 @@ event_number names e = number_of names e.task
 abbrev pub IsNamed : List Name → Event → Type 0
 IsNamed names e = is_some (event_number names e) ≡ true
 
--- ---- the rows are those of these events, the oldest first
+-- ---- the rows are those of these events, the oldest first, where each task has the number of its name among these
 
-pub record IsIndexOf (events : List Event) (p : Places) : Type 0 where
-  pub named : AllByRecursion (IsNamed p.names.keys.keys) events
-  pub own : AreRows (event_number p.names.keys.keys) events p.own
+pub record IsIndexOf (names : List Name) (events : List Event) (p : Places) : Type 0 where
+  pub named : AllByRecursion (IsNamed names) events
+  pub own : AreRows (event_number names) events p.own
   pub marks : AreRows event_mark events p.marks
 
 -- ---- room
 
--- the event's places take no memory
-pub record HasRoomFor (p : Places) (e : Event) : Type 0 where
-  pub named : IsNamed p.names.keys.keys e
-  pub own : HasRoomAt p.own (event_number p.names.keys.keys e)
+-- the places of the event, whose task has this number, take no memory
+pub record HasRoomAs (p : Places) (number : Option ℕ) (e : Event) : Type 0 where
+  pub own : HasRoomAt p.own number
   pub mark : HasRoomAt p.marks (event_mark e)
 
+-- the same, by its task's name
+abbrev pub HasRoomFor : List Name → Places → Event → Type 0
+HasRoomFor names p e = HasRoomAs p (event_number names e) e
+
 -- nor do those of all of these
-pub record HasRoomForAll (events : List Event) (p : Places) : Type 0 where
-  pub named : AllByRecursion (IsNamed p.names.keys.keys) events
-  pub own : (k : ℕ) → length (filter (is_of_row (event_number p.names.keys.keys) k) events) ≤ room_of p.own k
+pub record HasRoomForAll (names : List Name) (events : List Event) (p : Places) : Type 0 where
+  pub named : AllByRecursion (IsNamed names) events
+  pub own : (k : ℕ) → length (filter (is_of_row (event_number names) k) events) ≤ room_of p.own k
   pub marks : (k : ℕ) → length (filter (is_of_row event_mark k) events) ≤ room_of p.marks k
 
 -- the memory stays as it is
 pub record KeepsRoom (old new : Places) : Type 0 where
-  pub names : new.names.keys ≡ old.names.keys
   pub own : KeepsRooms old.own new.own
   pub marks : KeepsRooms old.marks new.marks

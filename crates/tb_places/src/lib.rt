@@ -2,7 +2,6 @@
 #![tactic(auto)]
 
 mod marks;
-mod names;
 mod places;
 mod rows;
 

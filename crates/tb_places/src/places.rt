@@ -1,22 +1,23 @@
 //! The places of a history's events.
 
 ghost use Rattle.std.specs.Prelude.{◌≡◌, ◌++◌, ◌∷◌, [], List, OnOk, IsOk, length};
+ghost use Rattle.tb_model.specs.Names.{Name};
 ghost use Rattle.tb_model.specs.declared.event.Event.{Event as AnEvent};
 ghost use Rattle.tb_model.specs.Facts.{is_of, is_print, touches};
-ghost use Rattle.tb_places.specs.Places.{IsIndexOf, HasRoomFor, KeepsRoom};
+ghost use Rattle.tb_places.specs.Numbers.{number_of};
+ghost use Rattle.tb_places.specs.Places.{event_number, IsIndexOf, IsNamed, HasRoomAs, KeepsRoom};
 ghost use Rattle.tb_places.specs.Where.{places_where};
 
 use crate::marks::mark_of;
-use crate::names::Names;
 use crate::rows::Rows;
 use std::alloc::{AllocError, Global};
-use tb_model::{Event, TaskName};
+use tb_model::Event;
 
 /// Where the events of a history stand: those of each task, those that load from a cell or store to
-/// it, and those that print. The history itself isn't kept here.
+/// it, and those that print. Neither the history nor the tasks' names are kept here: a task is given by a
+/// number, which is its own for good.
 #[derive(Drop)]
 pub struct Places {
-    names: Names,
     // the row of each task has its number
     own: Rows,
     // the output's row is the first, then comes each cell's
@@ -25,21 +26,20 @@ pub struct Places {
 
 impl Places {
     pub fn new(alloc: Global) -> Places
-        ensures { IsIndexOf [] result }
+        ensures { (names : List Name) → IsIndexOf names [] result }
     {
         Places {
-            names: Names::new(alloc),
             own: Rows::new(alloc),
             marks: Rows::new(alloc),
         }
     }
 
-    /// The places of the task's events, rising.
-    pub fn events_of(&self, task: &TaskName) -> &[u32]
-        ensures { (events : List AnEvent) → IsIndexOf events self.now →
-            result.now ≡ places_where (is_of task.now) events }
+    /// The places of the events of the task with this number, rising. One without a number has none.
+    pub fn events_of(&self, number: Option<usize>) -> &[u32]
+        ensures { (names : List Name) (task : Name) (events : List AnEvent) → number ≡ number_of names task →
+            IsIndexOf names events self.now → result.now ≡ places_where (is_of task) events }
     {
-        match self.names.number(task) {
+        match number {
             Some(number) => self.own.row(number),
             None => &[],
         }
@@ -47,7 +47,7 @@ impl Places {
 
     /// The places of the cell's loads and stores, rising.
     pub fn touches(&self, cell: u32) -> &[u32]
-        ensures { (events : List AnEvent) → IsIndexOf events self.now →
+        ensures { (names : List Name) (events : List AnEvent) → IsIndexOf names events self.now →
             result.now ≡ places_where (λ e. touches cell e.action) events }
     {
         self.marks.row(cell as usize + 1)
@@ -55,45 +55,43 @@ impl Places {
 
     /// The places of the prints, rising.
     pub fn prints(&self) -> &[u32]
-        ensures { (events : List AnEvent) → IsIndexOf events self.now →
+        ensures { (names : List Name) (events : List AnEvent) → IsIndexOf names events self.now →
             result.now ≡ places_where (λ e. is_print e.action) events }
     {
         self.marks.row(0)
     }
 
-    /// Makes room for the event's places.
+    /// Makes room for the places of the event, whose task has this number.
     #[inline(always)]
-    pub fn reserve(&mut self, event: &Event) -> Result<(), AllocError>
-        ensures same { (events : List AnEvent) → IsIndexOf events self.old →
-            IsIndexOf events self.new }
-        ensures ok { OnOk result (HasRoomFor self.new event.now) }
-        ensures succeeds { HasRoomFor self.old event.now → IsOk result }
+    pub fn reserve(&mut self, number: Option<usize>, event: &Event) -> Result<(), AllocError>
+        ensures same { (names : List Name) (events : List AnEvent) → IsIndexOf names events self.old →
+            IsIndexOf names events self.new }
+        ensures ok { OnOk result (HasRoomAs self.new number event.now) }
+        ensures succeeds { HasRoomAs self.old number event.now → IsOk result }
     {
-        let number = self.names.name(&event.task)?;
-        self.own.reserve_at(Some(number))?;
+        self.own.reserve_at(number)?;
         self.marks.reserve_at(mark_of(&event.action))
     }
 
-    /// Notes the place of an event that comes after all others.
+    /// Notes the place of an event that comes after all others, and whose task has this number.
     #[inline(always)]
-    pub fn push_reserved(&mut self, event: &Event, at: u32)
-        requires { HasRoomFor self.old event.now }
-        ensures pushed { (events : List AnEvent) → IsIndexOf events self.old →
-            at ≡ length events → IsIndexOf (events ++ event.now ∷ []) self.new }
+    pub fn push_reserved(&mut self, number: Option<usize>, event: &Event, at: u32)
+        requires { HasRoomAs self.old number event.now }
+        ensures pushed { (names : List Name) (events : List AnEvent) → number ≡ event_number names event.now →
+            IsNamed names event.now → IsIndexOf names events self.old →
+            at ≡ length events → IsIndexOf names (events ++ event.now ∷ []) self.new }
         ensures room { KeepsRoom self.old self.new }
     {
-        let number = self.names.find(&event.task);
         self.own.push_at(number, at);
         self.marks.push_at(mark_of(&event.action), at);
     }
 
-    /// Forgets the place of the last event. Its room stays.
-    pub fn pop(&mut self, event: &Event)
-        ensures popped { (events : List AnEvent) → IsIndexOf (events ++ event.now ∷ []) self.old →
-            IsIndexOf events self.new }
+    /// Forgets the place of the last event, whose task has this number. Its room stays.
+    pub fn pop(&mut self, number: Option<usize>, event: &Event)
+        ensures popped { (names : List Name) (events : List AnEvent) → number ≡ event_number names event.now →
+            IsIndexOf names (events ++ event.now ∷ []) self.old → IsIndexOf names events self.new }
         ensures room { KeepsRoom self.old self.new }
     {
-        let number = self.names.find(&event.task);
         self.own.pop_at(number);
         self.marks.pop_at(mark_of(&event.action));
     }

@@ -8,6 +8,7 @@ ghost use Rattle.tb_model.specs.Facts.{own, ends, last, before, apart, is_spawne
 ghost use Rattle.tb_model.specs.State.{open_groups, printed};
 ghost use Rattle.tb_model.specs.Legal.{first_number, spawn_count};
 ghost use Rattle.tb_model.specs.Lines.{events_of};
+ghost use Rattle.tb_wait.specs.Kin.{place};
 ghost use Rattle.tb_undo.specs.State.{AreLast, task_of, ForState, ForHistory};
 ghost use Rattle.tb_undo.specs.Obstacles.{sibling};
 ghost use Rattle.tb_undo.specs.Readings.{IsNthOf, IsNextChild, IsUnendedBehind};
@@ -20,6 +21,21 @@ use crate::tables::Tables;
 use tb_model::{Item, TaskName};
 
 impl Tables {
+    /// The task's place among all that were ever generated, which it keeps for good.
+    #[inline(always)]
+    pub fn place(&self, name: &TaskName) -> Option<usize>
+        ensures { result ≡ place self.now.waits.tasks name.now }
+    {
+        self.waits.place(self.near, name)
+    }
+
+    /// The same in a walk over tasks, which hands on the place of the last one.
+    pub fn walk_place(&self, near: &mut usize, name: &TaskName) -> Option<usize>
+        ensures { result ≡ place self.now.waits.tasks name.now }
+    {
+        self.waits.walk_place(near, name)
+    }
+
     /// Whether the task was generated.
     pub fn is_there(&self, name: &TaskName) -> bool
         ensures { ForState self.now (λ first root_line D. result ≡ is_spawned (events_of D) name.now) }

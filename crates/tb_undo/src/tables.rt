@@ -2,7 +2,7 @@
 
 ghost use Rattle.std.specs.Prelude.{◌≡◌, ◌<◌, ◌≤◌, ◌-◌, ◌↔◌, IsTrue, [], ◌∷◌, OnOk, OnErr, IfOk, IsOk, Some, None, drop, length, true, false, if◌then◌else◌, option_map};
 ghost use Rattle.tb_model.specs.Facts.{is_print};
-ghost use Rattle.tb_wait.specs.Kin.{HasRoomFor as HasRoomForChild, IsNext, IsLast, Adds, Drops, Changes, with_over};
+ghost use Rattle.tb_wait.specs.Kin.{HasRoomFor as HasRoomForChild, KeepsNames, IsNext, IsLast, Adds, Drops, Changes, with_over};
 ghost use Rattle.tb_ready.specs.Tasks.{mark_of, with_name, without_name, with_mark};
 ghost use Rattle.tb_undo.specs.Tasks.{Task, row, task, HasChildRoomIn, fresh_task, register_by, register_over, IsRegister};
 ghost use Rattle.tb_undo.specs.Sets.{Reserves, IsLinked, HasSetRoom, Sets, Comes, Goes, number_of};
@@ -69,6 +69,7 @@ impl Tables {
     pub fn reserve_apply(&mut self, event: &Event) -> Result<(), AllocError>
         requires { IsAhead self.old event.now }
         ensures same { AreSame self.old self.new }
+        ensures names { KeepsNames self.old.waits.tasks self.new.waits.tasks }
         ensures ok { OnOk result (HasRoomFor self.new event.now) }
         ensures succeeds { HasRoomFor self.old event.now → IsOk result }
     {
@@ -93,6 +94,7 @@ impl Tables {
         ensures applied { OnOk result (IsBehind self.old event.now to self.new) }
         ensures replaced { IfOk result (IsRecord self.old event.now) }
         ensures err { OnErr result (AreSame self.old self.new) }
+        ensures names { KeepsNames self.old.waits.tasks self.new.waits.tasks }
         ensures succeeds { HasRoomFor self.old event.now → IsOk result }
     {
         self.reserve_apply(event)?;
@@ -103,7 +105,8 @@ impl Tables {
     /// needs it. Takes no memory.
     pub fn revert(&mut self, event: &Event, replaced: Replaced)
         requires { Stands self.old event.now replaced }
-        ensures { IsWithout self.old event.now replaced self.new }
+        ensures without { IsWithout self.old event.now replaced self.new }
+        ensures names { KeepsNames self.old.waits.tasks self.new.waits.tasks }
     {
         self.change_back(event, replaced)
     }
@@ -147,6 +150,7 @@ impl Tables {
     ) -> Result<(), AllocError>
         requires { parent.now ≡ drop 1 child.now }
         ensures same { AreSame self.old self.new }
+        ensures names { KeepsNames self.old.waits.tasks self.new.waits.tasks }
         ensures ok { OnOk result (HasSpawnRoom self.new parent.now child.now items.now deferred) }
         ensures succeeds { HasSpawnRoom self.old parent.now child.now items.now deferred → IsOk result }
     {
@@ -179,6 +183,7 @@ impl Tables {
     fn reserve_start(&mut self, name: &TaskName) -> Result<(), AllocError>
         requires { IsLinked self.old.rows name.now }
         ensures same { AreSame self.old self.new }
+        ensures names { KeepsNames self.old.waits.tasks self.new.waits.tasks }
         ensures ok { OnOk result (HasSetRoom self.new.rows name.now) }
         ensures succeeds { HasSetRoom self.old.rows name.now → IsOk result }
     {
@@ -216,6 +221,7 @@ impl Tables {
         requires can { CanChange self.old event.now }
         requires room { HasRoomFor self.old event.now }
         ensures changed { Changed event.now to self.old self.new }
+        ensures names { KeepsNames self.old.waits.tasks self.new.waits.tasks }
         ensures replaced { (k : Task) → task self.old.rows event.now.task ≡ Some k →
             result ≡ replaced_in event.now.action self.old.store.cells k }
     {
@@ -241,7 +247,8 @@ impl Tables {
     fn act(&mut self, event: &Event)
         requires can { CanChange self.old event.now }
         requires room { HasRoomFor self.old event.now }
-        ensures { Acted event.now self.old self.new }
+        ensures acted { Acted event.now self.old self.new }
+        ensures names { KeepsNames self.old.waits.tasks self.new.waits.tasks }
     {
         let name = &event.task;
         match &event.action {
@@ -289,6 +296,7 @@ impl Tables {
         requires copied { self.old.copied ≡ Some child.now }
         ensures store { self.new.store ≡ self.old.store }
         ensures waits { Adds self.old.waits.tasks parent.now child.now self.new.waits.tasks }
+        ensures names { KeepsNames self.old.waits.tasks self.new.waits.tasks }
         ensures marks { self.new.marks.tasks ≡ with_mark (with_name self.old.marks.tasks child.now) child.now true }
         ensures rows { Comes self.old.rows child.now (fresh_task parent.now body args.now) self.new.rows }
     {
@@ -324,6 +332,7 @@ impl Tables {
         requires { IsLinked self.old.rows name.now }
         ensures store { self.new.store ≡ self.old.store }
         ensures waits { Changes self.old.waits.tasks name.now (with_over true) self.new.waits.tasks }
+        ensures names { KeepsNames self.old.waits.tasks self.new.waits.tasks }
         ensures marks { self.new.marks.tasks ≡ with_mark self.old.marks.tasks name.now false }
         ensures rows { Sets self.old.rows name.now None self.new.rows }
     {
@@ -335,7 +344,8 @@ impl Tables {
     /// Takes the event back on all tables, by what it replaced.
     fn change_back(&mut self, event: &Event, replaced: Replaced)
         requires { CanChangeBack self.old event.now }
-        ensures { ChangedBack event.now replaced self.old self.new }
+        ensures changed { ChangedBack event.now replaced self.old self.new }
+        ensures names { KeepsNames self.old.waits.tasks self.new.waits.tasks }
     {
         self.turn_to(&event.task);
         self.act_back(event);
@@ -366,7 +376,8 @@ impl Tables {
     /// What the event changed for other tasks is taken back.
     fn act_back(&mut self, event: &Event)
         requires { CanChangeBack self.old event.now }
-        ensures { ActedBack event.now self.old self.new }
+        ensures acted { ActedBack event.now self.old self.new }
+        ensures names { KeepsNames self.old.waits.tasks self.new.waits.tasks }
     {
         let name = &event.task;
         match &event.action {
@@ -384,6 +395,7 @@ impl Tables {
         requires { IsLast self.old.waits.tasks parent.now child.now }
         ensures store { self.new.store ≡ self.old.store }
         ensures waits { Drops self.old.waits.tasks parent.now child.now self.new.waits.tasks }
+        ensures names { KeepsNames self.old.waits.tasks self.new.waits.tasks }
         ensures marks { self.new.marks.tasks ≡ without_name self.old.marks.tasks child.now }
         ensures rows { Goes self.old.rows child.now self.new.rows }
     {
@@ -398,6 +410,7 @@ impl Tables {
         requires room { HasSetRoom self.old.rows name.now }
         ensures store { self.new.store ≡ self.old.store }
         ensures waits { Changes self.old.waits.tasks name.now (with_over false) self.new.waits.tasks }
+        ensures names { KeepsNames self.old.waits.tasks self.new.waits.tasks }
         ensures marks { self.new.marks.tasks ≡ with_mark self.old.marks.tasks name.now true }
         ensures rows { Sets self.old.rows name.now (number_of name.now) self.new.rows }
     {

@@ -1,11 +1,13 @@
 -- The rows, by index and by name.
-use Rattle.std.proofs.Common.{◌≡◌, ◌≢◌, ℕ, zero, suc, ◌<◌, ◌≤◌, List, [], ◌∷◌, Bool, true, false, cond, ◌==◌, nat_lt, Option, Some, None, is_some, option_map, length, slice_get, get_or, refl, sym, ap, ◌∙◌, subst, arith, eqb-true, eq-eqb, ne_eqb, reverse, eqb}
+use Rattle.std.proofs.Common.{◌≡◌, ◌≢◌, ℕ, zero, suc, ◌<◌, ◌≤◌, List, [], ◌∷◌, Bool, true, false, cond, ◌==◌, nat_lt, Option, Some, None, is_some, option_map, length, slice_get, get_or, refl, sym, ap, ◌∙◌, subst, arith, eqb-true, eq-eqb, ne_eqb, reverse, eqb, ◌++◌, append_assoc}
 use Rattle.std.specs.List.{zip}
-use Rattle.std.proofs.lemmas.List.{get_or_default, length-reverse}
+use Rattle.std.specs.Map.{keys_of}
+use Rattle.std.proofs.lemmas.List.{get_or_default, length-reverse, append-nil}
+use Rattle.std.proofs.lemmas.Map.Made.{keys_of-zip}
 use Rattle.std.proofs.lemmas.Bool.{false≢true}
 use Rattle.tb_model.specs.Names.{Name, same_name}
 use Rattle.tb_model.proofs.TestLemmas.{same_true, same_refl}
-use Rattle.tb_wait.specs.Kin.{Kin, Slot, slot, kin, kin_in, is_known, Changes, KeepsRoom, KeepsNames, IsRoomIn, with_children, is_none}
+use Rattle.tb_wait.specs.Kin.{Kin, Slot, Tasks, slot, kin, kin_in, Changes, KeepsRoom, KeepsNames, IsRoomIn, with_children, is_none}
 use Rattle.tb_wait.specs.Rows.{blank, key, slot_at, is_pending, children_of, ChangesSlot, SetsStanding, Fits}
 use Rattle.tb_wait.specs.Tree.{Nodes, node, IsPlace, SameLinks, SameButRoom}
 use Rattle.tb_wait.proofs.TreeLemmas.{linked_same, linked_room}
@@ -70,6 +72,16 @@ no_slot t names slots f = by (slot (zip names slots) t) refl
 
 -- ---- one row that changes
 
+-- names keep their places where only rows change
+pub same_names : (names : List Name) (old new : List Slot) → length old ≡ length names → length new ≡ length names → KeepsNames (zip names old) (zip names new)
+same_names names old new l m = ([], keys_of-zip names new m ∙ sym (append-nil names) ∙ ap (λ l. l ++ []) (sym (keys_of-zip names old l)))
+
+pub keep_names : (tasks : Tasks) → KeepsNames tasks tasks
+keep_names tasks = ([], sym (append-nil (keys_of tasks)))
+
+pub names_along : (a b d : Tasks) → KeepsNames a b → KeepsNames b d → KeepsNames a d
+names_along a b d x y = (x.0 ++ y.0, y.1 ∙ ap (λ l. l ++ y.0) x.1 ∙ append_assoc (keys_of a) x.0 y.0)
+
 module _ (names : List Name) (old new : List Slot) (d : AreDistinct names) (l : length old ≡ length names) (at : ℕ) (w : at < length names) (s : Slot) (c : ChangesSlot old at s new) where
   pub slot_changes : (t u : Name) → key names at ≡ t → slot (zip names new) u ≡ cond (same_name t u) (Some s) (slot (zip names old) u)
   slot_changes t u e = by (same_name t u) refl
@@ -100,6 +112,7 @@ module _ (names : List Name) (old new : List Slot) (d : AreDistinct names) (l : 
   pub room_changes : (r : ℕ) → (slot_at old at).child_room ≤ s.child_room → (slot_at old at).group_room ≤ s.group_room
       → KeepsRoom (record { tasks = zip names old; room = r }) (record { tasks = zip names new; room = r })
   room_changes r a b = record {
+    names = same_names names old new l (c.len ∙ l);
     room = omega arith;
     slots = λ t q e. let is = key_of_slot t names old q e in
         subst (IsRoomIn q) (sym (slot_of_key t names new is.index d (c.len ∙ l) is.within is.named)) (by q is.index is.holds (is.index == at) refl);
@@ -203,6 +216,7 @@ module _ (names : List Name) (old new : List Slot) (d : AreDistinct names) (l : 
 
   pub two_rooms : (r : ℕ) → KeepsRoom (record { tasks = zip names old; room = r }) (record { tasks = zip names new; room = r })
   two_rooms r = record {
+    names = same_names names old new l (c.len ∙ l);
     room = omega arith;
     slots = λ t q e. let is = key_of_slot t names old q e in
         subst (IsRoomIn q) (sym (slot_of_key t names new is.index d (c.len ∙ l) is.within is.named)) (by q is.index is.holds (is.index == at) refl (is.index == owner) refl);
@@ -222,14 +236,6 @@ module _ (names : List Name) (old new : List Slot) (d : AreDistinct names) (l : 
       by q i e false h false g =
           let same = c.others i (λ y. false≢true (sym h ∙ eq-eqb i at y)) (λ y. false≢true (sym g ∙ eq-eqb i owner y)) ∙ e in
           (omega (arith, ap (λ z. z.child_room) same), omega (arith, ap (λ z. z.group_room) same))
-
--- names that are known stay known, where only rows change
-pub same_names : (names : List Name) (old new : List Slot) → AreDistinct names → length old ≡ length names → length new ≡ length names → KeepsNames (zip names old) (zip names new)
-same_names names old new d l m t h = by (slot (zip names old) t) refl
-  where
-    by : (o : Option Slot) → slot (zip names old) t ≡ o → is_known (zip names new) t ≡ true
-    by None e = absurd (false≢true (sym (ap is_some e) ∙ h))
-    by (Some s) e = let is = key_of_slot t names old s e in ap is_some (slot_of_key t names new is.index d m is.within is.named)
 
 -- a list is empty just where it is so backwards
 pub is_none_reverse : (xs : List ℕ) → is_none (reverse xs) ≡ eqb (length xs) 0

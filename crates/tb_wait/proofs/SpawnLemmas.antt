@@ -1,6 +1,7 @@
 -- A child that comes to stand, or stands no longer, by name.
 use Rattle.std.proofs.Common.{◌≡◌, ◌≢◌, ℕ, zero, suc, ◌+◌, ◌-◌, ◌<◌, ◌≤◌, List, [], ◌∷◌, ◌++◌, Bool, true, false, not, cond, ◌&&◌, ◌==◌, nat_lt, Option, Some, None, is_some, IsTrue, ◌↔◌, option_map, length, slice_get, get_or, refl, sym, ap, ap₂, ◌∙◌, subst, arith, eqb-true, eq-eqb, length-append, ◌⊎◌, inl, inr, ⊎_elim, Result, Ok, Err, OnOk, IfOk}
 use Rattle.std.specs.List.{zip, position, list_any}
+use Rattle.std.proofs.lemmas.Map.Made.{keys_of-zip}
 use Rattle.std.proofs.lemmas.Bool.{false≢true}
 use Rattle.std.proofs.lemmas.Bool.Decides.{nat_tests}
 use Rattle.std.proofs.lemmas.Option.{slice_get_within, slice_get-get_or}
@@ -115,7 +116,7 @@ module _ (before : Table) (names : List Name) (old : List Slot) (nodes : Nodes) 
           (two_rooms names old new f.distinct f.slots_len at (node nodes at).owner within owner_in k children s room)
 
       pub adds_names : KeepsNames before.tasks (zip names new)
-      adds_names = subst (λ x. KeepsNames x.tasks (zip names new)) v (same_names names old new f.distinct f.slots_len (s.len ∙ f.slots_len))
+      adds_names = subst (λ x. KeepsNames x.tasks (zip names new)) v (same_names names old new f.slots_len (s.len ∙ f.slots_len))
 
       pub adds_fits : (after : Nodes) → k ≡ Some fresh → children ≡ suc n → parent.children ≡ n → SetsPending nodes at true after → Fits names new after
       adds_fits after e m q sets =
@@ -355,13 +356,8 @@ module _ (names : List Name) (old : List Slot) (nodes : Nodes) (f : Fits names o
                 (within_by is.index (nat_lt is.index (length names)) refl)
 
     pub pushed_names : KeepsNames (zip names old) (zip names' new)
-    pushed_names t h = by (slot (zip names old) t) refl
-      where
-        by : (o : Option Slot) → slot (zip names old) t ≡ o → is_known (zip names' new) t ≡ true
-        by None e = absurd (false≢true (sym (ap is_some e) ∙ h))
-        by (Some s) e =
-            let is = key_of_slot t names old s e in
-            ap is_some (slot_of_key t names' new is.index distinct' (length-push mid blank ∙ ap (λ x. x + 1) mid_len ∙ sym (length-push names c)) (omega (arith, is.within, length-push names c)) (key_front is.index is.within ∙ is.named))
+    pushed_names =
+        (c ∷ [], keys_of-zip names' new (length-push mid blank ∙ ap (λ x. x + 1) mid_len ∙ sym (length-push names c)) ∙ ap (λ l. l ++ c ∷ []) (sym (keys_of-zip names old f.slots_len)))
 
     pub pushed_key : key names' (length names) ≡ c
     pushed_key = get_or-last names c [] (length names) refl

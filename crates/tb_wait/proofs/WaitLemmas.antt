@@ -2,14 +2,15 @@
 use Rattle.std.proofs.Common.{◌≡◌, ◌≢◌, ℕ, zero, suc, ◌<◌, ◌≤◌, List, [], ◌∷◌, Bool, true, false, not, cond, ◌||◌, ◌==◌, Option, Some, None, is_some, option_map, length, refl, sym, ap, ◌∙◌, subst, arith, eqb-true, eq-eqb, OnOk, OnErr, Ok, Err, Result, nat_lt, slice_get, ap₂}
 use Rattle.std.specs.List.{zip, position, list_any}
 use Rattle.std.proofs.lemmas.List.Quantifiers.{position-Some}
+use Rattle.std.proofs.lemmas.Map.Made.{keys_of-zip}
 use Rattle.std.proofs.lemmas.Bool.{false≢true, or_left}
 use Rattle.tb_model.specs.Names.{Name, same_name}
 use Rattle.tb_model.proofs.TestLemmas.{same_true, same_refl}
-use Rattle.tb_wait.specs.Kin.{Kin, Slot, Table, slot, kin, kin_in, is_known, Changes, IsSame, KeepsRoom, KeepsNames, HasGroupRoom, HasOpenGroup, HasChildRoom, with_over, with_children, fresh}
+use Rattle.tb_wait.specs.Kin.{Kin, Slot, Table, place, slot, kin, kin_in, is_known, Changes, IsSame, KeepsRoom, KeepsNames, HasGroupRoom, HasOpenGroup, HasChildRoom, with_over, with_children, fresh}
 use Rattle.tb_wait.specs.Rows.{blank, key, slot_at, is_pending, children_of, groups_of, ChangesSlot, SetsStanding, Fits}
 use Rattle.tb_wait.specs.Tree.{Nodes, node, leaf, IsPlace, SameLinks, SetsPending}
 use Rattle.tb_wait.proofs.TreeLemmas.{linked_same, root_places, root_tree}
-use Rattle.tb_wait.proofs.RowLemmas.{slot_of_key, no_slot, kin_changes, room_changes, no_changes, IsLike, fits_change, slot_changes}
+use Rattle.tb_wait.proofs.RowLemmas.{slot_of_key, no_slot, kin_changes, room_changes, no_changes, IsLike, fits_change, slot_changes, same_names}
 pub use Rattle.tb_wait.proofs.RowLemmas.{here_slot_of}
 
 -- ---- a name is looked up
@@ -52,6 +53,10 @@ links_all : (nodes : Nodes) → SameLinks nodes nodes
 links_all nodes = record { len = refl; owner = λ i. refl; number = λ i. refl; places = λ i. refl; room = λ i. refl }
 
 module _ (before : Table) (names : List Name) (old : List Slot) (nodes : Nodes) (room : ℕ) (v : record { tasks = zip names old; room = room } ≡ before) (f : Fits names old nodes) (t : Name) where
+  -- its place among all names
+  pub here_place : position (same_name t) names ≡ place before.tasks t
+  here_place = ap (position (same_name t)) (sym (keys_of-zip names old f.slots_len)) ∙ ap (λ b. place b.tasks t) v
+
   -- ---- where the task was never generated
   pub absent_slot : false ≡ list_any (same_name t) names → slot before.tasks t ≡ None
   absent_slot h = subst (λ b. slot b.tasks t ≡ None) v (no_slot t names old (none_any t names (sym h)))
@@ -91,13 +96,7 @@ module _ (before : Table) (names : List Name) (old : List Slot) (nodes : Nodes) 
           subst (λ x. KeepsRoom x (record { tasks = zip names new; room = room })) v (room_changes names old new f.distinct f.slots_len at k.0 s c room a b)
 
       pub here_names : KeepsNames before.tasks (zip names new)
-      here_names u h = let k = at_key t names at is in
-          ap is_some (slot_changes names old new f.distinct f.slots_len at k.0 s c t u k.1)
-          ∙ by (same_name t u) (subst (λ b. is_known b.tasks u ≡ true) (sym v) h)
-        where
-          by : (b : Bool) → is_known (zip names old) u ≡ true → is_some (cond b (Some s) (slot (zip names old) u)) ≡ true
-          by true h = refl
-          by false h = h
+      here_names = subst (λ b. KeepsNames b.tasks (zip names new)) v (same_names names old new f.slots_len (c.len ∙ f.slots_len))
 
       pub here_group_room : 0 < s.group_room → HasGroupRoom (zip names new) t
       here_group_room h q e =

@@ -1,7 +1,7 @@
 -- What a contract sees of the table of waits: what it keeps of each task that stands.
-use Rattle.std.specs.Prelude.{◌≡◌, ◌≢◌, ◌<◌, ◌≤◌, ◌-◌, ◌⊎◌, ℕ, suc, Bool, true, false, not, ◌&&◌, List, [], ◌∷◌, Option, Some, None, is_some, if◌then◌else◌, ◌==◌}
+use Rattle.std.specs.Prelude.{◌≡◌, ◌≢◌, ◌<◌, ◌≤◌, ◌-◌, ◌⊎◌, ℕ, suc, Bool, true, false, not, ◌&&◌, List, [], ◌∷◌, Option, Some, None, is_some, if◌then◌else◌, ◌==◌, ◌++◌, position}
 use Rattle.std.specs.Option.{option_map}
-use Rattle.std.specs.Map.{lookup}
+use Rattle.std.specs.Map.{lookup, keys_of}
 use Rattle.tb_model.specs.Names.{Name, child, same_name, is_child}
 use Rattle.tb_model.specs.Siblings.{is_later}
 
@@ -112,17 +112,22 @@ IsNext tasks p c = (k : Kin) × (kin tasks p ≡ Some k) × (c ≡ suc k.childre
 abbrev pub IsLast : Tasks → Name → Name → Type 0
 IsLast tasks p c = (k : Kin) × (n : ℕ) × (kin tasks p ≡ Some k) × (k.children ≡ suc n) × (c ≡ suc n ∷ p) × (kin tasks c ≡ Some fresh)
 
--- a name that was once there keeps its place
+-- where t is among the names that were ever there
+abbrev pub place : Tasks → Name → Option ℕ
+place tasks t = position (same_name t) (keys_of tasks)
+
+-- a name that was once there keeps its place: others come after it
 abbrev pub KeepsNames : Tasks → Tasks → Type 0
-KeepsNames old new = (t : Name) → is_known old t ≡ true → is_known new t ≡ true
+KeepsNames old new = (more : List Name) × (keys_of new ≡ keys_of old ++ more)
 
 -- at least the room of the one row is there in the other
 abbrev pub IsRoomIn : Slot → Option Slot → Type 0
 IsRoomIn s None = ⊥
 IsRoomIn s (Some r) = (s.child_room ≤ r.child_room) × (s.group_room ≤ r.group_room)
 
--- nothing loses its room: neither the table, nor a name, nor a task
+-- nothing loses its room: neither the table, nor a name, nor a task; nor a name its place
 pub record KeepsRoom (old new : Table) : Type 0 where
+  pub names : KeepsNames old.tasks new.tasks
   pub room : old.room ≤ new.room
   pub slots : (t : Name) (s : Slot) → slot old.tasks t ≡ Some s → IsRoomIn s (slot new.tasks t)
 

@@ -7,7 +7,7 @@ ghost use Rattle.tb_wait.specs.Kin.{Kin, slot};
 ghost use Rattle.std.specs.Option.{option_copied, option_map};
 ghost use Rattle.tb_model.specs.Names.{same_name, child};
 ghost use Rattle.tb_model.specs.LeastNames.{IsLeastName};
-ghost use Rattle.tb_wait.specs.Kin.{kin, fresh, with_over, opened_kin, unopened_kin, closed_kin, unclosed_kin, Changes, IsSame, KeepsNames, KeepsRoom, HasGroupRoom, HasChildRoom, HasRoomFor, HasOpenGroup, is_known, Adds, Drops, IsNext, IsLast, is_fresh, IsUnendedChild, IsNextUnended, IsUnendedMember};
+ghost use Rattle.tb_wait.specs.Kin.{kin, place, fresh, with_over, opened_kin, unopened_kin, closed_kin, unclosed_kin, Changes, IsSame, KeepsNames, KeepsRoom, HasGroupRoom, HasChildRoom, HasRoomFor, HasOpenGroup, is_known, Adds, Drops, IsNext, IsLast, is_fresh, IsUnendedChild, IsNextUnended, IsUnendedMember};
 
 use crate::names::Names;
 use crate::near::Near;
@@ -296,6 +296,31 @@ impl Wait {
         if let Some(at) = self.near.find(&self.names, &self.tree, task) {
             rows::unclose(&mut self.rows, at);
         }
+    }
+
+    /// The task's place among all that were ever generated, which it keeps for good. It is looked for at this place first, which
+    /// may be any.
+    #[inline(always)]
+    pub fn place(&self, near: usize, task: &TaskName) -> Option<usize>
+        ensures { result ≡ place self.now.tasks task.now }
+    {
+        self.near.find_near(&self.names, &self.tree, near, task)
+    }
+
+    /// The same in a walk over tasks, which hands on the place of the last one: mostly this one's is beside it, or it is
+    /// that of its parent or of its child.
+    pub fn walk_place(&self, near: &mut usize, task: &TaskName) -> Option<usize>
+        ensures { result ≡ place self.now.tasks task.now }
+    {
+        let mut last = self.near;
+        if *near < self.rows.len() {
+            let own = *near;
+            let above = self.tree.owner(own);
+            last = Near { own, above };
+        }
+        let found = last.find_below(&self.names, &self.tree, last.own, task);
+        *near = found.unwrap_or(0);
+        found
     }
 
     /// The least child of the task that stands and isn't over.

@@ -102,7 +102,7 @@ impl Core {
     pub fn events_of(&self, task: &TaskName) -> &[u32]
         ensures { result.now ≡ places_where (is_of task.now) (reverse (history self.now.run)) }
     {
-        self.places.events_of(task)
+        self.places.events_of(self.tables.place(task))
     }
 
     /// The places of the steps that load from the cell or store to it, rising.

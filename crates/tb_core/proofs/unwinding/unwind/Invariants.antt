@@ -1,6 +1,7 @@
 use Rattle.std.proofs.Common.{◌≡◌, ◌≤◌, ◌+◌, ◌++◌, reverse, vec_len, vec_capacity, length, [], IsNone}
 use Rattle.std.specs.List.{AllByRecursion}
 use Rattle.std.specs.Option.{option_to_list}
+use Rattle.tb_wait.specs.Kin.{KeepsNames}
 use Rattle.tb_core.specs.Unwinding.{Unwinds, StayTied}
 use Rattle.tb_core.proofs.unwinding.unwind.Given as goal
 
@@ -12,6 +13,7 @@ invariant-back l =
     record {
       unwinds : Unwinds l.fn.rollback.step old l.entries.items l.kept.items to_go l.steps.items l.removed.items;
       tied : StayTied (reverse old) l.fn.tables (l.kept.items ++ reverse l.entries.items) l.tables;
+      names : KeepsNames l.fn.tables.waits.tasks l.tables.waits.tasks;
       count : vec_len l.kept + vec_len l.entries ≤ vec_len l.fn.entries;
       capacity : vec_capacity l.entries ≡ vec_capacity l.fn.entries;
       kept_room : AllByRecursion (λ at. length old ≤ at + vec_capacity l.kept) to_go;

@@ -25,7 +25,7 @@ pub returns-clause-names : goal.returns-clause-names
 returns-clause-names c =
     subst (λ ks. KeepsNames (zip c.args.names.now.keys c.args.rows.now.items) (zip ks c.push.new.rows.items)) (sym c.push-2.ensures.keys)
     (subst (λ ss. KeepsNames (zip c.args.names.now.keys c.args.rows.now.items) (zip (c.args.names.now.keys ++ c.args.child ∷ []) ss)) (sym c.push.ensures.rows)
-    (λ u. pushed_names c.args.names.now.keys c.args.rows.now.items c.args.tree.now.nodes c.requires.fits (key c.args.names.now.keys c.args.owner) c.args.child c.args.owner c.requires.within refl c.requires.unknown c.requires.next.0 c.requires.next.1 c.requires.next.2 c.set_child_room.new.rows.items c.add.new.self.nodes c.child_room-room.result c.set_child_room.ensures.slot c.child_room-room.ensures c.add.ensures.added u))
+    (pushed_names c.args.names.now.keys c.args.rows.now.items c.args.tree.now.nodes c.requires.fits (key c.args.names.now.keys c.args.owner) c.args.child c.args.owner c.requires.within refl c.requires.unknown c.requires.next.0 c.requires.next.1 c.requires.next.2 c.set_child_room.new.rows.items c.add.new.self.nodes c.child_room-room.result c.set_child_room.ensures.slot c.child_room-room.ensures c.add.ensures.added))
 
 pub returns-clause-named : goal.returns-clause-named
 returns-clause-named c =

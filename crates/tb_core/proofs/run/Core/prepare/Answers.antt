@@ -1,4 +1,5 @@
-use Rattle.std.proofs.Common.{◌∙◌, ◌<◌, ◌-◌, refl, ap, arith, Some}
+use Rattle.std.proofs.Common.{◌∙◌, ◌<◌, ◌-◌, refl, ap, subst, arith, Some}
+use Rattle.tb_places.specs.Places.{HasRoomAs}
 use Rattle.std.specs.Vec.{vec_capacity, vec_len}
 use Rattle.tb_core.specs.Seen.{Held}
 use Rattle.tb_core.proofs.ShownLemmas.{open_takes}
@@ -31,7 +32,17 @@ invariant_of-self-in_err-reserve_apply c =
       sound_same i.first.items i.root_line i.limit i.entries.items i.tables c.self.invariant.0
           c.reserve.new.self.items c.reserve_apply.new.self c.reserve.ensures.items c.reserve_apply.ensures.same,
       none_reserved _ _ _ _ refl,
-      index_same i.entries.items c.reserve.new.self.items i.places c.reserve-2.new.self c.reserve.ensures.items c.reserve-2.ensures.same c.self.invariant.2,
+      index_same i.entries.items c.reserve.new.self.items i.places i.places i.tables c.reserve_apply.new.self c.reserve.ensures.items (λ ks es index. index) c.reserve_apply.ensures.names c.self.invariant.2,
+    )
+
+pub invariant_of-self-in_err-reserve-2 : goal.invariant_of-self-in_err-reserve-2
+invariant_of-self-in_err-reserve-2 c =
+    let i = c.self.inside in
+    let is = ap (λ (h : Held). h.run) c.self.view_is in (
+      sound_same i.first.items i.root_line i.limit i.entries.items i.tables c.self.invariant.0
+          c.reserve.new.self.items c.reserve_apply.new.self c.reserve.ensures.items c.reserve_apply.ensures.same,
+      none_reserved _ _ _ _ refl,
+      index_same i.entries.items c.reserve.new.self.items i.places c.reserve-2.new.self i.tables c.reserve_apply.new.self c.reserve.ensures.items c.reserve-2.ensures.same c.reserve_apply.ensures.names c.self.invariant.2,
     )
 
 pub invariant_of-self-2 : goal.invariant_of-self-2
@@ -42,8 +53,8 @@ invariant_of-self-2 c =
     let some : 0 < vec_capacity c.reserve.new.self - vec_len c.reserve.new.self = omega (arith, fits, c.reserve.ensures.len) in (
       sound_same i.first.items i.root_line i.limit i.entries.items i.tables c.self.invariant.0
           c.reserve.new.self.items c.reserve_apply.new.self c.reserve.ensures.items c.reserve_apply.ensures.same,
-      some_reserved c.in_ok-copy.copy c.in_ok-event.event _ _ _ c.in_ok-copy.ensures some c.in_ok-reserve_apply.ensures.ok c.in_ok-reserve-2.ensures.ok,
-      index_same i.entries.items c.reserve.new.self.items i.places c.reserve-2.new.self c.reserve.ensures.items c.reserve-2.ensures.same c.self.invariant.2,
+      some_reserved c.in_ok-copy.copy c.in_ok-event.event _ _ _ c.in_ok-copy.ensures some c.in_ok-reserve_apply.ensures.ok (subst (λ n. HasRoomAs c.reserve-2.new.self n c.in_ok-event.event) c.place-number.ensures c.in_ok-reserve-2.ensures.ok),
+      index_same i.entries.items c.reserve.new.self.items i.places c.reserve-2.new.self i.tables c.reserve_apply.new.self c.reserve.ensures.items c.reserve-2.ensures.same c.reserve_apply.ensures.names c.self.invariant.2,
     )
 
 pub returns-clause-event : goal.returns-clause-event

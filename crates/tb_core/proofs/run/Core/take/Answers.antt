@@ -1,10 +1,13 @@
 use Rattle.std.proofs.Common.{◌∙◌, refl, sym, ap, subst, arith, Some, map, reverse, ◌++◌, [], ◌∷◌}
 use Rattle.std.specs.Result.{IsOk}
+use Rattle.tb_places.specs.Places.{HasRoomAs}
 use Rattle.std.proofs.lemmas.Bool.{false≢true}
 use Rattle.tb_core.specs.Soundness.{departure}
 use Rattle.tb_core.specs.Seen.{Held}
 use Rattle.tb_core.specs.Filling.{spare_spawn}
 use Rattle.tb_core.proofs.ShownLemmas.{open_takes, takes_steps}
+use Rattle.tb_wait.proofs.RowLemmas.{keep_names}
+use Rattle.tb_core.proofs.NumberLemmas.{named_next}
 use Rattle.tb_core.proofs.TakenLemmas.{none_reserved, ahead, filled, fills, follows, sound_same, few_steps, appended, takes_so, index_same, index_added}
 use Rattle.tb_core.proofs.run.Core.take.Goals as goal
 
@@ -31,7 +34,7 @@ invariant_of-self-in_err-replaced c =
       sound_same i.first.items i.root_line i.limit i.entries.items i.tables c.self.invariant.0
           c.reserve.new.self.items c.apply.new.self c.reserve.ensures.items c.in_err-replaced.ensures.err,
       none_reserved _ _ _ _ c.take.ensures.after,
-      index_same i.entries.items c.reserve.new.self.items i.places c.reserve-2.new.self c.reserve.ensures.items c.reserve-2.ensures.same c.self.invariant.2,
+      index_same i.entries.items c.reserve.new.self.items i.places c.reserve-2.new.self i.tables c.apply.new.self c.reserve.ensures.items c.reserve-2.ensures.same c.apply.ensures.names c.self.invariant.2,
     )
 
 pub returns-in_err-replaced-clause-room : goal.returns-in_err-replaced-clause-room
@@ -48,7 +51,7 @@ returns-in_err-reserve-2-clause-room c reserved =
     let is = ap (λ (h : Held). h.run) c.self.view_is in
     let held = ap (λ (h : Held). h.reserved) c.self.view_is ∙ reserved in
     let event = filled i.first.items i.root_line i.limit i.entries.items i.tables c.self.invariant.0 c.args.self.now.run is c.args.plan.config.task c.args.plan.action (open_takes c.args.self.now.run c.args.plan c.requires.fits c.requires.ready) c.in_ok-event.event c.in_ok-event.ensures.ok in
-    absurd (false≢true (subst IsOk c.in_err-reserve-2.was (c.reserve-2.ensures.succeeds (c.self.invariant.1.places c.in_ok-event.event (held ∙ ap Some (sym event))))))
+    absurd (false≢true (subst IsOk c.in_err-reserve-2.was (c.reserve-2.ensures.succeeds (subst (λ n. HasRoomAs i.places n c.in_ok-event.event) (sym c.place-number.ensures) (c.self.invariant.1.places c.in_ok-event.event (held ∙ ap Some (sym event)))))))
 
 pub overflow_add-result : goal.overflow_add-result
 overflow_add-result c =
@@ -68,9 +71,10 @@ invariant_of-self-2 c =
           c.to-to.result c.in_ok-replaced.replaced c.reserve.new.self.items c.push_reserved-2.new.self.items c.apply.new.self c.reserve.ensures.items
           (c.push_reserved-2.ensures.items ∙ ap (λ e. c.reserve.new.self.items ++ e ∷ []) c.new.ensures) c.in_ok-replaced.ensures.applied c.in_ok-replaced.ensures.replaced).sound',
       none_reserved _ _ _ _ c.take.ensures.after,
-      index_added c.reserve.new.self.items c.push_reserved-2.new.self.items _ c.count-at.result c.args.self.now.run.steps c.reserve-2.new.self c.push_reserved.new.self
+      index_added c.reserve.new.self.items c.push_reserved-2.new.self.items _ c.count-at.result c.args.self.now.run.steps c.reserve-2.new.self c.push_reserved.new.self i.tables c.apply.new.self c.place-number.result
           (sym (ap (λ (h : Held). h.run.steps) c.self.view_is) ∙ ap (λ l. map departure (reverse l)) (sym c.reserve.ensures.items)) c.count-at.ensures.count (c.push_reserved-2.ensures.items ∙ ap (λ e. c.reserve.new.self.items ++ e ∷ []) c.new.ensures) c.push_reserved.ensures.pushed
-          (index_same i.entries.items c.reserve.new.self.items i.places c.reserve-2.new.self c.reserve.ensures.items c.reserve-2.ensures.same c.self.invariant.2),
+          c.place-number.ensures (named_next i.first.items i.root_line i.limit i.entries.items i.tables c.self.invariant.0 c.args.self.now.run is c.in_ok-event.event (follows i.first.items i.root_line i.limit i.entries.items i.tables c.self.invariant.0 c.args.self.now.run is c.args.plan.config.task c.args.plan.action may c.in_ok-event.event event)) c.apply.ensures.names
+          (index_same i.entries.items c.reserve.new.self.items i.places c.reserve-2.new.self i.tables i.tables c.reserve.ensures.items c.reserve-2.ensures.same (keep_names i.tables.waits.tasks) c.self.invariant.2),
     )
 
 pub returns-clause-ok : goal.returns-clause-ok

@@ -20,9 +20,9 @@ invariant_of-self c =
     let view = ap (λ (h : Held). h.run) c.self.view_is in
     let within : c.args.at < length i.entries.items = place_within i.first.items i.root_line i.limit i.entries.items c.args.id.now c.args.at _ view c.requires.here in (
       left_sound i.first.items i.root_line i.limit i.entries.items i.tables c.args.id.now c.args.at c.remove-entry.result _ view within c.remove-entry.ensures.value c.self.invariant.0 c.requires.free c.requires.here
-          c.remove-entry.new.self.items c.remove-entry.ensures.items c.revert.new.self (subst (λ r. IsWithout i.tables c.remove-entry.result.event r c.revert.new.self) c.replaced-replaced.ensures c.revert.ensures),
+          c.remove-entry.new.self.items c.remove-entry.ensures.items c.revert.new.self (subst (λ r. IsWithout i.tables c.remove-entry.result.event r c.revert.new.self) c.replaced-replaced.ensures c.revert.ensures.without),
       record { entry = λ v h. absurd (none v h); tables = λ v h. absurd (none v h); places = λ v h. absurd (none v h) },
-      index_removed i.entries.items c.as_slice.result.now c.remove-entry.new.self.items c.args.at _ c.renumber.new.places c.as_slice.ensures.value (search rules) c.remove-entry.ensures.items c.renumber.ensures,
+      index_removed i.entries.items c.as_slice.result.now c.remove-entry.new.self.items c.args.at _ c.renumber.new.places i.tables c.revert.new.self c.as_slice.ensures.value (search rules) c.remove-entry.ensures.items c.revert.ensures.names c.renumber.ensures,
     )
   where
     none : (v : Event) → None ≡ Some v → ⊥

@@ -12,7 +12,7 @@ invariant_of-self c =
       rolled_sound i.first.items i.root_line i.limit i.entries.items u.new.entries.items c.put_back.new.entries.items u.result.0.items i.tables u.new.tables c.args.rollback.step u.result.1.items u.ensures.unwound c.put_back.ensures.items c.self.invariant.0,
       none_reserved _ _ u.new.tables _ refl,
       index_unwound c.args.rollback.step i.entries.items c.as_slice.result.now u.new.entries.items u.result.0.items c.put_back.new.entries.items i.tables u.new.tables u.result.1.items _ _ c.renumber.new.places
-          u.ensures.unwound c.put_back.ensures.items c.as_slice.ensures.value (sym (ap (λ (h : Held). history h.run) c.self.view_is)) (c.as_slice-2.ensures.value ∙ c.requires.places) c.renumber.ensures,
+          u.ensures.unwound c.put_back.ensures.items c.as_slice.ensures.value (sym (ap (λ (h : Held). history h.run) c.self.view_is)) (c.as_slice-2.ensures.value ∙ c.requires.places) u.ensures.names c.renumber.ensures,
     )
 
 pub returns : goal.returns

@@ -4,9 +4,8 @@ use Rattle.tb_places.specs.Places.{event_mark, event_number}
 use Rattle.tb_places.proofs.places.Places.pop.Goals as goal
 
 pub returns-clause-popped : goal.returns-clause-popped
-returns-clause-popped c events index =
-    let p = c.args.self.now in
+returns-clause-popped c names events is index =
     let e = c.args.event.now in
-    index_popped events e p _ c.find-number.ensures.same index
-    (c.pop_at.ensures.popped (event_number p.names.keys.keys) events e index.own (sym c.find-number.ensures.number))
+    index_popped names events e c.args.self.now _ index
+    (c.pop_at.ensures.popped (event_number names) events e index.own (sym is))
     (c.pop_at-2.ensures.popped event_mark events e index.marks (sym c.mark_of.ensures))

@@ -1,12 +1,9 @@
 use Rattle.std.proofs.Common.{refl}
-use Rattle.tb_places.proofs.PlacesLemmas.{index_renamed}
+use Rattle.tb_places.proofs.PlacesLemmas.{index_reserved}
 use Rattle.tb_places.proofs.places.Places.reserve.Goals as goal
 
-pub returns-in_err-number-clause-same : goal.returns-in_err-number-clause-same
-returns-in_err-number-clause-same c = index_renamed c.args.self.now _ c.name.ensures.others (λ k. refl) (λ k. refl)
-
 pub returns-in_err-reserve_at-clause-same : goal.returns-in_err-reserve_at-clause-same
-returns-in_err-reserve_at-clause-same c = index_renamed c.args.self.now _ c.name.ensures.others c.reserve_at.ensures.same (λ k. refl)
+returns-in_err-reserve_at-clause-same c names events = index_reserved names events c.args.self.now _ c.reserve_at.ensures.same (λ k. refl)
 
 pub returns-clause-same : goal.returns-clause-same
-returns-clause-same c = index_renamed c.args.self.now _ c.name.ensures.others c.reserve_at.ensures.same c.reserve_at-2.ensures.same
+returns-clause-same c names events = index_reserved names events c.args.self.now _ c.reserve_at.ensures.same c.reserve_at-2.ensures.same

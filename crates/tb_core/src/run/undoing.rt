@@ -1,0 +1,105 @@
+//! Steps that are taken back, one that nothing needs or one with all that need it.
+
+ghost use Rattle.std.specs.Prelude.{◌≡◌, IfErr, IfNone, IfOk, IfSome, IsOk, OnErr, OnOk};
+ghost use Rattle.tb_core.specs.Outcomes.{IsFree, IsPlaceOf, TakesBack, Keeps, Undone};
+ghost use Rattle.tb_core.specs.Rolled.{IsOfHistory, RollsBack};
+ghost use Rattle.tb_core.specs.Seen.{history};
+
+use super::Core;
+use crate::needing::first_needer;
+use crate::places::{place_in, step_among};
+use crate::removed::Removed;
+use crate::renumbering::renumber;
+use crate::rollback::Rollback;
+use crate::undo_refusal::UndoRefusal;
+use crate::unwinding::{put_back, unwind};
+use tb_model::StepId;
+
+impl Core {
+    /// Takes the entry at this place out, of a step that nothing needs.
+    fn take_out(&mut self, at: usize, id: &StepId) -> Removed
+        requires free { IsFree self.old.run id.now }
+        requires here { IsPlaceOf self.old.run id.now at }
+        ensures { TakesBack self.old.run id.now self.new.run result }
+    {
+        self.reserved = None;
+        renumber(
+            &mut self.places,
+            &self.tables,
+            self.entries.as_slice(),
+            &[at as u32],
+        );
+        let entry = self.entries.remove(at);
+        let replaced = entry.replaced();
+        let event = entry.event;
+        self.tables.revert(&event, replaced);
+        Removed {
+            id: StepId {
+                task: event.task,
+                k: id.k,
+            },
+            action: event.action,
+        }
+    }
+
+    /// The place of a step that nothing needs.
+    fn free_place(&self, id: &StepId) -> Result<usize, UndoRefusal>
+        ensures place { IfOk result (IsPlaceOf self.now.run id.now) }
+        ensures free { OnOk result (IsFree self.now.run id.now) }
+        ensures kept { IfErr result (Keeps self.now.run id.now) }
+    {
+        let own = self.places.events_of(self.tables.place(&id.task));
+        let Some(at) = place_in(own, &self.entries, id) else {
+            return Err(UndoRefusal::NoSuchStep);
+        };
+        let Some(by) = first_needer(&self.entries, at) else {
+            return Ok(at);
+        };
+        let task = &self.entries[by].event.task;
+        let own = self.places.events_of(self.tables.place(task));
+        match step_among(own, &self.entries, by) {
+            Ok(by) => Err(UndoRefusal::Needed { by }),
+            Err(_) => Err(UndoRefusal::Memory),
+        }
+    }
+
+    /// Why the step stays, if it does: it isn't there, or something needs it.
+    pub fn keeps(&self, id: &StepId) -> Option<UndoRefusal>
+        ensures some { IfSome result (Keeps self.now.run id.now) }
+        ensures none { IfNone result (IsFree self.now.run id.now) }
+    {
+        self.free_place(id).err()
+    }
+
+    /// Takes a step back that nothing needs, wherever it stands. It takes no memory where that is
+    /// done. Where it stands is known.
+    pub fn undo(&mut self, id: &StepId) -> Result<Removed, UndoRefusal>
+        ensures undone { Undone self.old.run id.now self.new.run result }
+        ensures err { OnErr result (self.new ≡ self.old) }
+        ensures succeeds { IsFree self.old.run id.now → IsOk result }
+    {
+        match self.free_place(id) {
+            Ok(at) => Ok(self.take_out(at, id)),
+            Err(refusal) => Err(refusal),
+        }
+    }
+
+    /// Takes a step back with all that need it, each by its own record, from the newest on. It
+    /// takes no memory, and what stands behind the first of them is moved once.
+    pub fn take_out_all(&mut self, rollback: Rollback) -> Vec<Removed>
+        requires { IsOfHistory (history self.old.run) rollback }
+        ensures { RollsBack self.old.run rollback.step self.new.run result.items }
+    {
+        self.reserved = None;
+        renumber(
+            &mut self.places,
+            &self.tables,
+            self.entries.as_slice(),
+            rollback.places.as_slice(),
+        );
+        let (kept, mut removed) = unwind(&mut self.entries, &mut self.tables, rollback);
+        put_back(&mut self.entries, kept);
+        removed.reverse();
+        removed
+    }
+}
