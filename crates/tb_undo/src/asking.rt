@@ -33,7 +33,7 @@ impl Tables {
     ) -> Option<Obstacle<'_>>
         ensures { ForUnended self.now name.now (λ H. in_the_way H name.now action.now ≡ option_map (hindrance_by name.now) result) }
     {
-        self.in_the_way_near(standing.place(), name, action)
+        self.in_the_way_near(standing.row_place(), name, action)
     }
 
     /// The same of a task whose row is looked for at the place `near` first.
@@ -72,7 +72,7 @@ impl Tables {
     pub fn is_clear_at(&self, standing: &Standing<'_>, name: &TaskName, action: &Action) -> bool
         ensures { ForUnended self.now name.now (λ H. IsTrue result ↔ (in_the_way H name.now action.now ≡ None)) }
     {
-        self.is_clear_near(standing.place(), name, action)
+        self.is_clear_near(standing.row_place(), name, action)
     }
 
     #[inline(always)]

@@ -30,6 +30,7 @@ impl Tables {
     }
 
     /// The same in a walk over tasks, which hands on the place of the last one.
+    #[inline(always)]
     pub fn walk_place(&self, near: &mut usize, name: &TaskName) -> Option<usize>
         ensures { result ≡ place self.now.waits.tasks name.now }
     {
@@ -57,7 +58,7 @@ impl Tables {
         ensures { ForHistory self.now (λ H. result ≡ list_any (ends name.now) H) }
     {
         self.waits
-            .is_over_near(standing.place(), name)
+            .is_over_near(standing.row_place(), name)
             .unwrap_or(false)
     }
 
@@ -101,7 +102,7 @@ impl Tables {
     {
         let found = standing(&self.rows, near.unwrap_or(self.near), name);
         if let Some(standing) = &found {
-            *near = Some(standing.place());
+            *near = Some(standing.row_place());
         }
         found
     }

@@ -35,7 +35,7 @@ impl<'a> Standing<'a> {
 
     /// Where the task's row is looked for first.
     #[inline(always)]
-    pub(crate) fn place(&self) -> usize {
+    pub(crate) fn row_place(&self) -> usize {
         self.place
     }
 

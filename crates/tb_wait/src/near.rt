@@ -68,7 +68,7 @@ impl Near {
         self.find(names, tree, name)
     }
 
-    /// The same, and else mostly that of a child of the task: its number leads there.
+    /// The same, and else mostly that of a child of the task, or of its parent: its ordinal leads there.
     pub fn find_below(
         &self,
         names: &Names,
@@ -90,11 +90,27 @@ impl Near {
         if let Some(at) = self.beside(names, name) {
             return Some(at);
         }
-        let number = name.ordinal().unwrap_or(0);
-        match tree.child(self.own, number) {
-            Some(at) if stands_at(names, at, name) => Some(at),
-            _ => tree.place_of(name),
+        match self.by_ordinal(names, tree, name) {
+            Some(at) => Some(at),
+            None => tree.place_of(name),
         }
+    }
+
+    // The place of the name, if it is that of the child of the task, or of its parent, with the name's ordinal.
+    fn by_ordinal(&self, names: &Names, tree: &Tree, name: &TaskName) -> Option<usize>
+        ensures index { IfSome result (λ i. position (same_name name.now) names.now.keys ≡ Some i) }
+        ensures found { IfSome result (λ i. list_any (same_name name.now) names.now.keys ≡ true) }
+        ensures within { IfSome result (λ i. i < length names.now.keys) }
+    {
+        let ordinal = name.ordinal().unwrap_or(0);
+        for parent in [self.own, self.above] {
+            if let Some(at) = tree.child(parent, ordinal) {
+                if stands_at(names, at, name) {
+                    return Some(at);
+                }
+            }
+        }
+        None
     }
 
     // The place of the name, if it is that of the parent or the one after the task's own.
@@ -118,7 +134,7 @@ impl Near {
 
 /// Whether the name stands at the place.
 #[inline(always)]
-fn stands_at(names: &Names, at: usize, name: &TaskName) -> bool
+pub fn stands_at(names: &Names, at: usize, name: &TaskName) -> bool
     ensures index { IsTrue result → position (same_name name.now) names.now.keys ≡ Some at }
     ensures found { IsTrue result → list_any (same_name name.now) names.now.keys ≡ true }
     ensures within { IsTrue result → at < length names.now.keys }

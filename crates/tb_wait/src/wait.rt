@@ -10,7 +10,7 @@ ghost use Rattle.tb_model.specs.LeastNames.{IsLeastName};
 ghost use Rattle.tb_wait.specs.Kin.{kin, place, fresh, with_over, opened_kin, unopened_kin, closed_kin, unclosed_kin, Changes, IsSame, KeepsNames, KeepsRoom, HasGroupRoom, HasChildRoom, HasRoomFor, HasOpenGroup, is_known, Adds, Drops, IsNext, IsLast, is_fresh, IsUnendedChild, IsNextUnended, IsUnendedMember};
 
 use crate::names::Names;
-use crate::near::Near;
+use crate::near::{Near, stands_at};
 use crate::row::Row;
 use crate::tree::Tree;
 use crate::{rows, standing};
@@ -307,9 +307,21 @@ impl Wait {
         self.near.find_near(&self.names, &self.tree, near, task)
     }
 
-    /// The same in a walk over tasks, which hands on the place of the last one: mostly this one's is beside it, or it is
-    /// that of its parent or of its child.
+    /// The same in a walk over tasks, which hands on the place of the last one: mostly the task is the last one again.
+    #[inline(always)]
     pub fn walk_place(&self, near: &mut usize, task: &TaskName) -> Option<usize>
+        ensures { result ≡ place self.now.tasks task.now }
+    {
+        if stands_at(&self.names, *near, task) {
+            return Some(*near);
+        }
+        self.walk_elsewhere(near, task)
+    }
+
+    /// The same where it isn't: then it is mostly beside the last one, or its parent, its child or its sibling. It stands
+    /// apart, so that most calls don't pay for its room.
+    #[inline(never)]
+    fn walk_elsewhere(&self, near: &mut usize, task: &TaskName) -> Option<usize>
         ensures { result ≡ place self.now.tasks task.now }
     {
         let mut last = self.near;
