@@ -16,5 +16,5 @@ revert-requires c =
 pub apply-requires-3 : goal.apply-requires-3
 apply-requires-3 c =
     let state = state_begun c.args.tables.now c.apply.new.self c.start-start.result c.start-start.ensures c.requires c.in_ok-begun.ensures.applied in
-    let back = state_back c.apply.new.self c.apply-2.new.self c.revert.new.self c.store-store.result _ c.store-store.ensures state c.in_ok-stored.ensures.applied c.in_ok-stored.ensures.replaced c.revert.ensures in
+    let back = state_back c.apply.new.self c.apply-2.new.self c.revert.new.self c.store-store.result _ c.store-store.ensures state c.in_ok-stored.ensures.applied c.in_ok-stored.ensures.replaced c.revert.ensures.without in
     ahead_store c.revert.new.self c.store-store.result c.store-store.ensures back
