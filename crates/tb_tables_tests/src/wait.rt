@@ -453,3 +453,35 @@ fn a_deep_task_is_found_by_its_numbers(rt: HostRuntime) {
     mem::forget(root);
     mem::forget(table);
 }
+
+// The place of the root's child with this number, as it is asked for by itself and in a walk.
+fn child_places(rt: &(impl Abort + AllocGlobal), table: &Wait, number: u32) -> [Option<usize>; 2] {
+    let child = child_of_root(rt, number);
+    let mut near = 0;
+    let places = [table.place(0, &child), table.walk_place(&mut near, &child)];
+    mem::forget(child);
+    places
+}
+
+/// A task keeps its place where its spawn is undone, and one that is new comes after all others.
+#[test]
+fn a_task_keeps_its_place(rt: HostRuntime) {
+    let mut table = Wait::open(rt.alloc()).expect(&rt, "memory is there");
+    let root = TaskName::root(rt.alloc());
+    let first = child_of_root(&rt, 1);
+    assert!(rt; has_child(spawn(&mut table, &root)));
+    assert!(rt; has_child(spawn(&mut table, &root)));
+    assert_eq!(rt; child_places(&rt, &table, 1), [Some(1); 2]);
+    assert_eq!(rt; child_places(&rt, &table, 2), [Some(2); 2]);
+    assert_eq!(rt; child_places(&rt, &table, 3), [None; 2]);
+    assert!(rt; matches!(unspawn(&mut table, &root), Ok(true)));
+    assert_eq!(rt; child_places(&rt, &table, 2), [Some(2); 2]);
+    assert!(rt; has_child(spawn(&mut table, &first)));
+    assert!(rt; has_child(spawn(&mut table, &root)));
+    assert_eq!(rt; child_places(&rt, &table, 2), [Some(2); 2]);
+    assert!(rt; has_child(spawn(&mut table, &root)));
+    assert_eq!(rt; child_places(&rt, &table, 3), [Some(4); 2]);
+    mem::forget(first);
+    mem::forget(root);
+    mem::forget(table);
+}
