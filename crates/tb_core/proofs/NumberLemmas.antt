@@ -12,7 +12,6 @@ use Rattle.tb_model.specs.Lines.{events_of}
 use Rattle.tb_model.proofs.NeedsLemmas.{may_spawned}
 use Rattle.tb_wait.specs.Kin.{Kin, Slot, Tasks, kin, kin_in, slot, place, KeepsNames}
 use Rattle.tb_wait.proofs.HistoryLemmas.{kin_stands}
-use Rattle.tb_wait.proofs.RowLemmas.{keep_names}
 use Rattle.tb_undo.specs.State.{Seen as Tables}
 use Rattle.tb_places.specs.declared.places.Places.{Places}
 use Rattle.tb_places.specs.Places.{IsIndexOf, IsNamed}
@@ -54,9 +53,6 @@ named_next first root_line limit es tables sound s is v may =
     kin_place tables.waits.tasks v.task _ (sound.state.waiting v.task ∙ kin_stands H v.task there)
 
 -- ---- numbers stay
-
-pub names_stay : (tables : Tables) → KeepsNames tables.waits.tasks tables.waits.tasks
-names_stay tables = keep_names tables.waits.tasks
 
 pub index_kept : (old new : Tables) (es : List Event) (p : Places) → KeepsNames old.waits.tasks new.waits.tasks → IsIndexOf (names_in old) es p → IsIndexOf (names_in new) es p
 index_kept old new es p keeps index = subst (λ names. IsIndexOf names es p) (sym keeps.1) (index_grown (names_in old) keeps.0 es p index)

@@ -150,7 +150,7 @@ fn change(table: &mut Wait, tasks: &mut Vec<Task>, seed: u64) -> Result<(), Allo
     };
     // the table may be turned to the task, looked for at its place or another, or to another task
     if (seed >> 30) % 2 == 0 {
-        table.turn_to(which, &name);
+        let _place = table.turn_to(which, &name);
     }
     if (seed >> 40) % 4 == 0 {
         undo(table, tasks, which, &name)
@@ -440,7 +440,8 @@ fn a_deep_task_is_found_by_its_numbers(rt: HostRuntime) {
     let root = TaskName::root(rt.alloc());
     let middle = name_down(&rt, 150);
     let deepest = name_down(&rt, 300);
-    table.turn_to(0, &root);
+    assert_eq!(rt; table.turn_to(7, &deepest), Some(600));
+    assert_eq!(rt; table.turn_to(0, &root), Some(0));
     assert_eq!(rt; table.children(&middle), Some(2));
     assert_eq!(rt; table.children(&deepest), Some(0));
     table.ended(&deepest);

@@ -1,6 +1,7 @@
-pub mod NearLemmas
-pub mod RowLemmas
 pub mod RowsLemmas
+pub mod PlacesLemmas
+pub mod ComingLemmas
+pub mod RowLemmas
 pub mod SetsLemmas
 pub mod ActLemmas
 pub mod StoreLemmas

@@ -1,6 +1,7 @@
 pub mod Undeferred
 pub mod Tasks
 pub mod Standings
+pub mod Places
 pub mod Sets
 pub mod State
 pub mod Obstacles

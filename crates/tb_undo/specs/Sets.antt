@@ -1,10 +1,10 @@
 -- Who holds what among the children of each task: what a start, an end, and the room for a start change.
-use Rattle.std.specs.Prelude.{◌≡◌, ◌<◌, ℕ, true, false, List, [], ◌∷◌, Option, Some, None, ⊤, position, if◌then◌else◌}
+use Rattle.std.specs.Prelude.{◌≡◌, ◌<◌, ℕ, true, false, List, [], ◌∷◌, Option, Some, None, ⊤, if◌then◌else◌}
 use Rattle.std.specs.Option.{option_map}
-use Rattle.std.specs.Map.{keys_of}
 use Rattle.tb_model.specs.declared.item.Item.{Item}
 use Rattle.tb_model.specs.declared.place.Place.{Place}
 use Rattle.tb_model.specs.Names.{Name, same_name, is_child}
+use Rattle.tb_wait.specs.Kin.{Tasks as Waiting, place}
 use Rattle.tb_depend.specs.Relations.{items_at}
 use Rattle.tb_excl.specs.Holders.{Holders, holder, HasRoomFor, KeepsRoom, IsSet, IsSame}
 use Rattle.tb_undo.specs.Tasks.{Task, Rows, row, task, holders_of}
@@ -24,10 +24,10 @@ abbrev pub number_of : Name → Option ℕ
 number_of [] = None
 number_of (n ∷ p) = Some n
 
--- the place of its parent's row, and that number
-abbrev pub place_in : Rows → Name → Option (ℕ × ℕ)
-place_in rows [] = None
-place_in rows (n ∷ p) = option_map (λ i. (i, n)) (position (same_name p) (keys_of rows))
+-- the place of its parent, and that number
+abbrev pub place_in : Waiting → Name → Option (ℕ × ℕ)
+place_in tasks [] = None
+place_in tasks (n ∷ p) = option_map (λ i. (i, n)) (place tasks p)
 
 -- the task's parent is there, and the task knows it
 abbrev pub IsLinked : Rows → Name → Type 0

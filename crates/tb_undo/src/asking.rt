@@ -41,7 +41,7 @@ impl Tables {
     fn in_the_way_near(&self, near: usize, name: &TaskName, action: &Action) -> Option<Obstacle<'_>>
         ensures { ForUnended self.now name.now (λ H. in_the_way H name.now action.now ≡ option_map (hindrance_by name.now) result) }
     {
-        let row = get(&self.rows, near, name)?;
+        let row = get(&self.rows, &self.waits, near, name)?;
         if let Some(child) = undeferred(&self.waits, name, row) {
             return Some(Obstacle::Undeferred { child });
         }
@@ -90,13 +90,13 @@ impl Tables {
         let Action::Start = action else {
             return false;
         };
-        let Some(own) = get(&self.rows, near, name) else {
+        let Some(own) = get(&self.rows, &self.waits, near, name) else {
             return false;
         };
         let Some(n) = name.ordinal() else {
             return false;
         };
-        let Some(parent) = get(&self.rows, own.above(), &own.parent) else {
+        let Some(parent) = get(&self.rows, &self.waits, own.above(), &own.parent) else {
             return false;
         };
         own.steps == 0
@@ -113,7 +113,7 @@ impl Tables {
         ensures { ForUnended self.now name.now (λ H. IsFree H name.now → in_the_way H name.now Start ≡ option_map (hindrance_by name.now) result) }
     {
         let n = name.ordinal()?;
-        let parent = get(&self.rows, own.above(), &own.parent)?;
+        let parent = get(&self.rows, &self.waits, own.above(), &own.parent)?;
         if let Some(sibling) = next_before(&self.waits, &parent.children, &own.parent, n) {
             return Some(Obstacle::Waiting { sibling });
         }

@@ -10,26 +10,23 @@ use tb_model::TaskName;
 /// Those of deep names may be refused, so they are made in advance.
 #[derive(Drop)]
 pub struct Copies {
-    pub key: TaskName,
     pub of_holders: TaskName,
     pub of_waits: TaskName,
     pub of_marks: TaskName,
     pub parent: TaskName,
-    pub ghost holders_same: { of_holders ≡ key },
-    pub ghost waits_same: { of_waits ≡ key },
-    pub ghost marks_same: { of_marks ≡ key },
-    pub ghost family: { parent ≡ drop 1 key },
+    pub ghost waits_same: { of_waits ≡ of_holders },
+    pub ghost marks_same: { of_marks ≡ of_holders },
+    pub ghost family: { parent ≡ drop 1 of_holders },
 }
 
 impl Copies {
     /// The copies for the spawn of the child.
     pub fn of(parent: &TaskName, child: &TaskName) -> Result<Copies, AllocError>
         requires { parent.now ≡ drop 1 child.now }
-        ensures copies { IfOk result (λ copies. copies.key ≡ child.now) }
+        ensures copies { IfOk result (λ copies. copies.of_holders ≡ child.now) }
         ensures short { length child.now ≤ 3 → IsOk result }
     {
         Ok(Copies {
-            key: child.clone()?,
             of_holders: child.clone()?,
             of_waits: child.clone()?,
             of_marks: child.clone()?,

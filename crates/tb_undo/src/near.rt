@@ -1,85 +1,88 @@
 //! Where the row of a task is.
 
-ghost use Rattle.std.specs.Prelude.{◌≡◌, Some, IsTrue, option_map, position};
-ghost use Rattle.std.specs.Map.{keys_of};
+ghost use Rattle.std.specs.Prelude.{◌≡◌, Some, IsTrue, option_map};
 ghost use Rattle.std.specs.Option.{option_copied};
-ghost use Rattle.tb_model.specs.Names.{same_name};
+ghost use Rattle.tb_wait.specs.Kin.{place};
+ghost use Rattle.tb_undo.specs.declared.row.Row.{Row as ARow};
+ghost use Rattle.tb_undo.specs.Places.{IsPlaced, row_in, rows_in};
 ghost use Rattle.tb_undo.specs.Standings.{standing_of};
 ghost use Rattle.tb_undo.specs.Tasks.{row, seen_row};
 
 use crate::row::Row;
 use crate::standing::Standing;
-use indexmap::IndexMap;
 use tb_model::TaskName;
+use tb_wait::Wait;
 
-/// The place of the task's row. The place `near`, the one behind it and that of the parent are tried before the name's
-/// hash is taken: mostly the task that took the last step is asked of again, the one that was generated after it, or its
-/// parent. A place counts only where the very name stands, so any place does.
+/// The place of the task's row: the one that its name has in the table of waits. The place `near` is tried first, which may be
+/// any, since a place counts only where the very name stands.
 #[inline(always)]
-pub fn find(rows: &IndexMap<TaskName, Row>, near: usize, name: &TaskName) -> Option<usize>
-    ensures index { result ≡ position (same_name name.now) (keys_of rows.now.entries) }
+pub fn find(rows: &Vec<Option<Row>>, waits: &Wait, near: usize, name: &TaskName) -> Option<usize>
+    requires { IsPlaced waits.now.tasks rows.now.items }
+    ensures { result ≡ place waits.now.tasks name.now }
 {
     if stands_at(rows, near, name) {
         return Some(near);
     }
-    find_elsewhere(rows, near, name)
+    find_elsewhere(waits, near, name)
 }
 
 /// The same where it isn't at the place `near`. It stands apart, so that most calls don't pay for its room.
 #[inline(never)]
-fn find_elsewhere(rows: &IndexMap<TaskName, Row>, near: usize, name: &TaskName) -> Option<usize>
-    ensures index { result ≡ position (same_name name.now) (keys_of rows.now.entries) }
+fn find_elsewhere(waits: &Wait, near: usize, name: &TaskName) -> Option<usize>
+    ensures { result ≡ place waits.now.tasks name.now }
 {
-    let next = near.saturating_add(1);
-    if stands_at(rows, next, name) {
-        return Some(next);
-    }
-    let above = above(rows, near);
-    if stands_at(rows, above, name) {
-        return Some(above);
-    }
-    rows.get_index_of(name)
+    waits.place(near, name)
 }
 
-/// Where the row of the parent of the task at this place is looked for first.
-fn above(rows: &IndexMap<TaskName, Row>, at: usize) -> usize {
-    match rows.as_slice().get_index(at) {
-        Some((_, row)) => row.above(),
-        None => 0,
+/// Whether the task's row is at the place.
+#[inline(always)]
+fn stands_at(rows: &Vec<Option<Row>>, at: usize, name: &TaskName) -> bool
+    ensures { IsTrue result → (r : ARow) × (row_in rows.now.items at ≡ Some r) × (r.holders.parent ≡ name.now) }
+{
+    match row_at(rows, at) {
+        Some(row) => *row.name() == *name,
+        None => false,
+    }
+}
+
+/// The row at the place, where a task stands there.
+#[inline(always)]
+pub fn row_at(rows: &Vec<Option<Row>>, at: usize) -> Option<&Row>
+    ensures { option_copied result ≡ row_in rows.now.items at }
+{
+    match rows.as_slice().get(at) {
+        Some(Some(row)) => Some(row),
+        _ => None,
     }
 }
 
 /// The task's row, which is looked for so.
 #[inline(always)]
-pub fn get<'a>(rows: &'a IndexMap<TaskName, Row>, near: usize, name: &TaskName) -> Option<&'a Row>
-    ensures value { option_copied result ≡ row rows.now.entries name.now }
+pub fn get<'a>(
+    rows: &'a Vec<Option<Row>>,
+    waits: &Wait,
+    near: usize,
+    name: &TaskName,
+) -> Option<&'a Row>
+    requires { IsPlaced waits.now.tasks rows.now.items }
+    ensures value { option_copied result ≡ row (rows_in rows.now.items) name.now }
 {
-    let at = find(rows, near, name)?;
-    let (_, row) = rows.get_index(at)?;
-    Some(row)
+    let at = find(rows, waits, near, name)?;
+    row_at(rows, at)
 }
 
 /// Where the task stands, by its row, which is looked for so.
 #[inline(always)]
 pub fn standing<'a>(
-    rows: &'a IndexMap<TaskName, Row>,
+    rows: &'a Vec<Option<Row>>,
+    waits: &Wait,
     near: usize,
     name: &TaskName,
 ) -> Option<Standing<'a>>
-    ensures { result ≡ option_map (λ r. standing_of (seen_row r)) (row rows.now.entries name.now) }
+    requires { IsPlaced waits.now.tasks rows.now.items }
+    ensures { result ≡ option_map (λ r. standing_of (seen_row r)) (row (rows_in rows.now.items) name.now) }
 {
-    let at = find(rows, near, name)?;
-    let (_, row) = rows.get_index(at)?;
+    let at = find(rows, waits, near, name)?;
+    let row = row_at(rows, at)?;
     Some(Standing::of(row, at))
-}
-
-/// Whether the task's row is at the place.
-#[inline(always)]
-fn stands_at(rows: &IndexMap<TaskName, Row>, at: usize, name: &TaskName) -> bool
-    ensures { IsTrue result → position (same_name name.now) (keys_of rows.now.entries) ≡ Some at }
-{
-    match rows.as_slice().get_index(at) {
-        Some((key, _)) => *key == *name,
-        None => false,
-    }
 }

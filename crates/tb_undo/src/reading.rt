@@ -41,7 +41,7 @@ impl Tables {
     pub fn is_there(&self, name: &TaskName) -> bool
         ensures { ForState self.now (λ first root_line D. result ≡ is_spawned (events_of D) name.now) }
     {
-        get(&self.rows, self.near, name).is_some()
+        get(&self.rows, &self.waits, self.near, name).is_some()
     }
 
     /// Whether the task is over.
@@ -93,14 +93,14 @@ impl Tables {
     pub fn standing(&self, name: &TaskName) -> Option<Standing<'_>>
         ensures { ForState self.now (λ first root_line D. result ≡ option_map standing_of (task_of root_line D name.now)) }
     {
-        standing(&self.rows, self.near, name)
+        standing(&self.rows, &self.waits, self.near, name)
     }
 
     /// The same in a walk over tasks, which hands on where the last one's row is, at first none.
     pub fn walk_standing(&self, near: &mut Option<usize>, name: &TaskName) -> Option<Standing<'_>>
         ensures { ForState self.now (λ first root_line D. result ≡ option_map standing_of (task_of root_line D name.now)) }
     {
-        let found = standing(&self.rows, near.unwrap_or(self.near), name);
+        let found = standing(&self.rows, &self.waits, near.unwrap_or(self.near), name);
         if let Some(standing) = &found {
             *near = Some(standing.row_place());
         }
@@ -188,8 +188,8 @@ impl Tables {
         ensures none { result ≡ None → ForHistory self.now (λ H. items_of name.now H ≡ []) }
     {
         let n = name.ordinal()?;
-        let row = get(&self.rows, self.near, name)?;
-        let parent = get(&self.rows, row.above(), &row.parent)?;
+        let row = get(&self.rows, &self.waits, self.near, name)?;
+        let parent = get(&self.rows, &self.waits, row.above(), &row.parent)?;
         Some((n, parent))
     }
 }

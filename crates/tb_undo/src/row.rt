@@ -56,6 +56,14 @@ impl Row {
         }
     }
 
+    /// The task's own name.
+    #[inline(always)]
+    pub fn name(&self) -> &TaskName
+        ensures { result.now ≡ self.now.holders.parent }
+    {
+        self.holders.parent()
+    }
+
     /// Where the parent's row is looked for first.
     #[inline(always)]
     pub fn above(&self) -> usize {

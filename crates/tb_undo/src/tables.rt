@@ -11,10 +11,8 @@ ghost use Rattle.tb_undo.specs.Steps.{IsAhead, IsBehind, IsRecord, Stands, IsWit
 ghost use Rattle.tb_undo.specs.Changes.{IsRest, Changed, ChangedBack, Acted, ActedBack, AreSame, HasRoomFor, HasSpawnRoom, CanChange, CanChangeBack, replaced_in, cell_over, IsCell, cells_by, output_by, cells_back, output_back};
 
 use crate::copies::Copies;
-use crate::near::find;
 use crate::row::Row;
 use crate::rows;
-use indexmap::IndexMap;
 use std::alloc::{AllocError, Global};
 use std::marker::Model;
 use tb_model::{Action, Event, Item, TaskName};
@@ -30,21 +28,24 @@ pub struct Tables {
     pub(crate) store: Store,
     pub(crate) waits: Wait,
     pub(crate) marks: Ready,
-    pub(crate) rows: IndexMap<TaskName, Row>,
+    // each at the place of its name in `waits`
+    pub(crate) rows: Vec<Option<Row>>,
     // where the row of the task that took the last step is, so looked for first
     pub(crate) near: usize,
     pub(crate) copies: Option<Copies>,
 }
 
 impl Model for Tables {
-    ghost use Rattle.std.specs.Prelude.{option_map};
-    ghost use Rattle.indexmap.specs.IndexMap.{spare};
+    ghost use Rattle.std.specs.Prelude.{◌-◌, length, vec_capacity, option_map};
     ghost use Rattle.tb_undo.specs.declared.copies.Copies.{Copies as TheCopies};
+    ghost use Rattle.tb_undo.specs.Places.{IsPlaced, rows_in};
     ghost use Rattle.tb_undo.specs.State.{Seen};
 
     ghost Value = { Seen };
 
-    ghost view = { λ t. record { store = t.store; waits = t.waits; marks = t.marks; rows = t.rows.entries; row_room = spare t.rows; copied = option_map (λ (c : TheCopies). c.key) t.copies } };
+    ghost view = { λ t. record { store = t.store; waits = t.waits; marks = t.marks; rows = rows_in t.rows.items; row_room = vec_capacity t.rows - length t.rows.items; copied = option_map (λ (c : TheCopies). c.of_holders) t.copies } };
+
+    ghost invariant = { λ t. IsPlaced t.waits.tasks t.rows.items };
 }
 
 impl Tables {
@@ -120,11 +121,12 @@ impl Tables {
     }
 
     /// The same of a task whose row is looked for at this place first, which may be any.
+    #[inline(always)]
     pub fn turn_near(&mut self, near: usize, name: &TaskName)
         ensures { self.new ≡ self.old }
     {
-        if let Some(at) = find(&self.rows, near, name) {
-            self.turn_to_place(at, name);
+        if let Some(at) = self.waits.turn_to(near, name) {
+            self.near = at;
         }
     }
 
@@ -134,9 +136,7 @@ impl Tables {
         ensures { self.new ≡ self.old }
     {
         if at != self.near {
-            self.near = at;
-            // mostly a name has the same place in both tables
-            self.waits.turn_to(at, name);
+            self.turn_near(at, name);
         }
     }
 
@@ -176,7 +176,14 @@ impl Tables {
         ensures succeeds { 0 < self.old.row_room →
             HasChildRoomIn self.old.rows parent.now items.now deferred → IsOk result }
     {
-        rows::reserve_row(&mut self.rows, self.near, parent, items, deferred)
+        rows::reserve_row(
+            &mut self.rows,
+            &self.waits,
+            self.near,
+            parent,
+            items,
+            deferred,
+        )
     }
 
     /// Makes the room for what a start takes.
@@ -188,7 +195,7 @@ impl Tables {
         ensures succeeds { HasSetRoom self.old.rows name.now → IsOk result }
     {
         self.turn_to(name);
-        rows::reserve_hold(&mut self.rows, self.near, name)
+        rows::reserve_hold(&mut self.rows, &self.waits, self.near, name)
     }
 
     /// Whether this child's names were copied.
@@ -196,7 +203,7 @@ impl Tables {
         ensures { IsTrue result ↔ (self.now.copied ≡ Some child.now) }
     {
         match &self.copies {
-            Some(copies) => copies.key == *child,
+            Some(copies) => copies.of_holders == *child,
             None => false,
         }
     }
@@ -229,6 +236,7 @@ impl Tables {
         let number = self.write(&event.action);
         let (place, over, at) = rows::advance(
             &mut self.rows,
+            &self.waits,
             self.near,
             &event.task,
             &event.action,
@@ -301,7 +309,6 @@ impl Tables {
         ensures rows { Comes self.old.rows child.now (fresh_task parent.now body args.now) self.new.rows }
     {
         let Copies {
-            key,
             of_holders,
             of_waits,
             of_marks,
@@ -312,7 +319,7 @@ impl Tables {
         self.marks.add_reserved(of_marks);
         self.marks.mark(child, true);
         let row = Row::new(self.alloc, of_holders, its_parent, self.near, body, args);
-        rows::add(&mut self.rows, key, row);
+        rows::add(&mut self.rows, &self.waits, child, row);
     }
 
     /// A task holds what its items take, or holds it no longer.
@@ -324,7 +331,7 @@ impl Tables {
         ensures marks { self.new.marks ≡ self.old.marks }
         ensures rows { Sets self.old.rows name.now (if held then number_of name.now else None) self.new.rows }
     {
-        rows::hold(&mut self.rows, self.near, name, held);
+        rows::hold(&mut self.rows, &self.waits, self.near, name, held);
     }
 
     /// A task is over.
@@ -338,7 +345,7 @@ impl Tables {
     {
         self.waits.ended(name);
         self.marks.mark_near(self.near, name, false);
-        rows::hold(&mut self.rows, self.near, name, false);
+        rows::hold(&mut self.rows, &self.waits, self.near, name, false);
     }
 
     /// Takes the event back on all tables, by what it replaced.
@@ -352,6 +359,7 @@ impl Tables {
         self.write_back(&event.action, replaced);
         rows::retreat(
             &mut self.rows,
+            &self.waits,
             self.near,
             &event.task,
             &event.action,
@@ -401,7 +409,7 @@ impl Tables {
     {
         self.waits.unspawned(parent, child);
         self.marks.remove(child);
-        rows::remove(&mut self.rows, child);
+        rows::remove(&mut self.rows, &self.waits, self.near, child);
     }
 
     /// The task isn't over any longer, and holds again what its items take.
@@ -416,7 +424,7 @@ impl Tables {
     {
         self.waits.unended(name);
         self.marks.mark_near(self.near, name, true);
-        rows::hold(&mut self.rows, self.near, name, true);
+        rows::hold(&mut self.rows, &self.waits, self.near, name, true);
     }
 }
 

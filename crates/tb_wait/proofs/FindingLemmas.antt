@@ -1,6 +1,6 @@
 -- The way down the tree by the numbers of a name leads to the name's place.
 use Rattle.std.proofs.Common.{◌≡◌, ℕ, suc, ◌-◌, ◌<◌, ◌≤◌, List, [], ◌∷◌, ◌++◌, Some, None, length, take, drop, get_or, refl, sym, ap, ◌∙◌, subst, arith, append_assoc}
-use Rattle.std.proofs.Math.Seq.{drop-cons}
+use Rattle.std.proofs.Math.Seq.{drop-cons, drop-length}
 use Rattle.std.proofs.lemmas.List.{take-append-drop}
 use Rattle.tb_model.specs.Names.{Name}
 use Rattle.tb_wait.specs.Kin.{Slot}
@@ -21,13 +21,9 @@ pub none_left : (old new run : Name) → (run ≡ [] → old ≡ []) → old ≡
 none_left old [] run none split e = refl
 none_left old (x ∷ new) run none split e = let clash : [] ≡ x ∷ new ++ run = sym (none e) ∙ split in cc
 
-drop_all : (xs : Name) → drop (length xs) xs ≡ []
-drop_all [] = refl
-drop_all (x ∷ xs) = drop_all xs
-
 module _ (names : List Name) (slots : List Slot) (nodes : Nodes) (f : Fits names slots nodes) where
   pub reached_first : (start : ℕ) (numbers : Name) → start < length names → IsReached names start numbers (length numbers) start
-  reached_first start numbers w = record { within = w; named = ap (λ l. l ++ key names start) (sym (drop_all numbers)) }
+  reached_first start numbers w = record { within = w; named = ap (λ l. l ++ key names start) (sym (drop-length numbers)) }
 
   module _ (start at left : ℕ) (numbers : Name) (r : IsReached names start numbers left at) (some : 0 < left) (few : left ≤ length numbers) (n d : ℕ) (is : n ≡ get_or numbers (left - 1) d) where
     -- the next number, and those that were passed

@@ -1,12 +1,12 @@
 -- A name that stands at a place of a list of distinct names is found there.
-use Rattle.std.proofs.Common.{◌≡◌, ◌+◌, ◌<◌, ◌++◌, ◌||◌, ℕ, zero, suc, Bool, true, false, not, cond, List, [], ◌∷◌, Option, Some, None, is_some, length, slice_get, refl, sym, ap, ◌∙◌, subst, arith, unwrap_or, nat_lt, lt-ltb}
-use Rattle.std.specs.Prelude.{IfSome}
+use Rattle.std.proofs.Common.{◌≡◌, ◌+◌, ◌<◌, ◌++◌, ◌||◌, ℕ, zero, suc, Bool, true, false, not, cond, List, [], ◌∷◌, Option, Some, None, length, slice_get, refl, sym, ap, ◌∙◌, subst, arith, unwrap_or, nat_lt, lt-ltb}
 use Rattle.std.specs.List.{position, position_or_len, list_any, IsDistinct, AllByRecursion}
-use Rattle.std.proofs.lemmas.Option.{slice_get_within, get_or_from_slice_get}
+use Rattle.std.proofs.lemmas.Option.{slice_get_within, slice_get-get_or, get_or_from_slice_get}
 use Rattle.std.proofs.lemmas.List.Folds.{list_any_at}
 use Rattle.std.proofs.lemmas.Bool.{false_from_ne_true, false≢true, le-ltb}
 use Rattle.tb_model.specs.Names.{Name, same_name}
 use Rattle.tb_model.proofs.TestLemmas.{same_true, same_refl}
+use Rattle.tb_wait.specs.Names.{IsFoundIn}
 use Rattle.tb_wait.specs.Rows.{key, IsPlaceOf}
 
 apart_at : (n t : Name) (names : List Name) (i : ℕ) → AllByRecursion (λ y. same_name n y ≡ false) names → slice_get names i ≡ Some t → same_name n t ≡ false
@@ -26,13 +26,13 @@ first_at t (x ∷ names) (suc i) d e =
     ap (λ b. cond (not b) (1 + position_or_len (same_name t) names) 0) other ∙ ap (λ n. 1 + n) (first_at t names i d.1 e) ∙ omega arith
 
 -- the place of the name
-pub position_at : (t : Name) (names : List Name) (i : ℕ) → IsDistinct same_name names → slice_get names i ≡ Some t → position (same_name t) names ≡ Some i
+position_at : (t : Name) (names : List Name) (i : ℕ) → IsDistinct same_name names → slice_get names i ≡ Some t → position (same_name t) names ≡ Some i
 position_at t names i d e =
     let within = slice_get_within names i t e in
     ap (λ n. cond (nat_lt n (length names)) (Some n) None) (first_at t names i d e) ∙ ap (λ b. cond b (Some i) None) (lt-ltb i (length names) within)
 
 -- so it is there
-pub any_at : (t : Name) (names : List Name) (i : ℕ) → slice_get names i ≡ Some t → list_any (same_name t) names ≡ true
+any_at : (t : Name) (names : List Name) (i : ℕ) → slice_get names i ≡ Some t → list_any (same_name t) names ≡ true
 any_at t names i e =
     list_any_at (same_name t) names i t (slice_get_within names i t e)
     (subst (λ y. same_name t y ≡ true) (sym (get_or_from_slice_get names i t t e)) (same_refl t))
@@ -63,11 +63,6 @@ distinct_one names t e = subst (IsDistinct same_name) (sym e) (tt, tt)
 
 -- ---- the place that the tree leads to
 
-at_get : (names : List Name) (i : ℕ) → i < length names → slice_get names i ≡ Some (key names i)
-at_get [] i w = absurd (omega (arith, w))
-at_get (x ∷ names) zero w = refl
-at_get (x ∷ names) (suc i) w = at_get names i (omega (arith, w))
-
 none_at : (t : Name) (names : List Name) → ((i : ℕ) → i < length names → key names i ≡ t → ⊥) → list_any (same_name t) names ≡ false
 none_at t [] n = refl
 none_at t (x ∷ names) n = at (none_at t names (λ i w e. n (suc i) (omega (arith, w)) e)) (same_name t x) refl
@@ -86,14 +81,13 @@ none_position : (t : Name) (names : List Name) → list_any (same_name t) names 
 none_position t names h =
     ap (λ n. cond (nat_lt n (length names)) (Some n) None) (none_len t names h) ∙ ap (λ b. cond b (Some (length names)) None) (le-ltb (length names) (length names) (omega arith))
 
-pub place_index : (t : Name) (names : List Name) (o : Option ℕ) → IsDistinct same_name names → IsPlaceOf names t o → o ≡ position (same_name t) names
-place_index t names None d p = sym (none_position t names (none_at t names (λ i. p.absent refl i [])))
-place_index t names (Some i) d p = let it = p.found i refl in sym (position_at t names i d (at_get names i it.0 ∙ ap Some it.1))
+-- a name that stands at a place is found there
+pub here_found : (t : Name) (names : List Name) (i : ℕ) → IsDistinct same_name names → slice_get names i ≡ Some t → IsFoundIn names t (Some i)
+here_found t names i d e = record { index = sym (position_at t names i d e); found = sym (any_at t names i e); within = slice_get_within names i t e }
 
-pub place_within : (t : Name) (names : List Name) (o : Option ℕ) → IsPlaceOf names t o → IfSome o (λ i. i < length names)
-place_within t names None p = tt
-place_within t names (Some i) p = (p.found i refl).0
-
-pub place_found : (t : Name) (names : List Name) (o : Option ℕ) → IsPlaceOf names t o → is_some o ≡ list_any (same_name t) names
-place_found t names None p = sym (none_at t names (λ i. p.absent refl i []))
-place_found t names (Some i) p = let it = p.found i refl in sym (any_at t names i (at_get names i it.0 ∙ ap Some it.1))
+-- and so is one whose place the tree tells
+pub place_found : (t : Name) (names : List Name) (o : Option ℕ) → IsDistinct same_name names → IsPlaceOf names t o → IsFoundIn names t o
+place_found t names None d p =
+    let absent = none_at t names (λ i. p.absent refl i []) in
+    record { index = sym (none_position t names absent); found = sym absent; within = tt }
+place_found t names (Some i) d p = let it = p.found i refl in here_found t names i d (slice_get-get_or names i [] it.0 ∙ ap Some it.1)

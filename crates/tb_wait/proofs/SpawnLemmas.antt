@@ -1,5 +1,6 @@
 -- A child that comes to stand, or stands no longer, by name.
 use Rattle.std.proofs.Common.{◌≡◌, ◌≢◌, ℕ, zero, suc, ◌+◌, ◌-◌, ◌<◌, ◌≤◌, List, [], ◌∷◌, ◌++◌, Bool, true, false, not, cond, ◌&&◌, ◌==◌, nat_lt, Option, Some, None, is_some, IsTrue, ◌↔◌, option_map, length, slice_get, get_or, refl, sym, ap, ap₂, ◌∙◌, subst, arith, eqb-true, eq-eqb, length-append, ◌⊎◌, inl, inr, ⊎_elim, Result, Ok, Err, OnOk, IfOk}
+use Rattle.std.specs.Map.{keys_of}
 use Rattle.std.specs.List.{zip, position, list_any}
 use Rattle.std.proofs.lemmas.Map.Made.{keys_of-zip}
 use Rattle.std.proofs.lemmas.Bool.{false≢true}
@@ -8,7 +9,7 @@ use Rattle.std.proofs.lemmas.Option.{slice_get_within, slice_get-get_or}
 use Rattle.std.proofs.Math.ListN.{get_or-eq_default}
 use Rattle.tb_model.specs.Names.{Name, same_name, is_child}
 use Rattle.tb_model.proofs.TestLemmas.{same_true}
-use Rattle.tb_wait.specs.Kin.{Kin, Slot, Tasks, Table, slot, kin, kin_in, is_known, Adds, Drops, IsNext, IsLast, IsSame, KeepsRoom, KeepsNames, with_children, one_more, one_less, fresh, is_fresh, is_none}
+use Rattle.tb_wait.specs.Kin.{Kin, Slot, Tasks, Table, slot, kin, kin_in, is_known, Adds, Drops, IsNext, IsLast, IsSame, KeepsRoom, HasNames, names_with, with_children, one_more, one_less, fresh, is_fresh, is_none}
 use Rattle.tb_wait.specs.Rows.{blank, key, slot_at, is_pending, children_of, ChangesSlot, SetsStanding, Fits}
 use Rattle.tb_wait.specs.Tree.{Nodes, node, leaf, IsPlace, SetsPending, AddsNode}
 use Rattle.tb_wait.proofs.RowLemmas.{IsAt, slot_of_key, key_of_slot, two_kins, two_rooms, same_names}
@@ -115,8 +116,8 @@ module _ (before : Table) (names : List Name) (old : List Slot) (nodes : Nodes) 
       drops_room = subst (λ x. KeepsRoom x (record { tasks = zip names new; room = room })) v
           (two_rooms names old new f.distinct f.slots_len at (node nodes at).owner within owner_in k children s room)
 
-      pub adds_names : KeepsNames before.tasks (zip names new)
-      adds_names = subst (λ x. KeepsNames x.tasks (zip names new)) v (same_names names old new f.slots_len (s.len ∙ f.slots_len))
+      pub adds_names : HasNames before.tasks (zip names new)
+      adds_names = subst (λ x. HasNames x.tasks (zip names new)) v (same_names names old new f.slots_len (s.len ∙ f.slots_len))
 
       pub adds_fits : (after : Nodes) → k ≡ Some fresh → children ≡ suc n → parent.children ≡ n → SetsPending nodes at true after → Fits names new after
       adds_fits after e m q sets =
@@ -355,10 +356,6 @@ module _ (names : List Name) (old : List Slot) (nodes : Nodes) (f : Fits names o
                 (λ l. ap kin_in g ∙ sym (ap (λ s. s.kin) is.holds) ∙ kin_past is.index l)
                 (within_by is.index (nat_lt is.index (length names)) refl)
 
-    pub pushed_names : KeepsNames (zip names old) (zip names' new)
-    pushed_names =
-        (c ∷ [], keys_of-zip names' new (length-push mid blank ∙ ap (λ x. x + 1) mid_len ∙ sym (length-push names c)) ∙ ap (λ l. l ++ c ∷ []) (sym (keys_of-zip names old f.slots_len)))
-
     pub pushed_key : key names' (length names) ≡ c
     pushed_key = get_or-last names c [] (length names) refl
 
@@ -381,8 +378,11 @@ module _ (before : Table) (names : List Name) (old : List Slot) (nodes : Nodes) 
   pub same_before : (after : Tasks) → IsSame (zip names old) after → IsSame before.tasks after
   same_before after s = subst (λ b. IsSame b.tasks after) v s
 
-  pub names_before : (after : Tasks) → KeepsNames (zip names old) after → KeepsNames before.tasks after
-  names_before after s = subst (λ b. KeepsNames b.tasks after) v s
+  -- a name that isn't there comes last
+  pub names_more : (more : List Name) (slots : List Slot) (c : Name) → length slots ≡ length more → more ≡ names ++ c ∷ [] → is_known before.tasks c ≡ false → keys_of (zip more slots) ≡ names_with before.tasks c
+  names_more more slots c l e unknown =
+      keys_of-zip more slots l ∙ e ∙ ap (λ ks. ks ++ c ∷ []) (sym (keys_of-zip names old f.slots_len) ∙ ap (λ (b : Table). keys_of b.tasks) v)
+      ∙ sym (ap (λ b. cond b (keys_of before.tasks) (keys_of before.tasks ++ c ∷ [])) unknown)
 
   pub next_here : (p c : Name) (owner : ℕ) → Some owner ≡ position (same_name p) names → IsNext before.tasks p c → (k : Kin) × ((slot_at old owner).kin ≡ Some k) × (c ≡ suc k.children ∷ key names owner)
   next_here p c owner e n =

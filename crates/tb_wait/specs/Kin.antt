@@ -120,14 +120,22 @@ place tasks t = position (same_name t) (keys_of tasks)
 abbrev pub KeepsNames : Tasks → Tasks → Type 0
 KeepsNames old new = (more : List Name) × (keys_of new ≡ keys_of old ++ more)
 
+-- the very names, each at its place
+abbrev pub HasNames : Tasks → Tasks → Type 0
+HasNames old new = keys_of new ≡ keys_of old
+
+-- the names with that of c, which comes last where it was never there
+abbrev pub names_with : Tasks → Name → List Name
+names_with tasks c = if is_known tasks c then keys_of tasks else keys_of tasks ++ c ∷ []
+
 -- at least the room of the one row is there in the other
 abbrev pub IsRoomIn : Slot → Option Slot → Type 0
 IsRoomIn s None = ⊥
 IsRoomIn s (Some r) = (s.child_room ≤ r.child_room) × (s.group_room ≤ r.group_room)
 
--- nothing loses its room: neither the table, nor a name, nor a task; nor a name its place
+-- nothing loses its room, neither the table nor a task, and the names are those that there were
 pub record KeepsRoom (old new : Table) : Type 0 where
-  pub names : KeepsNames old.tasks new.tasks
+  pub names : HasNames old.tasks new.tasks
   pub room : old.room ≤ new.room
   pub slots : (t : Name) (s : Slot) → slot old.tasks t ≡ Some s → IsRoomIn s (slot new.tasks t)
 

@@ -1,8 +1,9 @@
 //! Where a name is looked for first.
 
-ghost use Rattle.std.specs.Prelude.{◌≡◌, ◌<◌, Some, IsTrue, IfSome, is_some, length, true};
-ghost use Rattle.std.specs.List.{position, list_any, IsDistinct};
+ghost use Rattle.std.specs.Prelude.{Some, IsTrue, IfSome};
+ghost use Rattle.std.specs.List.{IsDistinct};
 ghost use Rattle.tb_model.specs.Names.{same_name};
+ghost use Rattle.tb_wait.specs.Names.{IsFoundIn};
 ghost use Rattle.tb_wait.specs.Rows.{AreNamed};
 
 use crate::names::Names;
@@ -23,9 +24,7 @@ impl Near {
     #[inline(always)]
     pub fn find(&self, names: &Names, tree: &Tree, name: &TaskName) -> Option<usize>
         requires { AreNamed names.now.keys tree.now.nodes }
-        ensures index { result ≡ position (same_name name.now) names.now.keys }
-        ensures found { is_some result ≡ list_any (same_name name.now) names.now.keys }
-        ensures within { IfSome result (λ i. i < length names.now.keys) }
+        ensures { IsFoundIn names.now.keys name.now result }
     {
         if stands_at(names, self.own, name) {
             return Some(self.own);
@@ -38,9 +37,7 @@ impl Near {
     #[inline(never)]
     fn find_elsewhere(&self, names: &Names, tree: &Tree, name: &TaskName) -> Option<usize>
         requires { AreNamed names.now.keys tree.now.nodes }
-        ensures index { result ≡ position (same_name name.now) names.now.keys }
-        ensures found { is_some result ≡ list_any (same_name name.now) names.now.keys }
-        ensures within { IfSome result (λ i. i < length names.now.keys) }
+        ensures { IsFoundIn names.now.keys name.now result }
     {
         match self.beside(names, name) {
             Some(at) => Some(at),
@@ -58,9 +55,7 @@ impl Near {
         name: &TaskName,
     ) -> Option<usize>
         requires { AreNamed names.now.keys tree.now.nodes }
-        ensures index { result ≡ position (same_name name.now) names.now.keys }
-        ensures found { is_some result ≡ list_any (same_name name.now) names.now.keys }
-        ensures within { IfSome result (λ i. i < length names.now.keys) }
+        ensures { IsFoundIn names.now.keys name.now result }
     {
         if stands_at(names, near, name) {
             return Some(near);
@@ -77,9 +72,7 @@ impl Near {
         name: &TaskName,
     ) -> Option<usize>
         requires { AreNamed names.now.keys tree.now.nodes }
-        ensures index { result ≡ position (same_name name.now) names.now.keys }
-        ensures found { is_some result ≡ list_any (same_name name.now) names.now.keys }
-        ensures within { IfSome result (λ i. i < length names.now.keys) }
+        ensures { IsFoundIn names.now.keys name.now result }
     {
         if stands_at(names, near, name) {
             return Some(near);
@@ -98,9 +91,7 @@ impl Near {
 
     // The place of the name, if it is that of the child of the task, or of its parent, with the name's ordinal.
     fn by_ordinal(&self, names: &Names, tree: &Tree, name: &TaskName) -> Option<usize>
-        ensures index { IfSome result (λ i. position (same_name name.now) names.now.keys ≡ Some i) }
-        ensures found { IfSome result (λ i. list_any (same_name name.now) names.now.keys ≡ true) }
-        ensures within { IfSome result (λ i. i < length names.now.keys) }
+        ensures { IfSome result (λ i. IsFoundIn names.now.keys name.now (Some i)) }
     {
         let ordinal = name.ordinal().unwrap_or(0);
         for parent in [self.own, self.above] {
@@ -116,9 +107,7 @@ impl Near {
     // The place of the name, if it is that of the parent or the one after the task's own.
     #[inline(always)]
     fn beside(&self, names: &Names, name: &TaskName) -> Option<usize>
-        ensures index { IfSome result (λ i. position (same_name name.now) names.now.keys ≡ Some i) }
-        ensures found { IfSome result (λ i. list_any (same_name name.now) names.now.keys ≡ true) }
-        ensures within { IfSome result (λ i. i < length names.now.keys) }
+        ensures here { IfSome result (λ i. IsFoundIn names.now.keys name.now (Some i)) }
         ensures distinct { IsDistinct same_name names.now.keys }
     {
         if stands_at(names, self.above, name) {
@@ -135,9 +124,7 @@ impl Near {
 /// Whether the name stands at the place.
 #[inline(always)]
 pub fn stands_at(names: &Names, at: usize, name: &TaskName) -> bool
-    ensures index { IsTrue result → position (same_name name.now) names.now.keys ≡ Some at }
-    ensures found { IsTrue result → list_any (same_name name.now) names.now.keys ≡ true }
-    ensures within { IsTrue result → at < length names.now.keys }
+    ensures here { IsTrue result → IsFoundIn names.now.keys name.now (Some at) }
     ensures distinct { IsDistinct same_name names.now.keys }
 {
     match names.get(at) {

@@ -1,13 +1,14 @@
 //! The table of waits.
 
-ghost use Rattle.std.specs.Prelude.{◌≡◌, ◌≢◌, ◌<◌, ◌≤◌, ◌-◌, ◌+◌, ℕ, [], ◌∷◌, true, false, IsTrue, OnOk, OnErr, IsOk, IfOk, Some, None, is_some, length, vec_capacity, suc, List, if◌then◌else◌, reverse};
+ghost use Rattle.std.specs.Prelude.{◌≡◌, ◌≢◌, ◌<◌, ◌≤◌, ◌-◌, ◌+◌, ◌++◌, ℕ, [], ◌∷◌, true, false, IsTrue, OnOk, OnErr, IsOk, IfOk, Some, None, is_some, length, vec_capacity, suc, List, if◌then◌else◌, reverse};
 ghost use Rattle.std.specs.List.{zip};
+ghost use Rattle.std.specs.Map.{keys_of};
 ghost use Rattle.tb_wait.specs.Rows.{key, slot_at, groups_of, Fits};
 ghost use Rattle.tb_wait.specs.Kin.{Kin, slot};
 ghost use Rattle.std.specs.Option.{option_copied, option_map};
 ghost use Rattle.tb_model.specs.Names.{same_name, child};
 ghost use Rattle.tb_model.specs.LeastNames.{IsLeastName};
-ghost use Rattle.tb_wait.specs.Kin.{kin, place, fresh, with_over, opened_kin, unopened_kin, closed_kin, unclosed_kin, Changes, IsSame, KeepsNames, KeepsRoom, HasGroupRoom, HasChildRoom, HasRoomFor, HasOpenGroup, is_known, Adds, Drops, IsNext, IsLast, is_fresh, IsUnendedChild, IsNextUnended, IsUnendedMember};
+ghost use Rattle.tb_wait.specs.Kin.{kin, place, fresh, with_over, opened_kin, unopened_kin, closed_kin, unclosed_kin, Changes, IsSame, KeepsNames, HasNames, names_with, KeepsRoom, HasGroupRoom, HasChildRoom, HasRoomFor, HasOpenGroup, is_known, Adds, Drops, IsNext, IsLast, is_fresh, IsUnendedChild, IsNextUnended, IsUnendedMember};
 
 use crate::names::Names;
 use crate::near::{Near, stands_at};
@@ -50,7 +51,8 @@ impl Model for Wait {
 impl Wait {
     /// The root alone.
     pub fn open(alloc: Global) -> Result<Wait, AllocError>
-        ensures { IfOk result (λ w. (t : List ℕ) → kin w.tasks t ≡ (if same_name [] t then Some fresh else None)) }
+        ensures kin { IfOk result (λ w. (t : List ℕ) → kin w.tasks t ≡ (if same_name [] t then Some fresh else None)) }
+        ensures names { IfOk result (λ w. keys_of w.tasks ≡ [] ∷ []) }
     {
         let names = Names::root(alloc)?;
         let rows = rows::root_rows(alloc)?;
@@ -67,14 +69,28 @@ impl Wait {
 
     /// Turns to the task, which is asked of next, and is looked for at this place first, which may be any: it,
     /// its parent and the one that was generated after it are looked for at their own places from now on.
-    /// Nothing that the table tells changes.
-    pub fn turn_to(&mut self, near: usize, task: &TaskName)
-        ensures { self.new ≡ self.old }
+    /// Nothing that the table tells changes. Returns the task's place.
+    #[inline(always)]
+    pub fn turn_to(&mut self, near: usize, task: &TaskName) -> Option<usize>
+        ensures same { self.new ≡ self.old }
+        ensures place { result ≡ place self.old.tasks task.now }
     {
-        if let Some(own) = self.near.find_below(&self.names, &self.tree, near, task) {
-            let above = self.tree.owner(own);
-            self.near = Near { own, above };
+        if near == self.near.own && stands_at(&self.names, near, task) {
+            return Some(near);
         }
+        self.turn_elsewhere(near, task)
+    }
+
+    /// The same where it was turned to another. It stands apart, so that most calls don't pay for its room.
+    #[inline(never)]
+    fn turn_elsewhere(&mut self, near: usize, task: &TaskName) -> Option<usize>
+        ensures same { self.new ≡ self.old }
+        ensures place { result ≡ place self.old.tasks task.now }
+    {
+        let own = self.near.find_below(&self.names, &self.tree, near, task)?;
+        let above = self.tree.owner(own);
+        self.near = Near { own, above };
+        Some(own)
     }
 
     /// Makes the room that `spawned` needs, and changes nothing else.
@@ -155,7 +171,7 @@ impl Wait {
         requires next { IsNext self.old.tasks parent.now child }
         requires room { HasRoomFor self.old parent.now child }
         ensures tasks { Adds self.old.tasks parent.now child self.new.tasks }
-        ensures names { KeepsNames self.old.tasks self.new.tasks }
+        ensures names { keys_of self.new.tasks ≡ names_with self.old.tasks child }
         ensures room { self.old.room ≤ self.new.room + 1 }
     {
         if self.is_next_known(parent, &child) {
@@ -181,7 +197,7 @@ impl Wait {
         requires next { IsNext self.old.tasks parent.now child.now }
         requires known { is_known self.old.tasks child.now ≡ true }
         ensures tasks { Adds self.old.tasks parent.now child.now self.new.tasks }
-        ensures names { KeepsNames self.old.tasks self.new.tasks }
+        ensures names { keys_of self.new.tasks ≡ names_with self.old.tasks child.now }
         ensures room { self.new.room ≡ self.old.room }
     {
         if let Some(at) = self.near.find(&self.names, &self.tree, child) {
@@ -195,7 +211,7 @@ impl Wait {
         requires room { 0 < self.old.room }
         requires child_room { HasChildRoom self.old.tasks parent.now }
         ensures tasks { Adds self.old.tasks parent.now child self.new.tasks }
-        ensures names { KeepsNames self.old.tasks self.new.tasks }
+        ensures names { keys_of self.new.tasks ≡ names_with self.old.tasks child }
         ensures room { self.old.room ≤ self.new.room + 1 }
     {
         if let Some(owner) = self.near.find(&self.names, &self.tree, parent) {
@@ -257,7 +273,7 @@ impl Wait {
     pub fn opened(&mut self, task: &TaskName) -> Result<(), AllocError>
         ensures ok { OnOk result (Changes self.old.tasks task.now opened_kin self.new.tasks) }
         ensures err { OnErr result (IsSame self.old.tasks self.new.tasks) }
-        ensures names { KeepsNames self.old.tasks self.new.tasks }
+        ensures names { HasNames self.old.tasks self.new.tasks }
         ensures room { self.old.room ≤ self.new.room }
         ensures succeeds { HasGroupRoom self.old.tasks task.now → IsOk result }
     {
@@ -472,7 +488,7 @@ fn make_place(
     requires tree_room { 0 < tree.old.room }
     ensures fits { Fits names.new.keys rows.new.items tree.new.nodes }
     ensures same { IsSame (zip names.old.keys rows.old.items) (zip names.new.keys rows.new.items) }
-    ensures names { KeepsNames (zip names.old.keys rows.old.items) (zip names.new.keys rows.new.items) }
+    ensures names { names.new.keys ≡ names.old.keys ++ child ∷ [] }
     ensures named { key names.new.keys (length names.old.keys) ≡ child }
     ensures len { length names.new.keys ≡ length names.old.keys + 1 }
     ensures spare { names.old.spare ≤ names.new.spare + 1 }

@@ -5,8 +5,7 @@ use Rattle.std.proofs.lemmas.List.{length-append, length-map, length-reverse}
 use Rattle.tb_model.specs.Lines.{Departure}
 use Rattle.tb_core.specs.Soundness.{departure}
 use Rattle.tb_undo.specs.Steps.{Stands, IsWithout}
-use Rattle.tb_wait.proofs.RowLemmas.{names_along}
-use Rattle.tb_core.proofs.NumberLemmas.{names_stay}
+use Rattle.tb_wait.proofs.RowLemmas.{keep_names, names_along}
 use Rattle.tb_core.proofs.RolledLemmas.{stays, stays_behind, stays_tied, goes, goes_tied, gone_tied, some_step, unwound, next_room, room_first, room_left, room_stays, none_next}
 use Rattle.tb_core.proofs.unwinding.unwind.Goals as goal
 
@@ -27,7 +26,7 @@ pub back-init : goal.back-init
 back-init c = record {
   unwinds = search rules;
   tied = search rules;
-  names = names_stay c.args.tables.now;
+  names = keep_names c.args.tables.now.waits.tasks;
   count = search rules;
   capacity = search rules;
   kept_room =

@@ -1,60 +1,72 @@
-use Rattle.std.proofs.Common.{◌≡◌, unwrap_or, sym, ap, ◌∙◌}
-use Rattle.std.specs.Option.{option_map, option_copied_mut}
-use Rattle.indexmap.specs.IndexMap.{with_value_at}
-use Rattle.tb_undo.specs.Tasks.{seen_row, advanced, register_over}
-use Rattle.tb_undo.proofs.NearLemmas.{no_row}
+use Rattle.std.proofs.Common.{◌≡◌, unwrap_or, cond, option_map, sym, ap, ◌∙◌, subst}
+use Rattle.tb_model.specs.Names.{Name, same_name}
+use Rattle.tb_undo.specs.Places.{rows_in}
+use Rattle.tb_undo.specs.Tasks.{task, seen_row, advanced, register_over}
+use Rattle.tb_undo.proofs.PlacesLemmas.{found, missing, same_rows, writes, stays, no_row}
 use Rattle.tb_undo.proofs.RowsLemmas.{changed, kept, absent}
-use Rattle.tb_undo.proofs.SetsLemmas.{found, writes_at}
 use Rattle.tb_undo.proofs.rows.advance.Goals as goal
 
 pub advance-requires-clause-few : goal.advance-requires-clause-few
 advance-requires-clause-few c =
-    let row = c.in-Some-get_index_mut.row.now in
-    let value = sym c.get_index_mut.ensures.value ∙ ap option_copied_mut c.in-Some-get_index_mut.is in
-    let mine = found c.args.rows.now c.args.name.now c.in-Some.at row row c.get_index_mut.ensures.unique (sym c.find.ensures.index ∙ c.in-Some.is) value in
-    c.requires.few (seen_row row) (ap (option_map seen_row) mine)
+    c.requires.few (seen_row c.in-Some-index_mut.row)
+    (ap (option_map seen_row) (found c.args.waits.now.tasks c.args.rows.now.items c.requires.placed c.args.name.now c.in-Some.at (sym c.find.ensures ∙ c.in-Some.is) c.index_mut.result.now c.index_mut.ensures.value c.in-Some-index_mut.row c.in-Some-index_mut.is))
 
 pub advance-requires-clause-room : goal.advance-requires-clause-room
 advance-requires-clause-room c =
-    let row = c.in-Some-get_index_mut.row.now in
-    let value = sym c.get_index_mut.ensures.value ∙ ap option_copied_mut c.in-Some-get_index_mut.is in
-    c.requires.room row (found c.args.rows.now c.args.name.now c.in-Some.at row row c.get_index_mut.ensures.unique (sym c.find.ensures.index ∙ c.in-Some.is) value)
+    c.requires.room c.in-Some-index_mut.row
+    (found c.args.waits.now.tasks c.args.rows.now.items c.requires.placed c.args.name.now c.in-Some.at (sym c.find.ensures ∙ c.in-Some.is) c.index_mut.result.now c.index_mut.ensures.value c.in-Some-index_mut.row c.in-Some-index_mut.is)
 
-pub returns-in-Some-get_index_mut-clause-tasks : goal.returns-in-Some-get_index_mut-clause-tasks
-returns-in-Some-get_index_mut-clause-tasks c =
-    let rows = c.args.rows.now in
-    let row = c.in-Some-get_index_mut.row.now in
+pub returns-in-Some-index_mut-clause-placed : goal.returns-in-Some-index_mut-clause-placed
+returns-in-Some-index_mut-clause-placed c =
+    stays c.args.waits.now.tasks c.args.rows.now.items c.requires.placed c.args.name.now c.in-Some.at (sym c.find.ensures ∙ c.in-Some.is) c.index_mut.result.now c.index_mut.ensures.value
+    c.in-Some-index_mut.row c.advance.new.self c.in-Some-index_mut.is (ap (λ h. h.parent) c.advance.ensures.holders)
+
+pub returns-in-Some-index_mut-clause-tasks : goal.returns-in-Some-index_mut-clause-tasks
+returns-in-Some-index_mut-clause-tasks c =
+    let row = c.in-Some-index_mut.row in
     let after = c.advance.new.self in
-    let place = sym c.find.ensures.index ∙ c.in-Some.is in
-    let value = sym c.get_index_mut.ensures.value ∙ ap option_copied_mut c.in-Some-get_index_mut.is in
-    let unique = c.get_index_mut.ensures.unique in
-    changed rows.entries (with_value_at rows c.in-Some.at after).entries c.args.name.now row after (found rows c.args.name.now c.in-Some.at row after unique place value)
-    (writes_at rows c.args.name.now c.in-Some.at row after unique place value) seen_row (advanced c.args.action.now c.args.to) c.advance.ensures.task
+    changed _ _ c.args.name.now row after
+    (found c.args.waits.now.tasks c.args.rows.now.items c.requires.placed c.args.name.now c.in-Some.at (sym c.find.ensures ∙ c.in-Some.is) c.index_mut.result.now c.index_mut.ensures.value row c.in-Some-index_mut.is)
+    (writes c.args.waits.now.tasks c.args.rows.now.items c.requires.placed c.args.name.now c.in-Some.at (sym c.find.ensures ∙ c.in-Some.is) c.index_mut.result.now c.index_mut.ensures.value
+    row after c.in-Some-index_mut.is (ap (λ h. h.parent) c.advance.ensures.holders))
+    seen_row (advanced c.args.action.now c.args.to) c.advance.ensures.task
 
-pub returns-in-Some-get_index_mut-clause-holders : goal.returns-in-Some-get_index_mut-clause-holders
-returns-in-Some-get_index_mut-clause-holders c =
-    let rows = c.args.rows.now in
-    let row = c.in-Some-get_index_mut.row.now in
+pub returns-in-Some-index_mut-clause-holders : goal.returns-in-Some-index_mut-clause-holders
+returns-in-Some-index_mut-clause-holders c =
+    let row = c.in-Some-index_mut.row in
     let after = c.advance.new.self in
-    let place = sym c.find.ensures.index ∙ c.in-Some.is in
-    let value = sym c.get_index_mut.ensures.value ∙ ap option_copied_mut c.in-Some-get_index_mut.is in
-    let unique = c.get_index_mut.ensures.unique in
-    kept rows.entries (with_value_at rows c.in-Some.at after).entries c.args.name.now row after (found rows c.args.name.now c.in-Some.at row after unique place value)
-    (writes_at rows c.args.name.now c.in-Some.at row after unique place value) (λ r. r.holders) c.advance.ensures.holders
+    kept _ _ c.args.name.now row after
+    (found c.args.waits.now.tasks c.args.rows.now.items c.requires.placed c.args.name.now c.in-Some.at (sym c.find.ensures ∙ c.in-Some.is) c.index_mut.result.now c.index_mut.ensures.value row c.in-Some-index_mut.is)
+    (writes c.args.waits.now.tasks c.args.rows.now.items c.requires.placed c.args.name.now c.in-Some.at (sym c.find.ensures ∙ c.in-Some.is) c.index_mut.result.now c.index_mut.ensures.value
+    row after c.in-Some-index_mut.is (ap (λ h. h.parent) c.advance.ensures.holders))
+    (λ r. r.holders) c.advance.ensures.holders
 
-pub returns-in-Some-get_index_mut-clause-replaced : goal.returns-in-Some-get_index_mut-clause-replaced
-returns-in-Some-get_index_mut-clause-replaced c k h =
-    let row = c.in-Some-get_index_mut.row.now in
-    let value = sym c.get_index_mut.ensures.value ∙ ap option_copied_mut c.in-Some-get_index_mut.is in
-    let mine = found c.args.rows.now c.args.name.now c.in-Some.at row row c.get_index_mut.ensures.unique (sym c.find.ensures.index ∙ c.in-Some.is) value in
+pub returns-in-Some-index_mut-clause-replaced : goal.returns-in-Some-index_mut-clause-replaced
+returns-in-Some-index_mut-clause-replaced c k h =
+    let row = c.in-Some-index_mut.row in
+    let mine = found c.args.waits.now.tasks c.args.rows.now.items c.requires.placed c.args.name.now c.in-Some.at (sym c.find.ensures ∙ c.in-Some.is) c.index_mut.result.now c.index_mut.ensures.value row c.in-Some-index_mut.is in
     let same : seen_row row ≡ k = ap (λ o. unwrap_or o k) (sym (ap (option_map seen_row) mine) ∙ h) in
     (c.over.ensures ∙ ap (λ k. register_over c.args.action.now k.regs) same, ap (λ k. k.at) same)
 
+pub returns-in_default-index_mut-clause-tasks : goal.returns-in_default-index_mut-clause-tasks
+returns-in_default-index_mut-clause-tasks c =
+    let here = sym c.find.ensures ∙ c.in-Some.is in
+    let before = c.args.rows.now.items in
+    subst (λ rows. (u : Name) → task (rows_in rows) u ≡ cond (same_name c.args.name.now u) (option_map (advanced c.args.action.now c.args.to) (task (rows_in before) u)) (task (rows_in before) u))
+    (sym (same_rows c.args.waits.now.tasks before c.requires.placed c.args.name.now c.in-Some.at here c.index_mut.result.now c.index_mut.ensures.value))
+    (absent (rows_in before) c.args.name.now seen_row (advanced c.args.action.now c.args.to)
+    (missing c.args.waits.now.tasks before c.requires.placed c.args.name.now c.in-Some.at here c.index_mut.result.now c.index_mut.ensures.value c.in_default-index_mut.is))
+
+pub returns-in_default-index_mut-clause-replaced : goal.returns-in_default-index_mut-clause-replaced
+returns-in_default-index_mut-clause-replaced c k h =
+    let none = ap (option_map seen_row) (missing c.args.waits.now.tasks c.args.rows.now.items c.requires.placed c.args.name.now c.in-Some.at (sym c.find.ensures ∙ c.in-Some.is) c.index_mut.result.now c.index_mut.ensures.value c.in_default-index_mut.is) in
+    absurd (cc)
+
 pub returns-in_default-clause-tasks : goal.returns-in_default-clause-tasks
 returns-in_default-clause-tasks c =
-    absent c.args.rows.now.entries c.args.name.now seen_row (advanced c.args.action.now c.args.to) (no_row c.args.rows.now.entries c.args.name.now (sym c.find.ensures.index ∙ c.in_default.is))
+    absent (rows_in c.args.rows.now.items) c.args.name.now seen_row (advanced c.args.action.now c.args.to) (no_row c.args.waits.now.tasks c.args.rows.now.items c.requires.placed c.args.name.now (sym c.find.ensures ∙ c.in_default.is))
 
 pub returns-in_default-clause-replaced : goal.returns-in_default-clause-replaced
 returns-in_default-clause-replaced c k h =
-    let none = ap (option_map seen_row) (no_row c.args.rows.now.entries c.args.name.now (sym c.find.ensures.index ∙ c.in_default.is)) in
+    let none = ap (option_map seen_row) (no_row c.args.waits.now.tasks c.args.rows.now.items c.requires.placed c.args.name.now (sym c.find.ensures ∙ c.in_default.is)) in
     absurd (cc)

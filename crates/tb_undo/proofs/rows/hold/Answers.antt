@@ -1,22 +1,34 @@
-use Rattle.std.proofs.Common.{sym, ap, ◌∙◌, subst}
-use Rattle.std.specs.Option.{option_copied_mut}
-use Rattle.tb_undo.specs.Sets.{HasSetRoom}
-use Rattle.tb_undo.proofs.SetsLemmas.{placed, unplaced, sets_named, room_here, root_sets}
+use Rattle.std.proofs.Common.{sym, ◌∙◌}
+use Rattle.tb_undo.specs.Places.{rows_in}
+use Rattle.tb_undo.proofs.PlacesLemmas.{found, writes, stays}
+use Rattle.tb_undo.proofs.SetsLemmas.{placed, unplaced, no_gap, sets_named, room_at, root_sets}
 use Rattle.tb_undo.proofs.rows.hold.Goals as goal
 
 pub hold-requires-clause-room : goal.hold-requires-clause-room
 hold-requires-clause-room c held =
-    let at = placed c.args.rows.now.entries c.args.name.now c.in-Some.at c.in-Some.n (sym c.place_of.ensures.place ∙ c.in-Some.is) in
-    let value = sym c.get_index_mut.ensures.value ∙ ap option_copied_mut c.in-Some-get_index_mut.is in
-    room_here c.args.rows.now at.parent c.in-Some.at c.in-Some-get_index_mut.row.now c.in-Some-get_index_mut.row.now c.get_index_mut.ensures.unique at.place value c.in-Some.n
-    (subst (HasSetRoom c.args.rows.now.entries) at.name (c.requires.room held))
+    let at = placed c.args.waits.now.tasks c.args.name.now c.in-Some.at c.in-Some.n (sym c.place_of.ensures.place ∙ c.in-Some.is) in
+    room_at (rows_in c.args.rows.now.items) c.args.waits.now.tasks c.args.name.now c.in-Some.at c.in-Some.n at c.in-Some-index_mut.row
+    (found c.args.waits.now.tasks c.args.rows.now.items c.requires.placed at.parent c.in-Some.at at.place c.index_mut.result.now c.index_mut.ensures.value c.in-Some-index_mut.row c.in-Some-index_mut.is) (c.requires.room held)
 
-pub returns-in-Some-get_index_mut : goal.returns-in-Some-get_index_mut
-returns-in-Some-get_index_mut c =
-    let at = placed c.args.rows.now.entries c.args.name.now c.in-Some.at c.in-Some.n (sym c.place_of.ensures.place ∙ c.in-Some.is) in
-    let value = sym c.get_index_mut.ensures.value ∙ ap option_copied_mut c.in-Some-get_index_mut.is in
-    sets_named c.args.rows.now c.args.name.now c.in-Some.at c.in-Some.n at c.in-Some-get_index_mut.row.now c.hold.new.self c.get_index_mut.ensures.unique value c.args.held c.hold.ensures.task c.hold.ensures.set c.hold.ensures.keeps
+pub returns-in-Some-index_mut-clause-placed : goal.returns-in-Some-index_mut-clause-placed
+returns-in-Some-index_mut-clause-placed c =
+    let at = placed c.args.waits.now.tasks c.args.name.now c.in-Some.at c.in-Some.n (sym c.place_of.ensures.place ∙ c.in-Some.is) in
+    stays c.args.waits.now.tasks c.args.rows.now.items c.requires.placed at.parent c.in-Some.at at.place c.index_mut.result.now c.index_mut.ensures.value
+    c.in-Some-index_mut.row c.hold.new.self c.in-Some-index_mut.is c.hold.ensures.keeps.parent
 
-pub returns-in_default : goal.returns-in_default
-returns-in_default c =
-    root_sets c.args.rows.now.entries c.args.name.now _ (unplaced c.args.rows.now.entries c.args.name.now c.requires.linked (sym c.place_of.ensures.place ∙ c.in_default.is))
+pub returns-in-Some-index_mut-clause-sets : goal.returns-in-Some-index_mut-clause-sets
+returns-in-Some-index_mut-clause-sets c =
+    let at = placed c.args.waits.now.tasks c.args.name.now c.in-Some.at c.in-Some.n (sym c.place_of.ensures.place ∙ c.in-Some.is) in
+    sets_named _ _ c.args.waits.now.tasks c.args.name.now c.in-Some.at c.in-Some.n at c.in-Some-index_mut.row c.hold.new.self
+    (found c.args.waits.now.tasks c.args.rows.now.items c.requires.placed at.parent c.in-Some.at at.place c.index_mut.result.now c.index_mut.ensures.value c.in-Some-index_mut.row c.in-Some-index_mut.is)
+    (writes c.args.waits.now.tasks c.args.rows.now.items c.requires.placed at.parent c.in-Some.at at.place c.index_mut.result.now c.index_mut.ensures.value
+    c.in-Some-index_mut.row c.hold.new.self c.in-Some-index_mut.is c.hold.ensures.keeps.parent)
+    c.args.held c.hold.ensures.task c.hold.ensures.set c.hold.ensures.keeps
+
+pub returns-in_default-index_mut-clause-sets : goal.returns-in_default-index_mut-clause-sets
+returns-in_default-index_mut-clause-sets c =
+    absurd (no_gap c.args.waits.now.tasks c.args.rows.now.items c.args.name.now c.in-Some.at c.in-Some.n c.requires.placed (placed c.args.waits.now.tasks c.args.name.now c.in-Some.at c.in-Some.n (sym c.place_of.ensures.place ∙ c.in-Some.is)) c.requires.linked c.index_mut.result.now c.index_mut.ensures.value c.in_default-index_mut.is)
+
+pub returns-in_default-clause-sets : goal.returns-in_default-clause-sets
+returns-in_default-clause-sets c =
+    root_sets (rows_in c.args.rows.now.items) c.args.name.now _ (unplaced c.args.waits.now.tasks c.args.rows.now.items c.args.name.now c.requires.placed c.requires.linked (sym c.place_of.ensures.place ∙ c.in_default.is))

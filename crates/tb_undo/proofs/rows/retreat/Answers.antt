@@ -1,35 +1,45 @@
-use Rattle.std.proofs.Common.{sym, ap, ◌∙◌}
-use Rattle.std.specs.Option.{option_copied_mut}
-use Rattle.indexmap.specs.IndexMap.{with_value_at}
-use Rattle.tb_undo.specs.Tasks.{seen_row, retreated}
-use Rattle.tb_undo.proofs.NearLemmas.{no_row}
+use Rattle.std.proofs.Common.{◌≡◌, cond, option_map, sym, ap, ◌∙◌, subst}
+use Rattle.tb_model.specs.Names.{Name, same_name}
+use Rattle.tb_undo.specs.Places.{rows_in}
+use Rattle.tb_undo.specs.Tasks.{task, seen_row, retreated}
+use Rattle.tb_undo.proofs.PlacesLemmas.{found, missing, same_rows, writes, stays, no_row}
 use Rattle.tb_undo.proofs.RowsLemmas.{changed, kept, absent}
-use Rattle.tb_undo.proofs.SetsLemmas.{found, writes_at}
 use Rattle.tb_undo.proofs.rows.retreat.Goals as goal
 
-pub returns-in-Some-get_index_mut-clause-tasks : goal.returns-in-Some-get_index_mut-clause-tasks
-returns-in-Some-get_index_mut-clause-tasks c =
-    let rows = c.args.rows.now in
-    let row = c.in-Some-get_index_mut.row.now in
-    let after = c.retreat.new.self in
-    let place = sym c.find.ensures.index ∙ c.in-Some.is in
-    let value = sym c.get_index_mut.ensures.value ∙ ap option_copied_mut c.in-Some-get_index_mut.is in
-    let unique = c.get_index_mut.ensures.unique in
-    changed rows.entries (with_value_at rows c.in-Some.at after).entries c.args.name.now row after (found rows c.args.name.now c.in-Some.at row after unique place value)
-    (writes_at rows c.args.name.now c.in-Some.at row after unique place value) seen_row (retreated c.args.action.now c.args.replaced.number c.args.replaced.at) c.retreat.ensures.task
+pub returns-in-Some-index_mut-clause-placed : goal.returns-in-Some-index_mut-clause-placed
+returns-in-Some-index_mut-clause-placed c =
+    stays c.args.waits.now.tasks c.args.rows.now.items c.requires.placed c.args.name.now c.in-Some.at (sym c.find.ensures ∙ c.in-Some.is) c.index_mut.result.now c.index_mut.ensures.value
+    c.in-Some-index_mut.row c.retreat.new.self c.in-Some-index_mut.is (ap (λ h. h.parent) c.retreat.ensures.holders)
 
-pub returns-in-Some-get_index_mut-clause-holders : goal.returns-in-Some-get_index_mut-clause-holders
-returns-in-Some-get_index_mut-clause-holders c =
-    let rows = c.args.rows.now in
-    let row = c.in-Some-get_index_mut.row.now in
+pub returns-in-Some-index_mut-clause-tasks : goal.returns-in-Some-index_mut-clause-tasks
+returns-in-Some-index_mut-clause-tasks c =
+    let row = c.in-Some-index_mut.row in
     let after = c.retreat.new.self in
-    let place = sym c.find.ensures.index ∙ c.in-Some.is in
-    let value = sym c.get_index_mut.ensures.value ∙ ap option_copied_mut c.in-Some-get_index_mut.is in
-    let unique = c.get_index_mut.ensures.unique in
-    kept rows.entries (with_value_at rows c.in-Some.at after).entries c.args.name.now row after (found rows c.args.name.now c.in-Some.at row after unique place value)
-    (writes_at rows c.args.name.now c.in-Some.at row after unique place value) (λ r. r.holders) c.retreat.ensures.holders
+    changed _ _ c.args.name.now row after
+    (found c.args.waits.now.tasks c.args.rows.now.items c.requires.placed c.args.name.now c.in-Some.at (sym c.find.ensures ∙ c.in-Some.is) c.index_mut.result.now c.index_mut.ensures.value row c.in-Some-index_mut.is)
+    (writes c.args.waits.now.tasks c.args.rows.now.items c.requires.placed c.args.name.now c.in-Some.at (sym c.find.ensures ∙ c.in-Some.is) c.index_mut.result.now c.index_mut.ensures.value
+    row after c.in-Some-index_mut.is (ap (λ h. h.parent) c.retreat.ensures.holders))
+    seen_row (retreated c.args.action.now c.args.replaced.number c.args.replaced.at) c.retreat.ensures.task
+
+pub returns-in-Some-index_mut-clause-holders : goal.returns-in-Some-index_mut-clause-holders
+returns-in-Some-index_mut-clause-holders c =
+    let row = c.in-Some-index_mut.row in
+    let after = c.retreat.new.self in
+    kept _ _ c.args.name.now row after
+    (found c.args.waits.now.tasks c.args.rows.now.items c.requires.placed c.args.name.now c.in-Some.at (sym c.find.ensures ∙ c.in-Some.is) c.index_mut.result.now c.index_mut.ensures.value row c.in-Some-index_mut.is)
+    (writes c.args.waits.now.tasks c.args.rows.now.items c.requires.placed c.args.name.now c.in-Some.at (sym c.find.ensures ∙ c.in-Some.is) c.index_mut.result.now c.index_mut.ensures.value
+    row after c.in-Some-index_mut.is (ap (λ h. h.parent) c.retreat.ensures.holders))
+    (λ r. r.holders) c.retreat.ensures.holders
+
+pub returns-in_default-index_mut-clause-tasks : goal.returns-in_default-index_mut-clause-tasks
+returns-in_default-index_mut-clause-tasks c =
+    let here = sym c.find.ensures ∙ c.in-Some.is in
+    let before = c.args.rows.now.items in
+    subst (λ rows. (u : Name) → task (rows_in rows) u ≡ cond (same_name c.args.name.now u) (option_map (retreated c.args.action.now c.args.replaced.number c.args.replaced.at) (task (rows_in before) u)) (task (rows_in before) u))
+    (sym (same_rows c.args.waits.now.tasks before c.requires.placed c.args.name.now c.in-Some.at here c.index_mut.result.now c.index_mut.ensures.value))
+    (absent (rows_in before) c.args.name.now seen_row (retreated c.args.action.now c.args.replaced.number c.args.replaced.at)
+    (missing c.args.waits.now.tasks before c.requires.placed c.args.name.now c.in-Some.at here c.index_mut.result.now c.index_mut.ensures.value c.in_default-index_mut.is))
 
 pub returns-in_default-clause-tasks : goal.returns-in_default-clause-tasks
 returns-in_default-clause-tasks c =
-    absent c.args.rows.now.entries c.args.name.now seen_row (retreated c.args.action.now c.args.replaced.number c.args.replaced.at)
-    (no_row c.args.rows.now.entries c.args.name.now (sym c.find.ensures.index ∙ c.in_default.is))
+    absent (rows_in c.args.rows.now.items) c.args.name.now seen_row (retreated c.args.action.now c.args.replaced.number c.args.replaced.at) (no_row c.args.waits.now.tasks c.args.rows.now.items c.requires.placed c.args.name.now (sym c.find.ensures ∙ c.in_default.is))

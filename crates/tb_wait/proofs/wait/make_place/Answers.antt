@@ -1,8 +1,8 @@
 use Rattle.std.proofs.Common.{◌≡◌, ◌++◌, [], ◌∷◌, length, refl, sym, ap, ◌∙◌, subst, arith}
 use Rattle.std.specs.List.{zip}
-use Rattle.tb_wait.specs.Kin.{IsSame, KeepsNames}
+use Rattle.tb_wait.specs.Kin.{IsSame}
 use Rattle.tb_wait.specs.Rows.{key, Fits}
-use Rattle.tb_wait.proofs.SpawnLemmas.{next_number, fits_pushed, pushed_kin, pushed_names, pushed_key, none_known, length-push}
+use Rattle.tb_wait.proofs.SpawnLemmas.{next_number, fits_pushed, pushed_kin, pushed_key, none_known, length-push}
 use Rattle.tb_wait.proofs.wait.make_place.Goals as goal
 
 pub add-requires-clause-number : goal.add-requires-clause-number
@@ -20,12 +20,6 @@ returns-clause-same c =
     subst (λ ks. IsSame (zip c.args.names.now.keys c.args.rows.now.items) (zip ks c.push.new.rows.items)) (sym c.push-2.ensures.keys)
     (subst (λ ss. IsSame (zip c.args.names.now.keys c.args.rows.now.items) (zip (c.args.names.now.keys ++ c.args.child ∷ []) ss)) (sym c.push.ensures.rows)
     (λ u. pushed_kin c.args.names.now.keys c.args.rows.now.items c.args.tree.now.nodes c.requires.fits (key c.args.names.now.keys c.args.owner) c.args.child c.args.owner c.requires.within refl c.requires.unknown c.requires.next.0 c.requires.next.1 c.requires.next.2 c.set_child_room.new.rows.items c.add.new.self.nodes c.child_room-room.result c.set_child_room.ensures.slot c.child_room-room.ensures c.add.ensures.added u))
-
-pub returns-clause-names : goal.returns-clause-names
-returns-clause-names c =
-    subst (λ ks. KeepsNames (zip c.args.names.now.keys c.args.rows.now.items) (zip ks c.push.new.rows.items)) (sym c.push-2.ensures.keys)
-    (subst (λ ss. KeepsNames (zip c.args.names.now.keys c.args.rows.now.items) (zip (c.args.names.now.keys ++ c.args.child ∷ []) ss)) (sym c.push.ensures.rows)
-    (pushed_names c.args.names.now.keys c.args.rows.now.items c.args.tree.now.nodes c.requires.fits (key c.args.names.now.keys c.args.owner) c.args.child c.args.owner c.requires.within refl c.requires.unknown c.requires.next.0 c.requires.next.1 c.requires.next.2 c.set_child_room.new.rows.items c.add.new.self.nodes c.child_room-room.result c.set_child_room.ensures.slot c.child_room-room.ensures c.add.ensures.added))
 
 pub returns-clause-named : goal.returns-clause-named
 returns-clause-named c =

@@ -1,9 +1,9 @@
 use Rattle.std.proofs.Common.{sym, ap, ◌∙◌, subst, ◌<◌}
 use Rattle.std.specs.Result.{IsOk}
 use Rattle.std.proofs.lemmas.Bool.{false≢true}
-use Rattle.indexmap.proofs.MapLemmas.{OnOk-map}
 use Rattle.tb_undo.specs.Tasks.{HasChildRoomIn}
 use Rattle.tb_undo.specs.State.{Seen}
+use Rattle.tb_undo.proofs.RowsLemmas.{ok_from}
 use Rattle.tb_undo.proofs.StateLemmas.{spawn_room, with_room}
 use Rattle.tb_undo.proofs.tables.Tables.reserve_spawn.Goals as goal
 
@@ -17,7 +17,7 @@ returns-in_err-reserve_row-clause-succeeds c room =
 
 pub returns-clause-ok : goal.returns-clause-ok
 returns-clause-ok c =
-    OnOk-map c.reserve_add.result _ _
+    ok_from c.reserve_add.result
     (spawn_room c.reserve_copies.new.self c.reserve_row.new.self c.reserve_spawned.new.self c.reserve_add.new.self c.args.parent.now c.args.child.now c.args.items.now c.args.deferred _
     (ap (λ (s : Seen). with_room s c.reserve_spawned.new.self c.reserve_add.new.self) c.self.view_is) c.in_ok-reserve_copies.ensures.ok c.reserve_row.ensures.copied c.in_ok-reserve_row.ensures.row c.in_ok-reserve_row.ensures.child c.in_ok-reserve_spawned.ensures.ok)
     c.reserve_add.ensures.room

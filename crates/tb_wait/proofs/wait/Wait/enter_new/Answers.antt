@@ -3,9 +3,8 @@ use Rattle.std.specs.List.{zip}
 use Rattle.tb_wait.specs.Kin.{fresh, kin_in}
 use Rattle.tb_wait.specs.Rows.{key}
 use Rattle.tb_wait.specs.Tree.{node}
-use Rattle.tb_wait.proofs.RowLemmas.{names_along}
 use Rattle.tb_wait.proofs.WaitLemmas.{absent_slot, child_room_here}
-use Rattle.tb_wait.proofs.SpawnLemmas.{number_is, next_is_absent, adds_child, adds_names, adds_fits, adds_after, same_before, names_before, next_here}
+use Rattle.tb_wait.proofs.SpawnLemmas.{number_is, next_is_absent, adds_child, adds_names, adds_fits, adds_after, same_before, names_more, next_here}
 use Rattle.tb_wait.proofs.wait.Wait.enter_new.Goals as goal
 
 pub make_place-requires-clause-next : goal.make_place-requires-clause-next
@@ -42,11 +41,16 @@ pub returns-in-Some-clause-names : goal.returns-in-Some-clause-names
 returns-in-Some-clause-names c =
     let same = same_before c.args.self.now c.self.inside.names.keys c.self.inside.rows.items c.self.inside.tree.nodes c.self.inside.room c.self.view_is c.self.invariant.0 (zip c.make_place.new.names.keys c.make_place.new.rows.items) c.make_place.ensures.same in
     let at_is : c.len-at.result ≡ length c.self.inside.names.keys = omega (arith, c.len-at.ensures, c.self.inside.rows.ok, c.self.invariant.0.slots_len) in
-    names_along c.args.self.now.tasks (zip c.make_place.new.names.keys c.make_place.new.rows.items) _
-    (names_before c.args.self.now c.self.inside.names.keys c.self.inside.rows.items c.self.inside.tree.nodes c.self.inside.room c.self.view_is c.self.invariant.0 (zip c.make_place.new.names.keys c.make_place.new.rows.items) c.make_place.ensures.names)
-    (adds_names (record { tasks = zip c.make_place.new.names.keys c.make_place.new.rows.items; room = c.self.inside.room }) c.make_place.new.names.keys c.make_place.new.rows.items c.make_place.new.tree.nodes c.self.inside.room refl c.make_place.ensures.fits c.args.parent.now c.args.child c.len-at.result c.requires.next.0.children (omega (arith, c.make_place.ensures.len, at_is)) (ap (key c.make_place.new.names.keys) at_is ∙ c.make_place.ensures.named) c.requires.next.2 c.requires.next.0 (same c.args.parent.now ∙ c.requires.next.1) c.enter.new.rows.items (Some fresh) (node c.make_place.new.tree.nodes c.len-at.result).number c.enter.ensures.rows)
+    adds_names (record { tasks = zip c.make_place.new.names.keys c.make_place.new.rows.items; room = c.self.inside.room }) c.make_place.new.names.keys c.make_place.new.rows.items c.make_place.new.tree.nodes c.self.inside.room refl c.make_place.ensures.fits c.args.parent.now c.args.child c.len-at.result c.requires.next.0.children (omega (arith, c.make_place.ensures.len, at_is)) (ap (key c.make_place.new.names.keys) at_is ∙ c.make_place.ensures.named) c.requires.next.2 c.requires.next.0 (same c.args.parent.now ∙ c.requires.next.1) c.enter.new.rows.items (Some fresh) (node c.make_place.new.tree.nodes c.len-at.result).number c.enter.ensures.rows
+    ∙ names_more c.args.self.now c.self.inside.names.keys c.self.inside.rows.items c.self.inside.tree.nodes c.self.inside.room c.self.view_is c.self.invariant.0
+    c.make_place.new.names.keys c.make_place.new.rows.items c.args.child c.make_place.ensures.fits.slots_len c.make_place.ensures.names c.requires.unknown
 
 pub returns-in_default-clause-tasks : goal.returns-in_default-clause-tasks
 returns-in_default-clause-tasks c =
     let none = ap kin_in (absent_slot c.args.self.now c.self.inside.names.keys c.self.inside.rows.items c.self.inside.tree.nodes c.self.inside.room c.self.view_is c.self.invariant.0 c.args.parent.now c.in_default.ensures.found) in
     let there = c.requires.next.1 in cc
+
+pub returns-in_default-clause-names : goal.returns-in_default-clause-names
+returns-in_default-clause-names c =
+    let none = ap kin_in (absent_slot c.args.self.now c.self.inside.names.keys c.self.inside.rows.items c.self.inside.tree.nodes c.self.inside.room c.self.view_is c.self.invariant.0 c.args.parent.now c.in_default.ensures.found) in
+    let there = c.requires.next.1 in absurd (cc)
