@@ -1,5 +1,5 @@
 -- The row of a task stands at its name's place.
-use Rattle.std.proofs.Common.{◌≡◌, ◌≢◌, ◌<◌, ◌==◌, ℕ, zero, suc, Bool, true, false, cond, List, [], ◌∷◌, Option, Some, None, length, get_or, set, refl, sym, ap, ◌∙◌, subst, arith, eqb-true, eq-eqb}
+use Rattle.std.proofs.Common.{◌≡◌, ◌≢◌, ◌<◌, ◌==◌, ℕ, zero, suc, Bool, true, false, cond, List, [], ◌∷◌, Option, Some, None, option_map, length, get_or, set, refl, sym, ap, ◌∙◌, subst, arith, eqb-true, eq-eqb}
 use Rattle.std.specs.Prelude.{position}
 use Rattle.std.specs.Map.{keys_of}
 use Rattle.std.proofs.lemmas.Bool.{false≢true}
@@ -9,9 +9,9 @@ use Rattle.tb_model.specs.Names.{Name, same_name}
 use Rattle.tb_model.proofs.TestLemmas.{same_true, same_refl}
 use Rattle.tb_wait.specs.Kin.{Tasks as Waiting, place}
 use Rattle.tb_undo.specs.declared.row.Row.{Row}
-use Rattle.tb_undo.specs.Tasks.{row}
+use Rattle.tb_undo.specs.Tasks.{Task, row, task, holders_of, seen_row}
 use Rattle.tb_undo.specs.Places.{row_in, rows_in, IsPlaced}
-use Rattle.tb_undo.proofs.RowsLemmas.{Writes}
+use Rattle.tb_undo.proofs.RowsLemmas.{Writes, changed, kept, absent}
 
 some_is : {A : Type 0} {x y : A} → Some x ≡ Some y → x ≡ y
 some_is e = cc
@@ -129,3 +129,20 @@ module _ (tasks : Waiting) (rows : List (Option Row)) (p : IsPlaced tasks rows) 
 
     pub writes : Writes (rows_in rows) t w (rows_in (set rows i (Some w)))
     writes = changes tasks rows p t i here (Some w) own
+
+  -- a step of the task changes what it says of the task, and not who holds what
+  module _ (r w : Row) (is : x ≡ Some r) (f : Task → Task) (seen : seen_row w ≡ f (seen_row r)) (same : w.holders ≡ r.holders) where
+    all_writes : Writes (rows_in rows) t w (rows_in (set rows i (Some w)))
+    all_writes = writes r w is (ap (λ h. h.parent) same)
+
+    pub steps : (u : Name) → task (rows_in (set rows i (Some w))) u ≡ cond (same_name t u) (option_map f (task (rows_in rows) u)) (task (rows_in rows) u)
+    steps = changed (rows_in rows) (rows_in (set rows i (Some w))) t r w (found r is) all_writes seen_row f seen
+
+    pub holds_as_before : (p : Name) → holders_of (rows_in (set rows i (Some w))) p ≡ holders_of (rows_in rows) p
+    holds_as_before = kept (rows_in rows) (rows_in (set rows i (Some w))) t r w (found r is) all_writes (λ (y : Row). y.holders) same
+
+  -- where no row stands there is none to change
+  pub steps_nowhere : (f : Task → Task) → x ≡ None → (u : Name) → task (rows_in (set rows i x)) u ≡ cond (same_name t u) (option_map f (task (rows_in rows) u)) (task (rows_in rows) u)
+  steps_nowhere f is =
+      subst (λ rs. (u : Name) → task (rows_in rs) u ≡ cond (same_name t u) (option_map f (task (rows_in rows) u)) (task (rows_in rows) u)) (sym same_rows)
+      (absent (rows_in rows) t seen_row f (missing is))

@@ -1,10 +1,33 @@
-use Rattle.std.proofs.Common.{◌≡◌, unwrap_or, cond, option_map, sym, ap, ◌∙◌, subst}
-use Rattle.tb_model.specs.Names.{Name, same_name}
+use Rattle.std.proofs.Common.{◌≡◌, unwrap_or, option_map, sym, ap, ◌∙◌}
 use Rattle.tb_undo.specs.Places.{rows_in}
-use Rattle.tb_undo.specs.Tasks.{task, seen_row, advanced, register_over}
-use Rattle.tb_undo.proofs.PlacesLemmas.{found, missing, same_rows, writes, stays, no_row}
-use Rattle.tb_undo.proofs.RowsLemmas.{changed, kept, absent}
+use Rattle.tb_undo.specs.Tasks.{seen_row, advanced, register_over}
+use Rattle.tb_undo.proofs.PlacesLemmas.{found, missing, stays, steps, holds_as_before, steps_nowhere, no_row}
+use Rattle.tb_undo.proofs.RowsLemmas.{absent}
 use Rattle.tb_undo.proofs.rows.advance.Goals as goal
+
+pub returns-in-Some-index_mut-clause-placed : goal.returns-in-Some-index_mut-clause-placed
+returns-in-Some-index_mut-clause-placed c =
+    stays c.args.waits.now.tasks c.args.rows.now.items c.requires.placed c.args.name.now c.in-Some.at (sym c.find.ensures ∙ c.in-Some.is) c.index_mut.result.now c.index_mut.ensures.value
+    c.in-Some-index_mut.row c.advance.new.self c.in-Some-index_mut.is (ap (λ h. h.parent) c.advance.ensures.holders)
+
+pub returns-in-Some-index_mut-clause-tasks : goal.returns-in-Some-index_mut-clause-tasks
+returns-in-Some-index_mut-clause-tasks c =
+    steps c.args.waits.now.tasks c.args.rows.now.items c.requires.placed c.args.name.now c.in-Some.at (sym c.find.ensures ∙ c.in-Some.is) c.index_mut.result.now c.index_mut.ensures.value
+    c.in-Some-index_mut.row c.advance.new.self c.in-Some-index_mut.is (advanced c.args.action.now c.args.to) c.advance.ensures.task c.advance.ensures.holders
+
+pub returns-in-Some-index_mut-clause-holders : goal.returns-in-Some-index_mut-clause-holders
+returns-in-Some-index_mut-clause-holders c =
+    holds_as_before c.args.waits.now.tasks c.args.rows.now.items c.requires.placed c.args.name.now c.in-Some.at (sym c.find.ensures ∙ c.in-Some.is) c.index_mut.result.now c.index_mut.ensures.value
+    c.in-Some-index_mut.row c.advance.new.self c.in-Some-index_mut.is (advanced c.args.action.now c.args.to) c.advance.ensures.task c.advance.ensures.holders
+
+pub returns-in_default-index_mut-clause-tasks : goal.returns-in_default-index_mut-clause-tasks
+returns-in_default-index_mut-clause-tasks c =
+    steps_nowhere c.args.waits.now.tasks c.args.rows.now.items c.requires.placed c.args.name.now c.in-Some.at (sym c.find.ensures ∙ c.in-Some.is) c.index_mut.result.now c.index_mut.ensures.value
+    (advanced c.args.action.now c.args.to) c.in_default-index_mut.is
+
+pub returns-in_default-clause-tasks : goal.returns-in_default-clause-tasks
+returns-in_default-clause-tasks c =
+    absent (rows_in c.args.rows.now.items) c.args.name.now seen_row (advanced c.args.action.now c.args.to) (no_row c.args.waits.now.tasks c.args.rows.now.items c.requires.placed c.args.name.now (sym c.find.ensures ∙ c.in_default.is))
 
 pub advance-requires-clause-few : goal.advance-requires-clause-few
 advance-requires-clause-few c =
@@ -16,31 +39,6 @@ advance-requires-clause-room c =
     c.requires.room c.in-Some-index_mut.row
     (found c.args.waits.now.tasks c.args.rows.now.items c.requires.placed c.args.name.now c.in-Some.at (sym c.find.ensures ∙ c.in-Some.is) c.index_mut.result.now c.index_mut.ensures.value c.in-Some-index_mut.row c.in-Some-index_mut.is)
 
-pub returns-in-Some-index_mut-clause-placed : goal.returns-in-Some-index_mut-clause-placed
-returns-in-Some-index_mut-clause-placed c =
-    stays c.args.waits.now.tasks c.args.rows.now.items c.requires.placed c.args.name.now c.in-Some.at (sym c.find.ensures ∙ c.in-Some.is) c.index_mut.result.now c.index_mut.ensures.value
-    c.in-Some-index_mut.row c.advance.new.self c.in-Some-index_mut.is (ap (λ h. h.parent) c.advance.ensures.holders)
-
-pub returns-in-Some-index_mut-clause-tasks : goal.returns-in-Some-index_mut-clause-tasks
-returns-in-Some-index_mut-clause-tasks c =
-    let row = c.in-Some-index_mut.row in
-    let after = c.advance.new.self in
-    changed _ _ c.args.name.now row after
-    (found c.args.waits.now.tasks c.args.rows.now.items c.requires.placed c.args.name.now c.in-Some.at (sym c.find.ensures ∙ c.in-Some.is) c.index_mut.result.now c.index_mut.ensures.value row c.in-Some-index_mut.is)
-    (writes c.args.waits.now.tasks c.args.rows.now.items c.requires.placed c.args.name.now c.in-Some.at (sym c.find.ensures ∙ c.in-Some.is) c.index_mut.result.now c.index_mut.ensures.value
-    row after c.in-Some-index_mut.is (ap (λ h. h.parent) c.advance.ensures.holders))
-    seen_row (advanced c.args.action.now c.args.to) c.advance.ensures.task
-
-pub returns-in-Some-index_mut-clause-holders : goal.returns-in-Some-index_mut-clause-holders
-returns-in-Some-index_mut-clause-holders c =
-    let row = c.in-Some-index_mut.row in
-    let after = c.advance.new.self in
-    kept _ _ c.args.name.now row after
-    (found c.args.waits.now.tasks c.args.rows.now.items c.requires.placed c.args.name.now c.in-Some.at (sym c.find.ensures ∙ c.in-Some.is) c.index_mut.result.now c.index_mut.ensures.value row c.in-Some-index_mut.is)
-    (writes c.args.waits.now.tasks c.args.rows.now.items c.requires.placed c.args.name.now c.in-Some.at (sym c.find.ensures ∙ c.in-Some.is) c.index_mut.result.now c.index_mut.ensures.value
-    row after c.in-Some-index_mut.is (ap (λ h. h.parent) c.advance.ensures.holders))
-    (λ r. r.holders) c.advance.ensures.holders
-
 pub returns-in-Some-index_mut-clause-replaced : goal.returns-in-Some-index_mut-clause-replaced
 returns-in-Some-index_mut-clause-replaced c k h =
     let row = c.in-Some-index_mut.row in
@@ -48,23 +46,10 @@ returns-in-Some-index_mut-clause-replaced c k h =
     let same : seen_row row ≡ k = ap (λ o. unwrap_or o k) (sym (ap (option_map seen_row) mine) ∙ h) in
     (c.over.ensures ∙ ap (λ k. register_over c.args.action.now k.regs) same, ap (λ k. k.at) same)
 
-pub returns-in_default-index_mut-clause-tasks : goal.returns-in_default-index_mut-clause-tasks
-returns-in_default-index_mut-clause-tasks c =
-    let here = sym c.find.ensures ∙ c.in-Some.is in
-    let before = c.args.rows.now.items in
-    subst (λ rows. (u : Name) → task (rows_in rows) u ≡ cond (same_name c.args.name.now u) (option_map (advanced c.args.action.now c.args.to) (task (rows_in before) u)) (task (rows_in before) u))
-    (sym (same_rows c.args.waits.now.tasks before c.requires.placed c.args.name.now c.in-Some.at here c.index_mut.result.now c.index_mut.ensures.value))
-    (absent (rows_in before) c.args.name.now seen_row (advanced c.args.action.now c.args.to)
-    (missing c.args.waits.now.tasks before c.requires.placed c.args.name.now c.in-Some.at here c.index_mut.result.now c.index_mut.ensures.value c.in_default-index_mut.is))
-
 pub returns-in_default-index_mut-clause-replaced : goal.returns-in_default-index_mut-clause-replaced
 returns-in_default-index_mut-clause-replaced c k h =
     let none = ap (option_map seen_row) (missing c.args.waits.now.tasks c.args.rows.now.items c.requires.placed c.args.name.now c.in-Some.at (sym c.find.ensures ∙ c.in-Some.is) c.index_mut.result.now c.index_mut.ensures.value c.in_default-index_mut.is) in
     absurd (cc)
-
-pub returns-in_default-clause-tasks : goal.returns-in_default-clause-tasks
-returns-in_default-clause-tasks c =
-    absent (rows_in c.args.rows.now.items) c.args.name.now seen_row (advanced c.args.action.now c.args.to) (no_row c.args.waits.now.tasks c.args.rows.now.items c.requires.placed c.args.name.now (sym c.find.ensures ∙ c.in_default.is))
 
 pub returns-in_default-clause-replaced : goal.returns-in_default-clause-replaced
 returns-in_default-clause-replaced c k h =
