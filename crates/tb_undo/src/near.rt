@@ -23,15 +23,27 @@ pub fn find(rows: &Vec<Option<Row>>, waits: &Wait, near: usize, name: &TaskName)
     if stands_at(rows, near, name) {
         return Some(near);
     }
-    find_elsewhere(waits, near, name)
+    find_elsewhere(rows, waits, near, name)
 }
 
-/// The same where it isn't at the place `near`. It stands apart, so that most calls don't pay for its room.
+/// The same where it isn't at the place `near`: mostly it was generated right after the task there, or it is its parent, its
+/// child or its sibling. It stands apart, so that most calls don't pay for its room.
 #[inline(never)]
-fn find_elsewhere(waits: &Wait, near: usize, name: &TaskName) -> Option<usize>
+fn find_elsewhere(
+    rows: &Vec<Option<Row>>,
+    waits: &Wait,
+    near: usize,
+    name: &TaskName,
+) -> Option<usize>
+    requires { IsPlaced waits.now.tasks rows.now.items }
     ensures { result ≡ place waits.now.tasks name.now }
 {
-    waits.place(near, name)
+    let next = near.saturating_add(1);
+    if stands_at(rows, next, name) {
+        return Some(next);
+    }
+    let mut walk = near;
+    waits.walk_place(&mut walk, name)
 }
 
 /// Whether the task's row is at the place.
