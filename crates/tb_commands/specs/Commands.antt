@@ -12,7 +12,7 @@ use Rattle.tb_commands.specs.declared.command.Verb.{Verb}
 use Rattle.tb_commands.specs.declared.command.Verb.TheVariants.{Step as ToStep, Undo as ToUndo, Roll as ToRoll, RollTask as ToRollTask, RollCell as ToRollCell, RollPrint as ToRollPrint, Run as ToRun, Clear as ToClear, Tasks as ToTasks, Task as ToTask, Cells as ToCells, Out as ToOut, Ready as ToReady, Waits as ToWaits, Deps as ToDeps, Hist as ToHist, Why as ToWhy, Causes as ToCauses, Who as ToWho, Races as ToRaces, Breaks as ToBreaks}
 use Rattle.tb_commands.specs.declared.command.Command.{Command}
 use Rattle.tb_commands.specs.declared.command.Command.TheVariants.{Step, Undo, Roll, Run, Break, BreakBody, Clear, Show}
-use Rattle.tb_live.specs.declared.breaks.Break.TheVariants.{Task as OfTask, Cell as OfCell, Print as AnyPrint, Fault as AnyFault}
+use Rattle.tb_control.specs.declared.breaks.Break.TheVariants.{Task as OfTask, Cell as OfCell, Print as AnyPrint, Fault as AnyFault}
 use Rattle.tb_view.specs.declared.view.View.TheVariants.{Tasks, Task, Cells, Out, Ready, Waits, Deps, Hist, Why, Causes, Who, Races, Breaks}
 use Rattle.tb_commands.specs.declared.target.Target.TheVariants.{Step as TheStep, LastStore, LastPrint}
 use Rattle.tb_commands.specs.declared.asked.CommandFault.TheVariants.{Line, Word, Count, Name as BadName, Number as BadNumber}

@@ -4,7 +4,7 @@ ghost use Rattle.std.specs.Prelude.{◌≡◌, ◌∷◌, IfOk, map};
 ghost use Rattle.tb_commands.specs.Commands.{break_of, go_of, named, numbered, number_within, positive, task_of, with_none, with_one};
 ghost use Rattle.tb_commands.specs.declared.command.Command.TheVariants as command;
 ghost use Rattle.tb_commands.specs.declared.asked.Asked.TheVariants as answer;
-ghost use Rattle.tb_live.specs.declared.breaks.Break.TheVariants as point;
+ghost use Rattle.tb_control.specs.declared.breaks.Break.TheVariants as point;
 
 use crate::asked::{Asked, CommandFault};
 use crate::command::Command;

@@ -1,6 +1,6 @@
 -- A plan that was made at some time, and is taken now.
-use Rattle.std.proofs.Common.{◌≡◌, ◌≢◌, ◌<◌, ◌≤◌, ◌↔◌, ℕ, List, Bool, true, false, nat_le, length, reverse, refl, sym, ap, ◌∙◌, subst, Option, Some, None, option_map, arith, inl, inr}
-use Rattle.std.specs.Prelude.{Result, Ok, Err, IfOk}
+use Rattle.std.proofs.Common.{◌≡◌, ◌<◌, ◌≤◌, ◌↔◌, ℕ, List, Bool, true, false, nat_le, length, reverse, sym, ap, ◌∙◌, subst, Some, None, option_map, arith, inl, inr}
+use Rattle.std.specs.Prelude.{Result, Ok, Err}
 use Rattle.std.specs.List.{list_any}
 use Rattle.std.proofs.lemmas.Bool.{both_ways}
 use Rattle.std.proofs.lemmas.Bool.Decides.{nat_tests}
@@ -12,9 +12,8 @@ use Rattle.tb_model.specs.declared.step_id.StepId.{StepId}
 use Rattle.tb_model.specs.Names.{Name}
 use Rattle.tb_model.specs.Facts.{is_spawned, ends}
 use Rattle.tb_model.specs.Journal.{hist}
-use Rattle.tb_model.specs.Program.{Program, instr_at}
+use Rattle.tb_model.specs.Program.{Program}
 use Rattle.tb_model.specs.Hindrances.{By, refusal_of, next_event}
-use Rattle.tb_plan.specs.Plans.{instruction}
 use Rattle.tb_plan.specs.declared.planned.Plan.{Plan}
 use Rattle.tb_core.specs.declared.step_refusal.StepRefusal.{StepRefusal}
 use Rattle.tb_core.specs.declared.step_refusal.StepRefusal.TheVariants.{Memory, NoSuchTask, Ended, Full, Stale}
@@ -22,55 +21,26 @@ use Rattle.tb_core.specs.Seen.{Seen, Held as HeldCore}
 use Rattle.tb_core.specs.Seen as core
 use Rattle.tb_core.specs.Situation.{config_of}
 use Rattle.tb_core.specs.Outcomes.{event_of, has_ended, hindrance_of, IsOpen, IsCurrent, IsKept}
-use Rattle.tb_core.specs.Outcomes as outcomes
-use Rattle.tb_live.specs.declared.control.Control.{Control}
+use Rattle.tb_control.specs.declared.control.Control.{Control}
 use Rattle.tb_live.specs.declared.commit_refusal.CommitRefusal.{CommitRefusal}
 use Rattle.tb_live.specs.declared.commit_refusal.CommitRefusal.TheVariants.{Step as NotTaken}
-use Rattle.tb_live.specs.Claims.{claim_of}
-use Rattle.tb_live.specs.Modes.{is_paused}
+use Rattle.tb_control.specs.Claims.{claim_of}
+use Rattle.tb_control.specs.Modes.{is_paused}
 use Rattle.tb_live.specs.Session.{Session, Held, history, is_full}
-use Rattle.tb_live.specs.Moves.{MayStep, Refuses, refusal_for, coming}
+use Rattle.tb_live.specs.Moves.{Refuses, refusal_for, coming}
 use Rattle.tb_live.specs.Moves as moves
 use Rattle.tb_live.specs.Commits.{IsClaimed, IsOffered, IsUpToDate, MayCommit, RefusesPlan, Commits, IsPrepared, entry_to_come}
-use Rattle.tb_live.specs.Plans.{IsPlanOf, IsOfProgram, IsNative, IsForeign, IsKeptFrom, IsRefusalTo, IsRefusalOf, IsTold, Enters, has_no_place}
+use Rattle.tb_next.specs.Plans.{IsPlanOf, IsOfProgram, IsNative, IsForeign}
+use Rattle.tb_live.specs.Entering.{IsKeptFrom, Enters, has_no_place}
 use Rattle.tb_live.specs.Preparing.{IsReadied, HasStepRoom}
-use Rattle.tb_live.specs.Soundness.{Fits, IsSound, IsLawful}
+use Rattle.tb_next.specs.Fitting.{Fits}
+use Rattle.tb_live.specs.Soundness.{IsSound, IsLawful}
 use Rattle.tb_live.specs.Working.{configuration}
-use Rattle.tb_live.proofs.PlanLemmas.{IsPlan, nothing_by, plan_fits, plan_next, refusal_of_plan}
+use Rattle.tb_next.proofs.NativeLemmas.{native_plan, native_next}
+use Rattle.tb_next.proofs.PlanLemmas.{nothing_by, refusal_of_plan}
 use Rattle.tb_live.proofs.RunLemmas.{shown, has_place}
 use Rattle.tb_live.proofs.StepLemmas.{Keeps, entered, refused, stays, no_plan}
 use Rattle.tb_live.proofs.WorkLemmas.{config_so}
-
--- ---- a plan of the program
-
-module _ (P : Program) (run : Seen) (p : Plan) (f : Fits P run) (native : IsNative P run p) where
-  instr_so : instruction p.instr ≡ instr_at P p.config.at
-  instr_so = native.program.instr ∙ ap (instr_at P) p.at_one_line
-
-  is_plan_where : p.config ≡ config_of run p.config.task → IsPlan P run p
-  is_plan_where here = record { here = here; instr = instr_so }
-
-  fits_where : p.config ≡ config_of run p.config.task → outcomes.Fits run p
-  fits_where here = plan_fits P run p f (is_plan_where here) native.going native.program.cells
-
-  -- it fits the core, be it up to date or not
-  pub native_fits : outcomes.Fits run p
-  native_fits = record {
-    cells = native.program.cells ∙ ap length (sym f.cells);
-    starts = λ here. (fits_where here).starts here;
-    closes = λ here. (fits_where here).closes here;
-  }
-
-  pub native_plan : p.config ≡ config_of run p.config.task → IsPlanOf P run p.config.task p
-  native_plan here = record {
-    of_task = refl;
-    current = record { spawned = native.spawned; going = native.going; here = here };
-    instr = instr_so;
-    fits = native_fits;
-  }
-
-  pub native_next : p.config ≡ config_of run p.config.task → event_of run p ≡ next_event P (core.history run) p.config.task
-  native_next here = plan_next P run p f (is_plan_where here) native.program.cells
 
 -- what the core finds in the way keeps the task from its action
 pub kept_from : (run : Seen) (p : Plan) (full : Bool) (e : StepRefusal) → IsKept run p e → (run.limit ≤ length run.steps → full ≡ true) → IsKeptFrom run p full e
@@ -220,30 +190,6 @@ module _ (P : Program) (limit : ℕ) (entries : List Entry) (before : Control) (
     event_so k =
         native_next P run p sound.fits native k.here ∙ ap (λ H. next_event P H t) sound.leaves
         ∙ ap (λ (z : Session). coming z t) shows
-
--- ---- what a task's refusal is
-
-pub told_so : (P : Program) (run : Seen) (t : Name) (p : Plan) (e : StepRefusal) (o : Option StepRefusal) → Fits P run → IsPlanOf P run t p → IsKept run p e → IsTold e o → IsRefusalOf P run t o
-told_so P run t p e None f plan k told = refusal_of_plan P run t p f plan ∙ ap (option_map By) (full_clear (subst (IsKept run p) told k))
-  where
-    full_clear : IsKept run p Full → hindrance_of run p ≡ None
-    full_clear k = k.1
-told_so P run t p e (Some r) f plan k told = at e r k told.0 told.1 told.2
-  where
-    mine : (e : StepRefusal) → IsKept run p e → (e ≢ Full) → (e ≢ Memory) → IsRefusalTo P run t e
-    mine NoSuchTask k n m = absurd (both_ways (is_spawned (core.history run) p.config.task) k plan.current.spawned)
-    mine Ended k n m = absurd (both_ways (has_ended run p.config.task) plan.current.going k.1)
-    mine (Stale now) k n m = absurd (k.elsewhere (plan.current.here ∙ sym k.now_is))
-    mine Memory k n m = absurd (m refl)
-    mine Full k n m = absurd (n refl)
-    mine _ k n m = refusal_of_plan P run t p f plan ∙ ap (option_map By) k.hindrance
-
-    at : (e r : StepRefusal) → IsKept run p e → r ≡ e → (e ≢ Full) → (e ≢ Memory) → IsRefusalTo P run t r
-    at e r k same n m = subst (IsRefusalTo P run t) (sym same) (mine e k n m)
-
-pub told_result : {A : Type 0} (P : Program) (run : Seen) (t : Name) (p : Plan) (e : StepRefusal) (r : Result (Option StepRefusal) A) → Fits P run → IsPlanOf P run t p → IsKept run p e → IfOk r (IsTold e) → IfOk r (IsRefusalOf P run t)
-told_result P run t p e (Ok o) f plan k told = told_so P run t p e o f plan k told
-told_result P run t p e (Err x) f plan k told = told
 
 -- ---- the answers of a Live
 

@@ -1,43 +1,32 @@
 -- A seat that goes on with its task behind a commit.
-use Rattle.std.proofs.Common.{◌≡◌, ◌<◌, ◌≤◌, ℕ, zero, suc, List, [], ◌∷◌, Bool, true, false, nat_lt, set, length, reverse, refl, sym, ap, ◌∙◌, subst, Some, None, Option, arith}
+use Rattle.std.proofs.Common.{◌≡◌, ◌<◌, ℕ, zero, suc, List, [], ◌∷◌, Bool, true, set, length, reverse, refl, sym, ap, ◌∙◌, subst, Some, None, Option, arith}
 use Rattle.std.specs.Prelude.{Result, Ok, Err}
-use Rattle.std.proofs.lemmas.Bool.Decides.{nat_tests}
-use Rattle.std.proofs.lemmas.List.{map-set, set-get_or, get_or_past, length-map, length-set, reverse-append}
+use Rattle.std.proofs.lemmas.List.{map-set, set-get_or, length-map, length-set, reverse-append}
 use Rattle.tb_model.specs.declared.entry.Entry.{Entry}
 use Rattle.tb_model.specs.declared.entry.Entry.TheVariants.{Stepped}
 use Rattle.tb_model.specs.declared.step_id.StepId.{StepId}
 use Rattle.tb_model.specs.Names.{Name, same_name}
 use Rattle.tb_model.specs.Facts.{is_spawned, IsSpawned}
 use Rattle.tb_model.specs.Journal.{hist}
-use Rattle.tb_model.specs.Program.{Program, no_instr}
+use Rattle.tb_model.specs.Program.{Program}
 use Rattle.tb_plan.specs.declared.planned.Plan.{Plan}
-use Rattle.tb_read.specs.Meaning.{IsPosition}
 use Rattle.tb_core.specs.declared.step_refusal.StepRefusal.{StepRefusal}
 use Rattle.tb_core.specs.Outcomes.{event_of}
 use Rattle.tb_core.specs.Seen.{Seen}
-use Rattle.tb_live.specs.declared.control.Control.{Control}
+use Rattle.tb_control.specs.declared.control.Control.{Control}
 use Rattle.tb_live.specs.declared.commit_refusal.CommitRefusal.{CommitRefusal}
-use Rattle.tb_live.specs.Claims.{Claims, claim_of, with_claim, withdrawn, unless, AreLawful, IsFreeBeside}
+use Rattle.tb_control.specs.Claims.{Claims, claim_of, with_claim, withdrawn, unless, AreLawful, IsFreeBeside}
 use Rattle.tb_live.specs.Commits.{CommitsMore, IsClaimed}
-use Rattle.tb_live.specs.Controls.{behind_step}
-use Rattle.tb_live.specs.Plans.{Enters, EntersOn, IsNative}
+use Rattle.tb_control.specs.Controls.{behind_step}
+use Rattle.tb_live.specs.Entering.{Enters, EntersOn}
+use Rattle.tb_next.specs.Plans.{IsNative}
 use Rattle.tb_live.specs.Session.{Session}
 use Rattle.tb_live.specs.Soundness.{IsSound, IsLawful}
 use Rattle.tb_live.proofs.CommitLemmas.{as_commit, live_commits}
-use Rattle.tb_live.proofs.ControlLemmas.{left, lawful_given, still_spawned}
+use Rattle.tb_control.proofs.ControlLemmas.{left, lawful_given, still_spawned}
 use Rattle.tb_live.proofs.RunLemmas.{shown}
 use Rattle.tb_live.proofs.StepLemmas.{Keeps}
 use Rattle.tb_live.proofs.WorkLemmas.{with_claims}
-
--- a line at which a task can stand is one of the program
-pub position_within : (P : Program) (n lines : ℕ) → lines ≡ length P.lines → lines ≤ 65537 → IsPosition P n → n < 65537
-position_within P n lines count few stands = at (nat_lt n 65537) refl
-  where
-    at : (b : Bool) → nat_lt n 65537 ≡ b → n < 65537
-    at true e = grind (arith, nat_tests)
-    at false e =
-        let above : 65537 ≤ n = grind (arith, nat_tests) in
-        absurd (stands (get_or_past P.lines n no_instr (omega (arith, above, count, few))))
 
 -- ---- a claim that is set aside and given back
 

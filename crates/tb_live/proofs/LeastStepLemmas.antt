@@ -9,15 +9,17 @@ use Rattle.tb_plan.specs.declared.planned.Plan.{Plan}
 use Rattle.tb_core.specs.declared.step_refusal.StepRefusal.{StepRefusal}
 use Rattle.tb_core.specs.Outcomes.{IsCurrent}
 use Rattle.tb_core.specs.Seen.{Seen, history}
-use Rattle.tb_live.specs.declared.coming.Coming.{Coming}
-use Rattle.tb_live.specs.declared.control.Control.{Control}
-use Rattle.tb_live.specs.Floor.{IsCarried, IsFloor}
+use Rattle.tb_next.specs.declared.coming.Coming.{Coming}
+use Rattle.tb_control.specs.declared.control.Control.{Control}
+use Rattle.tb_next.specs.Floor.{IsCarried, IsFloor}
 use Rattle.tb_live.specs.Moves.{LeastStepsFor, for_least}
-use Rattle.tb_live.specs.Plans.{Enters, IsClear, IsLeastComing, IsStepOf}
+use Rattle.tb_live.specs.Entering.{Enters}
+use Rattle.tb_next.specs.Plans.{IsClear, IsLeastComing, IsStepOf}
 use Rattle.tb_live.specs.Session.{Session}
 use Rattle.tb_live.specs.Soundness.{IsSound, IsLawful}
-use Rattle.tb_live.proofs.ComingLemmas.{least_plan, next_of, way_so}
-use Rattle.tb_live.proofs.FloorStepLemmas.{floor_after, plan_clear}
+use Rattle.tb_next.proofs.ComingLemmas.{least_plan, next_of, way_so}
+use Rattle.tb_live.proofs.FloorAfterLemmas.{floor_after}
+use Rattle.tb_next.proofs.FloorStepLemmas.{plan_clear}
 use Rattle.tb_live.proofs.RunLemmas.{shown}
 use Rattle.tb_live.proofs.StepLemmas.{Keeps, live_least}
 

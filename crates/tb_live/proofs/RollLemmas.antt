@@ -11,16 +11,16 @@ use Rattle.tb_model.specs.Program.{Program}
 use Rattle.tb_core.specs.declared.removed.Removed.{Removed}
 use Rattle.tb_core.specs.Rolled.{removals}
 use Rattle.tb_core.specs.Seen.{Seen}
-use Rattle.tb_live.specs.declared.control.Control.{Control}
-use Rattle.tb_live.specs.Claims.{Claims, hits, is_hit, AreLawful}
-use Rattle.tb_live.specs.Controls.{behind_removal}
+use Rattle.tb_control.specs.declared.control.Control.{Control}
+use Rattle.tb_control.specs.Claims.{Claims, hits, is_hit, AreLawful}
+use Rattle.tb_control.specs.Controls.{behind_removal}
 use Rattle.tb_live.specs.Session.{Session, is_full}
 use Rattle.tb_live.specs.Moves.{RollsFor, KeepsAll}
 use Rattle.tb_live.specs.Rollbacks.{EntersRollback, RefusesRollback}
 use Rattle.tb_live.specs.Soundness.{IsSound, IsLawful}
 use Rattle.tb_roll.specs.declared.roll_refusal.RollRefusal.{RollRefusal}
 use Rattle.tb_roll.specs.declared.roll_refusal.RollRefusal.TheVariants.{NoSuchStep, Full, Memory}
-use Rattle.tb_live.proofs.ControlLemmas.{withdrawn_alike, any_reverse, lawful_rolled}
+use Rattle.tb_control.proofs.ControlLemmas.{withdrawn_alike, any_reverse, lawful_rolled}
 use Rattle.tb_live.proofs.RunLemmas.{shown, rolled}
 use Rattle.tb_live.proofs.StepLemmas.{Keeps}
 

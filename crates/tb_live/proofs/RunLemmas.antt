@@ -9,7 +9,7 @@ use Rattle.tb_model.specs.declared.step_id.StepId.{StepId}
 use Rattle.tb_model.specs.declared.action.Action.{Action}
 use Rattle.tb_model.specs.Names.{Name}
 use Rattle.tb_model.specs.Facts.{History, last, prepend_if, own, is_of}
-use Rattle.tb_model.specs.Legal.{Cells, first_number, MayFollow}
+use Rattle.tb_model.specs.Legal.{Cells, first_number}
 use Rattle.tb_model.specs.Reordering.{IsUnneeded}
 use Rattle.tb_model.specs.State.{called_by}
 use Rattle.tb_model.specs.Needs.{is_removed, without, step_of}
@@ -17,32 +17,32 @@ use Rattle.tb_model.specs.Equivalent.{Equivalent, stands}
 use Rattle.tb_model.specs.Needers.{first_needer}
 use Rattle.tb_model.specs.Journal.{hist, Sound}
 use Rattle.tb_model.specs.Lines.{Departure, LinesFit, without_lines}
-use Rattle.tb_model.specs.Program.{Program, Instr, Config as Place, config, instr_at, IsNext, LegalFor, situation, moved}
+use Rattle.tb_model.specs.Program.{Program, config, IsNext, LegalFor, situation}
 use Rattle.tb_model.proofs.LinesLemmas.{lines_left}
 use Rattle.tb_model.proofs.NextLemmas.{removal_for}
 use Rattle.tb_model.proofs.TestLemmas.{same_refl}
 use Rattle.tb_model.proofs.FactsLemmas.{own_mine}
 use Rattle.tb_laws.proofs.NeedersLemmas.{standing, unneeded}
 use Rattle.tb_model.proofs.ReorderingLemmas as reordering
-use Rattle.tb_plan.specs.declared.config.Config.{Config}
 use Rattle.tb_plan.specs.declared.planned.Plan.{Plan}
-use Rattle.tb_plan.specs.Plans.{instruction, line_behind}
 use Rattle.tb_core.specs.declared.removed.Removed.{Removed}
 use Rattle.tb_core.specs.Seen.{Seen}
 use Rattle.tb_core.specs.Seen as core
-use Rattle.tb_core.specs.Outcomes.{event_of, departure_of, IsCurrent, IsFree, TakesBack}
+use Rattle.tb_core.specs.Outcomes.{event_of, TakesBack}
 use Rattle.tb_core.specs.Outcomes as outcomes
 use Rattle.tb_core.specs.Rolled.{RollsBack, removals}
 use Rattle.tb_undo.specs.State.{AreLast}
 use Rattle.tb_model.specs.Alike.{Alike}
-use Rattle.tb_live.specs.declared.control.Control.{Control}
-use Rattle.tb_live.specs.Claims.{Claims, is_hit, AreLawful}
-use Rattle.tb_live.specs.Controls.{behind_removal}
+use Rattle.tb_control.specs.declared.control.Control.{Control}
+use Rattle.tb_control.specs.Claims.{Claims, is_hit, AreLawful}
+use Rattle.tb_control.specs.Controls.{behind_removal}
 use Rattle.tb_live.specs.Session.{Session, history, is_full, with_entry, numbers_from, cell_numbers}
 use Rattle.tb_live.specs.Moves.{UndoesFor}
-use Rattle.tb_live.specs.Soundness.{Fits, IsSound, IsLawful}
-use Rattle.tb_live.proofs.ControlLemmas.{withdrawn_alike, undo_hits, lawful_rolled}
-use Rattle.tb_live.proofs.PlanLemmas.{IsPlan, stands_at, holds_registers, plan_instr, plan_follows, moved_taken, own_moves}
+use Rattle.tb_next.specs.Fitting.{Fits}
+use Rattle.tb_live.specs.Soundness.{IsSound, IsLawful}
+use Rattle.tb_control.proofs.ControlLemmas.{withdrawn_alike, undo_hits, lawful_rolled}
+use Rattle.tb_next.proofs.NativeLemmas.{next_so, line_fits}
+use Rattle.tb_next.proofs.PlanLemmas.{IsPlan}
 
 -- ---- a journal has more entries than its history has events
 
@@ -68,26 +68,6 @@ has_place P limit J run s h =
 
 -- ---- behind a step
 
-pub next_event : (P : Program) (run : Seen) (p : Plan) → Fits P run → IsPlan P run p → p.instr.cells ≡ length P.cells → MayFollow run.cells (core.history run) (event_of run p) → IsNext P (core.history run) (event_of run p)
-next_event P run p f i n m = record {
-  may = subst (λ (cells : Cells). MayFollow cells (core.history run) (event_of run p)) f.cells m;
-  follows = plan_follows P run p f i n;
-}
-
-line_fits : (P : Program) (run : Seen) (p : Plan) → Fits P run → IsPlan P run p → LegalFor P (event_of run p ∷ core.history run) → line_behind p.instr p.config p.action ≡ (situation P p.config.task (event_of run p ∷ core.history run)).line
-line_fits P run p f i l =
-    let H = core.history run in
-    let t = p.config.task in
-    let v = event_of run p in
-    let c = situation P t H in
-    let here : Rattle.tb_plan.specs.Plans.situation p.config ≡ c =
-    ap (λ (k : Config). Rattle.tb_plan.specs.Plans.situation k) i.here
-    ∙ ap₂ {C = Place} (λ (n : ℕ) (rs : List ℤ). record { line = n; regs = rs }) (stands_at P run t f) (holds_registers P run t)
-    in
-    ap₂ (λ (j : Instr) (k : Place). (moved j k p.action).line) (plan_instr P run p f i) here
-    ∙ sym (moved_taken run.cells H t (instr_at P c.line) c p.action)
-    ∙ ap (λ (k : Place). k.line) (sym (own_moves P t v H l (same_refl t)))
-
 pub record Stepped' (seat : ℕ) (P : Program) (limit : ℕ) (J : List Entry) (run : Seen) (p : Plan) (new : Seen) (i : StepId) : Type 0 where
   pub sound : IsSound P limit (Stepped seat (event_of run p) ∷ J) new
   pub next : IsNext P (hist J) (event_of run p)
@@ -100,7 +80,7 @@ stepped seat P limit J run new p i s room plan fitting k =
     let H = core.history run in
     let v = event_of run p in
     let n : p.instr.cells ≡ length P.cells = fitting.cells ∙ ap length f.cells in
-    let next = next_event P run p f plan n k.may in
+    let next = next_so P run p f plan n k.may in
     let legal : LegalFor P (v ∷ H) = ((f.legal.0, next.may), (f.legal.1, next.follows)) in
     record {
       sound = subst (λ (z : Seen). IsSound P limit (Stepped seat v ∷ J) z) (sym k.now) (record {

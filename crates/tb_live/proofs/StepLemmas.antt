@@ -25,19 +25,20 @@ use Rattle.tb_core.specs.Seen.{Seen}
 use Rattle.tb_core.specs.Seen as core
 use Rattle.tb_core.specs.Situation.{config_of}
 use Rattle.tb_core.specs.Outcomes.{event_of, has_ended, hindrance_of}
-use Rattle.tb_live.specs.declared.control.Control.{Control}
+use Rattle.tb_control.specs.declared.control.Control.{Control}
 use Rattle.tb_live.specs.declared.prepared.Prepared.{Prepared}
 use Rattle.tb_live.specs.Preparing.{entry_of}
-use Rattle.tb_live.specs.Claims.{AreLawful}
-use Rattle.tb_live.specs.Controls.{behind_step}
+use Rattle.tb_control.specs.Claims.{AreLawful}
+use Rattle.tb_control.specs.Controls.{behind_step}
 use Rattle.tb_live.specs.Session.{Session, Held, is_full}
 use Rattle.tb_live.specs.Moves.{StepsFor, Refuses, StepsBy, LeastStepsFor, for_least, refusal_for, least_task}
 use Rattle.tb_live.specs.Soundness.{IsSound, IsLawful}
-use Rattle.tb_live.specs.Plans.{IsPlanOf, HasNone, IsEntered, IsKeptFrom, Enters, has_no_place}
-use Rattle.tb_live.specs.Unevaluated.{IsWanting, IsLeastWanting}
-use Rattle.tb_live.proofs.PlanLemmas.{IsPlan, IsReadyPlan, nothing_by, refusal_of_plan, stands_at}
-use Rattle.tb_live.proofs.ControlLemmas.{lawful_step}
-use Rattle.tb_live.proofs.ReadyLemmas.{can_spawned}
+use Rattle.tb_next.specs.Plans.{IsPlanOf, HasNone}
+use Rattle.tb_live.specs.Entering.{IsEntered, IsKeptFrom, Enters, has_no_place}
+use Rattle.tb_next.specs.Unevaluated.{IsWanting, IsLeastWanting}
+use Rattle.tb_next.proofs.PlanLemmas.{IsPlan, IsReadyPlan, nothing_by, refusal_of_plan, stands_at}
+use Rattle.tb_control.proofs.ControlLemmas.{lawful_step}
+use Rattle.tb_next.proofs.ReadyLemmas.{can_spawned}
 use Rattle.tb_live.proofs.RunLemmas.{shown, shorter, stepped}
 use Rattle.tb_model.specs.Lines.{Departure}
 

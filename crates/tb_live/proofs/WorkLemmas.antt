@@ -1,6 +1,5 @@
 -- What a claim leaves, and what it answers.
 use Rattle.std.proofs.Common.{◌≡◌, ℕ, List, Bool, true, false, ◌||◌, length, reverse, refl, sym, ap, ap₂, ◌∙◌, subst, ℤ, Option, Some, None}
-use Rattle.std.specs.Prelude.{Result, Ok, Err, IfOk}
 use Rattle.tb_model.specs.declared.entry.Entry.{Entry}
 use Rattle.tb_model.specs.Names.{Name}
 use Rattle.tb_model.specs.Facts.{History, own, is_spawned, ends}
@@ -12,22 +11,23 @@ use Rattle.tb_plan.specs.declared.config.Config.{Config}
 use Rattle.tb_core.specs.Seen.{Seen}
 use Rattle.tb_core.specs.Seen as core
 use Rattle.tb_core.specs.Situation.{config_of}
-use Rattle.tb_live.specs.declared.control.Control.{Control}
-use Rattle.tb_live.specs.declared.work.Work.{Work}
-use Rattle.tb_live.specs.declared.claim.Claim.{Claim}
-use Rattle.tb_live.specs.declared.claim.Claim.TheVariants.{Work as Works, Later, Done, Stopped}
-use Rattle.tb_live.specs.declared.claim_refusal.ClaimRefusal.{ClaimRefusal}
-use Rattle.tb_live.specs.declared.claim_refusal.ClaimRefusal.TheVariants.{Memory, NoSuchTask, Ended, Claimed}
-use Rattle.tb_live.specs.Claims.{Claims, with_claim, AreLawful}
-use Rattle.tb_live.specs.Modes.{is_paused}
-use Rattle.tb_live.specs.Plans.{CanTake, IsWorkOf, IsClaimOn, IsFound, IsBarred, IsUnbarred}
+use Rattle.tb_control.specs.declared.control.Control.{Control}
+use Rattle.tb_next.specs.declared.work.Work.{Work}
+use Rattle.tb_next.specs.declared.claim.Claim.{Claim}
+use Rattle.tb_next.specs.declared.claim.Claim.TheVariants.{Work as Works, Later, Done, Stopped}
+use Rattle.tb_control.specs.declared.claim_refusal.ClaimRefusal.{ClaimRefusal}
+use Rattle.tb_control.specs.declared.claim_refusal.ClaimRefusal.TheVariants.{Memory, NoSuchTask, Ended, Claimed}
+use Rattle.tb_control.specs.Claims.{Claims, with_claim, AreLawful}
+use Rattle.tb_control.specs.Modes.{is_paused}
+use Rattle.tb_next.specs.Plans.{CanTake, IsWorkOf, IsFound, IsBarred, IsUnbarred, claimed}
 use Rattle.tb_live.specs.Session.{Session, history, is_full, with_seat}
 use Rattle.tb_live.specs.Moves.{has_ended, least_task}
-use Rattle.tb_live.specs.Soundness.{Fits, IsSound}
-use Rattle.tb_live.specs.Working.{configuration, IsWork, IsFree, RefusesClaim, ClaimsWork, is_stopped, claimed}
-use Rattle.tb_live.proofs.PlanLemmas.{stands_at, holds_registers}
-use Rattle.tb_live.proofs.ReadyLemmas.{can_spawned}
-use Rattle.tb_live.proofs.ControlLemmas.{lawful_given, lawful_let_go}
+use Rattle.tb_next.specs.Fitting.{Fits}
+use Rattle.tb_live.specs.Soundness.{IsSound}
+use Rattle.tb_live.specs.Working.{configuration, IsWork, IsFree, RefusesClaim, ClaimsWork, is_stopped}
+use Rattle.tb_next.proofs.PlanLemmas.{stands_at, holds_registers}
+use Rattle.tb_next.proofs.ReadyLemmas.{can_spawned}
+use Rattle.tb_control.proofs.ControlLemmas.{lawful_given, lawful_let_go}
 use Rattle.tb_live.proofs.RunLemmas.{shown}
 
 -- ---- the situation that the core keeps is the definitions'
@@ -44,17 +44,6 @@ work_so P run H t w f leaves k = record {
   cells = k.cells;
   strip = k.strip;
 }
-
--- ---- what the walk answers
-
-pub found_work : {A : Type 0} (P : Program) (run : Seen) (claims : Claims) (seat : ℕ) (t : Name) (r : Result Claim A) → IfOk r (IsClaimOn P run t) → IsLeastName (CanTake P (core.history run) claims seat) (Some t) → IfOk r (IsFound P run claims seat)
-found_work P run claims seat t (Ok (Works w)) k l =
-    let same : t ≡ w.config.task = sym (ap (λ (c : Config). c.task) k.config) in
-    (subst (λ u. IsLeastName (CanTake P (core.history run) claims seat) (Some u)) same l, subst (λ u. IsWorkOf P run u w) same k)
-found_work P run claims seat t (Ok Later) k l = absurd k
-found_work P run claims seat t (Ok Done) k l = absurd k
-found_work P run claims seat t (Ok Stopped) k l = absurd k
-found_work P run claims seat t (Err e) k l = k
 
 -- ---- a Live behind a claim
 
@@ -75,13 +64,13 @@ module _ (P : Program) (limit : ℕ) (entries : List Entry) (control : Control) 
   free_so seat t u = record {
     there = there_so t true u.there;
     going = going_so t false u.going;
-    free = subst (λ (z : Session). Rattle.tb_live.specs.Claims.IsFreeBeside z.control.claims seat t) shows u.free;
+    free = subst (λ (z : Session). Rattle.tb_control.specs.Claims.IsFreeBeside z.control.claims seat t) shows u.free;
   }
 
   pub barred_so : (seat : ℕ) (t : Name) (e : ClaimRefusal) → IsBarred run control.claims seat t e → RefusesClaim s seat t e
   barred_so seat t NoSuchTask k = there_so t false k
   barred_so seat t Ended k = (there_so t true k.0, going_so t true k.1)
-  barred_so seat t (Claimed other) k = (there_so t true k.0, going_so t false k.1, subst (λ (z : Session). Rattle.tb_live.specs.Claims.IsHeldBeside z.control.claims seat t other) shows k.2)
+  barred_so seat t (Claimed other) k = (there_so t true k.0, going_so t false k.1, subst (λ (z : Session). Rattle.tb_control.specs.Claims.IsHeldBeside z.control.claims seat t other) shows k.2)
   barred_so seat t Memory k = absurd k
 
   worked_so : (t : Name) (w : Work) → IsWorkOf P run t w → IsWork s.program (history s) t w

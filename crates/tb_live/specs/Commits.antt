@@ -9,11 +9,11 @@ use Rattle.tb_core.specs.declared.step_refusal.StepRefusal.{StepRefusal}
 use Rattle.tb_core.specs.declared.step_refusal.StepRefusal.TheVariants.{Memory, NoSuchTask, Ended, Stale}
 use Rattle.tb_live.specs.declared.commit_refusal.CommitRefusal.{CommitRefusal}
 use Rattle.tb_live.specs.declared.commit_refusal.CommitRefusal.TheVariants.{Paused, Withdrawn, Step}
-use Rattle.tb_live.specs.Claims.{claim_of}
-use Rattle.tb_live.specs.Modes.{is_paused}
+use Rattle.tb_control.specs.Claims.{claim_of}
+use Rattle.tb_control.specs.Modes.{is_paused}
 use Rattle.tb_live.specs.Session.{Session, Held, history, is_full, with_seat}
 use Rattle.tb_live.specs.Moves.{MayStep, StepsFor, Refuses, has_ended, coming, refusal_for}
-use Rattle.tb_live.specs.Plans.{IsOfProgram}
+use Rattle.tb_next.specs.Plans.{IsOfProgram}
 use Rattle.tb_live.specs.Working.{configuration}
 
 -- the run goes on, and the seat claims the plan's task

@@ -1,25 +1,8 @@
--- The refusals by their numbers.
+-- The refusals of a commit by their numbers.
 use Rattle.std.specs.Prelude.{ℕ}
-use Rattle.tb_live.specs.declared.break_refusal.BreakRefusal.{BreakRefusal}
-use Rattle.tb_live.specs.declared.break_refusal.BreakRefusal.TheVariants.{Memory, TooMany, NoSuchBreak, NoSuchBody, NoSuchCell}
 use Rattle.tb_core.specs.Refusals.{step_number}
 use Rattle.tb_live.specs.declared.commit_refusal.CommitRefusal.{CommitRefusal}
 use Rattle.tb_live.specs.declared.commit_refusal.CommitRefusal.TheVariants.{Paused, Withdrawn, Step}
-use Rattle.tb_live.specs.declared.claim_refusal.ClaimRefusal.{ClaimRefusal}
-use Rattle.tb_live.specs.declared.claim_refusal.ClaimRefusal.TheVariants.{Memory as NoMemory, NoSuchTask, Ended, Claimed}
-
-abbrev pub break_number : BreakRefusal → ℕ
-break_number Memory = 0
-break_number TooMany = 1
-break_number NoSuchBreak = 2
-break_number NoSuchBody = 3
-break_number NoSuchCell = 4
-
-abbrev pub claim_number : ClaimRefusal → ℕ
-claim_number NoMemory = 0
-claim_number NoSuchTask = 1
-claim_number Ended = 2
-claim_number (Claimed seat) = 12
 
 abbrev pub commit_number : CommitRefusal → ℕ
 commit_number Paused = 9

@@ -2,12 +2,12 @@
 use Rattle.std.specs.Prelude.{◌≡◌, ℕ, suc, length, nat_lt, is_none, Option, Some, None, Result, Ok, Err, IsTrue, IsFalse, if◌then◌else◌}
 use Rattle.tb_model.specs.Program.{Program}
 use Rattle.tb_read.specs.Bodies.{name_at}
-use Rattle.tb_live.specs.declared.mode.Mode.{Mode}
-use Rattle.tb_live.specs.declared.breaks.Break.{Break}
-use Rattle.tb_live.specs.declared.breaks.Break.TheVariants.{Body, Cell}
-use Rattle.tb_live.specs.declared.break_refusal.BreakRefusal.{BreakRefusal}
-use Rattle.tb_live.specs.declared.break_refusal.BreakRefusal.TheVariants.{Memory, TooMany, NoSuchBreak, NoSuchBody, NoSuchCell}
-use Rattle.tb_live.specs.Breaks.{Points, are_too_many, with_break, without_break, is_standing}
+use Rattle.tb_control.specs.declared.mode.Mode.{Mode}
+use Rattle.tb_control.specs.declared.breaks.Break.{Break}
+use Rattle.tb_control.specs.declared.breaks.Break.TheVariants.{Body, Cell}
+use Rattle.tb_control.specs.declared.break_refusal.BreakRefusal.{BreakRefusal}
+use Rattle.tb_control.specs.declared.break_refusal.BreakRefusal.TheVariants.{Memory, TooMany, NoSuchBreak, NoSuchBody, NoSuchCell}
+use Rattle.tb_control.specs.Breaks.{Points, are_too_many, with_break, without_break, is_standing}
 use Rattle.tb_live.specs.Session.{Session}
 
 abbrev pub with_mode : Session → Mode → Session

@@ -15,7 +15,7 @@ use Rattle.tb_core.specs.Seen.{Held, history}
 use Rattle.tb_roll.specs.declared.readied.Ready.{Ready}
 use Rattle.tb_live.specs.declared.prepared.Prepared.{Prepared}
 use Rattle.tb_live.specs.declared.prepared.Prepared.TheVariants.{Step, Roll}
-use Rattle.tb_live.specs.Plans.{has_no_place}
+use Rattle.tb_live.specs.Entering.{has_no_place}
 
 -- the entry to come
 abbrev pub entry_of : Prepared → Entry

@@ -9,7 +9,7 @@ use Rattle.tb_core.specs.Rolled.{RollsBack}
 use Rattle.tb_core.specs.Seen.{Seen, history}
 use Rattle.tb_roll.specs.declared.roll_refusal.RollRefusal.{RollRefusal}
 use Rattle.tb_roll.specs.declared.roll_refusal.RollRefusal.TheVariants.{Memory, NoSuchStep, Full}
-use Rattle.tb_live.specs.Plans.{has_no_place}
+use Rattle.tb_live.specs.Entering.{has_no_place}
 
 -- the step and all that need it are gone, and it is the newest entry
 pub record EntersRollback (limit seat : ℕ) (run : Seen) (i : StepId) (new : Seen) (old entries : List Entry) (removed : List Removed) : Type 0 where

@@ -8,8 +8,8 @@ use Rattle.tb_live.specs.declared.moves.Move.{Move}
 use Rattle.tb_live.specs.declared.moves.Move.TheVariants.{Step, Undo, Roll}
 use Rattle.tb_live.specs.declared.answer.Answer.{Answer}
 use Rattle.tb_live.specs.declared.answer.Answer.TheVariants.{Step as Stepped, Undo as Undone, Roll as RolledBack}
-use Rattle.tb_live.specs.declared.mode.Mode.TheVariants.{Resumed}
-use Rattle.tb_live.specs.Claims.{withdrawn}
+use Rattle.tb_control.specs.declared.mode.Mode.TheVariants.{Resumed}
+use Rattle.tb_control.specs.Claims.{withdrawn}
 use Rattle.tb_live.specs.Session.{Session}
 use Rattle.tb_live.specs.Pauses.{with_mode}
 use Rattle.tb_live.specs.Moves.{Steps, Refuses, UndoneBy, Rolls, KeepsAll}

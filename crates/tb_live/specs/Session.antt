@@ -1,21 +1,19 @@
 -- What a contract sees of a Live: its program, how many entries its journal may have, the journal, and what stands beside it.
-use Rattle.std.specs.Prelude.{ℕ, Bool, List, [], ◌∷◌, ℤ, suc, nat_le, length, replicate, Option, Some, None, if◌then◌else◌}
+use Rattle.std.specs.Prelude.{ℕ, Bool, List, [], ◌∷◌, ℤ, suc, nat_le, length, replicate, Option, None}
 use Rattle.tb_model.specs.declared.entry.Entry.{Entry}
 use Rattle.tb_model.specs.declared.entry.Entry.TheVariants.{Opened, Stepped, Rolled}
-use Rattle.tb_model.specs.declared.action.Action.{Action}
-use Rattle.tb_model.specs.declared.step_id.StepId.{StepId}
-use Rattle.tb_model.specs.Facts.{History, last, is_store_to, is_print}
-use Rattle.tb_model.specs.Needs.{step_of}
+use Rattle.tb_model.specs.Facts.{History, last}
 use Rattle.tb_model.specs.Legal.{Cells}
 use Rattle.tb_model.specs.Journal.{hist}
 use Rattle.tb_model.specs.Program.{Program, situation}
 use Rattle.tb_core.specs.Rolled.{removals}
-use Rattle.tb_live.specs.declared.control.Control.{Control}
-use Rattle.tb_live.specs.declared.mode.Mode.TheVariants.{Resumed}
+use Rattle.tb_control.specs.declared.control.Control.{Control}
+use Rattle.tb_control.specs.declared.mode.Mode.TheVariants.{Resumed}
 use Rattle.tb_model.specs.Names.{Name}
-use Rattle.tb_live.specs.Claims.{with_claim}
-use Rattle.tb_live.specs.Breaks.{no_points}
-use Rattle.tb_live.specs.Controls.{behind_step, behind_removal}
+use Rattle.tb_control.specs.Claims.{with_claim}
+use Rattle.tb_control.specs.Breaks.{no_points}
+use Rattle.tb_control.specs.Controls.{behind_step, behind_removal}
+pub use Rattle.tb_next.specs.Newest.{last_store, last_print}
 
 -- the journal is listed from its newest entry
 pub record Session : Type 0 where
@@ -71,15 +69,3 @@ numbers_from c (first ∷ cells) H = last first c H ∷ numbers_from (suc c) cel
 
 abbrev pub cell_numbers : Session → List ℤ
 cell_numbers s = numbers_from 0 s.program.cells (history s)
-
--- ---- the last step of a kind
-
-abbrev pub last_where : (Action → Bool) → History → Option StepId
-last_where passes [] = None
-last_where passes (v ∷ H) = if passes v.action then Some (step_of H v) else last_where passes H
-
-abbrev pub last_store : ℕ → History → Option StepId
-last_store c H = last_where (is_store_to c) H
-
-abbrev pub last_print : History → Option StepId
-last_print H = last_where is_print H

@@ -1,5 +1,5 @@
 -- What a claim answers, and what it leaves.
-use Rattle.std.specs.Prelude.{◌≡◌, ◌≢◌, ℕ, length, ◌||◌, Bool, Option, Some, None, Result, Ok, Err, IsTrue, IsFalse}
+use Rattle.std.specs.Prelude.{◌≡◌, ◌≢◌, ℕ, length, ◌||◌, Bool, Some, None, Result, Ok, Err, IsTrue, IsFalse}
 use Rattle.tb_model.specs.Names.{Name}
 use Rattle.tb_model.specs.Facts.{History, own, is_spawned}
 use Rattle.tb_model.specs.LeastNames.{IsLeastName}
@@ -8,16 +8,16 @@ use Rattle.tb_plan.specs.declared.config.Config.{Config}
 use Rattle.tb_plan.specs.Plans.{instruction}
 use Rattle.tb_read.specs.Meaning.{IsPosition}
 use Rattle.tb_read.specs.Strips.{IsStripOf}
-use Rattle.tb_live.specs.declared.work.Work.{Work}
-use Rattle.tb_live.specs.declared.claim.Claim.{Claim}
-use Rattle.tb_live.specs.declared.claim.Claim.TheVariants.{Work as Works, Later, Done, Stopped}
-use Rattle.tb_live.specs.declared.claim_refusal.ClaimRefusal.{ClaimRefusal}
-use Rattle.tb_live.specs.declared.claim_refusal.ClaimRefusal.TheVariants.{Memory, NoSuchTask, Ended, Claimed}
-use Rattle.tb_live.specs.Claims.{IsHeldBeside, IsFreeBeside}
-use Rattle.tb_live.specs.Modes.{is_paused}
+use Rattle.tb_next.specs.declared.work.Work.{Work}
+use Rattle.tb_next.specs.declared.claim.Claim.{Claim}
+use Rattle.tb_next.specs.declared.claim.Claim.TheVariants.{Work as Works, Later, Done, Stopped}
+use Rattle.tb_control.specs.declared.claim_refusal.ClaimRefusal.{ClaimRefusal}
+use Rattle.tb_control.specs.declared.claim_refusal.ClaimRefusal.TheVariants.{Memory, NoSuchTask, Ended, Claimed}
+use Rattle.tb_control.specs.Claims.{IsHeldBeside, IsFreeBeside}
+use Rattle.tb_control.specs.Modes.{is_paused}
 use Rattle.tb_live.specs.Session.{Session, history, is_full, with_seat}
 use Rattle.tb_live.specs.Moves.{has_ended, least_task}
-use Rattle.tb_live.specs.Plans.{CanTake}
+use Rattle.tb_next.specs.Plans.{CanTake}
 
 -- the situation of a task behind a history
 abbrev pub configuration : Program → History → Name → Config
@@ -53,11 +53,6 @@ ClaimsTask s seat t new (Ok w) = IsFree s seat t × (new ≡ with_seat s seat (S
 ClaimsTask s seat t new (Err e) = (new ≡ s) × RefusesClaim s seat t e
 
 -- ---- the least task
-
--- the task of the work
-abbrev pub claimed : Claim → Option Name
-claimed (Works w) = Some w.config.task
-claimed _ = None
 
 -- the run is paused, or its journal is full
 abbrev pub is_stopped : Session → Bool

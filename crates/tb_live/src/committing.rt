@@ -1,67 +1,25 @@
 //! A plan that was made at some time, and is taken now.
 
-ghost use Rattle.std.specs.Prelude.{◌≡◌, ◌≢◌, ◌<◌, ◌↔◌, IfOk, IfErr, IfSome, IfNone, IsOk, OnOk, OnErr, IsTrue, IsFalse, Some, None, length};
-ghost use Rattle.tb_model.specs.Facts.{is_spawned};
-ghost use Rattle.tb_core.specs.Outcomes.{IsOpen, has_ended};
-ghost use Rattle.tb_core.specs.Outcomes as outcomes;
+ghost use Rattle.std.specs.Prelude.{◌≡◌, ◌≢◌, ◌<◌, IfOk, IfErr, IsOk, OnOk, OnErr, Some, None, length};
+ghost use Rattle.tb_core.specs.Outcomes.{IsOpen};
 ghost use Rattle.tb_core.specs.Seen.{history};
-ghost use Rattle.tb_live.specs.Claims.{claim_of};
-ghost use Rattle.tb_live.specs.Floor.{IsCarried};
-ghost use Rattle.tb_live.specs.Plans.{Enters, EntersOn, IsForeign, IsKeptFrom, IsNative, IsOfProgram, IsStaleAnswer, has_no_place};
+ghost use Rattle.tb_control.specs.Claims.{claim_of};
+ghost use Rattle.tb_next.specs.Floor.{IsCarried};
+ghost use Rattle.tb_live.specs.Entering.{Enters, EntersOn, IsKeptFrom, has_no_place};
+ghost use Rattle.tb_next.specs.Plans.{IsNative};
 ghost use Rattle.tb_core.specs.declared.step_refusal.StepRefusal.TheVariants.{Memory};
 ghost use Rattle.tb_live.specs.Preparing.{HasRoom, HoldsStep, IsReadied};
-ghost use Rattle.tb_live.specs.Soundness.{Fits};
+ghost use Rattle.tb_next.specs.Fitting.{Fits};
 
-use crate::control::Control;
-use crate::floor::Floor;
 use crate::prepared::{Prepared, holds_step, take_step};
-use crate::same_instr::is_same_instr;
 use crate::stepping::{enter_readied, ready_step};
+use tb_control::Control;
 use tb_core::{Core, StepRefusal};
 use tb_journal::Journal;
-use tb_model::{Entry, Event, StepId, TaskName};
-use tb_plan::{Instr, Plan};
+use tb_model::{Event, StepId};
+use tb_next::Floor;
+use tb_plan::Plan;
 use tb_read::Program;
-
-/// Whether the instruction is the program's at its line.
-fn is_of_program(program: &Program, instr: &Instr) -> bool
-    ensures { IsTrue result ↔ IsOfProgram program.now instr.now }
-{
-    match program.instr(instr.line) {
-        Some(found) => is_same_instr(found, instr),
-        None => false,
-    }
-}
-
-/// Where the task stands now, which the plan doesn't tell.
-fn stale(core: &Core, task: &TaskName) -> StepRefusal
-    requires there { IsTrue (is_spawned (history core.now.run) task.now) }
-    ensures { IsStaleAnswer core.now.run task.now result }
-{
-    match core.elsewhere(task) {
-        Ok(Some(now)) => StepRefusal::Stale { now },
-        Ok(None) => unreachable!(),
-        Err(_) => StepRefusal::Memory,
-    }
-}
-
-/// Why a plan isn't one of the program for a task that is there and goes on.
-pub fn foreign(program: &Program, core: &Core, plan: &Plan) -> Option<StepRefusal>
-    ensures some { IfSome result (IsForeign program.now core.now.run plan.now) }
-    ensures none { IfNone result (IsNative program.now core.now.run plan.now) }
-{
-    let task = &plan.config.task;
-    if !core.is_there(task) {
-        return Some(StepRefusal::NoSuchTask);
-    }
-    if core.has_ended(task) {
-        return Some(StepRefusal::Ended);
-    }
-    if !is_of_program(program, &plan.instr) {
-        return Some(stale(core, task));
-    }
-    None
-}
 
 /// The event of a plan, with all room made for its step: what is prepared for the task, if something
 /// is, and then without memory. A refusal for any reason but memory keeps what is prepared.

@@ -12,27 +12,24 @@ ghost use Rattle.std.specs.Option.{option_copied};
 ghost use Rattle.tb_model.specs.declared.entry.Entry.TheVariants.{Rolled};
 ghost use Rattle.tb_model.specs.State.{printed};
 ghost use Rattle.tb_core.specs.declared.step_refusal.StepRefusal.TheVariants.{Memory};
-ghost use Rattle.tb_live.specs.Claims.{claim_of, AreLawful};
-ghost use Rattle.tb_live.specs.Session.{opened, with_seat, history, is_full, cell_numbers, last_store, last_print};
+ghost use Rattle.tb_control.specs.Claims.{claim_of, AreLawful};
+ghost use Rattle.tb_live.specs.Session.{opened, with_seat, history, is_full, cell_numbers};
+ghost use Rattle.tb_next.specs.Newest.{last_store, last_print};
 ghost use Rattle.tb_live.specs.Moves.{StepsBy, LeastStepsBy, LeastStepsFor, UndoneFor, RollsFor, KeepsAll, Hinders, refusal_for, MayUndo};
 
-use crate::breakpoints::Breakpoints;
-use crate::claims::Claims;
-use crate::control::Control;
-use crate::floor::Floor;
-use crate::mode::Mode;
-use crate::newest::{newest_print, newest_store};
-use crate::planning::coming_of;
 use crate::prepared::{Prepared, forget, take_name, take_roll};
-use crate::ready::{known_coming, least_behind, refusal_of};
 use crate::rolling::{enter_roll, fresh_name};
 use crate::stepping::{enter_apart, enter_clear, enter_step, for_least};
-use crate::unevaluated::{least_wanting, wanting};
 use std::alloc::{AllocError, Global};
 use std::marker::Model;
+use tb_control::{Breakpoints, Claims, Control, Mode};
 use tb_core::{Core, Removed, StepRefusal, UndoRefusal};
 use tb_journal::Journal;
 use tb_model::{Entry, Event, StepId, TaskName};
+use tb_next::{
+    Floor, coming_of, known_coming, least_behind, least_wanting, newest_print, newest_store,
+    refusal_of, wanting,
+};
 use tb_read::Program;
 use tb_roll::RollRefusal;
 
@@ -56,7 +53,7 @@ impl Model for Live {
     ghost use Rattle.tb_live.specs.Session.{Held};
     ghost use Rattle.tb_live.specs.Soundness.{IsSound, IsLawful};
     ghost use Rattle.tb_live.specs.Preparing.{HasRoom, entry_of};
-    ghost use Rattle.tb_live.specs.Floor.{IsFloor};
+    ghost use Rattle.tb_next.specs.Floor.{IsFloor};
     ghost use Rattle.tb_core.specs.Seen.{history};
 
     ghost Value = { Held };

@@ -6,20 +6,20 @@ ghost use Rattle.tb_model.specs.Program.{Program};
 ghost use Rattle.tb_core.specs.declared.step_refusal.StepRefusal.TheVariants.{Memory};
 ghost use Rattle.tb_core.specs.Outcomes.{Fits, IsCurrent, IsOpen, MayTake, event_of};
 ghost use Rattle.tb_core.specs.Seen.{history};
-ghost use Rattle.tb_live.specs.Controls.{behind_step};
-ghost use Rattle.tb_live.specs.Floor.{IsCarried};
+ghost use Rattle.tb_control.specs.Controls.{behind_step};
+ghost use Rattle.tb_next.specs.Floor.{IsCarried};
 ghost use Rattle.tb_live.specs.Moves.{for_least};
-ghost use Rattle.tb_live.specs.Plans.{Enters, IsClear, IsEntered, IsKeptFrom, IsNext, IsStepOf, IsTaken, has_no_place};
+ghost use Rattle.tb_live.specs.Entering.{Enters, IsEntered, IsKeptFrom, IsTaken, has_no_place};
+ghost use Rattle.tb_next.specs.Plans.{IsClear, IsNext, IsStepOf};
 ghost use Rattle.tb_live.specs.Preparing.{HasRoom, IsReadied};
 
-use crate::coming::Coming;
-use crate::control::Control;
-use crate::floor::Floor;
 use crate::prepared::{Prepared, forget};
 use std::alloc::AllocError;
+use tb_control::Control;
 use tb_core::{Core, StepRefusal};
 use tb_journal::{Journal, stands_apart};
 use tb_model::{Action, Event, StepId, TaskName};
+use tb_next::{Coming, Floor};
 use tb_plan::Plan;
 
 /// Makes all room for the step of a plan and for its entry, and tells the event. The journal has more

@@ -8,9 +8,9 @@ use Rattle.tb_model.specs.declared.step_id.StepId.{StepId}
 use Rattle.tb_model.specs.Names.{Name, same_name}
 use Rattle.tb_model.proofs.TestLemmas.{same_refl}
 use Rattle.tb_core.specs.declared.step_refusal.StepRefusal.TheVariants.{Full}
-use Rattle.tb_live.specs.declared.mode.Mode.{Mode}
-use Rattle.tb_live.specs.declared.mode.Mode.TheVariants.{Resumed, Counting, Paused}
-use Rattle.tb_live.specs.declared.paused_by.PausedBy.TheVariants.{Break as ByBreak, Count as ByCount, Pause as ByPause}
+use Rattle.tb_control.specs.declared.mode.Mode.{Mode}
+use Rattle.tb_control.specs.declared.mode.Mode.TheVariants.{Resumed, Counting, Paused}
+use Rattle.tb_control.specs.declared.paused_by.PausedBy.TheVariants.{Break as ByBreak, Count as ByCount, Pause as ByPause}
 use Rattle.tb_live.specs.Claims.{Claims, AreFreeFrom, claim_of, with_claim, withdrawn, unless}
 use Rattle.tb_live.specs.Modes.{counting, counted, is_paused}
 use Rattle.tb_live.specs.Modes as modes
@@ -18,7 +18,7 @@ use Rattle.tb_live.specs.Pauses.{with_mode}
 use Rattle.tb_live.specs.Runs.{unclaimed}
 use Rattle.tb_live.specs.Session.{Session, is_full}
 use Rattle.tb_live.specs.Moves.{LeastStepsFor, least_task}
-use Rattle.tb_live.proofs.ClaimLemmas.{free_withdrawn}
+use Rattle.tb_control.proofs.ClaimLemmas.{free_withdrawn}
 use Rattle.tb_team.specs.declared.stop.Stop.{Stop}
 use Rattle.tb_replies.specs.Alone.{HasNoClaims, IsUnderWay, TakesTurn, Stops, IsWhole}
 use Rattle.tb_replies.specs.Course.{Course, stopped, behind}

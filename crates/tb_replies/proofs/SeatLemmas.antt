@@ -6,8 +6,8 @@ use Rattle.tb_model.specs.declared.entry.Entry.TheVariants.{Rolled}
 use Rattle.tb_model.specs.Names.{Name, same_name}
 use Rattle.tb_model.specs.Program.{Program}
 use Rattle.tb_core.specs.Rolled.{removals}
-use Rattle.tb_live.specs.declared.breaks.Break.{Break}
-use Rattle.tb_live.specs.declared.breaks.Break.TheVariants.{Body as AtBody}
+use Rattle.tb_control.specs.declared.breaks.Break.{Break}
+use Rattle.tb_control.specs.declared.breaks.Break.TheVariants.{Body as AtBody}
 use Rattle.tb_live.specs.Claims.{unless, is_hit}
 use Rattle.tb_live.specs.Runs.{resumed}
 use Rattle.tb_live.specs.Session.{Session, opened, history, is_full, with_entry}

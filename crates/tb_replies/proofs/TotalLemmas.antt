@@ -12,8 +12,8 @@ use Rattle.tb_laws.proofs.JournalLemmas.{journal_legal}
 use Rattle.tb_laws.proofs.NextStepLemmas.{refused_next, least_next}
 use Rattle.tb_read.specs.Text.{numbered}
 use Rattle.tb_read.proofs.WellFormedLemmas.{accepted_well_formed}
-use Rattle.tb_live.specs.declared.breaks.Break.{Break}
-use Rattle.tb_live.specs.declared.breaks.Break.TheVariants.{Body as AtBody}
+use Rattle.tb_control.specs.declared.breaks.Break.{Break}
+use Rattle.tb_control.specs.declared.breaks.Break.TheVariants.{Body as AtBody}
 use Rattle.tb_live.specs.Breaks.{with_break, without_break}
 use Rattle.tb_live.specs.Pauses.{with_points}
 use Rattle.tb_live.specs.Runs.{resumed}

@@ -7,14 +7,14 @@ use Rattle.tb_model.specs.Hindrances.{Refusal, can_step}
 use Rattle.tb_laws.proofs.JournalLemmas.{journal_legal}
 use Rattle.tb_model.proofs.LeastNameLemmas.{least_found}
 use Rattle.tb_laws.proofs.NextStepLemmas.{refused_next}
-use Rattle.tb_live.specs.declared.mode.Mode.{Mode}
-use Rattle.tb_live.specs.declared.mode.Mode.TheVariants.{Resumed, Counting, Paused}
-use Rattle.tb_live.specs.declared.paused_by.PausedBy.TheVariants.{Break as ByBreak, Count as ByCount, Pause as ByPause}
+use Rattle.tb_control.specs.declared.mode.Mode.{Mode}
+use Rattle.tb_control.specs.declared.mode.Mode.TheVariants.{Resumed, Counting, Paused}
+use Rattle.tb_control.specs.declared.paused_by.PausedBy.TheVariants.{Break as ByBreak, Count as ByCount, Pause as ByPause}
 use Rattle.tb_live.specs.Modes.{counting, counted, is_paused}
 use Rattle.tb_live.specs.Modes as modes
 use Rattle.tb_live.specs.Session.{Session, history, is_full}
 use Rattle.tb_live.specs.Moves.{coming, least_task, refusal_for}
-use Rattle.tb_live.proofs.ReadyLemmas.{can_spawned}
+use Rattle.tb_next.proofs.ReadyLemmas.{can_spawned}
 use Rattle.tb_team.specs.declared.stop.Stop.{Stop}
 use Rattle.tb_team.specs.declared.stop.Stop.TheVariants.{Break, Limit}
 use Rattle.tb_replies.specs.Course.{Course, stopped, behind}

@@ -1,7 +1,7 @@
 -- One worker, of seat 1, turn by turn.
 use Rattle.std.specs.Prelude.{◌≡◌, ◌≢◌, ℕ, List, ◌++◌, Bool, true, false, IsTrue, Some, None}
 use Rattle.tb_model.specs.Names.{Name}
-use Rattle.tb_live.specs.declared.mode.Mode.{Mode}
+use Rattle.tb_control.specs.declared.mode.Mode.{Mode}
 use Rattle.tb_live.specs.Claims.{AreFreeFrom}
 use Rattle.tb_live.specs.Modes.{is_paused}
 use Rattle.tb_live.specs.Moves.{least_task}

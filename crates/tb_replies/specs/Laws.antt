@@ -4,9 +4,9 @@ use Rattle.tb_model.specs.Journal.{Sound}
 use Rattle.tb_model.specs.WellFormed.{WellFormed}
 use Rattle.tb_model.specs.Names.{Name}
 use Rattle.tb_model.specs.Program.{situation}
-use Rattle.tb_live.specs.declared.mode.Mode.{Mode}
-use Rattle.tb_live.specs.declared.mode.Mode.TheVariants.{Paused}
-use Rattle.tb_live.specs.declared.paused_by.PausedBy.TheVariants.{Break}
+use Rattle.tb_control.specs.declared.mode.Mode.{Mode}
+use Rattle.tb_control.specs.declared.mode.Mode.TheVariants.{Paused}
+use Rattle.tb_control.specs.declared.paused_by.PausedBy.TheVariants.{Break}
 use Rattle.tb_live.specs.Breaks.{met}
 use Rattle.tb_live.specs.Moves.{coming}
 use Rattle.tb_live.specs.Session.{Session, history}

@@ -8,11 +8,11 @@ use Rattle.tb_model.specs.Equivalent.{stands}
 use Rattle.tb_model.specs.Hindrances.{Hindrance, Refusal, NoSuchTask, Ended, By, Undeferred, Waiting, Excluded, Children, Group}
 use Rattle.tb_live.specs.Session.{Session, history, is_full}
 use Rattle.tb_live.specs.Moves.{refusal_for}
-use Rattle.tb_live.specs.declared.breaks.Break.{Break}
-use Rattle.tb_live.specs.declared.break_refusal.BreakRefusal.{BreakRefusal}
-use Rattle.tb_live.specs.declared.break_refusal.BreakRefusal.TheVariants.{Memory as OutOfMemory, TooMany, NoSuchBreak, NoSuchBody, NoSuchCell}
+use Rattle.tb_control.specs.declared.breaks.Break.{Break}
+use Rattle.tb_control.specs.declared.break_refusal.BreakRefusal.{BreakRefusal}
+use Rattle.tb_control.specs.declared.break_refusal.BreakRefusal.TheVariants.{Memory as OutOfMemory, TooMany, NoSuchBreak, NoSuchBody, NoSuchCell}
 use Rattle.tb_live.specs.Breaks.{are_too_many, is_standing}
-use Rattle.tb_live.specs.Numbers.{break_number}
+use Rattle.tb_control.specs.Numbers.{break_number}
 use Rattle.tb_live.specs.Pauses.{misplaced}
 use Rattle.tb_view.specs.declared.view_refusal.ViewRefusal.{ViewRefusal}
 use Rattle.tb_view.specs.declared.view_refusal.ViewRefusal.TheVariants.{Memory, NoSuchStep, NoSuchTask}

@@ -5,8 +5,8 @@ use Rattle.tb_model.specs.declared.step_id.StepId.{StepId}
 use Rattle.tb_model.specs.declared.entry.Entry.TheVariants.{Rolled}
 use Rattle.tb_model.specs.Names.{Name}
 use Rattle.tb_model.specs.Spelling.{step_id_text}
-use Rattle.tb_live.specs.declared.breaks.Break.{Break}
-use Rattle.tb_live.specs.declared.breaks.Break.TheVariants.{Body as AtBody}
+use Rattle.tb_control.specs.declared.breaks.Break.{Break}
+use Rattle.tb_control.specs.declared.breaks.Break.TheVariants.{Body as AtBody}
 use Rattle.tb_live.specs.Breaks.{with_break, without_break}
 use Rattle.tb_live.specs.Pauses.{with_points}
 use Rattle.tb_live.specs.Runs.{resumed}
@@ -22,7 +22,7 @@ use Rattle.tb_replies.specs.Bodies.{body_line}
 use Rattle.tb_replies.specs.Rolled.{step_named, rolled_text}
 use Rattle.tb_replies.specs.Course.{Course, course, course_text}
 use Rattle.tb_replies.specs.Turns.{IsGo}
-use Rattle.tb_live.specs.declared.break_refusal.BreakRefusal.TheVariants.{NoSuchBody}
+use Rattle.tb_control.specs.declared.break_refusal.BreakRefusal.TheVariants.{NoSuchBody}
 use Rattle.tb_commands.specs.declared.command.Command.{Command}
 use Rattle.tb_commands.specs.declared.command.Command.TheVariants.{Step, Undo, Roll, Run, Break as AddBreak, BreakBody, Clear, Show}
 use Rattle.tb_commands.specs.declared.asked.Asked.{Asked}

@@ -9,9 +9,9 @@ use Rattle.tb_model.specs.declared.entry.Entry.TheVariants.{Opened, Stepped, Rol
 use Rattle.tb_model.specs.Journal.{hist, Sound}
 use Rattle.tb_model.specs.Program.{Program, situation}
 use Rattle.tb_model.specs.WellFormed.{WellFormed}
-use Rattle.tb_live.specs.declared.mode.Mode.{Mode}
-use Rattle.tb_live.specs.declared.mode.Mode.TheVariants.{Resumed, Paused}
-use Rattle.tb_live.specs.declared.paused_by.PausedBy.TheVariants.{Break as ByBreak}
+use Rattle.tb_control.specs.declared.mode.Mode.{Mode}
+use Rattle.tb_control.specs.declared.mode.Mode.TheVariants.{Resumed, Paused}
+use Rattle.tb_control.specs.declared.paused_by.PausedBy.TheVariants.{Break as ByBreak}
 use Rattle.tb_live.specs.Breaks.{Points, met}
 use Rattle.tb_live.specs.Claims.{Claims, withdrawn}
 use Rattle.tb_live.specs.Modes.{counting, counted}

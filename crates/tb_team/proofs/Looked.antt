@@ -5,8 +5,8 @@ use Rattle.tb_model.specs.declared.entry.Entry.{Entry}
 use Rattle.tb_model.specs.Journal.{Sound}
 use Rattle.tb_model.specs.Program.{Program}
 use Rattle.tb_model.specs.WellFormed.{WellFormed}
-use Rattle.tb_live.specs.declared.mode.Mode.{Mode}
-use Rattle.tb_live.specs.declared.mode.Mode.TheVariants.{Resumed}
+use Rattle.tb_control.specs.declared.mode.Mode.{Mode}
+use Rattle.tb_control.specs.declared.mode.Mode.TheVariants.{Resumed}
 use Rattle.tb_live.specs.Breaks.{Points}
 use Rattle.tb_live.specs.Claims.{Claims, withdrawn, unless}
 use Rattle.tb_live.specs.Pauses.{with_mode}

@@ -17,15 +17,15 @@ use Rattle.tb_laws.proofs.JournalLemmas.{journal_legal}
 use Rattle.tb_model.proofs.LeastNameLemmas.{least_found}
 use Rattle.tb_laws.proofs.NextStepLemmas.{next_computed, next_isnt_refused}
 use Rattle.tb_model.proofs.TestLemmas.{same_refl}
-use Rattle.tb_live.specs.declared.mode.Mode.TheVariants.{Counting, Paused}
-use Rattle.tb_live.specs.declared.paused_by.PausedBy.TheVariants.{Count as ByCount}
+use Rattle.tb_control.specs.declared.mode.Mode.TheVariants.{Counting, Paused}
+use Rattle.tb_control.specs.declared.paused_by.PausedBy.TheVariants.{Count as ByCount}
 use Rattle.tb_live.specs.Breaks.{met}
 use Rattle.tb_live.specs.Claims.{Claims, withdrawn, with_claim, unless}
 use Rattle.tb_live.specs.Modes.{counting, counted, is_paused}
 use Rattle.tb_live.specs.Modes as modes
 use Rattle.tb_live.specs.Moves.{coming, refusal_for}
 use Rattle.tb_live.specs.Session.{Session, history, is_full}
-use Rattle.tb_live.proofs.ReadyLemmas.{can_spawned}
+use Rattle.tb_next.proofs.ReadyLemmas.{can_spawned}
 use Rattle.tb_team.proofs.Counting.{above_none, at_most, full_is_not_room, not_none, room_left, some_left, one_fewer, less, plus_one, all_of_it}
 use Rattle.tb_team.specs.Turns.{AreTurns, IsTurn, started, stop_of, turned, why_idle, why_paused}
 use Rattle.tb_journal.specs.Journals.{is_turn}

@@ -14,7 +14,7 @@ use Rattle.tb_core.specs.declared.entry.Entry.{Entry as Step}
 use Rattle.tb_core.specs.Seen.{Seen}
 use Rattle.tb_live.specs.Soundness.{Fits}
 use Rattle.tb_core.specs.Soundness.{AreRecords, departure}
-use Rattle.tb_live.specs.declared.breakpoint.Breakpoint.{Breakpoint}
+use Rattle.tb_control.specs.declared.breakpoint.Breakpoint.{Breakpoint}
 use Rattle.tb_live.specs.Breaks.{met}
 use Rattle.tb_team.proofs.Counting.{taken_long, taken_count, last_one, last_within, all_dropped}
 use Rattle.tb_team.specs.Looking.{is_met, meets_newest, none_met}

@@ -3,9 +3,9 @@ use Rattle.std.specs.Prelude.{◌≡◌, ◌≤◌, ℕ, List, [], ◌∷◌, Bo
 use Rattle.std.specs.Option.{option_or}
 use Rattle.tb_model.specs.declared.entry.Entry.TheVariants.{Stepped}
 use Rattle.tb_model.specs.Names.{Name}
-use Rattle.tb_live.specs.declared.mode.Mode.{Mode}
-use Rattle.tb_live.specs.declared.mode.Mode.TheVariants.{Paused}
-use Rattle.tb_live.specs.declared.paused_by.PausedBy.TheVariants.{Break as ByBreak, Count as ByCount}
+use Rattle.tb_control.specs.declared.mode.Mode.{Mode}
+use Rattle.tb_control.specs.declared.mode.Mode.TheVariants.{Paused}
+use Rattle.tb_control.specs.declared.paused_by.PausedBy.TheVariants.{Break as ByBreak, Count as ByCount}
 use Rattle.tb_live.specs.Modes.{counting, is_paused}
 use Rattle.tb_live.specs.Pauses.{with_mode}
 use Rattle.tb_live.specs.Runs.{resumed, unclaimed}

@@ -21,7 +21,7 @@ use Rattle.tb_read.specs.Followed.{is_last}
 use Rattle.tb_core.specs.Seen.{Seen, history}
 use Rattle.tb_core.specs.Situation.{config_of}
 use Rattle.tb_live.specs.Soundness.{Fits}
-use Rattle.tb_live.proofs.PlanLemmas.{own_moves, stands_at, holds_registers}
+use Rattle.tb_next.proofs.PlanLemmas.{own_moves, stands_at, holds_registers}
 use Rattle.tb_view.specs.Tasks.{status_text, state_text, numbers_text, own_text}
 
 -- ---- the statement at which a task was ended

@@ -3,9 +3,9 @@ use Rattle.std.specs.Prelude.{ℕ, List, [], ◌∷◌, ◌++◌, codes}
 use Rattle.std.specs.Fmt.{decimal}
 use Rattle.tb_model.specs.Program.{Program}
 use Rattle.tb_model.specs.Spelling.{name_text}
-use Rattle.tb_live.specs.declared.breaks.Break.{Break}
-use Rattle.tb_live.specs.declared.breaks.Break.TheVariants.{Task, Cell, Body, Print, Fault}
-use Rattle.tb_live.specs.declared.breakpoint.Breakpoint.{Breakpoint}
+use Rattle.tb_control.specs.declared.breaks.Break.{Break}
+use Rattle.tb_control.specs.declared.breaks.Break.TheVariants.{Task, Cell, Body, Print, Fault}
+use Rattle.tb_control.specs.declared.breakpoint.Breakpoint.{Breakpoint}
 use Rattle.tb_view.specs.Listing.{listed, lines_of}
 use Rattle.tb_view.specs.Tasks.{body_text}
 

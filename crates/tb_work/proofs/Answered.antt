@@ -7,7 +7,7 @@ use Rattle.tb_model.specs.declared.step_id.StepId.{StepId}
 use Rattle.tb_core.specs.declared.removed.Removed.{Removed}
 use Rattle.tb_core.specs.declared.undo_refusal.UndoRefusal.{UndoRefusal}
 use Rattle.tb_roll.specs.declared.roll_refusal.RollRefusal.{RollRefusal}
-use Rattle.tb_live.specs.declared.claim.Claim.{Claim}
+use Rattle.tb_next.specs.declared.claim.Claim.{Claim}
 use Rattle.tb_live.specs.Moves.{RollsFor, UndoesFor}
 use Rattle.tb_live.specs.Session.{Session}
 use Rattle.tb_live.specs.Working.{ClaimsWork}

@@ -2,11 +2,11 @@
 use Rattle.std.proofs.Common.{ℕ, ◌≡◌, ap, length, length-set, ◌∙◌, Option, Result, Ok, Err, IfOk, OnErr}
 use Rattle.std.specs.declared.alloc.AllocError.{AllocError}
 use Rattle.tb_model.specs.Names.{Name}
-use Rattle.tb_live.specs.declared.work.Work.{Work}
-use Rattle.tb_live.specs.declared.claim.Claim.{Claim}
-use Rattle.tb_live.specs.declared.claim.Claim.TheVariants.{Work as Works, Later, Done, Stopped}
-use Rattle.tb_live.specs.declared.claim_refusal.ClaimRefusal.{ClaimRefusal}
-use Rattle.tb_live.specs.declared.mode.Mode.{Mode}
+use Rattle.tb_next.specs.declared.work.Work.{Work}
+use Rattle.tb_next.specs.declared.claim.Claim.{Claim}
+use Rattle.tb_next.specs.declared.claim.Claim.TheVariants.{Work as Works, Later, Done, Stopped}
+use Rattle.tb_control.specs.declared.claim_refusal.ClaimRefusal.{ClaimRefusal}
+use Rattle.tb_control.specs.declared.mode.Mode.{Mode}
 use Rattle.tb_live.specs.Session.{Session, Held, with_seat}
 use Rattle.tb_live.specs.Pauses.{with_mode}
 use Rattle.tb_live.specs.Working.{ClaimsTask, ClaimsWork}

@@ -8,7 +8,7 @@ use Rattle.tb_model.specs.declared.entry.Entry.TheVariants.{Opened, Stepped, Rol
 use Rattle.tb_model.specs.Names.{Name}
 use Rattle.tb_model.specs.Program.{Program}
 use Rattle.tb_live.specs.Breaks.{Points}
-use Rattle.tb_live.specs.declared.control.Control.{Control}
+use Rattle.tb_control.specs.declared.control.Control.{Control}
 use Rattle.tb_live.specs.Session.{Session, with_entry, with_seat, control_behind}
 use Rattle.tb_work.specs.Changes.{entries}
 

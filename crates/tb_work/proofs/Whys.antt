@@ -2,9 +2,9 @@
 use Rattle.std.proofs.Common.{◌≡◌, subst, Some}
 use Rattle.std.specs.Prelude.{⊤}
 use Rattle.std.proofs.lemmas.Option.{none-some, same_Some}
-use Rattle.tb_live.specs.declared.mode.Mode.{Mode}
-use Rattle.tb_live.specs.declared.mode.Mode.TheVariants.{Resumed, Counting, Paused}
-use Rattle.tb_live.specs.declared.paused_by.PausedBy.TheVariants.{Break as ByBreak, Count as ByCount, Pause as ByPause}
+use Rattle.tb_control.specs.declared.mode.Mode.{Mode}
+use Rattle.tb_control.specs.declared.mode.Mode.TheVariants.{Resumed, Counting, Paused}
+use Rattle.tb_control.specs.declared.paused_by.PausedBy.TheVariants.{Break as ByBreak, Count as ByCount, Pause as ByPause}
 use Rattle.tb_live.specs.Session.{Session}
 use Rattle.tb_work.specs.declared.why.Why.{Why}
 use Rattle.tb_work.specs.declared.why.Why.TheVariants.{Break, Limit, Done, Full, Asked}

@@ -10,10 +10,10 @@ use Rattle.tb_plan.specs.declared.planned.Plan.{Plan}
 use Rattle.tb_core.specs.declared.removed.Removed.{Removed}
 use Rattle.tb_core.specs.declared.undo_refusal.UndoRefusal.{UndoRefusal}
 use Rattle.tb_roll.specs.declared.roll_refusal.RollRefusal.{RollRefusal}
-use Rattle.tb_live.specs.declared.claim.Claim.{Claim}
-use Rattle.tb_live.specs.declared.claim_refusal.ClaimRefusal.{ClaimRefusal}
+use Rattle.tb_next.specs.declared.claim.Claim.{Claim}
+use Rattle.tb_control.specs.declared.claim_refusal.ClaimRefusal.{ClaimRefusal}
 use Rattle.tb_live.specs.declared.commit_refusal.CommitRefusal.{CommitRefusal}
-use Rattle.tb_live.specs.declared.work.Work.{Work}
+use Rattle.tb_next.specs.declared.work.Work.{Work}
 use Rattle.tb_live.specs.Breaks.{Points}
 use Rattle.tb_live.specs.Commits.{MayCommit, entry_to_come}
 use Rattle.tb_live.specs.Moves.{RollsFor, UndoesFor}

@@ -3,9 +3,9 @@ use Rattle.std.specs.Prelude.{◌≡◌, length, ⊤}
 use Rattle.tb_model.specs.Facts.{History}
 use Rattle.tb_model.specs.Names.{Name}
 use Rattle.tb_model.specs.Program.{Program}
-use Rattle.tb_live.specs.declared.work.Work.{Work}
-use Rattle.tb_live.specs.declared.claim.Claim.{Claim}
-use Rattle.tb_live.specs.declared.claim.Claim.TheVariants.{Work as Works}
+use Rattle.tb_next.specs.declared.work.Work.{Work}
+use Rattle.tb_next.specs.declared.claim.Claim.{Claim}
+use Rattle.tb_next.specs.declared.claim.Claim.TheVariants.{Work as Works}
 use Rattle.tb_live.specs.Session.{Session}
 use Rattle.tb_live.specs.Working.{IsWork}
 

@@ -3,7 +3,7 @@ use Rattle.std.specs.Prelude.{ℕ, ◌≡◌, ◌⊎◌, List, Some, ⊤}
 use Rattle.tb_model.specs.declared.entry.Entry.{Entry}
 use Rattle.tb_model.specs.Program.{Program}
 use Rattle.tb_plan.specs.declared.planned.Plan.{Plan}
-use Rattle.tb_live.specs.declared.claim.Claim.TheVariants.{Done, Stopped}
+use Rattle.tb_next.specs.declared.claim.Claim.TheVariants.{Done, Stopped}
 use Rattle.tb_live.specs.declared.commit_refusal.CommitRefusal.{CommitRefusal}
 use Rattle.tb_live.specs.Breaks.{Points}
 use Rattle.tb_live.specs.Session.{Session}

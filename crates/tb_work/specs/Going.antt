@@ -5,9 +5,9 @@ use Rattle.tb_model.specs.Facts.{is_spawned}
 use Rattle.tb_core.specs.declared.step_refusal.StepRefusal.TheVariants.{Memory, Full as JournalFull}
 use Rattle.tb_live.specs.declared.commit_refusal.CommitRefusal.{CommitRefusal}
 use Rattle.tb_live.specs.declared.commit_refusal.CommitRefusal.TheVariants.{Paused, Withdrawn, Step}
-use Rattle.tb_live.specs.declared.mode.Mode.{Mode}
-use Rattle.tb_live.specs.declared.mode.Mode.TheVariants.{Paused as IsPaused}
-use Rattle.tb_live.specs.declared.paused_by.PausedBy.TheVariants.{Break as ByBreak, Count as ByCount}
+use Rattle.tb_control.specs.declared.mode.Mode.{Mode}
+use Rattle.tb_control.specs.declared.mode.Mode.TheVariants.{Paused as IsPaused}
+use Rattle.tb_control.specs.declared.paused_by.PausedBy.TheVariants.{Break as ByBreak, Count as ByCount}
 use Rattle.tb_live.specs.Moves.{has_ended}
 use Rattle.tb_live.specs.Session.{Session, history, is_full}
 use Rattle.tb_work.specs.declared.ended.Ended.TheVariants.{Well, CellTaken as ByCell, Memory as ByMemory}

@@ -1,7 +1,7 @@
 //! Claims and pauses of a run, and what they leave of it.
 
 ghost use Rattle.std.specs.Prelude.{◌≡◌, ◌<◌, IfOk, OnErr, None, length};
-ghost use Rattle.tb_live.specs.declared.mode.Mode.TheVariants.{Resumed};
+ghost use Rattle.tb_control.specs.declared.mode.Mode.TheVariants.{Resumed};
 ghost use Rattle.tb_live.specs.Modes as modes;
 ghost use Rattle.tb_live.specs.Pauses.{with_mode};
 ghost use Rattle.tb_live.specs.Session.{with_seat};

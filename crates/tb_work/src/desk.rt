@@ -1,7 +1,7 @@
 //! What lies under the lock.
 
 ghost use Rattle.std.specs.Prelude.{◌≡◌, ◌+◌, ◌<◌, ◌≤◌, Some, None, reverse, length, vec_len, vec_capacity, map, take, IfOk, IfErr, OnOk, OnErr};
-ghost use Rattle.tb_live.specs.declared.mode.Mode.TheVariants.{Resumed};
+ghost use Rattle.tb_control.specs.declared.mode.Mode.TheVariants.{Resumed};
 ghost use Rattle.tb_live.specs.Commits.{MayCommit};
 ghost use Rattle.tb_live.specs.Modes as modes;
 ghost use Rattle.tb_live.specs.Moves.{RollsFor, UndoesFor};

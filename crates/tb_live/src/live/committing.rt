@@ -9,12 +9,13 @@ ghost use Rattle.tb_live.specs.Moves.{IsRollPrepared, KeepsAll};
 
 use super::Live;
 use crate::commit_refusal::CommitRefusal;
-use crate::committing::{enter_on, enter_plan, foreign};
+use crate::committing::{enter_on, enter_plan};
 use crate::prepared::{Prepared, copy_of, keep};
 use crate::rolling::ready_roll;
 use crate::stepping::ready_step;
 use tb_core::StepRefusal;
 use tb_model::{Entry, StepId};
+use tb_next::foreign;
 use tb_plan::Plan;
 use tb_roll::RollRefusal;
 

@@ -5,7 +5,7 @@ ghost use Rattle.tb_model.specs.Journal.{Sound};
 ghost use Rattle.tb_model.specs.Program.{LegalFor};
 ghost use Rattle.tb_core.specs.Seen.{history as events};
 ghost use Rattle.tb_live.specs.Session.{history};
-ghost use Rattle.tb_live.specs.Soundness.{Fits};
+ghost use Rattle.tb_next.specs.Fitting.{Fits};
 
 use crate::live::Live;
 use tb_core::Core;

@@ -1,16 +1,13 @@
 //! Pauses of a run, and its breakpoints.
 
 ghost use Rattle.std.specs.Prelude.{◌≡◌, OnErr};
-ghost use Rattle.tb_live.specs.declared.mode.Mode.TheVariants.{Resumed};
-ghost use Rattle.tb_live.specs.Breaks.{AreNumbered};
-ghost use Rattle.tb_live.specs.Modes as modes;
+ghost use Rattle.tb_control.specs.declared.mode.Mode.TheVariants.{Resumed};
+ghost use Rattle.tb_control.specs.Breaks.{AreNumbered};
+ghost use Rattle.tb_control.specs.Modes as modes;
 ghost use Rattle.tb_live.specs.Pauses.{with_mode, misplaced, AddsBreak, ClearsBreak};
 
 use super::Live;
-use crate::break_refusal::BreakRefusal;
-use crate::breakpoint::Breakpoint;
-use crate::breaks::Break;
-use crate::mode::Mode;
+use tb_control::{Break, BreakRefusal, Breakpoint, Mode};
 use tb_read::Program;
 
 impl Live {

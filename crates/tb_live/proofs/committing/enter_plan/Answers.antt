@@ -2,8 +2,8 @@ use Rattle.std.proofs.Common.{subst, sym, Option}
 use Rattle.tb_model.specs.Names.{Name}
 use Rattle.tb_core.specs.Outcomes as outcomes
 use Rattle.tb_core.specs.Seen.{Seen, history}
-use Rattle.tb_live.specs.Floor.{IsCarried}
-use Rattle.tb_live.proofs.CommitLemmas.{native_fits}
+use Rattle.tb_next.specs.Floor.{IsCarried}
+use Rattle.tb_next.proofs.NativeLemmas.{native_fits}
 use Rattle.tb_live.proofs.committing.enter_plan.Goals as goal
 
 pub enter_readied-requires-clause-fits : goal.enter_readied-requires-clause-fits

@@ -1,5 +1,6 @@
 use Rattle.std.proofs.Common.{sym, ◌∙◌}
-use Rattle.tb_live.proofs.CommitLemmas.{native_fits, readied_so}
+use Rattle.tb_next.proofs.NativeLemmas.{native_fits}
+use Rattle.tb_live.proofs.CommitLemmas.{readied_so}
 use Rattle.tb_live.proofs.PreparedLemmas.{event_room, event_taken}
 use Rattle.tb_live.proofs.committing.event_for.Goals as goal
 

@@ -1,7 +1,8 @@
 use Rattle.std.proofs.Common.{arith, rules, refl, ap, slice_get}
 use Rattle.tb_core.specs.Outcomes.{event_for}
 use Rattle.tb_core.specs.Seen.{history}
-use Rattle.tb_live.proofs.ComingLemmas.{few_steps, full_enters, may_go, memory_enters, taken_enters, no_place, some_place}
+use Rattle.tb_next.proofs.ComingLemmas.{few_steps, may_go}
+use Rattle.tb_live.proofs.EnteringLemmas.{full_enters, memory_enters, taken_enters, no_place, some_place}
 use Rattle.tb_live.proofs.stepping.enter_clear.Goals as goal
 
 pub returns-then-limit-len-clause-entered : goal.returns-then-limit-len-clause-entered

@@ -1,7 +1,8 @@
 use Rattle.std.proofs.Common.{rules, refl, sym, subst}
 use Rattle.tb_model.specs.Names.{Name}
-use Rattle.tb_live.specs.Plans.{IsClear, IsStepOf}
-use Rattle.tb_live.proofs.ComingLemmas.{next_there, next_goes, kept_enters, full_enters, memory_enters, no_place, some_place}
+use Rattle.tb_next.specs.Plans.{IsClear, IsStepOf}
+use Rattle.tb_next.proofs.ComingLemmas.{next_there, next_goes}
+use Rattle.tb_live.proofs.EnteringLemmas.{kept_enters, full_enters, memory_enters, no_place, some_place}
 use Rattle.tb_live.proofs.stepping.enter_step.Goals as goal
 
 pub hindrance-requires-clause-there : goal.hindrance-requires-clause-there

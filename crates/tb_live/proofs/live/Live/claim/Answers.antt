@@ -1,5 +1,5 @@
 use Rattle.std.proofs.Common.{ap, sym, ◌∙◌}
-use Rattle.tb_live.specs.Claims.{with_claim}
+use Rattle.tb_control.specs.Claims.{with_claim}
 use Rattle.tb_live.proofs.WorkLemmas.{lawful_found, live_claims}
 use Rattle.tb_live.specs.Session.{Held}
 use Rattle.tb_live.proofs.live.Live.claim.Goals as goal

@@ -1,5 +1,5 @@
 use Rattle.std.proofs.Common.{subst, ap}
-use Rattle.tb_live.specs.Claims.{AreLawful}
+use Rattle.tb_control.specs.Claims.{AreLawful}
 use Rattle.tb_live.specs.Session.{Session, history, Held}
 use Rattle.tb_live.proofs.live.Live.claim_of.Goals as goal
 

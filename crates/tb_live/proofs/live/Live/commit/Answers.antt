@@ -5,7 +5,7 @@ use Rattle.tb_live.specs.Moves.{coming}
 use Rattle.tb_live.specs.Session.{Held}
 use Rattle.tb_live.proofs.StepLemmas.{longer, same_held}
 use Rattle.tb_live.proofs.CommitLemmas.{offered_native, live_commits, may_open}
-use Rattle.tb_live.proofs.FloorStepLemmas.{floor_committed}
+use Rattle.tb_live.proofs.FloorAfterLemmas.{floor_committed}
 use Rattle.tb_live.proofs.PreparedLemmas.{step_of_entry}
 use Rattle.tb_live.proofs.live.Live.commit.Goals as goal
 

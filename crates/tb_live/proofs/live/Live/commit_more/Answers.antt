@@ -1,13 +1,13 @@
 use Rattle.std.proofs.Common.{ap, ◌∙◌, rules}
 use Rattle.std.specs.Prelude.{Ok, Err}
 use Rattle.tb_live.specs.declared.commit_refusal.CommitRefusal.TheVariants.{Step as NotTaken}
-use Rattle.tb_live.specs.Claims.{claim_of}
+use Rattle.tb_control.specs.Claims.{claim_of}
 use Rattle.tb_live.specs.Moves.{coming}
 use Rattle.tb_live.specs.Session.{Held}
 use Rattle.tb_live.proofs.StepLemmas.{longer, same_held}
 use Rattle.tb_live.proofs.CommitLemmas.{offered_native, may_open}
 use Rattle.tb_live.proofs.GoingLemmas.{live_commits_more, as_ended}
-use Rattle.tb_live.proofs.FloorStepLemmas.{floor_committed}
+use Rattle.tb_live.proofs.FloorAfterLemmas.{floor_committed}
 use Rattle.tb_live.proofs.PreparedLemmas.{step_of_entry}
 use Rattle.tb_live.proofs.live.Live.commit_more.Goals as goal
 

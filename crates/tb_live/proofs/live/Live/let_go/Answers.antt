@@ -1,7 +1,7 @@
 use Rattle.std.proofs.Common.{reverse, subst, sym}
 use Rattle.tb_model.specs.Journal.{hist}
-use Rattle.tb_live.specs.Claims.{Claims, AreLawful}
-use Rattle.tb_live.proofs.ControlLemmas.{lawful_let_go}
+use Rattle.tb_control.specs.Claims.{Claims, AreLawful}
+use Rattle.tb_control.proofs.ControlLemmas.{lawful_let_go}
 use Rattle.tb_live.proofs.live.Live.let_go.Goals as goal
 
 pub invariant_of-self : goal.invariant_of-self

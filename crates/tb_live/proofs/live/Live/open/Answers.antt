@@ -1,7 +1,7 @@
 use Rattle.std.proofs.Common.{rules, subst, sym, reverse}
 use Rattle.tb_model.specs.Journal.{hist}
-use Rattle.tb_live.specs.Claims.{Claims, AreLawful}
-use Rattle.tb_live.proofs.ControlLemmas.{lawful_none}
+use Rattle.tb_control.specs.Claims.{Claims, AreLawful}
+use Rattle.tb_control.proofs.ControlLemmas.{lawful_none}
 use Rattle.tb_live.proofs.live.Live.open.Goals as goal
 
 pub invariant_of-result : goal.invariant_of-result

@@ -5,10 +5,11 @@ use Rattle.tb_live.specs.Preparing.{HasRoom, entry_of}
 use Rattle.tb_live.specs.Session.{Held}
 use Rattle.tb_core.specs.declared.step_refusal.StepRefusal.TheVariants.{Memory}
 use Rattle.tb_live.specs.declared.commit_refusal.CommitRefusal.TheVariants.{Step as NotTaken}
-use Rattle.tb_live.proofs.FloorStepLemmas.{floor_readied}
+use Rattle.tb_live.proofs.FloorAfterLemmas.{floor_readied}
 use Rattle.tb_live.proofs.RunLemmas.{shown}
 use Rattle.tb_live.proofs.StepLemmas.{longer, stays, same_held}
-use Rattle.tb_live.proofs.CommitLemmas.{offered_native, native_fits, native_refused, room_kept, live_prepares}
+use Rattle.tb_live.proofs.CommitLemmas.{offered_native, native_refused, room_kept, live_prepares}
+use Rattle.tb_next.proofs.NativeLemmas.{native_fits}
 use Rattle.tb_live.proofs.live.Live.prepare.Goals as goal
 
 pub ready_step-requires-clause-fits : goal.ready_step-requires-clause-fits

@@ -1,6 +1,6 @@
 use Rattle.std.proofs.Common.{ap, subst, sym}
 use Rattle.tb_core.specs.Seen.{history}
-use Rattle.tb_live.specs.Floor.{IsFloor}
+use Rattle.tb_next.specs.Floor.{IsFloor}
 use Rattle.tb_live.specs.Session.{Held}
 use Rattle.tb_live.proofs.PreparedLemmas.{no_room}
 use Rattle.tb_live.proofs.RollLemmas.{live_rolls}

@@ -1,6 +1,6 @@
 use Rattle.std.proofs.Common.{ap}
-use Rattle.tb_live.proofs.ComingLemmas.{next_of}
-use Rattle.tb_live.proofs.FloorStepLemmas.{floor_after}
+use Rattle.tb_next.proofs.ComingLemmas.{next_of}
+use Rattle.tb_live.proofs.FloorAfterLemmas.{floor_after}
 use Rattle.tb_live.proofs.StepLemmas.{longer, live_steps, enters_held}
 use Rattle.tb_live.specs.Session.{Held}
 use Rattle.tb_live.proofs.live.Live.step.Goals as goal

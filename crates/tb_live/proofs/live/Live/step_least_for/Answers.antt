@@ -1,9 +1,9 @@
 use Rattle.std.proofs.Common.{subst, ap, sym, Option, Some}
 use Rattle.std.specs.Prelude.{IfSome}
 use Rattle.tb_model.specs.Names.{Name}
-use Rattle.tb_live.specs.declared.coming.Coming.{Coming}
+use Rattle.tb_next.specs.declared.coming.Coming.{Coming}
 use Rattle.tb_live.specs.Moves.{LeastStepsFor}
-use Rattle.tb_live.specs.Plans.{IsLeastComing}
+use Rattle.tb_next.specs.Plans.{IsLeastComing}
 use Rattle.tb_live.specs.Session.{Held}
 use Rattle.tb_live.proofs.LeastStepLemmas.{clear_found, keeps_found, answer_found, floor_found}
 use Rattle.tb_live.proofs.RunLemmas.{shown}

@@ -1,7 +1,7 @@
 use Rattle.std.proofs.Common.{reverse, subst, sym, true}
 use Rattle.tb_model.specs.Journal.{hist}
-use Rattle.tb_live.specs.Claims.{Claims, AreLawful}
-use Rattle.tb_live.proofs.ControlLemmas.{lawful_fewer}
+use Rattle.tb_control.specs.Claims.{Claims, AreLawful}
+use Rattle.tb_control.proofs.ControlLemmas.{lawful_fewer}
 use Rattle.tb_live.proofs.live.Live.withdraw_all.Goals as goal
 
 pub invariant_of-self : goal.invariant_of-self

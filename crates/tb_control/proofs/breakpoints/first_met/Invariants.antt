@@ -1,0 +1,6 @@
+use Rattle.std.proofs.Common.{◌≡◌, drop}
+use Rattle.tb_control.specs.Breaks.{met}
+use Rattle.tb_control.proofs.breakpoints.first_met.Given as goal
+
+abbrev pub invariant-loop-breakpoint : goal.invariant-loop-breakpoint
+invariant-loop-breakpoint l = met l.line l.event (drop l.breakpoint-index l.breakpoints) ≡ met l.line l.event l.breakpoints

@@ -1,0 +1,12 @@
+use Rattle.std.proofs.Common.{[], ◌∷◌, rules}
+use Rattle.tb_control.specs.Claims.{unless, is_hit}
+use Rattle.tb_control.proofs.ClaimLemmas.{next_changed, all_withdrawn}
+use Rattle.tb_control.proofs.claims.withdraw_by.Goals as goal
+
+pub loop-at-preserved : goal.loop-at-preserved
+loop-at-preserved c =
+    next_changed (unless (is_hit (c.args.removed.now ∷ []))) c.args.rows.now.items c.loop-at.rows.items c.loop-at.at c.args.end c.index_mut.result.now c.leave_by.new.row c.loop-at.invariant c.loop-at-test.true c.requires.within c.index_mut.ensures.value c.leave_by.ensures
+
+pub returns : goal.returns
+returns c =
+    all_withdrawn (is_hit (c.args.removed.now ∷ [])) c.args.rows.now.items c.loop-at.rows.items c.loop-at.at c.args.end c.loop-at.invariant (search rules) c.requires.free

@@ -1,0 +1,5 @@
+pub mod Modes
+pub mod Breaks
+pub mod Claims
+pub mod Controls
+pub mod Numbers

@@ -1,0 +1,63 @@
+//! Whether steps are taken.
+
+ghost use Rattle.std.specs.Prelude.{◌≡◌};
+ghost use Rattle.tb_control.specs.Modes as modes;
+
+use crate::paused_by::PausedBy;
+
+/// Whether claims give work and commits are taken, and for how long.
+#[derive(Clone, Copy, Debug, Drop, PartialEq, Eq)]
+pub enum Mode {
+    Resumed,
+    /// So many more steps, and then none.
+    Counting { left: u32 },
+    Paused { by: PausedBy },
+}
+
+impl Mode {
+    pub fn is_paused(&self) -> bool
+        ensures { result ≡ modes.is_paused self.now }
+    {
+        matches!(self, Mode::Paused { .. })
+    }
+
+    /// For so many steps more.
+    pub fn counting(steps: u32) -> Mode
+        ensures { result ≡ modes.counting steps }
+    {
+        if steps == 0 {
+            Mode::Paused {
+                by: PausedBy::Count,
+            }
+        } else {
+            Mode::Counting { left: steps }
+        }
+    }
+
+    /// Behind a call of `pause`.
+    pub fn paused(self) -> Mode
+        ensures { result ≡ modes.paused self }
+    {
+        match self {
+            Mode::Paused { by } => Mode::Paused { by },
+            _ => Mode::Paused {
+                by: PausedBy::Pause,
+            },
+        }
+    }
+
+    /// Behind a step that met the breakpoint with this number, or none.
+    pub fn behind(self, met: Option<u32>) -> Mode
+        ensures { result ≡ modes.behind met self }
+    {
+        match met {
+            Some(number) => Mode::Paused {
+                by: PausedBy::Break { number },
+            },
+            None => match self {
+                Mode::Counting { left } => Mode::counting(left.saturating_sub(1)),
+                other => other,
+            },
+        }
+    }
+}

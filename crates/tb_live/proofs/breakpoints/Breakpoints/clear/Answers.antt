@@ -1,5 +1,0 @@
-use Rattle.tb_live.proofs.BreakLemmas.{clear_numbered}
-use Rattle.tb_live.proofs.breakpoints.Breakpoints.clear.Goals as goal
-
-pub invariant_of-self : goal.invariant_of-self
-invariant_of-self c = clear_numbered c.self.inside.standing.items c.drop_number.new.breakpoints.items c.self.inside.given c.args.number c.self.invariant c.drop_number.ensures

@@ -1,6 +1,0 @@
-use Rattle.std.proofs.Common.{◌≡◌, drop}
-use Rattle.tb_live.specs.Breaks.{met}
-use Rattle.tb_live.proofs.breakpoints.first_met.Given as goal
-
-abbrev pub invariant-loop-breakpoint : goal.invariant-loop-breakpoint
-invariant-loop-breakpoint l = met l.line l.event (drop l.breakpoint-index l.breakpoints) ≡ met l.line l.event l.breakpoints

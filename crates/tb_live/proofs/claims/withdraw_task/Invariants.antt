@@ -1,8 +1,0 @@
-use Rattle.std.proofs.Common.{◌≡◌}
-use Rattle.tb_model.specs.Names.{same_name}
-use Rattle.tb_live.specs.Claims.{unless}
-use Rattle.tb_live.proofs.ClaimLemmas.{changed_to}
-use Rattle.tb_live.proofs.claims.withdraw_task.Given as goal
-
-abbrev pub invariant-loop-at : goal.invariant-loop-at
-invariant-loop-at l = l.rows.items ≡ changed_to (unless (same_name l.task)) l.at l.fn.rows.items

@@ -1,0 +1,25 @@
+//! What tasks do next by the program, which of them can step, and the work of a seat.
+#![tactic(auto)]
+
+mod claim;
+mod coming;
+mod finding;
+mod floor;
+mod native;
+mod newest;
+mod planning;
+mod ready;
+mod same_instr;
+mod unevaluated;
+mod work;
+
+pub use claim::Claim;
+pub use coming::Coming;
+pub use finding::{barred, named_work, taken_on};
+pub use floor::Floor;
+pub use native::foreign;
+pub use newest::{newest_print, newest_store};
+pub use planning::coming_of;
+pub use ready::{known_coming, least_behind, refusal_of};
+pub use unevaluated::{least_wanting, wanting};
+pub use work::Work;

@@ -1,0 +1,205 @@
+//! Whether a task can step, found without memory: where it is refused for what the task's statement
+//! evaluates to.
+
+ghost use Rattle.std.specs.Prelude.{◌≡◌, ◌↔◌, IsTrue, IsFalse, None, is_some};
+ghost use Rattle.std.specs.List.{list_any, list_all};
+ghost use Rattle.tb_model.specs.Facts.{is_spawned};
+ghost use Rattle.tb_model.specs.Program.{value, cell_at, place_at, items_at};
+ghost use Rattle.tb_model.specs.Hindrances.{can_step, in_the_way, least_ready};
+ghost use Rattle.tb_core.specs.Outcomes.{has_ended};
+ghost use Rattle.tb_core.specs.Seen.{history};
+ghost use Rattle.tb_next.specs.Fitting.{Fits};
+ghost use Rattle.tb_next.specs.Unevaluated.{follows_some, holds_up, is_good, is_held_up, is_named, stand_in, IsWanting, IsLeastWanting};
+
+use tb_core::{Core, StepRefusal};
+use tb_model::{Action, Address, Clause, Item, Operand, Place, Statement, TaskName, some_before};
+use tb_read::Program;
+
+/// Why a task takes no step for whose statement memory was refused: a full journal comes first, where
+/// nothing else is in the way.
+#[inline(never)]
+pub fn wanting(program: &Program, core: &Core, full: bool, task: &TaskName) -> StepRefusal
+    requires { Fits program.now core.now.run }
+    ensures { IsWanting program.now core.now.run full task.now result }
+{
+    if full && can_step(program, core, task) {
+        StepRefusal::Full
+    } else {
+        StepRefusal::Memory
+    }
+}
+
+/// The same where memory was refused in the look for the least task that can step.
+#[inline(never)]
+pub fn least_wanting(program: &Program, core: &Core, full: bool) -> StepRefusal
+    requires { Fits program.now core.now.run }
+    ensures { IsLeastWanting program.now core.now.run full result }
+{
+    if full && some_can_step(program, core) {
+        StepRefusal::Full
+    } else {
+        StepRefusal::Memory
+    }
+}
+
+fn some_can_step(program: &Program, core: &Core) -> bool
+    requires { Fits program.now core.now.run }
+    ensures { result ≡ is_some (least_ready program.now (history core.now.run)) }
+{
+    let mut after: Option<&TaskName> = None;
+    'tasks: while let Some(task) = core.next_unended(after) {
+        if can_step(program, core, task) {
+            return true;
+        }
+        after = Some(task);
+    }
+    false
+}
+
+/// Whether the task can step, a full journal aside.
+fn can_step(program: &Program, core: &Core, task: &TaskName) -> bool
+    requires { Fits program.now core.now.run }
+    ensures { result ≡ can_step program.now (history core.now.run) task.now }
+{
+    let Some(standing) = core.standing(task) else {
+        return false;
+    };
+    if core.has_ended(task) {
+        return false;
+    }
+    match program.instr(standing.at()) {
+        Some(instr) => {
+            is_free(core, task, &instr.statement)
+                && !is_held_up(program, core, task, standing.regs(), &instr.statement)
+        }
+        None => unreachable!(),
+    }
+}
+
+/// Whether nothing keeps the task from the statement, but for what a `taskwait` waits for.
+fn is_free(core: &Core, task: &TaskName, statement: &Statement) -> bool
+    requires there { IsTrue (is_spawned (history core.now.run) task.now) }
+    requires going { IsFalse (has_ended core.now.run task.now) }
+    ensures { IsTrue result ↔ (in_the_way (history core.now.run) task.now (stand_in statement.now) ≡ None) }
+{
+    match statement {
+        Statement::Start => core.is_clear(task, &Action::Start),
+        Statement::EndTaskgroup => core.is_clear(task, &Action::Close),
+        _ => core.is_clear(task, &Action::Open),
+    }
+}
+
+/// Whether the statement is a `taskwait` that waits.
+fn is_held_up(
+    program: &Program,
+    core: &Core,
+    task: &TaskName,
+    regs: &[i64; 16],
+    statement: &Statement,
+) -> bool
+    ensures { result ≡ is_held_up program.now.cells (history core.now.run) task.now regs.now statement.now }
+{
+    match statement {
+        Statement::Taskwait { depends } => waits(program, core, task, regs, depends.as_slice()),
+        _ => false,
+    }
+}
+
+/// Whether a `taskwait` with these clauses waits. A bad address is a fault, which doesn't.
+fn waits(
+    program: &Program,
+    core: &Core,
+    task: &TaskName,
+    regs: &[i64; 16],
+    clauses: &[Clause],
+) -> bool
+    ensures { result ≡ holds_up (history core.now.run) task.now (items_at program.now.cells regs.now clauses.now) }
+{
+    if !are_good(program, regs, clauses) {
+        return false;
+    }
+    let mut after: Option<&TaskName> = None;
+    'tasks: while let Some(child) = core.next_unended(after) {
+        if is_named(program, core, task, regs, clauses, child) {
+            return true;
+        }
+        after = Some(child);
+    }
+    false
+}
+
+fn are_good(program: &Program, regs: &[i64; 16], clauses: &[Clause]) -> bool
+    ensures { result ≡ list_all (is_good program.now.cells regs.now) clauses.now }
+{
+    clauses
+        .iter()
+        .all(|clause| place_at(program, regs, clause.address).is_some())
+}
+
+/// Whether it is a child of the task with an item on which one of the clauses depends, or any child
+/// where there are no clauses.
+fn is_named(
+    program: &Program,
+    core: &Core,
+    task: &TaskName,
+    regs: &[i64; 16],
+    clauses: &[Clause],
+    child: &TaskName,
+) -> bool
+    ensures { result ≡ is_named program.now.cells (history core.now.run) task.now regs.now clauses.now child.now }
+{
+    task.is_parent_of(child)
+        && (clauses.is_empty() || some_follows(program, regs, clauses, core.items(child)))
+}
+
+fn some_follows(program: &Program, regs: &[i64; 16], clauses: &[Clause], earlier: &[Item]) -> bool
+    ensures { result ≡ list_any (follows_some program.now.cells regs.now earlier.now) clauses.now }
+{
+    clauses
+        .iter()
+        .any(|clause| follows_some(program, regs, clause, earlier))
+}
+
+fn follows_some(program: &Program, regs: &[i64; 16], clause: &Clause, earlier: &[Item]) -> bool
+    ensures { result ≡ follows_some program.now.cells regs.now earlier.now clause.now }
+{
+    match place_at(program, regs, clause.address) {
+        Some(place) => {
+            let kind = clause.kind;
+            some_before(&[Item { kind, place }], earlier)
+        }
+        None => false,
+    }
+}
+
+/// What an address names, where it is good.
+fn place_at(program: &Program, regs: &[i64; 16], address: Address) -> Option<Place>
+    ensures { result ≡ place_at program.now.cells regs.now address }
+{
+    match address {
+        Address::All => Some(Place::All),
+        Address::Cell(operand) => match cell_at(program, value(regs, operand)) {
+            Some(cell) => Some(Place::Cell(cell)),
+            None => None,
+        },
+    }
+}
+
+fn cell_at(program: &Program, address: i64) -> Option<u32>
+    ensures { result ≡ cell_at program.now.cells address }
+{
+    let cells = program.cells();
+    match u32::try_from(address) {
+        Ok(cell) if (cell as usize) < cells.len() => Some(cell),
+        _ => None,
+    }
+}
+
+fn value(regs: &[i64; 16], operand: Operand) -> i64
+    ensures { result ≡ value regs.now operand }
+{
+    match operand {
+        Operand::Number(x) => x,
+        Operand::Register(reg) => regs.get(reg as usize).copied().unwrap_or(0),
+    }
+}
