@@ -38,7 +38,6 @@ use Rattle.tb_control.specs.Claims.{Claims, is_hit, AreLawful}
 use Rattle.tb_control.specs.Controls.{behind_removal}
 use Rattle.tb_live.specs.Session.{Session, history, is_full, with_entry, numbers_from, cell_numbers}
 use Rattle.tb_live.specs.Moves.{UndoesFor}
-use Rattle.tb_next.specs.Fitting.{Fits}
 use Rattle.tb_live.specs.Soundness.{IsSound, IsLawful}
 use Rattle.tb_control.proofs.ControlLemmas.{withdrawn_alike, undo_hits, lawful_rolled}
 use Rattle.tb_next.proofs.NativeLemmas.{next_so, line_fits}

@@ -4,7 +4,6 @@
 mod answer;
 mod commit_refusal;
 mod committing;
-mod ending;
 mod live;
 mod moves;
 mod prepared;
@@ -13,8 +12,7 @@ mod stepping;
 
 pub use answer::Answer;
 pub use commit_refusal::CommitRefusal;
-pub use ending::end;
-pub use live::Live;
+pub use live::{Live, end};
 pub use moves::Move;
 pub use tb_control::{
     Break, BreakRefusal, Breakpoint, Breakpoints, ClaimRefusal, Claims, Control, Mode, PausedBy,

@@ -2,6 +2,7 @@
 
 mod claiming;
 mod committing;
+mod ending;
 mod inside;
 mod pausing;
 mod running;
@@ -20,6 +21,7 @@ ghost use Rattle.tb_live.specs.Moves.{StepsBy, LeastStepsBy, LeastStepsFor, Undo
 use crate::prepared::{Prepared, forget, take_name, take_roll};
 use crate::rolling::{enter_roll, fresh_name};
 use crate::stepping::{enter_apart, enter_clear, enter_step, for_least};
+pub use ending::end;
 use std::alloc::{AllocError, Global};
 use std::marker::Model;
 use tb_control::{Breakpoints, Claims, Control, Mode};

@@ -3,6 +3,7 @@
 
 mod claim;
 mod coming;
+mod ending;
 mod finding;
 mod floor;
 mod native;
@@ -15,6 +16,7 @@ mod work;
 
 pub use claim::Claim;
 pub use coming::Coming;
+pub use ending::{end_core, end_program};
 pub use finding::{barred, named_work, taken_on};
 pub use floor::Floor;
 pub use native::foreign;
