@@ -28,7 +28,7 @@ use Rattle.tb_core.specs.Soundness.{departure}
 use Rattle.tb_core.specs.Scans.{AreLegal, history_of, step_behind, step_at}
 use Rattle.tb_core.specs.declared.removed.Removed.{Removed}
 use Rattle.tb_core.specs.Seen.{Seen, history}
-use Rattle.tb_core.specs.Outcomes.{IsFree, StandsAt, TakesBack}
+use Rattle.tb_core.specs.Outcomes.{IsFree, IsPlaceOfStep, TakesBack}
 use Rattle.tb_core.specs.Soundness.{seen, AreRecords, IsSound}
 use Rattle.tb_core.proofs.MiddleLemmas.{departures_append, records_left, record_at}
 
@@ -113,7 +113,7 @@ module _ (es : List Entry) (at : ℕ) (e : Entry) where
 -- ---- the place of a step
 
 module _ (first : Cells) (root_line limit : ℕ) (es : List Entry) (i : StepId) (at : ℕ) where
-  is_place : (e : Entry) → at < length es → e ≡ get_or es at e → step_of (events_of (map departure (front_of es at e))) e.event ≡ i → StandsAt (seen first root_line limit (reverse es)) i at
+  is_place : (e : Entry) → at < length es → e ≡ get_or es at e → step_of (events_of (map departure (front_of es at e))) e.event ≡ i → IsPlaceOfStep (seen first root_line limit (reverse es)) i at
   is_place e within here step = record {
     later = map departure (later_of es at e);
     step = departure e;
@@ -124,7 +124,7 @@ module _ (first : Cells) (root_line limit : ℕ) (es : List Entry) (i : StepId) 
   }
 
   -- an entry there is the step
-  pub step_here : (e : Entry) → at < length es → e ≡ get_or es at e → StandsAt (seen first root_line limit (reverse es)) i at → step_of (events_of (map departure (front_of es at e))) e.event ≡ i
+  pub step_here : (e : Entry) → at < length es → e ≡ get_or es at e → IsPlaceOfStep (seen first root_line limit (reverse es)) i at → step_of (events_of (map departure (front_of es at e))) e.event ≡ i
   step_here e within here p =
       let c = cut_same p.later (map departure (later_of es at e)) p.front (map departure (front_of es at e)) p.step (departure e) (sym p.place ∙ sym (front_count es at e within)) (sym p.parts ∙ departures_cut es at e within here) in
       ap₂ (λ (f : List Departure) (d : Departure). step_of (events_of f) d.event) (sym c.2) (sym c.1) ∙ p.id
@@ -148,18 +148,18 @@ module _ (es : List Entry) (at : ℕ) (within : at < length es) where
   some_step = (step_of (history_of (take at es)) entry_at.event, step_there)
 
 -- the step that a scan finds has its place
-pub place_told : (first : Cells) (root_line limit : ℕ) (es xs : List Entry) (i : StepId) (at : ℕ) (s : Seen) → seen first root_line limit (reverse es) ≡ s → xs ≡ es → at < length xs → step_at xs at ≡ Some i → StandsAt s i at
+pub place_told : (first : Cells) (root_line limit : ℕ) (es xs : List Entry) (i : StepId) (at : ℕ) (s : Seen) → seen first root_line limit (reverse es) ≡ s → xs ≡ es → at < length xs → step_at xs at ≡ Some i → IsPlaceOfStep s i at
 place_told first root_line limit es xs i at s view ex inner told =
     let within : at < length es = omega (arith, inner, ap length ex) in
     let here = subst (λ l. step_at l at ≡ Some i) ex told in
-    subst (λ z. StandsAt z i at) view (is_place first root_line limit es i at (entry_at es at within) within (at_itself es at within) (inside _ _ (sym (step_there es at within) ∙ here)))
+    subst (λ z. IsPlaceOfStep z i at) view (is_place first root_line limit es i at (entry_at es at within) within (at_itself es at within) (inside _ _ (sym (step_there es at within) ∙ here)))
   where
     inside : (x y : StepId) → Some x ≡ Some y → x ≡ y
     inside x y h = cc
 
 -- ---- the step is taken out
 
-module _ (first : Cells) (root_line limit : ℕ) (es : List Entry) (tables : Tables) (i : StepId) (at : ℕ) (e : Entry) (s : Seen) (view : seen first root_line limit (reverse es) ≡ s) (within : at < length es) (here : e ≡ get_or es at e) (sound : IsSound first root_line limit (reverse es) tables) (free : IsFree s i) (place : StandsAt s i at) where
+module _ (first : Cells) (root_line limit : ℕ) (es : List Entry) (tables : Tables) (i : StepId) (at : ℕ) (e : Entry) (s : Seen) (view : seen first root_line limit (reverse es) ≡ s) (within : at < length es) (here : e ≡ get_or es at e) (sound : IsSound first root_line limit (reverse es) tables) (free : IsFree s i) (place : IsPlaceOfStep s i at) where
   abbrev later : List Entry
   later = later_of es at e
 
@@ -173,7 +173,7 @@ module _ (first : Cells) (root_line limit : ℕ) (es : List Entry) (tables : Tab
   parts = departures_cut es at e within here
 
   step : step_of (events_of (map departure front)) e.event ≡ i
-  step = step_here first root_line limit es i at e within here (subst (λ z. StandsAt z i at) (sym view) place)
+  step = step_here first root_line limit es i at e within here (subst (λ z. IsPlaceOfStep z i at) (sym view) place)
 
   free_here : IsFree (seen first root_line limit (reverse es)) i
   free_here = subst (λ z. IsFree z i) (sym view) free
@@ -234,9 +234,9 @@ module _ (first : Cells) (root_line limit : ℕ) (es : List Entry) (tables : Tab
     }
 
 -- the place is one of the entries
-pub place_within : (first : Cells) (root_line limit : ℕ) (es : List Entry) (i : StepId) (at : ℕ) (s : Seen) → seen first root_line limit (reverse es) ≡ s → StandsAt s i at → at < length es
+pub place_within : (first : Cells) (root_line limit : ℕ) (es : List Entry) (i : StepId) (at : ℕ) (s : Seen) → seen first root_line limit (reverse es) ≡ s → IsPlaceOfStep s i at → at < length es
 place_within first root_line limit es i at s view place =
-    let p = subst (λ z. StandsAt z i at) (sym view) place in
+    let p = subst (λ z. IsPlaceOfStep z i at) (sym view) place in
     omega (arith, p.place, ap length p.parts, length-append p.later (p.step ∷ p.front), length-map (reverse es) departure, length-reverse es)
 
 -- a step that is needed stands, and what needs it has a name

@@ -156,7 +156,7 @@ pub record IsFree (s : Seen) (i : StepId) : Type 0 where
   pub unneeded : first_needer i (history s) ≡ None
 
 -- so many steps stand in front of the step
-pub record StandsAt (s : Seen) (i : StepId) (at : ℕ) : Type 0 where
+pub record IsPlaceOfStep (s : Seen) (i : StepId) (at : ℕ) : Type 0 where
   pub later : List Departure
   pub step : Departure
   pub front : List Departure

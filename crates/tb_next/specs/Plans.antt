@@ -1,4 +1,4 @@
--- The plan of a task's next step by the program, and the work of who asks for it.
+-- The plan of a task's next step by the program, and the work of whoever asks for it.
 use Rattle.std.specs.Prelude.{◌≡◌, ◌≢◌, ℕ, length, Option, Some, None, IsSomeAnd, IsTrue, IsFalse, ⊤}
 use Rattle.tb_model.specs.Names.{Name}
 use Rattle.tb_model.specs.Facts.{History, is_spawned}

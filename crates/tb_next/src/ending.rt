@@ -1,9 +1,10 @@
-//! The end of what a run is made of.
+//! The end of what a run is made of. What drops one of these has to show it for each of its tables: so it is shown here once,
+//! beside the crates that a run waits for, and not in `tb_live`.
 
 use tb_core::Core;
 use tb_read::Program;
 
-/// Gives back the memory of a core. What drops one has to show it for each of its tables: so it is shown here, once.
+/// Gives back the memory of a core.
 pub fn end_core(_core: Core) {}
 
 /// Gives back the memory of a program.

@@ -440,7 +440,9 @@ fn a_deep_task_is_found_by_its_numbers(rt: HostRuntime) {
     let root = TaskName::root(rt.alloc());
     let middle = name_down(&rt, 150);
     let deepest = name_down(&rt, 300);
+    let below = child_again(&rt, &deepest, 1);
     assert_eq!(rt; table.turn_to(7, &deepest), Some(600));
+    assert_eq!(rt; table.turn_to(7, &below), None);
     assert_eq!(rt; table.turn_to(0, &root), Some(0));
     assert_eq!(rt; table.children(&middle), Some(2));
     assert_eq!(rt; table.children(&deepest), Some(0));
@@ -449,6 +451,7 @@ fn a_deep_task_is_found_by_its_numbers(rt: HostRuntime) {
     assert_eq!(rt; is_child_over(&rt, &table, &middle, 2), Some(false));
     assert_eq!(rt; is_child_over(&rt, &table, &middle, 3), None);
     assert_eq!(rt; is_child_over(&rt, &table, &deepest, 1), None);
+    mem::forget(below);
     mem::forget(middle);
     mem::forget(deepest);
     mem::forget(root);
@@ -464,6 +467,17 @@ fn child_places(rt: &(impl Abort + AllocGlobal), table: &Wait, number: u32) -> [
     places
 }
 
+// Which of the parent's first three children were ever generated.
+fn known_children(rt: &(impl Abort + AllocGlobal), table: &Wait, parent: &TaskName) -> [bool; 3] {
+    let mut known = [false; 3];
+    for number in 1..4 {
+        let child = child_again(rt, parent, number);
+        known[number as usize - 1] = table.is_known(parent, &child);
+        mem::forget(child);
+    }
+    known
+}
+
 /// A task keeps its place where its spawn is undone, and one that is new comes after all others.
 #[test]
 fn a_task_keeps_its_place(rt: HostRuntime) {
@@ -477,6 +491,7 @@ fn a_task_keeps_its_place(rt: HostRuntime) {
     assert_eq!(rt; child_places(&rt, &table, 3), [None; 2]);
     assert!(rt; matches!(unspawn(&mut table, &root), Ok(true)));
     assert_eq!(rt; child_places(&rt, &table, 2), [Some(2); 2]);
+    assert_eq!(rt; known_children(&rt, &table, &root), [true, true, false]);
     assert!(rt; has_child(spawn(&mut table, &first)));
     assert!(rt; has_child(spawn(&mut table, &root)));
     assert_eq!(rt; child_places(&rt, &table, 2), [Some(2); 2]);

@@ -1,24 +1,22 @@
 -- A task comes to stand at its name's place, and stands no longer.
-use Rattle.std.proofs.Common.{◌≡◌, ◌<◌, ◌≤◌, ◌+◌, ◌++◌, ◌==◌, ℕ, zero, suc, Bool, true, false, cond, List, [], ◌∷◌, Option, Some, None, is_some, length, get_or, set, nat_lt, refl, sym, ap, ◌∙◌, subst, arith, lt-ltb, ⊎_elim, eqb-true, unwrap_or}
+use Rattle.std.proofs.Common.{◌≡◌, ◌⊎◌, ◌<◌, ◌≤◌, ◌++◌, ◌==◌, ℕ, zero, suc, Bool, true, false, cond, List, [], ◌∷◌, Option, Some, None, is_some, length, set, refl, sym, ap, ◌∙◌, subst, arith, ⊎_elim, eqb-true, unwrap_or}
 use Rattle.std.specs.Prelude.{position, option_map}
-use Rattle.std.specs.Map.{keys_of, lookup}
-use Rattle.std.specs.List.{position_or_len}
+use Rattle.std.specs.Map.{keys_of}
 use Rattle.std.proofs.Math.ListN.{get_or-eq_default}
 use Rattle.std.proofs.Math.Seq.{get_or-append_seam}
-use Rattle.std.proofs.lemmas.Bool.{false≢true, true≢false, cases_lt, false_from_ne_true}
+use Rattle.std.proofs.lemmas.Bool.{false≢true, cases_lt, false_from_ne_true}
 use Rattle.std.proofs.lemmas.List.{length-map, length-append, get_or_append_left}
-use Rattle.std.proofs.lemmas.List.Quantifiers.{position-Some}
-use Rattle.std.proofs.lemmas.List.Sums.{position_or_len_is, fails_before_first}
 use Rattle.tb_model.specs.declared.place.Place.{Place}
 use Rattle.tb_model.specs.Names.{Name, same_name}
 use Rattle.tb_model.proofs.TestLemmas.{same_true, same_refl}
 use Rattle.tb_excl.specs.Holders.{Holders, holder}
 use Rattle.tb_wait.specs.Kin.{Tasks as Waiting, place, is_known, names_with}
+use Rattle.tb_wait.proofs.PlaceLemmas.{grown, grown_last, grown_none, unknown_place, known_place}
 use Rattle.tb_undo.specs.declared.row.Row.{Row}
 use Rattle.tb_undo.specs.Tasks.{Rows, row, seen_row}
 use Rattle.tb_undo.specs.Sets.{Comes, Goes}
-use Rattle.tb_undo.specs.Places.{row_in, rows_in, IsPlaced}
-use Rattle.tb_undo.proofs.PlacesLemmas.{within, row_here, no_row, placed_after, changes}
+use Rattle.tb_undo.specs.Places.{row_at, rows_in, AreInPlace, HasPlaceOrRoom}
+use Rattle.tb_undo.proofs.PlacesLemmas.{some_is, within, row_here, no_row, placed_after, changes}
 
 -- ---- what comes and goes by name
 
@@ -41,11 +39,8 @@ module _ (old new : Rows) (t : Name) (r : Row) (c : (u : Name) → row new u ≡
       seen u true h = ap (λ b. option_map seen_row (cond b (Some r) (row old u))) h ∙ sym (ap (λ b. cond b (Some (seen_row r)) (option_map seen_row (row old u))) h)
       seen u false h = ap (λ b. option_map seen_row (cond b (Some r) (row old u))) h ∙ sym (ap (λ b. cond b (Some (seen_row r)) (option_map seen_row (row old u))) h)
 
-      one : {x y : Holders} → Some x ≡ Some y → x ≡ y
-      one e = cc
-
       mine : (h : Holders) → option_map (λ (x : Row). x.holders) (row new t) ≡ Some h → r.holders ≡ h
-      mine h e = one (sym (ap (option_map (λ (x : Row). x.holders)) (c t ∙ ap (λ b. cond b (Some r) (row old t)) (same_refl t))) ∙ e)
+      mine h e = some_is (sym (ap (option_map (λ (x : Row). x.holders)) (c t ∙ ap (λ b. cond b (Some r) (row old t)) (same_refl t))) ∙ e)
 
 pub goes : (old new : Rows) (t : Name) → ((u : Name) → row new u ≡ cond (same_name t u) None (row old u)) → Goes old t new
 goes old new t c = record { tasks = λ u. ap (option_map seen_row) (c u) ∙ seen seen_row u (same_name t u) refl; holders = λ u. ap (option_map (λ (x : Row). x.holders)) (c u) ∙ seen (λ x. x.holders) u (same_name t u) refl }
@@ -65,100 +60,24 @@ none_goes old t none = goes old old t at
         by true h = ap (row old) (sym (same_true t u h)) ∙ none ∙ sym (ap (λ b. cond b None (row old u)) h)
         by false h = sym (ap (λ b. cond b None (row old u)) h)
 
--- ---- the place of a name where one name more comes last
-
-module _ (p : Name → Bool) (ks : List Name) where
-  at_place : (i : ℕ) → position_or_len p ks ≡ i → i < length ks → position p ks ≡ Some i
-  at_place i e w = ap (λ n. cond (nat_lt n (length ks)) (Some n) None) e ∙ ap (λ b. cond b (Some i) None) (lt-ltb i (length ks) w)
-
-  nowhere : position p ks ≡ None → (k : ℕ) → k < length ks → p (get_or ks k []) ≡ false
-  nowhere none k w = by (nat_lt n (length ks)) refl
-    where
-      n : ℕ
-      n = position_or_len p ks
-
-      by : (b : Bool) → nat_lt n (length ks) ≡ b → p (get_or ks k []) ≡ false
-      by true h = let clash : None ≡ Some n = sym none ∙ ap (λ b. cond b (Some n) None) h in absurd (cc)
-      by false h = fails_before_first p ks k [] (grind (arith, h, w))
-
-module _ (p : Name → Bool) (ks : List Name) (c : Name) where
-  long : length (ks ++ c ∷ []) ≡ length ks + 1
-  long = length-append ks (c ∷ [])
-
-  grown : (i : ℕ) → position p ks ≡ Some i → position p (ks ++ c ∷ []) ≡ Some i
-  grown i e =
-      let f = position-Some p ks i [] e in
-      at_place p (ks ++ c ∷ []) i
-      (position_or_len_is p (ks ++ c ∷ []) i [] (omega (arith, f.0, long)) (λ k h. ap p (get_or_append_left ks (c ∷ []) [] k (omega (arith, h, f.0))) ∙ f.2 k h) (λ h. ap p (get_or_append_left ks (c ∷ []) [] i f.0) ∙ f.1))
-      (omega (arith, f.0, long))
-
-  grown_last : position p ks ≡ None → p c ≡ true → position p (ks ++ c ∷ []) ≡ Some (length ks)
-  grown_last none is =
-      at_place p (ks ++ c ∷ []) (length ks)
-      (position_or_len_is p (ks ++ c ∷ []) (length ks) [] (omega (arith, long)) (λ k h. ap p (get_or_append_left ks (c ∷ []) [] k h) ∙ nowhere p ks none k h) (λ h. ap p (get_or-append_seam ks c [] []) ∙ is))
-      (omega (arith, long))
-
-  grown_none : position p ks ≡ None → p c ≡ false → position p (ks ++ c ∷ []) ≡ None
-  grown_none none other = at (position p (ks ++ c ∷ [])) refl
-    where
-      at : (o : Option ℕ) → position p (ks ++ c ∷ []) ≡ o → position p (ks ++ c ∷ []) ≡ None
-      at None e = e
-      at (Some j) e =
-          let f = position-Some p (ks ++ c ∷ []) j [] e in
-          absurd (⊎_elim
-          (λ low. false≢true (sym (ap p (get_or_append_left ks (c ∷ []) [] j low) ∙ nowhere p ks none j low) ∙ f.1))
-          (λ high. let last : j ≡ length ks = omega (arith, high, f.0, long) in false≢true (sym (ap p (ap (λ k. get_or (ks ++ c ∷ []) k []) last ∙ get_or-append_seam ks c [] []) ∙ other) ∙ f.1))
-          (cases_lt j (length ks)))
-
--- a name with a place is known
-is_there : (es : Waiting) (t : Name) (i : ℕ) → i < length es → same_name t (get_or (keys_of es) i []) ≡ true → is_known es t ≡ true
-is_there [] t i w e = absurd (omega (arith, w))
-is_there (x ∷ es) t zero w e = ap (λ b. is_some (cond b (Some x.1) (lookup (same_name t) es))) e
-is_there (x ∷ es) t (suc i) w e = at (is_there es t i (omega (arith, w)) e) (same_name t x.0) refl
-  where
-    at : is_known es t ≡ true → (b : Bool) → same_name t x.0 ≡ b → is_some (cond (same_name t x.0) (Some x.1) (lookup (same_name t) es)) ≡ true
-    at rest true h = ap (λ b. is_some (cond b (Some x.1) (lookup (same_name t) es))) h
-    at rest false h = ap (λ b. is_some (cond b (Some x.1) (lookup (same_name t) es))) h ∙ rest
-
-unknown_place : (es : Waiting) (t : Name) → is_known es t ≡ false → place es t ≡ None
-unknown_place es t h = at (place es t) refl
-  where
-    at : (o : Option ℕ) → place es t ≡ o → place es t ≡ None
-    at None e = e
-    at (Some i) e =
-        let f = position-Some (same_name t) (keys_of es) i [] e in
-        absurd (false≢true (sym h ∙ is_there es t i (omega (arith, f.0, length-map es (λ e. e.0))) f.1))
-
--- and one that is known has a place
-known_place : (es : Waiting) (t : Name) → is_known es t ≡ true → is_some (place es t) ≡ true
-known_place es t h = at (place es t) refl
-  where
-    none : (es : Waiting) → ((k : ℕ) → k < length es → same_name t (get_or (keys_of es) k []) ≡ false) → is_known es t ≡ false
-    none [] f = refl
-    none (x ∷ es) f = ap (λ b. is_some (cond b (Some x.1) (lookup (same_name t) es))) (f 0 (omega arith)) ∙ none es (λ k w. f (suc k) (omega (arith, w)))
-
-    at : (o : Option ℕ) → place es t ≡ o → is_some (place es t) ≡ true
-    at (Some i) e = ap is_some e
-    at None e = absurd (true≢false (sym h ∙ none es (λ k w. nowhere (same_name t) (keys_of es) e k (omega (arith, w, length-map es (λ e. e.0))))))
-
 -- ---- a row at the place of a name that has just come
 
 -- a place that is looked for among the first n, and n where there is none
-pub place_among : (o : Option ℕ) (n at : ℕ) → at ≡ unwrap_or o n → at < n → o ≡ Some at
-place_among None n at e w = absurd (omega (arith, e, w))
-place_among (Some i) n at e w = ap (λ x. Some x) (sym e)
+pub found_among : (o : Option ℕ) (n at : ℕ) → at ≡ unwrap_or o n → at < n → o ≡ Some at
+found_among None n at e w = absurd (omega (arith, e, w))
+found_among (Some i) n at e w = ap (λ x. Some x) (sym e)
 
 pub none_among : (o : Option ℕ) (n at : ℕ) → at ≡ unwrap_or o n → (at < n → ⊥) → (i : ℕ) → o ≡ Some i → i < n → ⊥
 none_among o n at e out i is w = out (subst (λ x. x < n) (sym (e ∙ ap (λ x. unwrap_or x n) is)) w)
 
-module _ (tasks before : Waiting) (rows : List (Option Row)) (p : IsPlaced before rows) (t : Name) (names : keys_of tasks ≡ names_with before t) (r : Row) (own : r.holders.parent ≡ t) where
+module _ (tasks before : Waiting) (rows : List (Option Row)) (p : AreInPlace before rows) (t : Name) (names : keys_of tasks ≡ names_with before t) (r : Row) (own : r.holders.parent ≡ t) where
   same_keys : is_known before t ≡ true → keys_of tasks ≡ keys_of before
   same_keys h = names ∙ ap (λ b. cond b (keys_of before) (keys_of before ++ t ∷ [])) h
 
   more_keys : is_known before t ≡ false → keys_of tasks ≡ keys_of before ++ t ∷ []
   more_keys h = names ∙ ap (λ b. cond b (keys_of before) (keys_of before ++ t ∷ [])) h
 
-  placed_again : is_known before t ≡ true → IsPlaced tasks rows
+  placed_again : is_known before t ≡ true → AreInPlace tasks rows
   placed_again h = record {
     count = omega (arith, p.count, length-map tasks (λ e. e.0), length-map before (λ e. e.0), ap length (same_keys h));
     placed = λ i q e. ap (position (same_name q.holders.parent)) (same_keys h) ∙ p.placed i q e;
@@ -175,18 +94,15 @@ module _ (tasks before : Waiting) (rows : List (Option Row)) (p : IsPlaced befor
   known_at : (i : ℕ) → place tasks t ≡ Some i → i < length rows → is_known before t ≡ true
   known_at i here w = at (is_known before t) refl
     where
-      one : {x y : ℕ} → Some x ≡ Some y → x ≡ y
-      one e = cc
-
       at : (b : Bool) → is_known before t ≡ b → is_known before t ≡ true
       at true h = h
-      at false h = absurd (omega (arith, w, one (sym here ∙ last_place h)))
+      at false h = absurd (omega (arith, w, some_is (sym here ∙ last_place h)))
 
   is_mine : (q : Row) → Some r ≡ Some q → q.holders.parent ≡ t
   is_mine q e = let same : r ≡ q = cc in ap (λ (x : Row). x.holders.parent) (sym same) ∙ own
 
   module _ (i : ℕ) (here : place tasks t ≡ Some i) (w : i < length rows) where
-    pub placed_there : IsPlaced tasks (set rows i (Some r))
+    pub placed_there : AreInPlace tasks (set rows i (Some r))
     placed_there = placed_after tasks rows (placed_again (known_at i here w)) t i here (Some r) is_mine
 
     pub comes_there : ((p : Place) → holder r.holders p ≡ None) → Comes (rows_in rows) t (seen_row r) (rows_in (set rows i (Some r)))
@@ -204,10 +120,14 @@ module _ (tasks before : Waiting) (rows : List (Option Row)) (p : IsPlaced befor
         at false h = h
         at true h = absurd (some (place tasks t) refl (ap (λ ks. is_some (position (same_name t) ks)) (same_keys h) ∙ known_place before t h) h)
 
-    pushed_in : (j : ℕ) → j < length rows → row_in (rows ++ Some r ∷ []) j ≡ row_in rows j
+    -- so there is room for its row
+    pub room_left : (room : ℕ) → HasPlaceOrRoom before t room → 0 < room
+    room_left room can = ⊎_elim (λ some. absurd (false≢true (sym (ap is_some (unknown_place before t new_name)) ∙ some))) (λ left. left) can
+
+    pushed_in : (j : ℕ) → j < length rows → row_at (rows ++ Some r ∷ []) j ≡ row_at rows j
     pushed_in j w = get_or_append_left rows (Some r ∷ []) None j w
 
-    pub placed_last : IsPlaced tasks (rows ++ Some r ∷ [])
+    pub placed_last : AreInPlace tasks (rows ++ Some r ∷ [])
     placed_last = record {
       count = omega (arith, p.count, length-append rows (Some r ∷ []), length-map tasks (λ e. e.0), length-map before (λ e. e.0), ap length (more_keys new_name), length-append (keys_of before) (t ∷ []));
       placed = λ j q e. ⊎_elim
@@ -216,10 +136,10 @@ module _ (tasks before : Waiting) (rows : List (Option Row)) (p : IsPlaced befor
           (cases_lt j (length rows));
     }
       where
-        at : (j : ℕ) (q : Row) → row_in (rows ++ Some r ∷ []) j ≡ Some q → length rows ≤ j → (b : Bool) → (j == length rows) ≡ b → place tasks q.holders.parent ≡ Some j
+        at : (j : ℕ) (q : Row) → row_at (rows ++ Some r ∷ []) j ≡ Some q → length rows ≤ j → (b : Bool) → (j == length rows) ≡ b → place tasks q.holders.parent ≡ Some j
         at j q e high true h =
             let last : j ≡ length rows = eqb-true j (length rows) h in
-            let is : Some r ≡ Some q = sym (ap (row_in (rows ++ Some r ∷ [])) last ∙ get_or-append_seam rows (Some r) [] None) ∙ e in
+            let is : Some r ≡ Some q = sym (ap (row_at (rows ++ Some r ∷ [])) last ∙ get_or-append_seam rows (Some r) [] None) ∙ e in
             ap (place tasks) (is_mine q is) ∙ last_place new_name ∙ ap Some (sym last)
         at j q e high false h =
             let past : length (rows ++ Some r ∷ []) ≤ j = grind (arith, high, h, length-append rows (Some r ∷ [])) in
@@ -244,12 +164,24 @@ module _ (tasks before : Waiting) (rows : List (Option Row)) (p : IsPlaced befor
             ∙ pushed_in j (within before rows p u j e) ∙ sym (row_here before rows p u j e) ∙ sym (ap (λ b. cond b (Some r) (row (rows_in rows) u)) h)
 
 -- the root's row stands at the first place
-pub placed_root : (r : Row) → r.holders.parent ≡ [] → (tasks : Waiting) → keys_of tasks ≡ [] ∷ [] → IsPlaced tasks (Some r ∷ [])
+pub placed_root : (r : Row) → r.holders.parent ≡ [] → (tasks : Waiting) → keys_of tasks ≡ [] ∷ [] → AreInPlace tasks (Some r ∷ [])
 placed_root r own tasks keys = record {
   count = sym (sym (length-map tasks (λ e. e.0)) ∙ ap length keys);
   placed = λ i q e. at i q e;
 }
   where
-    at : (i : ℕ) (q : Row) → row_in (Some r ∷ []) i ≡ Some q → place tasks q.holders.parent ≡ Some i
+    at : (i : ℕ) (q : Row) → row_at (Some r ∷ []) i ≡ Some q → place tasks q.holders.parent ≡ Some i
     at zero q e = let same : r ≡ q = cc in ap (λ ks. position (same_name q.holders.parent) ks) keys ∙ ap (λ t. position (same_name t) ([] ∷ [])) (ap (λ (x : Row). x.holders.parent) (sym same) ∙ own)
     at (suc i) q e = absurd (cc)
+
+-- ---- the room for a row
+
+pub along_names : (a b : Waiting) (t : Name) (room : ℕ) → keys_of b ≡ keys_of a → HasPlaceOrRoom a t room → HasPlaceOrRoom b t room
+along_names a b t room e can = subst (λ ks. (is_some (position (same_name t) ks) ≡ true) ⊎ (0 < room)) (sym e) can
+
+pub place_known : (tasks : Waiting) (t : Name) → is_some (place tasks t) ≡ true → is_known tasks t ≡ true
+place_known tasks t some = at (is_known tasks t) refl
+  where
+    at : (b : Bool) → is_known tasks t ≡ b → is_known tasks t ≡ true
+    at true h = h
+    at false h = absurd (false≢true (sym (ap is_some (unknown_place tasks t h)) ∙ some))

@@ -10,27 +10,27 @@ use Rattle.tb_model.proofs.TestLemmas.{same_true, same_refl}
 use Rattle.tb_wait.specs.Kin.{Tasks as Waiting, place}
 use Rattle.tb_undo.specs.declared.row.Row.{Row}
 use Rattle.tb_undo.specs.Tasks.{Task, row, task, holders_of, seen_row}
-use Rattle.tb_undo.specs.Places.{row_in, rows_in, IsPlaced}
+use Rattle.tb_undo.specs.Places.{row_at, rows_in, AreInPlace}
 use Rattle.tb_undo.proofs.RowsLemmas.{Writes, changed, kept, absent}
 
-some_is : {A : Type 0} {x y : A} → Some x ≡ Some y → x ≡ y
+pub some_is : {A : Type 0} {x y : A} → Some x ≡ Some y → x ≡ y
 some_is e = cc
 
 -- a row that is found by a name stands at a place
-stands : (rows : List (Option Row)) (t : Name) (r : Row) → row (rows_in rows) t ≡ Some r → (i : ℕ) × (row_in rows i ≡ Some r) × (t ≡ r.holders.parent)
+stands : (rows : List (Option Row)) (t : Name) (r : Row) → row (rows_in rows) t ≡ Some r → (i : ℕ) × (row_at rows i ≡ Some r) × (t ≡ r.holders.parent)
 stands [] t r e = absurd (cc)
 stands (None ∷ rows) t r e = let s = stands rows t r e in (suc s.0, s.1, s.2)
 stands (Some q ∷ rows) t r e = at (stands rows t r) (same_name t q.holders.parent) refl
   where
-    at : (row (rows_in rows) t ≡ Some r → (i : ℕ) × (row_in rows i ≡ Some r) × (t ≡ r.holders.parent)) → (b : Bool) → same_name t q.holders.parent ≡ b
-        → (i : ℕ) × (row_in (Some q ∷ rows) i ≡ Some r) × (t ≡ r.holders.parent)
+    at : (row (rows_in rows) t ≡ Some r → (i : ℕ) × (row_at rows i ≡ Some r) × (t ≡ r.holders.parent)) → (b : Bool) → same_name t q.holders.parent ≡ b
+        → (i : ℕ) × (row_at (Some q ∷ rows) i ≡ Some r) × (t ≡ r.holders.parent)
     at rest true h =
         let same : q ≡ r = some_is (sym (ap (λ b. cond b (Some q) (row (rows_in rows) t)) h) ∙ e) in
         (0, ap Some same, same_true t q.holders.parent h ∙ ap (λ (x : Row). x.holders.parent) same)
     at rest false h = let s = rest (sym (ap (λ b. cond b (Some q) (row (rows_in rows) t)) h) ∙ e) in (suc s.0, s.1, s.2)
 
 -- and one that stands at a place is found, or another of the same name
-is_found : (rows : List (Option Row)) (i : ℕ) (r : Row) → row_in rows i ≡ Some r → (q : Row) × (row (rows_in rows) r.holders.parent ≡ Some q)
+is_found : (rows : List (Option Row)) (i : ℕ) (r : Row) → row_at rows i ≡ Some r → (q : Row) × (row (rows_in rows) r.holders.parent ≡ Some q)
 is_found [] i r e = absurd (cc)
 is_found (None ∷ rows) zero r e = absurd (cc)
 is_found (None ∷ rows) (suc i) r e = is_found rows i r e
@@ -47,24 +47,24 @@ is_found (Some q ∷ rows) (suc i) r e = at (is_found rows i r e) (same_name r.h
 one_name : (ks : List Name) (t u : Name) (i : ℕ) → position (same_name t) ks ≡ Some i → position (same_name u) ks ≡ Some i → t ≡ u
 one_name ks t u i e f = same_true t (get_or ks i []) (position-Some (same_name t) ks i [] e).1 ∙ sym (same_true u (get_or ks i []) (position-Some (same_name u) ks i [] f).1)
 
-module _ (tasks : Waiting) (rows : List (Option Row)) (p : IsPlaced tasks rows) where
+module _ (tasks : Waiting) (rows : List (Option Row)) (p : AreInPlace tasks rows) where
   pub within : (t : Name) (i : ℕ) → place tasks t ≡ Some i → i < length rows
   within t i e = omega (arith, (position-Some (same_name t) (keys_of tasks) i [] e).0, length-map tasks (λ e. e.0), p.count)
 
   -- the row that a name finds is the one at its place
-  pub row_here : (t : Name) (i : ℕ) → place tasks t ≡ Some i → row (rows_in rows) t ≡ row_in rows i
-  row_here t i e = at (row_in rows i) refl
+  pub row_here : (t : Name) (i : ℕ) → place tasks t ≡ Some i → row (rows_in rows) t ≡ row_at rows i
+  row_here t i e = at (row_at rows i) refl
     where
-      there : (r : Row) → row (rows_in rows) t ≡ Some r → row_in rows i ≡ Some r
+      there : (r : Row) → row (rows_in rows) t ≡ Some r → row_at rows i ≡ Some r
       there r f =
           let s = stands rows t r f in
           let same : s.0 ≡ i = some_is (sym (p.placed s.0 r s.1) ∙ ap (place tasks) (sym s.2) ∙ e) in
-          subst (λ j. row_in rows j ≡ Some r) same s.1
+          subst (λ j. row_at rows j ≡ Some r) same s.1
 
-      at : (o : Option Row) → row_in rows i ≡ o → row (rows_in rows) t ≡ row_in rows i
+      at : (o : Option Row) → row_at rows i ≡ o → row (rows_in rows) t ≡ row_at rows i
       at None g = by (row (rows_in rows) t) refl
         where
-          by : (o : Option Row) → row (rows_in rows) t ≡ o → row (rows_in rows) t ≡ row_in rows i
+          by : (o : Option Row) → row (rows_in rows) t ≡ o → row (rows_in rows) t ≡ row_at rows i
           by None f = f ∙ sym g
           by (Some r) f = f ∙ sym (there r f)
       at (Some r) g =
@@ -81,14 +81,14 @@ module _ (tasks : Waiting) (rows : List (Option Row)) (p : IsPlaced tasks rows) 
       at (Some r) f = let s = stands rows t r f in let clash : None ≡ Some s.0 = sym e ∙ ap (place tasks) s.2 ∙ p.placed s.0 r s.1 in absurd (cc)
 
 -- what comes to stand at a place is found by the place's name, and nothing else changes
-module _ (tasks : Waiting) (rows : List (Option Row)) (p : IsPlaced tasks rows) (t : Name) (i : ℕ) (here : place tasks t ≡ Some i) (x : Option Row) (own : (q : Row) → x ≡ Some q → q.holders.parent ≡ t) where
-  pub placed_after : IsPlaced tasks (set rows i x)
+module _ (tasks : Waiting) (rows : List (Option Row)) (p : AreInPlace tasks rows) (t : Name) (i : ℕ) (here : place tasks t ≡ Some i) (x : Option Row) (own : (q : Row) → x ≡ Some q → q.holders.parent ≡ t) where
+  pub placed_after : AreInPlace tasks (set rows i x)
   placed_after = record { count = length-set rows i x ∙ p.count; placed = λ j q e. at j q e (j == i) refl }
     where
-      at : (j : ℕ) (q : Row) → row_in (set rows i x) j ≡ Some q → (b : Bool) → (j == i) ≡ b → place tasks q.holders.parent ≡ Some j
+      at : (j : ℕ) (q : Row) → row_at (set rows i x) j ≡ Some q → (b : Bool) → (j == i) ≡ b → place tasks q.holders.parent ≡ Some j
       at j q e true h =
           let same : j ≡ i = eqb-true j i h in
-          let is : x ≡ Some q = sym (get_or-set_same rows i x None (within tasks rows p t i here)) ∙ subst (λ k. row_in (set rows i x) k ≡ Some q) same e in
+          let is : x ≡ Some q = sym (get_or-set_same rows i x None (within tasks rows p t i here)) ∙ subst (λ k. row_at (set rows i x) k ≡ Some q) same e in
           ap (place tasks) (own q is) ∙ here ∙ ap Some (sym same)
       at j q e false h = p.placed j q (sym (get_or-set_other rows i j x None (λ y. false≢true (sym h ∙ eq-eqb j i y))) ∙ e)
 
@@ -105,7 +105,7 @@ module _ (tasks : Waiting) (rows : List (Option Row)) (p : IsPlaced tasks rows) 
           row_here tasks (set rows i x) placed_after u j e ∙ get_or-set_other rows i j x None other ∙ sym (row_here tasks rows p u j e) ∙ sym (ap (λ b. cond b x (row (rows_in rows) u)) h)
 
 -- what stands at the place of t, as a body reads it there and writes it back
-module _ (tasks : Waiting) (rows : List (Option Row)) (p : IsPlaced tasks rows) (t : Name) (i : ℕ) (here : place tasks t ≡ Some i) (x : Option Row) (value : x ≡ get_or rows i x) where
+module _ (tasks : Waiting) (rows : List (Option Row)) (p : AreInPlace tasks rows) (t : Name) (i : ℕ) (here : place tasks t ≡ Some i) (x : Option Row) (value : x ≡ get_or rows i x) where
   read : row (rows_in rows) t ≡ x
   read = row_here tasks rows p t i here ∙ get_or_default rows i None x (within tasks rows p t i here) ∙ sym value
 
@@ -124,7 +124,7 @@ module _ (tasks : Waiting) (rows : List (Option Row)) (p : IsPlaced tasks rows) 
         let at = p.placed i r (get_or_default rows i None x (within tasks rows p t i here) ∙ sym value ∙ is) in
         ap (λ (y : Row). y.holders.parent) (sym (some_is e)) ∙ kept ∙ one_name (keys_of tasks) r.holders.parent t i at here
 
-    pub stays : IsPlaced tasks (set rows i (Some w))
+    pub stays : AreInPlace tasks (set rows i (Some w))
     stays = placed_after tasks rows p t i here (Some w) own
 
     pub writes : Writes (rows_in rows) t w (rows_in (set rows i (Some w)))

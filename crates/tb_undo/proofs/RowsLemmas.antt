@@ -1,5 +1,5 @@
 -- What a write of one row leaves.
-use Rattle.std.proofs.Common.{◌≡◌, Bool, true, false, cond, Some, None, Result, Ok, Err, OnOk, refl, sym, ap, ◌∙◌}
+use Rattle.std.proofs.Common.{◌≡◌, Bool, true, false, cond, Some, None, refl, sym, ap, ◌∙◌}
 use Rattle.std.specs.Option.{option_map}
 use Rattle.tb_model.specs.Names.{Name, same_name}
 use Rattle.tb_model.proofs.TestLemmas.{same_true}
@@ -38,8 +38,3 @@ absent old t view f none u = at (same_name t u) refl
     at : (b : Bool) → same_name t u ≡ b → option_map view (row old u) ≡ cond b (option_map f (option_map view (row old u))) (option_map view (row old u))
     at true e = let n = ap (row old) (sym (same_true t u e)) ∙ none in ap (option_map view) n ∙ sym (ap (λ o. option_map f (option_map view o)) n)
     at false e = refl
-
--- what an Ok says says this too
-pub ok_from : {X E : Type 0} {P Q : Type 0} (r : Result X E) → (P → Q) → OnOk r P → OnOk r Q
-ok_from (Ok x) f h = f h
-ok_from (Err e) f h = tt

@@ -11,7 +11,7 @@ use Rattle.tb_excl.specs.Holders.{Holders, HasRoomFor, KeepsRoom, IsSet, IsSame}
 use Rattle.tb_undo.specs.declared.row.Row.{Row}
 use Rattle.tb_undo.specs.Tasks.{Task, Rows, row, seen_row, holders_of, HasChildRoom, HasChildRoomIn}
 use Rattle.tb_undo.specs.Sets.{children_in, items_in, number_of, IsLinked, place_in, Become, Sets, Reserves, HasSetRoom}
-use Rattle.tb_undo.specs.Places.{rows_in, IsPlaced}
+use Rattle.tb_undo.specs.Places.{rows_in, AreInPlace}
 use Rattle.tb_undo.proofs.PlacesLemmas.{no_row, missing}
 use Rattle.tb_undo.proofs.RowsLemmas.{Writes, kept}
 
@@ -108,7 +108,7 @@ linked_row rows n p linked none = at linked.2 (sym (ap (option_map seen_row) non
     at k e = cc
 
 -- only the root has no parent
-pub unplaced : (tasks : Waiting) (rows : List (Option Row)) (t : Name) → IsPlaced tasks rows → IsLinked (rows_in rows) t → place_in tasks t ≡ None → t ≡ []
+pub unplaced : (tasks : Waiting) (rows : List (Option Row)) (t : Name) → AreInPlace tasks rows → IsLinked (rows_in rows) t → place_in tasks t ≡ None → t ≡ []
 unplaced tasks rows [] p linked e = refl
 unplaced tasks rows (n ∷ q) p linked e = absurd (at (place tasks q) refl e)
   where
@@ -116,7 +116,7 @@ unplaced tasks rows (n ∷ q) p linked e = absurd (at (place tasks q) refl e)
     at (Some j) f e = cc
     at None f e = linked_row (rows_in rows) n q linked (no_row tasks rows p q f)
 
-module _ (tasks : Waiting) (rows : List (Option Row)) (t : Name) (i n : ℕ) (p : IsPlaced tasks rows) (at : Placed tasks t i n) where
+module _ (tasks : Waiting) (rows : List (Option Row)) (t : Name) (i n : ℕ) (p : AreInPlace tasks rows) (at : Placed tasks t i n) where
   pub no_gap : IsLinked (rows_in rows) t → (x : Option Row) → x ≡ get_or rows i x → x ≡ None → ⊥
   no_gap linked x value gap = linked_row (rows_in rows) n at.parent (subst (IsLinked (rows_in rows)) at.name linked) (missing tasks rows p at.parent i at.place x value gap)
 
@@ -148,9 +148,6 @@ from_one rows (k ∷ p) n linked e = subst (λ x. 0 < x) (ap (λ o. unwrap_or o 
 -- what stays reserves nothing
 pub reserves_none : (rows : Rows) → Reserves rows rows
 reserves_none rows = record { tasks = λ u. refl; holders = λ p h e. subst (λ o. Become o (λ f. IsSame f h × KeepsRoom f h)) (sym e) ((λ place. refl), all_kept h) }
-
-pub reserves_as : (old mid new : Rows) → old ≡ mid → Reserves mid new → Reserves old new
-reserves_as old mid new e r = subst (λ x. Reserves x new) (sym e) r
 
 -- a row whose task and holders are as they were
 pub reserves_row : (old new : Rows) (t : Name) (r w : Row) → row old t ≡ Some r → Writes old t w new → seen_row w ≡ seen_row r → w.holders ≡ r.holders → Reserves old new

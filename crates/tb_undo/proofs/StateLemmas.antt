@@ -19,6 +19,7 @@ use Rattle.tb_wait.specs.Kin.{Table as WaitTable, kin, fresh, HasRoomFor as HasR
 use Rattle.tb_wait.proofs.HistoryLemmas as waits
 use Rattle.tb_undo.specs.Tasks.{Task, Rows, task, holders_of, fresh_task, register_by, HasChildRoomIn}
 use Rattle.tb_undo.specs.Sets.{Become, Comes}
+use Rattle.tb_undo.specs.Places.{HasPlaceOrRoom}
 use Rattle.tb_undo.specs.State.{Seen, AreLast, known_task, task_of, IsState}
 use Rattle.tb_undo.specs.Changes.{HasSpawnRoom, AreSame, replaced_in, Changed, ChangedBack, CanChange, CanChangeBack}
 use Rattle.tb_undo.specs.Steps.{Follows, IsAhead, IsBehind, IsRecord, Stands, IsWithout}
@@ -121,7 +122,7 @@ abbrev pub with_room : Seen → WaitTable → Marks → Seen
 with_room s waits marks = record { store = s.store; waits = waits; marks = marks; rows = s.rows; row_room = s.row_room; copied = s.copied }
 
 pub spawn_room : (copied grown : Seen) (waits : WaitTable) (marks : Marks) (p u : Name) (items : List Item) (deferred : Bool) (s : Seen)
-    → s ≡ with_room grown waits marks → copied.copied ≡ Some u → grown.copied ≡ copied.copied → 0 < grown.row_room → HasChildRoomIn grown.rows p items deferred
+    → s ≡ with_room grown waits marks → copied.copied ≡ Some u → grown.copied ≡ copied.copied → HasPlaceOrRoom waits.tasks u grown.row_room → HasChildRoomIn grown.rows p items deferred
     → HasRoomForChild waits p u → 0 < marks.room → HasSpawnRoom s p u items deferred
 spawn_room copied grown waits marks p u items deferred s e name same row child room mark =
     subst (λ (x : Seen). HasSpawnRoom x p u items deferred) (sym e) (record { waits = room; marks = mark; row = row; child = child; copied = same ∙ name })

@@ -15,6 +15,7 @@ use Rattle.tb_wait.specs.Kin.{IsNext, IsLast, HasRoomFor as HasRoomForChild, Has
 use Rattle.tb_wait.specs.Histories.{ChangesBy, ChangesBackBy}
 use Rattle.tb_undo.specs.declared.row.Row.{Row}
 use Rattle.tb_undo.specs.Tasks.{Task, Rows, row, task, holders_of, advanced, retreated, fresh_task, HasChildRoomIn, HasRowRoom, IsRegister, register_by, register_over}
+use Rattle.tb_undo.specs.Places.{HasPlaceOrRoom}
 use Rattle.tb_undo.specs.Sets.{number_of, IsLinked, HasSetRoom, Holds, Founds, Reserves}
 use Rattle.tb_undo.specs.State.{Seen}
 
@@ -156,7 +157,7 @@ pub record AreSame (old new : Seen) : Type 0 where
 pub record HasSpawnRoom (s : Seen) (p u : Name) (items : List Item) (deferred : Bool) : Type 0 where
   pub waits : HasRoomForChild s.waits p u
   pub marks : 0 < s.marks.room
-  pub row : 0 < s.row_room
+  pub row : HasPlaceOrRoom s.waits.tasks u s.row_room
   pub child : HasChildRoomIn s.rows p items deferred
   pub copied : s.copied ≡ Some u
 

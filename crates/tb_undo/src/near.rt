@@ -4,7 +4,7 @@ ghost use Rattle.std.specs.Prelude.{◌≡◌, Some, IsTrue, option_map};
 ghost use Rattle.std.specs.Option.{option_copied};
 ghost use Rattle.tb_wait.specs.Kin.{place};
 ghost use Rattle.tb_undo.specs.declared.row.Row.{Row as ARow};
-ghost use Rattle.tb_undo.specs.Places.{IsPlaced, row_in, rows_in};
+ghost use Rattle.tb_undo.specs.Places.{AreInPlace, row_at, rows_in};
 ghost use Rattle.tb_undo.specs.Standings.{standing_of};
 ghost use Rattle.tb_undo.specs.Tasks.{row, seen_row};
 
@@ -13,11 +13,11 @@ use crate::standing::Standing;
 use tb_model::TaskName;
 use tb_wait::Wait;
 
-/// The place of the task's row: the one that its name has in the table of waits. The place `near` is tried first, which may be
-/// any, since a place counts only where the very name stands.
+/// The place of the task's name in the table of waits, where its row stands, if the task does. The place `near` is tried first,
+/// which may be any, since a place counts only where the very name stands.
 #[inline(always)]
 pub fn find(rows: &Vec<Option<Row>>, waits: &Wait, near: usize, name: &TaskName) -> Option<usize>
-    requires { IsPlaced waits.now.tasks rows.now.items }
+    requires { AreInPlace waits.now.tasks rows.now.items }
     ensures { result ≡ place waits.now.tasks name.now }
 {
     if stands_at(rows, near, name) {
@@ -35,7 +35,7 @@ fn find_elsewhere(
     near: usize,
     name: &TaskName,
 ) -> Option<usize>
-    requires { IsPlaced waits.now.tasks rows.now.items }
+    requires { AreInPlace waits.now.tasks rows.now.items }
     ensures { result ≡ place waits.now.tasks name.now }
 {
     let next = near.saturating_add(1);
@@ -49,7 +49,7 @@ fn find_elsewhere(
 /// Whether the task's row is at the place.
 #[inline(always)]
 fn stands_at(rows: &Vec<Option<Row>>, at: usize, name: &TaskName) -> bool
-    ensures { IsTrue result → (r : ARow) × (row_in rows.now.items at ≡ Some r) × (r.holders.parent ≡ name.now) }
+    ensures { IsTrue result → (r : ARow) × (row_at rows.now.items at ≡ Some r) × (r.holders.parent ≡ name.now) }
 {
     match row_at(rows, at) {
         Some(row) => *row.name() == *name,
@@ -60,7 +60,7 @@ fn stands_at(rows: &Vec<Option<Row>>, at: usize, name: &TaskName) -> bool
 /// The row at the place, where a task stands there.
 #[inline(always)]
 pub fn row_at(rows: &Vec<Option<Row>>, at: usize) -> Option<&Row>
-    ensures { option_copied result ≡ row_in rows.now.items at }
+    ensures { option_copied result ≡ row_at rows.now.items at }
 {
     match rows.as_slice().get(at) {
         Some(Some(row)) => Some(row),
@@ -76,7 +76,7 @@ pub fn get<'a>(
     near: usize,
     name: &TaskName,
 ) -> Option<&'a Row>
-    requires { IsPlaced waits.now.tasks rows.now.items }
+    requires { AreInPlace waits.now.tasks rows.now.items }
     ensures value { option_copied result ≡ row (rows_in rows.now.items) name.now }
 {
     let at = find(rows, waits, near, name)?;
@@ -91,7 +91,7 @@ pub fn standing<'a>(
     near: usize,
     name: &TaskName,
 ) -> Option<Standing<'a>>
-    requires { IsPlaced waits.now.tasks rows.now.items }
+    requires { AreInPlace waits.now.tasks rows.now.items }
     ensures { result ≡ option_map (λ r. standing_of (seen_row r)) (row (rows_in rows.now.items) name.now) }
 {
     let at = find(rows, waits, near, name)?;

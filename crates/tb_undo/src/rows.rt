@@ -1,6 +1,6 @@
 //! The rows of the tasks, by the places of their names in the table of waits.
 
-ghost use Rattle.std.specs.Prelude.{◌≡◌, ◌<◌, [], ◌∷◌, IfSome, IfOk, OnOk, IsOk, Some, None, if◌then◌else◌, true, option_map, length, vec_capacity};
+ghost use Rattle.std.specs.Prelude.{◌≡◌, ◌<◌, ◌-◌, [], ◌∷◌, IfSome, IfOk, OnOk, IsOk, Some, None, if◌then◌else◌, true, option_map, length, vec_capacity};
 ghost use Rattle.tb_model.specs.declared.place.Place.{Place as APlace};
 ghost use Rattle.tb_model.specs.Names.{Name, same_name};
 ghost use Rattle.tb_excl.specs.Holders.{holder};
@@ -8,7 +8,7 @@ ghost use Rattle.std.specs.Map.{keys_of};
 ghost use Rattle.tb_wait.specs.Kin.{Tasks as Waiting};
 ghost use Rattle.tb_undo.specs.declared.row.Row.{Row as ARow};
 ghost use Rattle.tb_undo.specs.Tasks.{Task, fresh_task, row, task, holders_of, HasChildRoomIn, HasRowRoom, seen_row, advanced, retreated, IsRegister, register_over};
-ghost use Rattle.tb_undo.specs.Places.{IsPlaced, IsPlacedBefore, rows_in};
+ghost use Rattle.tb_undo.specs.Places.{AreInPlace, CanCome, HasPlaceOrRoom, rows_in};
 ghost use Rattle.tb_undo.specs.Sets.{IsLinked, Sets, Reserves, HasSetRoom, number_of, place_in, Comes, Goes};
 
 use crate::near::{find, get};
@@ -20,10 +20,10 @@ use tb_wait::Wait;
 
 /// The task holds what its items take, or holds it no longer. The root holds nothing.
 pub fn hold(rows: &mut Vec<Option<Row>>, waits: &Wait, near: usize, name: &TaskName, held: bool)
-    requires placed { IsPlaced waits.now.tasks rows.old.items }
+    requires placed { AreInPlace waits.now.tasks rows.old.items }
     requires linked { IsLinked (rows_in rows.old.items) name.now }
     requires room { held ≡ true → HasSetRoom (rows_in rows.old.items) name.now }
-    ensures placed { IsPlaced waits.now.tasks rows.new.items }
+    ensures placed { AreInPlace waits.now.tasks rows.new.items }
     ensures sets { Sets (rows_in rows.old.items) name.now (if held then number_of name.now else None) (rows_in rows.new.items) }
 {
     if let Some((at, n)) = place_of(rows, waits, near, name) {
@@ -40,9 +40,9 @@ pub fn reserve_hold(
     near: usize,
     name: &TaskName,
 ) -> Result<(), AllocError>
-    requires placed { IsPlaced waits.now.tasks rows.old.items }
+    requires placed { AreInPlace waits.now.tasks rows.old.items }
     requires linked { IsLinked (rows_in rows.old.items) name.now }
-    ensures placed { IsPlaced waits.now.tasks rows.new.items }
+    ensures placed { AreInPlace waits.now.tasks rows.new.items }
     ensures same { Reserves (rows_in rows.old.items) (rows_in rows.new.items) }
     ensures ok { OnOk result (HasSetRoom (rows_in rows.new.items) name.now) }
     ensures succeeds { HasSetRoom (rows_in rows.old.items) name.now → IsOk result }
@@ -58,7 +58,7 @@ pub fn reserve_hold(
 /// The root alone, which hasn't started.
 pub fn root_row(alloc: Global, line: u32) -> Result<Vec<Option<Row>>, AllocError>
     ensures comes { IfOk result (λ rows. Comes [] [] (fresh_task [] line []) (rows_in rows.items)) }
-    ensures placed { IfOk result (λ rows. (tasks : Waiting) → keys_of tasks ≡ [] ∷ [] → IsPlaced tasks rows.items) }
+    ensures placed { IfOk result (λ rows. (tasks : Waiting) → keys_of tasks ≡ [] ∷ [] → AreInPlace tasks rows.items) }
 {
     let root = TaskName::root(alloc);
     let row = Row::new(alloc, root, TaskName::root(alloc), 0, line, &[]);
@@ -74,19 +74,40 @@ pub fn reserve_row(
     waits: &Wait,
     near: usize,
     parent: &TaskName,
+    child: &TaskName,
     items: &[Item],
     deferred: bool,
 ) -> Result<(), AllocError>
-    requires { IsPlaced waits.now.tasks rows.old.items }
-    ensures placed { IsPlaced waits.now.tasks rows.new.items }
+    requires { AreInPlace waits.now.tasks rows.old.items }
+    ensures placed { AreInPlace waits.now.tasks rows.new.items }
     ensures rows { Reserves (rows_in rows.old.items) (rows_in rows.new.items) }
-    ensures row { OnOk result (length rows.new.items < vec_capacity rows.new) }
+    ensures row { OnOk result (HasPlaceOrRoom waits.now.tasks child.now (vec_capacity rows.new - length rows.new.items)) }
     ensures child { OnOk result (HasChildRoomIn (rows_in rows.new.items) parent.now items.now deferred) }
-    ensures succeeds { length rows.old.items < vec_capacity rows.old →
+    ensures succeeds { HasPlaceOrRoom waits.now.tasks child.now (vec_capacity rows.old - length rows.old.items) →
         HasChildRoomIn (rows_in rows.old.items) parent.now items.now deferred → IsOk result }
 {
-    rows.reserve(1)?;
+    reserve_place(rows, waits, parent, child)?;
     reserve_child(rows, waits, near, parent, items, deferred)
+}
+
+/// Makes the room for the child's row, where it has no place yet.
+fn reserve_place(
+    rows: &mut Vec<Option<Row>>,
+    waits: &Wait,
+    parent: &TaskName,
+    child: &TaskName,
+) -> Result<(), AllocError>
+    ensures items { rows.new.items ≡ rows.old.items }
+    ensures ok { OnOk result (HasPlaceOrRoom waits.now.tasks child.now (vec_capacity rows.new - length rows.new.items)) }
+    ensures succeeds { HasPlaceOrRoom waits.now.tasks child.now (vec_capacity rows.old - length rows.old.items) → IsOk result }
+{
+    if rows.len() < rows.capacity() {
+        return Ok(());
+    }
+    if waits.is_known(parent, child) {
+        return Ok(());
+    }
+    rows.reserve(1)
 }
 
 /// Makes the room for a step of the task that generates a child with these items.
@@ -98,8 +119,8 @@ fn reserve_child(
     items: &[Item],
     deferred: bool,
 ) -> Result<(), AllocError>
-    requires { IsPlaced waits.now.tasks rows.old.items }
-    ensures placed { IsPlaced waits.now.tasks rows.new.items }
+    requires { AreInPlace waits.now.tasks rows.old.items }
+    ensures placed { AreInPlace waits.now.tasks rows.new.items }
     ensures rows { Reserves (rows_in rows.old.items) (rows_in rows.new.items) }
     ensures len { length rows.new.items ≡ length rows.old.items }
     ensures capacity { vec_capacity rows.new ≡ vec_capacity rows.old }
@@ -125,11 +146,11 @@ pub fn advance(
     action: &Action,
     to: u32,
 ) -> (usize, Option<i64>, u32)
-    requires placed { IsPlaced waits.now.tasks rows.old.items }
+    requires placed { AreInPlace waits.now.tasks rows.old.items }
     requires register { IsRegister action.now }
     requires few { (k : Task) → task (rows_in rows.old.items) name.now ≡ Some k → k.steps < 4294967295 }
     requires room { (r : ARow) → row (rows_in rows.old.items) name.now ≡ Some r → HasRowRoom r action.now }
-    ensures placed { IsPlaced waits.now.tasks rows.new.items }
+    ensures placed { AreInPlace waits.now.tasks rows.new.items }
     ensures tasks { (u : Name) → task (rows_in rows.new.items) u
         ≡ (if same_name name.now u then option_map (advanced action.now to) (task (rows_in rows.old.items) u) else task (rows_in rows.old.items) u) }
     ensures holders { (p : Name) → holders_of (rows_in rows.new.items) p ≡ holders_of (rows_in rows.old.items) p }
@@ -155,9 +176,9 @@ pub fn retreat(
     action: &Action,
     replaced: Replaced,
 )
-    requires placed { IsPlaced waits.now.tasks rows.old.items }
+    requires placed { AreInPlace waits.now.tasks rows.old.items }
     requires register { IsRegister action.now }
-    ensures placed { IsPlaced waits.now.tasks rows.new.items }
+    ensures placed { AreInPlace waits.now.tasks rows.new.items }
     ensures tasks { (u : Name) → task (rows_in rows.new.items) u
         ≡ (if same_name name.now u then option_map (retreated action.now replaced.number replaced.at) (task (rows_in rows.old.items) u) else task (rows_in rows.old.items) u) }
     ensures holders { (p : Name) → holders_of (rows_in rows.new.items) p ≡ holders_of (rows_in rows.old.items) p }
@@ -171,11 +192,10 @@ pub fn retreat(
 
 /// A task comes to stand, in the room that is there: its name has just come to the table of waits, or stood there before.
 pub fn add(rows: &mut Vec<Option<Row>>, waits: &Wait, name: &TaskName, row: Row)
-    requires placed { IsPlacedBefore waits.now.tasks name.now rows.old.items }
-    requires room { length rows.old.items < vec_capacity rows.old }
+    requires can { CanCome waits.now.tasks name.now rows.old.items (vec_capacity rows.old - length rows.old.items) }
     requires own { row.holders.parent ≡ name.now }
     requires free { (p : APlace) → holder row.holders p ≡ None }
-    ensures placed { IsPlaced waits.now.tasks rows.new.items }
+    ensures placed { AreInPlace waits.now.tasks rows.new.items }
     ensures comes { Comes (rows_in rows.old.items) name.now (seen_row row) (rows_in rows.new.items) }
 {
     // a new name comes last
@@ -190,8 +210,8 @@ pub fn add(rows: &mut Vec<Option<Row>>, waits: &Wait, name: &TaskName, row: Row)
 
 /// A task stands no longer.
 pub fn remove(rows: &mut Vec<Option<Row>>, waits: &Wait, near: usize, name: &TaskName)
-    requires { IsPlaced waits.now.tasks rows.old.items }
-    ensures placed { IsPlaced waits.now.tasks rows.new.items }
+    requires { AreInPlace waits.now.tasks rows.old.items }
+    ensures placed { AreInPlace waits.now.tasks rows.new.items }
     ensures goes { Goes (rows_in rows.old.items) name.now (rows_in rows.new.items) }
 {
     if let Some(at) = find(rows, waits, near, name) {
@@ -206,7 +226,7 @@ fn place_of(
     near: usize,
     name: &TaskName,
 ) -> Option<(usize, u32)>
-    requires placed { IsPlaced waits.now.tasks rows.now.items }
+    requires placed { AreInPlace waits.now.tasks rows.now.items }
     requires linked { IsLinked (rows_in rows.now.items) name.now }
     ensures place { result ≡ place_in waits.now.tasks name.now }
     ensures from_one { IfSome result (λ r. 0 < r.1) }

@@ -5,6 +5,7 @@ ghost use Rattle.tb_model.specs.Facts.{is_print};
 ghost use Rattle.tb_wait.specs.Kin.{HasRoomFor as HasRoomForChild, KeepsNames, IsNext, IsLast, Adds, Drops, Changes, with_over};
 ghost use Rattle.tb_ready.specs.Tasks.{mark_of, with_name, without_name, with_mark};
 ghost use Rattle.tb_undo.specs.Tasks.{Task, row, task, HasChildRoomIn, fresh_task, register_by, register_over, IsRegister};
+ghost use Rattle.tb_undo.specs.Places.{HasPlaceOrRoom};
 ghost use Rattle.tb_undo.specs.Sets.{Reserves, IsLinked, HasSetRoom, Sets, Comes, Goes, number_of};
 ghost use Rattle.tb_undo.specs.State.{IsState};
 ghost use Rattle.tb_undo.specs.Steps.{IsAhead, IsBehind, IsRecord, Stands, IsWithout};
@@ -28,7 +29,7 @@ pub struct Tables {
     pub(crate) store: Store,
     pub(crate) waits: Wait,
     pub(crate) marks: Ready,
-    // each at the place of its name in `waits`
+    // a task's row at the place of its name in `waits`, and none there while its spawn is undone
     pub(crate) rows: Vec<Option<Row>>,
     // where the row of the task that took the last step is, so looked for first
     pub(crate) near: usize,
@@ -38,14 +39,14 @@ pub struct Tables {
 impl Model for Tables {
     ghost use Rattle.std.specs.Prelude.{◌-◌, length, vec_capacity, option_map};
     ghost use Rattle.tb_undo.specs.declared.copies.Copies.{Copies as TheCopies};
-    ghost use Rattle.tb_undo.specs.Places.{IsPlaced, rows_in};
+    ghost use Rattle.tb_undo.specs.Places.{AreInPlace, rows_in};
     ghost use Rattle.tb_undo.specs.State.{Seen};
 
     ghost Value = { Seen };
 
     ghost view = { λ t. record { store = t.store; waits = t.waits; marks = t.marks; rows = rows_in t.rows.items; row_room = vec_capacity t.rows - length t.rows.items; copied = option_map (λ (c : TheCopies). c.of_holders) t.copies } };
 
-    ghost invariant = { λ t. IsPlaced t.waits.tasks t.rows.items };
+    ghost invariant = { λ t. AreInPlace t.waits.tasks t.rows.items };
 }
 
 impl Tables {
@@ -156,7 +157,7 @@ impl Tables {
     {
         self.turn_to(parent);
         self.reserve_copies(parent, child)?;
-        self.reserve_row(parent, items, deferred)?;
+        self.reserve_row(parent, child, items, deferred)?;
         self.waits.reserve_spawned(parent, child)?;
         self.marks.reserve_add(child)
     }
@@ -165,15 +166,16 @@ impl Tables {
     fn reserve_row(
         &mut self,
         parent: &TaskName,
+        child: &TaskName,
         items: &[Item],
         deferred: bool,
     ) -> Result<(), AllocError>
         ensures rest { IsRest self.old self.new }
         ensures copied { self.new.copied ≡ self.old.copied }
         ensures rows { Reserves self.old.rows self.new.rows }
-        ensures row { OnOk result (0 < self.new.row_room) }
+        ensures row { OnOk result (HasPlaceOrRoom self.new.waits.tasks child.now self.new.row_room) }
         ensures child { OnOk result (HasChildRoomIn self.new.rows parent.now items.now deferred) }
-        ensures succeeds { 0 < self.old.row_room →
+        ensures succeeds { HasPlaceOrRoom self.old.waits.tasks child.now self.old.row_room →
             HasChildRoomIn self.old.rows parent.now items.now deferred → IsOk result }
     {
         rows::reserve_row(
@@ -181,6 +183,7 @@ impl Tables {
             &self.waits,
             self.near,
             parent,
+            child,
             items,
             deferred,
         )
@@ -300,7 +303,7 @@ impl Tables {
         requires few { length args.now ≤ 16 }
         requires waits { HasRoomForChild self.old.waits parent.now child.now }
         requires marks { 0 < self.old.marks.room }
-        requires row { 0 < self.old.row_room }
+        requires row { HasPlaceOrRoom self.old.waits.tasks child.now self.old.row_room }
         requires copied { self.old.copied ≡ Some child.now }
         ensures store { self.new.store ≡ self.old.store }
         ensures waits { Adds self.old.waits.tasks parent.now child.now self.new.waits.tasks }

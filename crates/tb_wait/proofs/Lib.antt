@@ -9,3 +9,4 @@ pub mod SpawnLemmas
 pub mod SearchLemmas
 pub mod HistoryLemmas
 pub mod UnendedLemmas
+pub mod PlaceLemmas

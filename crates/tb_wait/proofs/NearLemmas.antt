@@ -6,7 +6,7 @@ use Rattle.std.proofs.lemmas.List.Folds.{list_any_at}
 use Rattle.std.proofs.lemmas.Bool.{false_from_ne_true, false≢true, le-ltb}
 use Rattle.tb_model.specs.Names.{Name, same_name}
 use Rattle.tb_model.proofs.TestLemmas.{same_true, same_refl}
-use Rattle.tb_wait.specs.Names.{IsFoundIn}
+use Rattle.tb_wait.specs.Names.{IsFirstPlace}
 use Rattle.tb_wait.specs.Rows.{key, IsPlaceOf}
 
 apart_at : (n t : Name) (names : List Name) (i : ℕ) → AllByRecursion (λ y. same_name n y ≡ false) names → slice_get names i ≡ Some t → same_name n t ≡ false
@@ -82,11 +82,11 @@ none_position t names h =
     ap (λ n. cond (nat_lt n (length names)) (Some n) None) (none_len t names h) ∙ ap (λ b. cond b (Some (length names)) None) (le-ltb (length names) (length names) (omega arith))
 
 -- a name that stands at a place is found there
-pub here_found : (t : Name) (names : List Name) (i : ℕ) → IsDistinct same_name names → slice_get names i ≡ Some t → IsFoundIn names t (Some i)
+pub here_found : (t : Name) (names : List Name) (i : ℕ) → IsDistinct same_name names → slice_get names i ≡ Some t → IsFirstPlace names t (Some i)
 here_found t names i d e = record { index = sym (position_at t names i d e); found = sym (any_at t names i e); within = slice_get_within names i t e }
 
 -- and so is one whose place the tree tells
-pub place_found : (t : Name) (names : List Name) (o : Option ℕ) → IsDistinct same_name names → IsPlaceOf names t o → IsFoundIn names t o
+pub place_found : (t : Name) (names : List Name) (o : Option ℕ) → IsDistinct same_name names → IsPlaceOf names t o → IsFirstPlace names t o
 place_found t names None d p =
     let absent = none_at t names (λ i. p.absent refl i []) in
     record { index = sym (none_position t names absent); found = sym absent; within = tt }

@@ -7,7 +7,7 @@ use Rattle.std.proofs.lemmas.Map.Made.{keys_of-zip}
 use Rattle.std.proofs.lemmas.Bool.{false≢true}
 use Rattle.tb_model.specs.Names.{Name, same_name}
 use Rattle.tb_model.proofs.TestLemmas.{same_true, same_refl}
-use Rattle.tb_wait.specs.Kin.{Kin, Slot, Tasks, slot, kin, kin_in, is_known, names_with, Changes, KeepsRoom, KeepsNames, HasNames, IsRoomIn, with_children, is_none}
+use Rattle.tb_wait.specs.Kin.{Kin, Slot, Tasks, slot, kin, kin_in, is_known, names_with, Changes, KeepsRoom, KeepsNames, HasSameNames, IsRoomIn, with_children, is_none}
 use Rattle.tb_wait.specs.Rows.{blank, key, slot_at, is_pending, children_of, ChangesSlot, SetsStanding, Fits}
 use Rattle.tb_wait.specs.Tree.{Nodes, node, IsPlace, SameLinks, SameButRoom}
 use Rattle.tb_wait.proofs.TreeLemmas.{linked_same, linked_room}
@@ -73,14 +73,14 @@ no_slot t names slots f = by (slot (zip names slots) t) refl
 -- ---- one row that changes
 
 -- the names are the same where only rows change
-pub same_names : (names : List Name) (old new : List Slot) → length old ≡ length names → length new ≡ length names → HasNames (zip names old) (zip names new)
+pub same_names : (names : List Name) (old new : List Slot) → length old ≡ length names → length new ≡ length names → HasSameNames (zip names old) (zip names new)
 same_names names old new l m = keys_of-zip names new m ∙ sym (keys_of-zip names old l)
 
 pub keep_names : (tasks : Tasks) → KeepsNames tasks tasks
 keep_names tasks = ([], sym (append-nil (keys_of tasks)))
 
 -- the very names keep their places, and so they do where one comes last
-pub names_kept : (a b : Tasks) → HasNames a b → KeepsNames a b
+pub names_kept : (a b : Tasks) → HasSameNames a b → KeepsNames a b
 names_kept a b e = ([], e ∙ sym (append-nil (keys_of a)))
 
 pub names_gained : (a b : Tasks) (c : Name) → keys_of b ≡ names_with a c → KeepsNames a b

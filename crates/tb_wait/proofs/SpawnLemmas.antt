@@ -9,7 +9,7 @@ use Rattle.std.proofs.lemmas.Option.{slice_get_within, slice_get-get_or}
 use Rattle.std.proofs.Math.ListN.{get_or-eq_default}
 use Rattle.tb_model.specs.Names.{Name, same_name, is_child}
 use Rattle.tb_model.proofs.TestLemmas.{same_true}
-use Rattle.tb_wait.specs.Kin.{Kin, Slot, Tasks, Table, slot, kin, kin_in, is_known, Adds, Drops, IsNext, IsLast, IsSame, KeepsRoom, HasNames, names_with, with_children, one_more, one_less, fresh, is_fresh, is_none}
+use Rattle.tb_wait.specs.Kin.{Kin, Slot, Tasks, Table, slot, kin, kin_in, is_known, Adds, Drops, IsNext, IsLast, IsSame, KeepsRoom, HasSameNames, names_with, with_children, one_more, one_less, fresh, is_fresh, is_none}
 use Rattle.tb_wait.specs.Rows.{blank, key, slot_at, is_pending, children_of, ChangesSlot, SetsStanding, Fits}
 use Rattle.tb_wait.specs.Tree.{Nodes, node, leaf, IsPlace, SetsPending, AddsNode}
 use Rattle.tb_wait.proofs.RowLemmas.{IsAt, slot_of_key, key_of_slot, two_kins, two_rooms, same_names}
@@ -116,8 +116,8 @@ module _ (before : Table) (names : List Name) (old : List Slot) (nodes : Nodes) 
       drops_room = subst (λ x. KeepsRoom x (record { tasks = zip names new; room = room })) v
           (two_rooms names old new f.distinct f.slots_len at (node nodes at).owner within owner_in k children s room)
 
-      pub adds_names : HasNames before.tasks (zip names new)
-      adds_names = subst (λ x. HasNames x.tasks (zip names new)) v (same_names names old new f.slots_len (s.len ∙ f.slots_len))
+      pub adds_names : HasSameNames before.tasks (zip names new)
+      adds_names = subst (λ x. HasSameNames x.tasks (zip names new)) v (same_names names old new f.slots_len (s.len ∙ f.slots_len))
 
       pub adds_fits : (after : Nodes) → k ≡ Some fresh → children ≡ suc n → parent.children ≡ n → SetsPending nodes at true after → Fits names new after
       adds_fits after e m q sets =

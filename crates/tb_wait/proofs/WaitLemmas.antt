@@ -6,7 +6,7 @@ use Rattle.std.proofs.lemmas.Map.Made.{keys_of-zip}
 use Rattle.std.proofs.lemmas.Bool.{false≢true, or_left}
 use Rattle.tb_model.specs.Names.{Name, same_name}
 use Rattle.tb_model.proofs.TestLemmas.{same_true, same_refl}
-use Rattle.tb_wait.specs.Kin.{Kin, Slot, Table, place, slot, kin, kin_in, is_known, Changes, IsSame, KeepsRoom, HasNames, HasGroupRoom, HasOpenGroup, HasChildRoom, with_over, with_children, fresh}
+use Rattle.tb_wait.specs.Kin.{Kin, Slot, Table, place, slot, kin, kin_in, is_known, Changes, IsSame, KeepsRoom, HasSameNames, HasGroupRoom, HasOpenGroup, HasChildRoom, with_over, with_children, fresh}
 use Rattle.tb_wait.specs.Rows.{blank, key, slot_at, is_pending, children_of, groups_of, ChangesSlot, SetsStanding, Fits}
 use Rattle.tb_wait.specs.Tree.{Nodes, node, leaf, IsPlace, SameLinks, SetsPending}
 use Rattle.tb_wait.proofs.TreeLemmas.{linked_same, root_places, root_tree}
@@ -95,8 +95,8 @@ module _ (before : Table) (names : List Name) (old : List Slot) (nodes : Nodes) 
       here_room a b = let k = at_key t names at is in
           subst (λ x. KeepsRoom x (record { tasks = zip names new; room = room })) v (room_changes names old new f.distinct f.slots_len at k.0 s c room a b)
 
-      pub here_names : HasNames before.tasks (zip names new)
-      here_names = subst (λ b. HasNames b.tasks (zip names new)) v (same_names names old new f.slots_len (c.len ∙ f.slots_len))
+      pub here_names : HasSameNames before.tasks (zip names new)
+      here_names = subst (λ b. HasSameNames b.tasks (zip names new)) v (same_names names old new f.slots_len (c.len ∙ f.slots_len))
 
       pub here_group_room : 0 < s.group_room → HasGroupRoom (zip names new) t
       here_group_room h q e =

@@ -121,8 +121,8 @@ abbrev pub KeepsNames : Tasks → Tasks → Type 0
 KeepsNames old new = (more : List Name) × (keys_of new ≡ keys_of old ++ more)
 
 -- the very names, each at its place
-abbrev pub HasNames : Tasks → Tasks → Type 0
-HasNames old new = keys_of new ≡ keys_of old
+abbrev pub HasSameNames : Tasks → Tasks → Type 0
+HasSameNames old new = keys_of new ≡ keys_of old
 
 -- the names with that of c, which comes last where it was never there
 abbrev pub names_with : Tasks → Name → List Name
@@ -135,7 +135,7 @@ IsRoomIn s (Some r) = (s.child_room ≤ r.child_room) × (s.group_room ≤ r.gro
 
 -- nothing loses its room, neither the table nor a task, and the names are those that there were
 pub record KeepsRoom (old new : Table) : Type 0 where
-  pub names : HasNames old.tasks new.tasks
+  pub names : HasSameNames old.tasks new.tasks
   pub room : old.room ≤ new.room
   pub slots : (t : Name) (s : Slot) → slot old.tasks t ≡ Some s → IsRoomIn s (slot new.tasks t)
 

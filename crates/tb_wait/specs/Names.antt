@@ -9,8 +9,8 @@ pub record Names : Type 0 where
   pub keys : List Name
   pub spare : ℕ
 
--- o is the place of t among the names, and None where it isn't there
-pub record IsFoundIn (names : List Name) (t : Name) (o : Option ℕ) : Type 0 where
+-- o is the first place of t among the names, and None where it isn't there
+pub record IsFirstPlace (names : List Name) (t : Name) (o : Option ℕ) : Type 0 where
   pub index : o ≡ position (same_name t) names
   pub found : is_some o ≡ list_any (same_name t) names
   pub within : IfSome o (λ i. i < length names)

@@ -3,7 +3,7 @@
 ghost use Rattle.std.specs.Prelude.{Some, IsTrue, IfSome};
 ghost use Rattle.std.specs.List.{IsDistinct};
 ghost use Rattle.tb_model.specs.Names.{same_name};
-ghost use Rattle.tb_wait.specs.Names.{IsFoundIn};
+ghost use Rattle.tb_wait.specs.Names.{IsFirstPlace};
 ghost use Rattle.tb_wait.specs.Rows.{AreNamed};
 
 use crate::names::Names;
@@ -24,7 +24,7 @@ impl Near {
     #[inline(always)]
     pub fn find(&self, names: &Names, tree: &Tree, name: &TaskName) -> Option<usize>
         requires { AreNamed names.now.keys tree.now.nodes }
-        ensures { IsFoundIn names.now.keys name.now result }
+        ensures { IsFirstPlace names.now.keys name.now result }
     {
         if stands_at(names, self.own, name) {
             return Some(self.own);
@@ -37,7 +37,7 @@ impl Near {
     #[inline(never)]
     fn find_elsewhere(&self, names: &Names, tree: &Tree, name: &TaskName) -> Option<usize>
         requires { AreNamed names.now.keys tree.now.nodes }
-        ensures { IsFoundIn names.now.keys name.now result }
+        ensures { IsFirstPlace names.now.keys name.now result }
     {
         match self.beside(names, name) {
             Some(at) => Some(at),
@@ -55,7 +55,7 @@ impl Near {
         name: &TaskName,
     ) -> Option<usize>
         requires { AreNamed names.now.keys tree.now.nodes }
-        ensures { IsFoundIn names.now.keys name.now result }
+        ensures { IsFirstPlace names.now.keys name.now result }
     {
         if stands_at(names, near, name) {
             return Some(near);
@@ -72,7 +72,7 @@ impl Near {
         name: &TaskName,
     ) -> Option<usize>
         requires { AreNamed names.now.keys tree.now.nodes }
-        ensures { IsFoundIn names.now.keys name.now result }
+        ensures { IsFirstPlace names.now.keys name.now result }
     {
         if stands_at(names, near, name) {
             return Some(near);
@@ -91,7 +91,7 @@ impl Near {
 
     // The place of the name, if it is that of the child of the task, or of its parent, with the name's ordinal.
     fn by_ordinal(&self, names: &Names, tree: &Tree, name: &TaskName) -> Option<usize>
-        ensures { IfSome result (λ i. IsFoundIn names.now.keys name.now (Some i)) }
+        ensures { IfSome result (λ i. IsFirstPlace names.now.keys name.now (Some i)) }
     {
         let ordinal = name.ordinal().unwrap_or(0);
         for parent in [self.own, self.above] {
@@ -107,7 +107,7 @@ impl Near {
     // The place of the name, if it is that of the parent or the one after the task's own.
     #[inline(always)]
     fn beside(&self, names: &Names, name: &TaskName) -> Option<usize>
-        ensures here { IfSome result (λ i. IsFoundIn names.now.keys name.now (Some i)) }
+        ensures here { IfSome result (λ i. IsFirstPlace names.now.keys name.now (Some i)) }
         ensures distinct { IsDistinct same_name names.now.keys }
     {
         if stands_at(names, self.above, name) {
@@ -124,7 +124,7 @@ impl Near {
 /// Whether the name stands at the place.
 #[inline(always)]
 pub fn stands_at(names: &Names, at: usize, name: &TaskName) -> bool
-    ensures here { IsTrue result → IsFoundIn names.now.keys name.now (Some at) }
+    ensures here { IsTrue result → IsFirstPlace names.now.keys name.now (Some at) }
     ensures distinct { IsDistinct same_name names.now.keys }
 {
     match names.get(at) {

@@ -1,5 +1,7 @@
 //! The table of waits.
 
+mod turning;
+
 ghost use Rattle.std.specs.Prelude.{◌≡◌, ◌≢◌, ◌<◌, ◌≤◌, ◌-◌, ◌+◌, ◌++◌, ℕ, [], ◌∷◌, true, false, IsTrue, OnOk, OnErr, IsOk, IfOk, Some, None, is_some, length, vec_capacity, suc, List, if◌then◌else◌, reverse};
 ghost use Rattle.std.specs.List.{zip};
 ghost use Rattle.std.specs.Map.{keys_of};
@@ -8,10 +10,10 @@ ghost use Rattle.tb_wait.specs.Kin.{Kin, slot};
 ghost use Rattle.std.specs.Option.{option_copied, option_map};
 ghost use Rattle.tb_model.specs.Names.{same_name, child};
 ghost use Rattle.tb_model.specs.LeastNames.{IsLeastName};
-ghost use Rattle.tb_wait.specs.Kin.{kin, place, fresh, with_over, opened_kin, unopened_kin, closed_kin, unclosed_kin, Changes, IsSame, KeepsNames, HasNames, names_with, KeepsRoom, HasGroupRoom, HasChildRoom, HasRoomFor, HasOpenGroup, is_known, Adds, Drops, IsNext, IsLast, is_fresh, IsUnendedChild, IsNextUnended, IsUnendedMember};
+ghost use Rattle.tb_wait.specs.Kin.{kin, place, fresh, with_over, opened_kin, unopened_kin, closed_kin, unclosed_kin, Changes, IsSame, KeepsNames, HasSameNames, names_with, KeepsRoom, HasGroupRoom, HasChildRoom, HasRoomFor, HasOpenGroup, is_known, Adds, Drops, IsNext, IsLast, is_fresh, IsUnendedChild, IsNextUnended, IsUnendedMember};
 
 use crate::names::Names;
-use crate::near::{Near, stands_at};
+use crate::near::Near;
 use crate::row::Row;
 use crate::tree::Tree;
 use crate::{rows, standing};
@@ -67,32 +69,6 @@ impl Wait {
         })
     }
 
-    /// Turns to the task, which is asked of next, and is looked for at this place first, which may be any: it,
-    /// its parent and the one that was generated after it are looked for at their own places from now on.
-    /// Nothing that the table tells changes. Returns the task's place.
-    #[inline(always)]
-    pub fn turn_to(&mut self, near: usize, task: &TaskName) -> Option<usize>
-        ensures same { self.new ≡ self.old }
-        ensures place { result ≡ place self.old.tasks task.now }
-    {
-        if near == self.near.own && stands_at(&self.names, near, task) {
-            return Some(near);
-        }
-        self.turn_elsewhere(near, task)
-    }
-
-    /// The same where it was turned to another. It stands apart, so that most calls don't pay for its room.
-    #[inline(never)]
-    fn turn_elsewhere(&mut self, near: usize, task: &TaskName) -> Option<usize>
-        ensures same { self.new ≡ self.old }
-        ensures place { result ≡ place self.old.tasks task.now }
-    {
-        let own = self.near.find_below(&self.names, &self.tree, near, task)?;
-        let above = self.tree.owner(own);
-        self.near = Near { own, above };
-        Some(own)
-    }
-
     /// Makes the room that `spawned` needs, and changes nothing else.
     pub fn reserve_spawned(&mut self, parent: &TaskName, child: &TaskName) -> Result<(), AllocError>
         ensures ok { OnOk result (HasRoomFor self.new parent.now child.now) }
@@ -107,8 +83,8 @@ impl Wait {
         self.reserve_place()
     }
 
-    // Whether the child was ever generated. Where its parent is, its number tells that.
-    fn is_known(&self, parent: &TaskName, child: &TaskName) -> bool
+    /// Whether the child was ever generated, so has its place. Where its parent was, its number tells that.
+    pub fn is_known(&self, parent: &TaskName, child: &TaskName) -> bool
         ensures { result ≡ is_known self.now.tasks child.now }
     {
         match self.near.find(&self.names, &self.tree, parent) {
@@ -273,7 +249,7 @@ impl Wait {
     pub fn opened(&mut self, task: &TaskName) -> Result<(), AllocError>
         ensures ok { OnOk result (Changes self.old.tasks task.now opened_kin self.new.tasks) }
         ensures err { OnErr result (IsSame self.old.tasks self.new.tasks) }
-        ensures names { HasNames self.old.tasks self.new.tasks }
+        ensures names { HasSameNames self.old.tasks self.new.tasks }
         ensures room { self.old.room ≤ self.new.room }
         ensures succeeds { HasGroupRoom self.old.tasks task.now → IsOk result }
     {
@@ -312,43 +288,6 @@ impl Wait {
         if let Some(at) = self.near.find(&self.names, &self.tree, task) {
             rows::unclose(&mut self.rows, at);
         }
-    }
-
-    /// The task's place among all that were ever generated, which it keeps for good. It is looked for at this place first, which
-    /// may be any.
-    #[inline(always)]
-    pub fn place(&self, near: usize, task: &TaskName) -> Option<usize>
-        ensures { result ≡ place self.now.tasks task.now }
-    {
-        self.near.find_near(&self.names, &self.tree, near, task)
-    }
-
-    /// The same in a walk over tasks, which hands on the place of the last one: mostly the task is the last one again.
-    #[inline(always)]
-    pub fn walk_place(&self, near: &mut usize, task: &TaskName) -> Option<usize>
-        ensures { result ≡ place self.now.tasks task.now }
-    {
-        if stands_at(&self.names, *near, task) {
-            return Some(*near);
-        }
-        self.walk_elsewhere(near, task)
-    }
-
-    /// The same where it isn't: then it is mostly beside the last one, or its parent, its child or its sibling. It stands
-    /// apart, so that most calls don't pay for its room.
-    #[inline(never)]
-    fn walk_elsewhere(&self, near: &mut usize, task: &TaskName) -> Option<usize>
-        ensures { result ≡ place self.now.tasks task.now }
-    {
-        let mut last = self.near;
-        if *near < self.rows.len() {
-            let own = *near;
-            let above = self.tree.owner(own);
-            last = Near { own, above };
-        }
-        let found = last.find_below(&self.names, &self.tree, last.own, task);
-        *near = found.unwrap_or(0);
-        found
     }
 
     /// The least child of the task that stands and isn't over.

@@ -1,7 +1,7 @@
 //! Steps that are taken back, one that nothing needs or one with all that need it.
 
 ghost use Rattle.std.specs.Prelude.{◌≡◌, IfErr, IfNone, IfOk, IfSome, IsOk, OnErr, OnOk};
-ghost use Rattle.tb_core.specs.Outcomes.{IsFree, StandsAt, TakesBack, Keeps, Undone};
+ghost use Rattle.tb_core.specs.Outcomes.{IsFree, IsPlaceOfStep, TakesBack, Keeps, Undone};
 ghost use Rattle.tb_core.specs.Rolled.{IsOfHistory, RollsBack};
 ghost use Rattle.tb_core.specs.Seen.{history};
 
@@ -19,7 +19,7 @@ impl Core {
     /// Takes the entry at this place out, of a step that nothing needs.
     fn take_out(&mut self, at: usize, id: &StepId) -> Removed
         requires free { IsFree self.old.run id.now }
-        requires here { StandsAt self.old.run id.now at }
+        requires here { IsPlaceOfStep self.old.run id.now at }
         ensures { TakesBack self.old.run id.now self.new.run result }
     {
         self.reserved = None;
@@ -44,7 +44,7 @@ impl Core {
 
     /// The place of a step that nothing needs.
     fn free_place(&self, id: &StepId) -> Result<usize, UndoRefusal>
-        ensures place { IfOk result (StandsAt self.now.run id.now) }
+        ensures place { IfOk result (IsPlaceOfStep self.now.run id.now) }
         ensures free { OnOk result (IsFree self.now.run id.now) }
         ensures kept { IfErr result (Keeps self.now.run id.now) }
     {

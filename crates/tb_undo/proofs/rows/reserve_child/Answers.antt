@@ -3,7 +3,7 @@ use Rattle.tb_undo.specs.Places.{rows_in}
 use Rattle.tb_undo.specs.Sets.{Reserves}
 use Rattle.tb_undo.specs.Tasks.{HasChildRoomIn}
 use Rattle.tb_undo.proofs.PlacesLemmas.{found, missing, same_rows, writes, stays, no_row}
-use Rattle.tb_undo.proofs.RowsLemmas.{ok_from}
+use Rattle.tb_wait.proofs.WaitLemmas.{on_ok_from}
 use Rattle.tb_undo.proofs.SetsLemmas.{reserves_row, reserves_none, child_room_there, no_child_room}
 use Rattle.tb_undo.proofs.rows.reserve_child.Goals as goal
 
@@ -22,7 +22,7 @@ returns-in-Some-index_mut-clause-rows c =
 
 pub returns-in-Some-index_mut-clause-ok : goal.returns-in-Some-index_mut-clause-ok
 returns-in-Some-index_mut-clause-ok c =
-    ok_from c.reserve_child.result
+    on_ok_from c.reserve_child.result
     (child_room_there _ _ c.args.name.now c.in-Some-index_mut.row c.reserve_child.new.self
     (found c.args.waits.now.tasks c.args.rows.now.items c.requires c.args.name.now c.in-Some.at (sym c.find.ensures ∙ c.in-Some.is) c.index_mut.result.now c.index_mut.ensures.value c.in-Some-index_mut.row c.in-Some-index_mut.is)
     (writes c.args.waits.now.tasks c.args.rows.now.items c.requires c.args.name.now c.in-Some.at (sym c.find.ensures ∙ c.in-Some.is) c.index_mut.result.now c.index_mut.ensures.value

@@ -1,7 +1,7 @@
 use Rattle.std.proofs.Common.{sym, ◌∙◌}
 use Rattle.tb_undo.specs.Places.{rows_in}
 use Rattle.tb_undo.proofs.PlacesLemmas.{found, writes, stays}
-use Rattle.tb_undo.proofs.RowsLemmas.{ok_from}
+use Rattle.tb_wait.proofs.WaitLemmas.{on_ok_from}
 use Rattle.tb_undo.proofs.SetsLemmas.{placed, unplaced, no_gap, reserves, room_at, room_named, root_room}
 use Rattle.tb_undo.proofs.rows.reserve_hold.Goals as goal
 
@@ -23,7 +23,7 @@ returns-in-Some-index_mut-clause-same c =
 pub returns-in-Some-index_mut-clause-ok : goal.returns-in-Some-index_mut-clause-ok
 returns-in-Some-index_mut-clause-ok c =
     let at = placed c.args.waits.now.tasks c.args.name.now c.in-Some.at c.in-Some.n (sym c.place_of.ensures.place ∙ c.in-Some.is) in
-    ok_from c.reserve_hold.result
+    on_ok_from c.reserve_hold.result
     (room_named _ _ c.args.waits.now.tasks c.args.name.now c.in-Some.at c.in-Some.n at c.in-Some-index_mut.row c.reserve_hold.new.self
     (found c.args.waits.now.tasks c.args.rows.now.items c.requires.placed at.parent c.in-Some.at at.place c.index_mut.result.now c.index_mut.ensures.value c.in-Some-index_mut.row c.in-Some-index_mut.is)
     (writes c.args.waits.now.tasks c.args.rows.now.items c.requires.placed at.parent c.in-Some.at at.place c.index_mut.result.now c.index_mut.ensures.value

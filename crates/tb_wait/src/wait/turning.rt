@@ -1,0 +1,73 @@
+//! Where a task is among all that were ever generated.
+
+ghost use Rattle.std.specs.Prelude.{◌≡◌};
+ghost use Rattle.tb_wait.specs.Kin.{place};
+
+use super::Wait;
+use crate::near::{Near, stands_at};
+use tb_model::TaskName;
+
+impl Wait {
+    /// Turns to the task, which is asked of next, and is looked for at this place first, which may be any: it,
+    /// its parent and the one that was generated after it are looked for at their own places from now on.
+    /// Nothing that the table tells changes. Returns the task's place.
+    #[inline(always)]
+    pub fn turn_to(&mut self, near: usize, task: &TaskName) -> Option<usize>
+        ensures same { self.new ≡ self.old }
+        ensures place { result ≡ place self.old.tasks task.now }
+    {
+        if near == self.near.own && stands_at(&self.names, near, task) {
+            return Some(near);
+        }
+        self.turn_elsewhere(near, task)
+    }
+
+    /// The same where it was turned to another. It stands apart, so that most calls don't pay for its room.
+    #[inline(never)]
+    fn turn_elsewhere(&mut self, near: usize, task: &TaskName) -> Option<usize>
+        ensures same { self.new ≡ self.old }
+        ensures place { result ≡ place self.old.tasks task.now }
+    {
+        let own = self.near.find_below(&self.names, &self.tree, near, task)?;
+        let above = self.tree.owner(own);
+        self.near = Near { own, above };
+        Some(own)
+    }
+
+    /// The task's place among all that were ever generated, which it keeps for good. It is looked for at this place first, which
+    /// may be any.
+    #[inline(always)]
+    pub fn place(&self, near: usize, task: &TaskName) -> Option<usize>
+        ensures { result ≡ place self.now.tasks task.now }
+    {
+        self.near.find_near(&self.names, &self.tree, near, task)
+    }
+
+    /// The same in a walk over tasks, which hands on the place of the last one: mostly the task is the last one again.
+    #[inline(always)]
+    pub fn walk_place(&self, near: &mut usize, task: &TaskName) -> Option<usize>
+        ensures { result ≡ place self.now.tasks task.now }
+    {
+        if stands_at(&self.names, *near, task) {
+            return Some(*near);
+        }
+        self.walk_elsewhere(near, task)
+    }
+
+    /// The same where it isn't: then it is mostly beside the last one, or its parent, its child or its sibling. It stands
+    /// apart, so that most calls don't pay for its room.
+    #[inline(never)]
+    fn walk_elsewhere(&self, near: &mut usize, task: &TaskName) -> Option<usize>
+        ensures { result ≡ place self.now.tasks task.now }
+    {
+        let mut last = self.near;
+        if *near < self.rows.len() {
+            let own = *near;
+            let above = self.tree.owner(own);
+            last = Near { own, above };
+        }
+        let found = last.find_below(&self.names, &self.tree, last.own, task);
+        *near = found.unwrap_or(0);
+        found
+    }
+}
