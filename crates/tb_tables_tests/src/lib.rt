@@ -20,3 +20,5 @@ mod store;
 mod undo;
 #[cfg(test)]
 mod wait;
+#[cfg(test)]
+mod wait_places;

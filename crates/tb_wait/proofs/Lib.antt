@@ -7,6 +7,7 @@ pub mod RowLemmas
 pub mod WaitLemmas
 pub mod SpawnLemmas
 pub mod SearchLemmas
+pub mod AskedLemmas
 pub mod HistoryLemmas
 pub mod UnendedLemmas
 pub mod PlaceLemmas

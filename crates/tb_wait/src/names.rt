@@ -16,16 +16,16 @@ pub(crate) struct Names {
 }
 
 impl Model for Names {
-    ghost use Rattle.std.specs.Prelude.{◌-◌, vec_len, vec_capacity};
+    ghost use Rattle.std.specs.Prelude.{◌-◌, ◌≤◌, length, min, vec_capacity};
     ghost use Rattle.std.specs.List.{IsDistinct};
     ghost use Rattle.tb_model.specs.Names.{same_name};
     ghost use Rattle.tb_wait.specs.Names.{Names};
 
     ghost Value = { Names };
 
-    ghost view = { λ n. record { keys = n.names.items; spare = vec_capacity n.names - vec_len n.names } };
+    ghost view = { λ n. record { keys = n.names.items; spare = min (vec_capacity n.names) 4294967295 - length n.names.items } };
 
-    ghost invariant = { λ n. IsDistinct same_name n.names.items };
+    ghost invariant = { λ n. IsDistinct same_name n.names.items × (length n.names.items ≤ 4294967295) };
 }
 
 impl Names {
@@ -43,17 +43,21 @@ impl Names {
     pub fn get(&self, at: usize) -> Option<&TaskName>
         ensures key { option_copied result ≡ slice_get self.now.keys at }
         ensures distinct { IsDistinct same_name self.now.keys }
+        ensures bound { length self.now.keys ≤ 4294967295 }
     {
         self.names.as_slice().get(at)
     }
 
-    /// Makes room for one more name.
+    /// Makes room for one more name. A place is kept in 32 bits, so there is none for further ones.
     pub fn reserve(&mut self) -> Result<(), AllocError>
         ensures keys { self.new.keys ≡ self.old.keys }
         ensures room { OnOk result (0 < self.new.spare) }
         ensures succeeds { 0 < self.old.spare → IsOk result }
         ensures keeps { self.old.spare ≤ self.new.spare }
     {
+        if self.names.len() >= u32::MAX as usize {
+            return Err(AllocError);
+        }
         self.names.reserve(1)
     }
 

@@ -1,6 +1,10 @@
 //! Where a task is among all that were ever generated.
 
-ghost use Rattle.std.specs.Prelude.{◌≡◌};
+ghost use Rattle.std.specs.Prelude.{◌≡◌, ◌≤◌, length, slice_get};
+ghost use Rattle.std.specs.List.{IsDistinct};
+ghost use Rattle.std.specs.Map.{keys_of};
+ghost use Rattle.std.specs.Option.{option_copied};
+ghost use Rattle.tb_model.specs.Names.{same_name};
 ghost use Rattle.tb_wait.specs.Kin.{place};
 
 use super::Wait;
@@ -69,5 +73,15 @@ impl Wait {
         let found = last.find_below(&self.names, &self.tree, last.own, task);
         *near = found.unwrap_or(0);
         found
+    }
+
+    /// The name at this place, whether its task stands or not. A place fits in 32 bits.
+    #[inline(always)]
+    pub fn name(&self, at: usize) -> Option<&TaskName>
+        ensures name { option_copied result ≡ slice_get (keys_of self.now.tasks) at }
+        ensures distinct { IsDistinct same_name (keys_of self.now.tasks) }
+        ensures bound { length self.now.tasks ≤ 4294967295 }
+    {
+        self.names.get(at)
     }
 }

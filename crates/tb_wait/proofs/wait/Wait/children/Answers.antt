@@ -1,6 +1,6 @@
 use Rattle.std.proofs.Common.{sym, ap, ◌∙◌, option_map}
 use Rattle.tb_wait.specs.Kin.{Kin}
-use Rattle.tb_wait.proofs.SearchLemmas.{kin_of_row, kin_of_none}
+use Rattle.tb_wait.proofs.AskedLemmas.{kin_of_row, kin_of_none}
 use Rattle.tb_wait.proofs.wait.Wait.children.Goals as goal
 
 pub returns-in_default : goal.returns-in_default

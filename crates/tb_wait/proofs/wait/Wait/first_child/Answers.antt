@@ -2,7 +2,7 @@ use Rattle.std.proofs.Common.{refl, sym, ◌∙◌, subst, arith}
 use Rattle.tb_model.specs.LeastNames.{IsLeastName}
 use Rattle.tb_wait.specs.Kin.{IsUnendedChild}
 use Rattle.tb_wait.proofs.WaitLemmas.{at_key}
-use Rattle.tb_wait.proofs.SearchLemmas.{child_some, child_none, child_absent, no_row, slice_get-key}
+use Rattle.tb_wait.proofs.AskedLemmas.{child_some, child_none, child_absent, no_row, slice_get-key}
 use Rattle.tb_wait.proofs.wait.Wait.first_child.Goals as goal
 
 pub returns-in_default : goal.returns-in_default

@@ -2,7 +2,7 @@ use Rattle.std.proofs.Common.{sym, ◌∙◌, subst, arith}
 use Rattle.tb_model.specs.LeastNames.{IsLeastName}
 use Rattle.tb_wait.specs.Kin.{IsUnendedMember}
 use Rattle.tb_wait.proofs.WaitLemmas.{at_key}
-use Rattle.tb_wait.proofs.SearchLemmas.{member_some, member_none, member_no_group, member_absent, no_row, slice_get-key}
+use Rattle.tb_wait.proofs.AskedLemmas.{member_some, member_none, member_no_group, member_absent, no_row, slice_get-key}
 use Rattle.tb_wait.proofs.wait.Wait.first_member.Goals as goal
 
 pub returns-in_default : goal.returns-in_default

@@ -1,6 +1,6 @@
 use Rattle.std.proofs.Common.{◌≡◌, ◌∙◌, ◌∷◌, None, Some, sym}
 use Rattle.tb_wait.proofs.WaitLemmas.{at_key}
-use Rattle.tb_wait.proofs.SearchLemmas.{child_absent, child_over, child_pending, no_row}
+use Rattle.tb_wait.proofs.AskedLemmas.{child_absent, child_over, child_pending, no_row}
 use Rattle.tb_wait.proofs.wait.Wait.is_child_unended.Goals as goal
 
 pub returns-in_default-clause-over : goal.returns-in_default-clause-over

@@ -1,6 +1,6 @@
 use Rattle.std.proofs.Common.{sym, ap, ◌∙◌}
 use Rattle.tb_wait.specs.Kin.{is_fresh}
-use Rattle.tb_wait.proofs.SearchLemmas.{kin_of_row, kin_of_none}
+use Rattle.tb_wait.proofs.AskedLemmas.{kin_of_row, kin_of_none}
 use Rattle.tb_wait.proofs.wait.Wait.is_fresh.Goals as goal
 
 pub returns-in_default : goal.returns-in_default

@@ -1,5 +1,5 @@
 use Rattle.tb_wait.proofs.WaitLemmas.{at_key}
-use Rattle.tb_wait.proofs.SearchLemmas.{next_child, next_absent, no_row}
+use Rattle.tb_wait.proofs.AskedLemmas.{next_child, next_absent, no_row}
 use Rattle.tb_wait.proofs.wait.Wait.next_unended.Goals as goal
 
 pub returns-in_default : goal.returns-in_default
