@@ -12,7 +12,7 @@ use Rattle.tb_model.specs.Facts.{is_end, is_of, ends}
 use Rattle.tb_model.specs.Needs.{needs}
 use Rattle.tb_model.proofs.AlikeLemmas.{any_same}
 use Rattle.tb_model.proofs.TestLemmas.{same_refl}
-use Rattle.tb_core.specs.declared.entry.Entry.{Entry}
+use Rattle.tb_core.specs.Entries.{Entry}
 use Rattle.tb_core.specs.Scans.{AreLegal, history_of}
 use Rattle.tb_core.proofs.ScanLemmas.{history_cut}
 use Rattle.tb_cause.specs.Asked.{AreAskedAt, asks, gives_any}

@@ -15,7 +15,7 @@ use Rattle.tb_model.specs.Needs.{needs, step_of}
 use Rattle.tb_laws.proofs.CausesLemmas.{one_pass}
 use Rattle.tb_model.proofs.LeastLemmas.{later_not_step}
 use Rattle.tb_model.proofs.RemovalLemmas.{its_step}
-use Rattle.tb_core.specs.declared.entry.Entry.{Entry}
+use Rattle.tb_core.specs.Entries.{Entry}
 use Rattle.tb_core.specs.Scans.{history_of, step_at}
 use Rattle.tb_core.proofs.FirstLemmas.{step_read}
 use Rattle.tb_core.proofs.ScanLemmas.{history_cut, history_more}

@@ -2,7 +2,7 @@
 use Rattle.std.proofs.Common.{◌≡◌, ◌<◌, ◌≤◌, ◌+◌, ◌-◌, ℕ, List, [], ◌∷◌, ◌++◌, Bool, true, false, ◌||◌, length, take, get_or, refl, sym, ap, ◌∙◌, subst, arith}
 use Rattle.std.specs.List.{All, AllByRecursion}
 use Rattle.tb_model.specs.Causes.{some_needs}
-use Rattle.tb_core.specs.declared.entry.Entry.{Entry}
+use Rattle.tb_core.specs.Entries.{Entry}
 use Rattle.tb_core.specs.Scans.{AreLegal, history_of}
 use Rattle.tb_cause.specs.Asked.{AreAskedAt, asks, gives_any}
 use Rattle.tb_cause.specs.Chains.{placed_at}

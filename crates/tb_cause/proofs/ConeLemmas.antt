@@ -15,7 +15,7 @@ use Rattle.tb_model.proofs.FactsLemmas.{own_mine}
 use Rattle.tb_model.proofs.LeastLemmas.{gone_here}
 use Rattle.tb_model.proofs.RemovalLemmas.{own_grows, removed_none}
 use Rattle.tb_model.proofs.TestLemmas.{same_refl}
-use Rattle.tb_core.specs.declared.entry.Entry.{Entry}
+use Rattle.tb_core.specs.Entries.{Entry}
 use Rattle.tb_core.specs.Rolled.{removed_places, removed_steps}
 use Rattle.tb_core.specs.Scans.{history_of, step_at}
 use Rattle.tb_core.specs.Soundness.{departure}

@@ -1,14 +1,13 @@
 -- A scan of a task's actions from the newest, for a child of its innermost open group that passes a test.
-use Rattle.std.proofs.Common.{◌≡◌, ◌≢◌, ◌-◌, ◌+◌, arith, ℕ, zero, suc, List, [], ◌∷◌, Bool, true, false, ◌&&◌, ◌||◌, refl, sym, ap, ◌∙◌, drop, map, ◌≤◌, length, take, get_or}
+use Rattle.std.proofs.Common.{◌≡◌, ◌≢◌, ◌-◌, ◌+◌, arith, ℕ, zero, suc, List, [], ◌∷◌, Bool, true, false, ◌&&◌, ◌||◌, refl, sym, ap, ◌∙◌, drop, map}
 use Rattle.std.specs.List.{list_any}
 use Rattle.tb_model.specs.declared.action.Action.{Action}
 use Rattle.tb_model.specs.declared.spawn.Spawn.{Spawn as TheSpawn}
 use Rattle.tb_model.specs.declared.action.Action.TheVariants.{Spawn, Open, Close}
+use Rattle.tb_model.specs.declared.event.Event.{Event}
 use Rattle.tb_model.specs.Names.{Name}
-use Rattle.tb_model.specs.Facts.{groups, innermost, is_of, own}
-use Rattle.tb_core.specs.declared.entry.Entry.{Entry}
-use Rattle.tb_core.specs.Scans.{history_of}
-use Rattle.tb_core.proofs.ScanLemmas.{own_newest}
+use Rattle.tb_model.specs.Facts.{History, groups, innermost, is_of, own}
+use Rattle.tb_model.proofs.FactsLemmas.{own_mine}
 
 -- one of these groups is open
 abbrev pub some_open : List (List Name) → Bool
@@ -79,51 +78,50 @@ at_open_inside : (closed : ℕ) (found : Bool) (acts : List Action) (f : Name �
 at_open_inside zero found acts f h = absurd (h refl)
 at_open_inside (suc k) found acts f h = ap (λ n. member_behind n found acts f) (omega arith)
 
--- ---- the newest entry, where it is one of the task's
+-- ---- the newest event, where it is one of the task's
 
-module _ (t : Name) (f : Name → Bool) (rest : List Entry) (e : Entry) (some : 1 ≤ length rest) (here : e ≡ get_or rest (length rest - 1) e) (mine : is_of t e.event ≡ true) where
+module _ (t : Name) (f : Name → Bool) (H G : History) (v : Event) (more : H ≡ v ∷ G) (mine : is_of t v ≡ true) where
   -- the actions in front of it
   abbrev older : List Action
-  older = own t (history_of (take (length rest - 1) rest))
+  older = own t G
+
+  newest : (a : Action) → v.action ≡ a → own t H ≡ a ∷ older
+  newest a is = ap (own t) more ∙ own_mine t v G mine ∙ ap (λ b. b ∷ older) is
 
   -- it opened a group that is closed
-  pub behind_open : (closed : ℕ) (found : Bool) → e.event.action ≡ Open → closed ≢ 0 → member_behind (closed - 1) found older f ≡ member_behind closed found (own t (history_of rest)) f
-  behind_open closed found is inside =
-      sym (ap (λ acts. member_behind closed found acts f) (own_newest t rest e Open some here mine is) ∙ at_open_inside closed found older f inside)
+  pub behind_open : (closed : ℕ) (found : Bool) → v.action ≡ Open → closed ≢ 0 → member_behind (closed - 1) found older f ≡ member_behind closed found (own t H) f
+  behind_open closed found is inside = sym (ap (λ acts. member_behind closed found acts f) (newest Open is) ∙ at_open_inside closed found older f inside)
 
   -- it closed one
-  pub behind_close : (closed : ℕ) (found : Bool) → e.event.action ≡ Close → member_behind (closed + 1) found older f ≡ member_behind closed found (own t (history_of rest)) f
+  pub behind_close : (closed : ℕ) (found : Bool) → v.action ≡ Close → member_behind (closed + 1) found older f ≡ member_behind closed found (own t H) f
   behind_close closed found is =
       let one : suc closed ≡ closed + 1 = omega arith in
       sym
-      (ap (λ acts. member_behind closed found acts f) (own_newest t rest e Close some here mine is)
+      (ap (λ acts. member_behind closed found acts f) (newest Close is)
       ∙ at_close closed found older f
       ∙ ap (λ k. member_behind k found older f) one)
 
   -- it generated one that m is within
-  pub behind_member : (closed : ℕ) (found : Bool) (s : TheSpawn) → e.event.action ≡ Spawn s
-      → f s.child ≡ true → member_behind closed true older f ≡ member_behind closed found (own t (history_of rest)) f
+  pub behind_member : (closed : ℕ) (found : Bool) (s : TheSpawn) → v.action ≡ Spawn s → f s.child ≡ true → member_behind closed true older f ≡ member_behind closed found (own t H) f
   behind_member closed found s is within =
       sym
-      (ap (λ acts. member_behind closed found acts f) (own_newest t rest e (Spawn s) some here mine is)
+      (ap (λ acts. member_behind closed found acts f) (newest (Spawn s) is)
       ∙ at_spawn closed found s older f
       ∙ ap (λ b. member_behind closed b older f) (ap (λ b. found || b) within ∙ or_true found))
 
   -- or another
-  pub behind_other : (closed : ℕ) (found : Bool) (s : TheSpawn) → e.event.action ≡ Spawn s
-      → f s.child ≡ false → member_behind closed found older f ≡ member_behind closed found (own t (history_of rest)) f
+  pub behind_other : (closed : ℕ) (found : Bool) (s : TheSpawn) → v.action ≡ Spawn s → f s.child ≡ false → member_behind closed found older f ≡ member_behind closed found (own t H) f
   behind_other closed found s is within =
       sym
-      (ap (λ acts. member_behind closed found acts f) (own_newest t rest e (Spawn s) some here mine is)
+      (ap (λ acts. member_behind closed found acts f) (newest (Spawn s) is)
       ∙ at_spawn closed found s older f
       ∙ ap (λ b. member_behind closed b older f) (ap (λ b. found || b) within ∙ or_false found))
 
   -- it generated one, whatever that one is
-  pub behind_spawn : (closed : ℕ) (found : Bool) (s : TheSpawn) → e.event.action ≡ Spawn s
-      → member_behind closed (found || f s.child) older f ≡ member_behind closed found (own t (history_of rest)) f
+  pub behind_spawn : (closed : ℕ) (found : Bool) (s : TheSpawn) → v.action ≡ Spawn s → member_behind closed (found || f s.child) older f ≡ member_behind closed found (own t H) f
   behind_spawn closed found s is =
       sym
-      (ap (λ acts. member_behind closed found acts f) (own_newest t rest e (Spawn s) some here mine is)
+      (ap (λ acts. member_behind closed found acts f) (newest (Spawn s) is)
       ∙ at_spawn closed found s older f)
 
 -- ---- a group that is open

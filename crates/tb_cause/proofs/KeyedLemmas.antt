@@ -15,7 +15,7 @@ use Rattle.tb_model.specs.Needs.{needs, is_removed, removed}
 use Rattle.tb_model.proofs.NeighboursLemmas.{legal_below}
 use Rattle.tb_model.proofs.SettledLemmas.{items_settled}
 use Rattle.tb_model.proofs.TestLemmas.{any_weaker, same_refl, same_true}
-use Rattle.tb_core.specs.declared.entry.Entry.{Entry}
+use Rattle.tb_core.specs.Entries.{Entry}
 use Rattle.tb_core.specs.Scans.{AreLegal, history_of}
 use Rattle.tb_core.proofs.NeedsLemmas.{items_named}
 use Rattle.tb_core.proofs.ScanLemmas.{history_cut, history_more}

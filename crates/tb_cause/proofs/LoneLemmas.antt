@@ -14,7 +14,7 @@ use Rattle.tb_model.specs.Legal.{Continues}
 use Rattle.tb_model.specs.Needs.{needs}
 use Rattle.tb_model.specs.State.{spawn_of}
 use Rattle.tb_model.proofs.FactsLemmas.{no_acts, not_again, spawned_by}
-use Rattle.tb_core.specs.declared.entry.Entry.{Entry}
+use Rattle.tb_core.specs.Entries.{Entry}
 use Rattle.tb_core.specs.Scans.{AreLegal, history_of}
 use Rattle.tb_cause.specs.Indexes.{placed_action, items_told}
 use Rattle.tb_cause.specs.Keys.{Key, Task, gives, held_by, held_any, action_any, wait_any, items_any, item_any}

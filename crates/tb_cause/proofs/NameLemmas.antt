@@ -7,7 +7,7 @@ use Rattle.tb_model.specs.Names.{Name, same_name}
 use Rattle.tb_model.specs.Facts.{History, own, is_of, prepend_if}
 use Rattle.tb_model.specs.Needs.{step_of}
 use Rattle.tb_model.proofs.TestLemmas.{same_true}
-use Rattle.tb_core.specs.declared.entry.Entry.{Entry}
+use Rattle.tb_core.specs.Entries.{Entry}
 use Rattle.tb_core.specs.Scans.{history_of, step_at}
 use Rattle.tb_core.proofs.FirstLemmas.{step_read}
 use Rattle.tb_core.proofs.ScanLemmas.{history_more}

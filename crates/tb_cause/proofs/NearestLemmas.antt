@@ -11,7 +11,7 @@ use Rattle.tb_model.specs.Causes.{Placed, some_needs}
 use Rattle.tb_model.specs.Closure.{Needs, directly, by_way}
 use Rattle.tb_model.specs.Needs.{needs, step_of}
 use Rattle.tb_model.proofs.LeastLemmas.{complete}
-use Rattle.tb_core.specs.declared.entry.Entry.{Entry}
+use Rattle.tb_core.specs.Entries.{Entry}
 use Rattle.tb_core.specs.Scans.{history_of}
 use Rattle.tb_core.proofs.ScanLemmas.{history_cut, history_more}
 use Rattle.tb_races.specs.Immediate.{as_cause, cause, needs_by_way}

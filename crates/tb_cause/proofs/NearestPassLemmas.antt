@@ -8,7 +8,7 @@ use Rattle.tb_model.specs.Names.{Name}
 use Rattle.tb_model.specs.Facts.{History, own}
 use Rattle.tb_model.specs.Causes.{Placed, some_needs}
 use Rattle.tb_model.specs.Needs.{needs}
-use Rattle.tb_core.specs.declared.entry.Entry.{Entry}
+use Rattle.tb_core.specs.Entries.{Entry}
 use Rattle.tb_core.specs.Scans.{AreLegal, history_of}
 use Rattle.tb_races.specs.Immediate.{cause}
 use Rattle.tb_cause.specs.Asked.{AreAskedAt, asks, gives_any}

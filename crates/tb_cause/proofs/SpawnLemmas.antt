@@ -5,7 +5,7 @@ use Rattle.std.proofs.lemmas.List.{take_all}
 use Rattle.tb_model.specs.Names.{Name, same_name}
 use Rattle.tb_model.specs.Facts.{History, is_spawn_of}
 use Rattle.tb_model.specs.State.{spawn_of, items_in}
-use Rattle.tb_core.specs.declared.entry.Entry.{Entry}
+use Rattle.tb_core.specs.Entries.{Entry}
 use Rattle.tb_core.specs.Scans.{history_of}
 use Rattle.tb_core.proofs.ScanLemmas.{history_more}
 use Rattle.tb_cause.specs.Indexes.{AreSpawns, placed_action}

@@ -4,10 +4,9 @@ use Rattle.std.proofs.lemmas.Bool.{eqb-true, eq-eqb}
 use Rattle.std.proofs.lemmas.Option.{slice_get_read}
 use Rattle.tb_model.specs.declared.action.Action.{Action}
 use Rattle.tb_model.specs.declared.action.Action.TheVariants.{Spawn}
-use Rattle.tb_model.specs.declared.event.Event.{Event}
 use Rattle.tb_model.specs.Names.{Name, same_name}
 use Rattle.tb_model.specs.Facts.{History, own, is_of, prepend_if}
-use Rattle.tb_core.specs.declared.entry.Entry.{Entry}
+use Rattle.tb_core.specs.Entries.{Entry}
 use Rattle.tb_core.specs.Scans.{history_of}
 use Rattle.tb_core.proofs.ScanLemmas.{history_more}
 use Rattle.tb_cause.specs.Indexes.{AreHeld}
@@ -65,9 +64,9 @@ module _ (entries : List Entry) (at : ℕ) (e : Entry) (within : at < length ent
           by true z = so_far.later p (omega (arith, eqb-true at p z))
           by false z = refl
 
--- the event read at a place, and the entries in front of it, hold as the entry there does
-pub held_here : (entries : List Entry) (at : ℕ) → at < length entries → (v : Event) → ((e : Entry) → e ≡ get_or entries at e → v ≡ e.event) → (front : List Entry) → front ≡ take at entries → (o : Option Name)
-    → ((e : Entry) → e ≡ get_or entries at e → o ≡ held_by (own e.event.task (history_of (take at entries)))) → o ≡ held_by (own v.task (history_of front))
-held_here entries at within v read front cut o told =
+-- the task read at a place, and the entries in front of it, hold as the entry there does
+pub held_here : (entries : List Entry) (at : ℕ) → at < length entries → (t : Name) → ((e : Entry) → e ≡ get_or entries at e → t ≡ e.event.task) → (front : List Entry) → front ≡ take at entries → (o : Option Name)
+    → ((e : Entry) → e ≡ get_or entries at e → o ≡ held_by (own e.event.task (history_of (take at entries)))) → o ≡ held_by (own t (history_of front))
+held_here entries at within t read front cut o told =
     let w = there entries at within in
-    told w.0 w.1 ∙ sym (ap₂ (λ (u : Event) (es : List Entry). held_by (own u.task (history_of es))) (read w.0 w.1) cut)
+    told w.0 w.1 ∙ sym (ap₂ (λ (u : Name) (es : List Entry). held_by (own u (history_of es))) (read w.0 w.1) cut)

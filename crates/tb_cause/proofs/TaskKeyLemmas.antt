@@ -1,22 +1,21 @@
 -- Whether there is a key of an entry's task, told from one entry to the next.
 use Rattle.std.proofs.Common.{◌≡◌, ◌<◌, ◌+◌, ◌-◌, ℕ, List, Bool, true, false, ◌||◌, get_or, length, refl, sym, ap, ◌∙◌, subst, arith}
 use Rattle.std.proofs.lemmas.Bool.{or_left}
-use Rattle.tb_model.specs.declared.event.Event.{Event}
 use Rattle.tb_model.specs.declared.item.Item.{Item as AnItem}
 use Rattle.tb_model.specs.Names.{Name, same_name}
-use Rattle.tb_model.specs.Facts.{History}
+use Rattle.tb_model.specs.Facts.{History, is_of}
 use Rattle.tb_model.proofs.TestLemmas.{same_refl, same_true}
-use Rattle.tb_core.specs.declared.entry.Entry.{Entry}
+use Rattle.tb_core.specs.Entries.{Entry}
 use Rattle.tb_cause.specs.Asked.{asks, same_key}
 use Rattle.tb_cause.specs.Keys.{Key, Task, Ended, Parent, Within, Item, Stored, Touched, Printed, IsOfTask, gives, own_key}
 use Rattle.tb_cause.proofs.ConeLemmas.{there}
 
 -- two entries of one task
-pub of_same_task : (entries : List Entry) (p q : ℕ) (f : Key → Bool) (b : Bool) (u v : Event) → p < length entries → IsOfTask entries p f b
-    → ((e : Entry) → e ≡ get_or entries p e → u ≡ e.event) → ((e : Entry) → e ≡ get_or entries q e → v ≡ e.event) → same_name v.task u.task ≡ true → IsOfTask entries q f b
-of_same_task entries p q f b u v within of at_p at_q same e is =
+pub of_same_task : (entries : List Entry) (p q : ℕ) (f : Key → Bool) (b : Bool) → p < length entries → IsOfTask entries p f b
+    → ((e d : Entry) → e ≡ get_or entries q e → d ≡ get_or entries p d → is_of e.event.task d.event ≡ true) → IsOfTask entries q f b
+of_same_task entries p q f b within of same e is =
     let w = there entries p within in
-    of w.0 w.1 ∙ ap (λ t. f (Task t)) (ap (λ (x : Event). x.task) (sym (at_p w.0 w.1)) ∙ sym (same_true v.task u.task same) ∙ ap (λ (x : Event). x.task) (at_q e is))
+    of w.0 w.1 ∙ ap (λ t. f (Task t)) (same_true w.0.event.task e.event.task (same e w.0 is w.1))
 
 -- what is known to be there needn't be put there
 pub own_known : (t : Name) (f : Key → Bool) → f (Task t) ≡ true → (k : Key) → f k ≡ (own_key t k || f k)

@@ -10,7 +10,7 @@ use Rattle.tb_model.specs.declared.place.Place.TheVariants.{Cell, All as Everywh
 use Rattle.tb_model.specs.declared.step_id.StepId.{StepId}
 use Rattle.tb_model.specs.Names.{Name, same_name}
 use Rattle.tb_model.specs.Facts.{History, is_end}
-use Rattle.tb_core.specs.declared.entry.Entry.{Entry}
+use Rattle.tb_core.specs.Entries.{Entry}
 use Rattle.tb_core.specs.Scans.{history_of, step_at}
 use Rattle.tb_cause.specs.Chains.{causes_of, placed_at}
 use Rattle.tb_cause.specs.Indexes.{items_told}

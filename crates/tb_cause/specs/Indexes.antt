@@ -7,7 +7,7 @@ use Rattle.tb_model.specs.declared.step_id.StepId.{StepId}
 use Rattle.tb_model.specs.Names.{Name, same_name}
 use Rattle.tb_model.specs.Facts.{own}
 use Rattle.tb_model.specs.State.{spawn_of, items_in}
-use Rattle.tb_core.specs.declared.entry.Entry.{Entry}
+use Rattle.tb_core.specs.Entries.{Entry}
 use Rattle.tb_core.specs.Scans.{AreLegal, history_of, step_at}
 use Rattle.tb_cause.specs.Keys.{held_by}
 

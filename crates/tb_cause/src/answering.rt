@@ -3,14 +3,14 @@
 ghost use Rattle.std.specs.Prelude.{◌≡◌, ◌<◌, length, take, get_or};
 ghost use Rattle.std.specs.Option.{option_copied};
 ghost use Rattle.tb_model.specs.Facts.{own};
-ghost use Rattle.tb_core.specs.declared.entry.Entry.{Entry as AnEntry};
+ghost use Rattle.tb_core.specs.Entries.{Entry as AnEntry};
 ghost use Rattle.tb_core.specs.Scans.{history_of};
 ghost use Rattle.tb_cause.specs.Keys.{has, held_by};
 ghost use Rattle.tb_cause.specs.Nearest.{action_answered, answered, held_answered};
 
 use crate::indexed::Indexed;
 use crate::keys::Keys;
-use tb_model::{Action, Event, TaskName};
+use tb_model::{Action, TaskName};
 
 /// Whether each entry that gives a key which the step at this place takes gives one of these keys.
 /// Of a start and of a group's end it isn't said.
@@ -19,16 +19,22 @@ pub(crate) fn is_answered_at(keys: &Keys, indexed: &Indexed<'_>, at: usize) -> b
     ensures { (v : AnEntry) → v ≡ get_or indexed.now at v → result ≡
         answered (has keys.now) (held_by (own v.event.task (history_of (take at indexed.now)))) v.event }
 {
-    is_answered(keys, indexed.held_at(at), indexed.event_at(at))
+    is_answered(
+        keys,
+        indexed.held_at(at),
+        indexed.task_at(at),
+        indexed.action_at(at),
+    )
 }
 
-/// The same of a step which stands at an undeferred child if one is named.
-fn is_answered(keys: &Keys, held: Option<&TaskName>, event: &Event) -> bool
-    ensures { result ≡ answered (has keys.now) (option_copied held.entry) event.now }
+/// The same of the task's action, which stands at an undeferred child if one is named.
+fn is_answered(keys: &Keys, held: Option<&TaskName>, task: &TaskName, action: &Action) -> bool
+    ensures { result ≡ answered (has keys.now) (option_copied held.entry)
+        (record { task = task.now; action = action.now }) }
 {
     is_held_answered(keys, held)
-        && keys.tasks.contains(&event.task)
-        && is_action_answered(keys, &event.task, &event.action)
+        && keys.tasks.contains(task)
+        && is_action_answered(keys, task, action)
 }
 
 /// The same of the child's end, which is a step of the child.

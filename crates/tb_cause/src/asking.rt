@@ -11,7 +11,7 @@ use crate::cause_refusal::CauseRefusal;
 use crate::causes::causes_of;
 use crate::finding::cone_in;
 use std::alloc::Global;
-use tb_core::{Core, Entry, place_in};
+use tb_core::{Core, History, place_in};
 use tb_model::StepId;
 
 /// The steps that need this one, directly or through others, in the order of the history.
@@ -22,8 +22,8 @@ pub fn needed_by(alloc: Global, core: &Core, step: &StepId) -> Result<Vec<StepId
         ↔ IsFalse (stands step.now (history core.now.run)) }
 {
     let entries = core.legal_entries();
-    let at = place_told(core, entries, step)?;
-    match cone_in(alloc, core, entries, at, step) {
+    let at = place_told(core, &entries, step)?;
+    match cone_in(alloc, core, &entries, at, step) {
         Ok(cone) => Ok(behind_first(cone.steps)),
         Err(_) => Err(CauseRefusal::Memory),
     }
@@ -37,8 +37,8 @@ pub fn needs(alloc: Global, core: &Core, step: &StepId) -> Result<Vec<StepId>, C
         ↔ IsFalse (stands step.now (history core.now.run)) }
 {
     let entries = core.legal_entries();
-    let at = place_told(core, entries, step)?;
-    match causes_of(alloc, entries, at) {
+    let at = place_told(core, &entries, step)?;
+    match causes_of(alloc, &entries, at) {
         Ok(steps) => Ok(steps),
         Err(_) => Err(CauseRefusal::Memory),
     }
@@ -46,7 +46,7 @@ pub fn needs(alloc: Global, core: &Core, step: &StepId) -> Result<Vec<StepId>, C
 
 /// The place of the step among these, which are the core's entries. It isn't looked for: the places
 /// of its task's steps tell it.
-pub fn place_among(core: &Core, entries: &[Entry], step: &StepId) -> Option<usize>
+pub fn place_among(core: &Core, entries: &History<'_>, step: &StepId) -> Option<usize>
     requires { map departure (reverse entries.now) ≡ core.now.run.steps }
     ensures there { IsSome result ↔ IsTrue (stands step.now (history core.now.run)) }
     ensures step { IfSome result (λ at. step_at entries.now at ≡ Some step.now) }
@@ -55,7 +55,7 @@ pub fn place_among(core: &Core, entries: &[Entry], step: &StepId) -> Option<usiz
     place_in(core.events_of(&step.task), entries, step)
 }
 
-fn place_told(core: &Core, entries: &[Entry], step: &StepId) -> Result<usize, CauseRefusal>
+fn place_told(core: &Core, entries: &History<'_>, step: &StepId) -> Result<usize, CauseRefusal>
     requires { map departure (reverse entries.now) ≡ core.now.run.steps }
     ensures place { IfOk result (λ at. step_at entries.now at ≡ Some step.now) }
     ensures within { IfOk result (λ at. at < length entries.now) }

@@ -2,7 +2,7 @@
 
 ghost use Rattle.std.specs.Prelude.{◌≡◌, ◌<◌, ◌≤◌, ◌∷◌, [], ◌++◌, ◌||◌, IfOk, IsTrue, OnOk, Some, false, true, length, reverse, take, get_or};
 ghost use Rattle.tb_model.specs.declared.step_id.StepId.{StepId};
-ghost use Rattle.tb_core.specs.declared.entry.Entry.{Entry as AnEntry};
+ghost use Rattle.tb_core.specs.Entries.{Entry as AnEntry};
 ghost use Rattle.tb_core.specs.Scans.{AreLegal, history_of, step_at};
 ghost use Rattle.tb_cause.specs.Asked.{AreAskedAt, AreCausesAt, asks, gives_any};
 ghost use Rattle.tb_cause.specs.Chains.{causes_of};
@@ -15,13 +15,13 @@ use crate::keys::Keys;
 use crate::names::names_at;
 use crate::noting::note;
 use std::alloc::{AllocError, Global};
-use tb_core::Entry;
+use tb_core::History;
 use tb_model::StepId;
 
 /// The steps that the one at this place needs, directly or through others.
 pub(crate) fn causes_of(
     alloc: Global,
-    entries: &[Entry],
+    entries: &History<'_>,
     at: usize,
 ) -> Result<Vec<StepId>, AllocError>
     requires legal { AreLegal entries.now }
@@ -30,12 +30,12 @@ pub(crate) fn causes_of(
     ensures { IfOk result (λ steps. (step : StepId) → step_at entries.now at ≡ Some step →
         steps.items ≡ reverse (causes_of step (history_of entries.now))) }
 {
-    let steps = causes_among(alloc, &entries[..at + 1], at)?;
+    let steps = causes_among(alloc, &entries.front(at + 1), at)?;
     Ok(steps)
 }
 
 /// The same, where nothing that stands behind the step need be there.
-fn causes_among(alloc: Global, entries: &[Entry], at: usize) -> Result<Vec<StepId>, AllocError>
+fn causes_among(alloc: Global, entries: &History<'_>, at: usize) -> Result<Vec<StepId>, AllocError>
     requires legal { AreLegal entries.now }
     requires bound { length entries.now ≤ 1000000 }
     requires within { at < length entries.now }
@@ -48,7 +48,7 @@ fn causes_among(alloc: Global, entries: &[Entry], at: usize) -> Result<Vec<StepI
 }
 
 /// The places of the steps that the one at this place needs.
-fn places_in_front(alloc: Global, entries: &[Entry], at: usize) -> Result<Vec<u32>, AllocError>
+fn places_in_front(alloc: Global, entries: &History<'_>, at: usize) -> Result<Vec<u32>, AllocError>
     requires legal { AreLegal entries.now }
     requires bound { length entries.now ≤ 1000000 }
     requires within { at < length entries.now }
@@ -120,8 +120,9 @@ pub(crate) fn is_asked(
     ensures { IfOk result (λ b. (e : AnEntry) → e ≡ get_or indexed.now at e →
         b ≡ gives_any (has keys.now) (items_told indexed.now) e.event) }
 {
-    let event = indexed.event_at(at);
-    let found = gives_some(keys, indexed, event, of_task)?;
+    let task = indexed.task_at(at);
+    let action = indexed.action_at(at);
+    let found = gives_some(keys, indexed, task, action, of_task)?;
     Ok(found)
 }
 
@@ -158,8 +159,10 @@ pub(crate) fn note_at(
         ≡ (asks (items_told indexed.now) (history_of (take at indexed.now)) e.event k || has keys.old k)) }
 {
     indexed.history_is_legal();
-    let event = indexed.event_at(at);
+    let task = indexed.task_at(at);
+    let action = indexed.action_at(at);
     let held = indexed.held_at(at);
-    note(keys, indexed, indexed.front(at), event, held, of_task)?;
+    let front = indexed.front(at);
+    note(keys, indexed, &front, task, action, held, of_task)?;
     Ok(())
 }

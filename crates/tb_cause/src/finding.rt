@@ -3,7 +3,7 @@
 ghost use Rattle.std.specs.Prelude.{◌≡◌, ◌<◌, ◌≤◌, ◌+◌, ◌∷◌, [], ◌++◌, ◌||◌, IfOk, IsTrue, OnOk, Some, false, true, length, map, reverse, take, get_or};
 ghost use Rattle.std.specs.List.{All};
 ghost use Rattle.tb_model.specs.declared.step_id.StepId.{StepId};
-ghost use Rattle.tb_core.specs.declared.entry.Entry.{Entry as AnEntry};
+ghost use Rattle.tb_core.specs.Entries.{Entry as AnEntry};
 ghost use Rattle.tb_core.specs.Scans.{AreLegal, history_of, step_at};
 ghost use Rattle.tb_core.specs.Soundness.{departure};
 ghost use Rattle.tb_cause.specs.Chains.{AreAllBehind, AreGivenAt, IsCone};
@@ -17,13 +17,13 @@ use crate::keys::Keys;
 use crate::names::{names_at, names_in};
 use crate::taking::takes_some;
 use std::alloc::{AllocError, Global};
-use tb_core::{Core, Entry};
+use tb_core::{Core, History};
 use tb_model::StepId;
 
 /// The step at this place with all that need it.
 pub fn cone_of(
     alloc: Global,
-    entries: &[Entry],
+    entries: &History<'_>,
     at: usize,
     step: &StepId,
 ) -> Result<Cone, AllocError>
@@ -43,7 +43,7 @@ pub fn cone_of(
 pub fn cone_in(
     alloc: Global,
     core: &Core,
-    entries: &[Entry],
+    entries: &History<'_>,
     at: usize,
     step: &StepId,
 ) -> Result<Cone, AllocError>
@@ -63,7 +63,7 @@ pub fn cone_in(
 /// The places of the step at this place and of all that need it.
 fn places_behind(
     alloc: Global,
-    entries: &[Entry],
+    entries: &History<'_>,
     at: usize,
     step: &StepId,
 ) -> Result<Vec<u32>, AllocError>
@@ -83,7 +83,7 @@ fn places_behind(
 /// The same of the newest step: nothing can need it, so nothing is looked up.
 fn place_alone(
     alloc: Global,
-    entries: &[Entry],
+    entries: &History<'_>,
     at: usize,
     _step: &StepId,
 ) -> Result<Vec<u32>, AllocError>
@@ -164,10 +164,11 @@ fn goes(keys: &Keys, indexed: &Indexed<'_>, later: usize, of_task: bool) -> Resu
     ensures { IfOk result (λ b. (e : AnEntry) → e ≡ get_or indexed.now later e →
         b ≡ takes_any (has keys.now) (items_told indexed.now) (history_of (take later indexed.now)) e.event) }
 {
-    let event = indexed.event_at(later);
+    let task = indexed.task_at(later);
+    let action = indexed.action_at(later);
     let held = indexed.held_at(later);
     let front = indexed.front(later);
-    let found = takes_some(keys, indexed, front, event, held, of_task)?;
+    let found = takes_some(keys, indexed, &front, task, action, held, of_task)?;
     Ok(found)
 }
 
@@ -187,8 +188,9 @@ fn enter(
     ensures keys { OnOk result ((k : Key) (e : AnEntry) → e ≡ get_or indexed.now at e →
         has keys.new k ≡ (gives (items_told indexed.now) e.event k || has keys.old k)) }
 {
-    let event = indexed.event_at(at);
-    give(keys, indexed, event, of_task)?;
+    let task = indexed.task_at(at);
+    let action = indexed.action_at(at);
+    give(keys, indexed, task, action, of_task)?;
     places.push(indexed.place(at))?;
     Ok(())
 }

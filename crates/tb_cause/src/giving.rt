@@ -12,25 +12,27 @@ use crate::indexed::Indexed;
 use crate::keys::{Keys, has_item, put, put_cell, put_item};
 use indexmap::IndexSet;
 use std::alloc::AllocError;
-use tb_model::{Action, Event, Item, Kind, Place, TaskName};
+use tb_model::{Action, Item, Kind, Place, TaskName};
 
-/// Puts the keys that the event gives; where `of_task` is set, there is a key of its task.
+/// Puts the keys that the task's action gives; where `of_task` is set, there is a key of the task.
 pub(crate) fn give(
     keys: &mut Keys,
     indexed: &Indexed<'_>,
-    event: &Event,
+    task: &TaskName,
+    action: &Action,
     of_task: bool,
 ) -> Result<(), AllocError>
     requires upward { IsUpward (λ t. has keys.old (Within t)) }
-    requires of_task { IsTrue of_task → has keys.old (Task event.now.task) ≡ true }
+    requires of_task { IsTrue of_task → has keys.old (Task task.now) ≡ true }
     ensures { OnOk result ((k : Key) →
-        has keys.new k ≡ (gives (items_told indexed.now) event.now k || has keys.old k)) }
+        has keys.new k ≡ (gives (items_told indexed.now) (record { task = task.now; action = action.now }) k
+        || has keys.old k)) }
 {
-    give_own(keys, &event.task, of_task)?;
-    give_action(keys, &event.action)?;
-    if event.action.is_end() {
-        give_over(keys, &event.task)?;
-        give_items(keys, &event.task, indexed.items_of(&event.task))?;
+    give_own(keys, task, of_task)?;
+    give_action(keys, action)?;
+    if action.is_end() {
+        give_over(keys, task)?;
+        give_items(keys, task, indexed.items_of(task))?;
     }
     Ok(())
 }
@@ -155,26 +157,29 @@ pub(crate) fn number_of(kind: Kind) -> u32
     }
 }
 
-/// Whether the event gives one of the keys; `of_task` says whether there is a key of its task.
+/// Whether the task's action gives one of the keys; `of_task` says whether there is a key of the
+/// task.
 pub(crate) fn gives_some(
     keys: &Keys,
     indexed: &Indexed<'_>,
-    event: &Event,
+    task: &TaskName,
+    action: &Action,
     of_task: bool,
 ) -> Result<bool, AllocError>
-    requires { of_task ≡ has keys.now (Task event.now.task) }
-    ensures { IfOk result (λ b. b ≡ gives_any (has keys.now) (items_told indexed.now) event.now) }
+    requires { of_task ≡ has keys.now (Task task.now) }
+    ensures { IfOk result (λ b. b ≡ gives_any (has keys.now) (items_told indexed.now)
+        (record { task = task.now; action = action.now })) }
 {
-    if of_task || gives_by_action(keys, &event.action) {
+    if of_task || gives_by_action(keys, action) {
         return Ok(true);
     }
-    if !event.action.is_end() {
+    if !action.is_end() {
         return Ok(false);
     }
-    if gives_by_over(keys, &event.task)? {
+    if gives_by_over(keys, task)? {
         return Ok(true);
     }
-    let found = gives_by_items(keys, &event.task, indexed.items_of(&event.task))?;
+    let found = gives_by_items(keys, task, indexed.items_of(task))?;
     Ok(found)
 }
 

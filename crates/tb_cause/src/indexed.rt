@@ -4,7 +4,7 @@ ghost use Rattle.std.specs.Prelude.{◌≡◌, ◌≤◌, ◌<◌, ◌+◌, ◌-
 ghost use Rattle.std.specs.Option.{option_copied};
 ghost use Rattle.tb_model.specs.Facts.{own};
 ghost use Rattle.tb_model.specs.State.{spawn_of};
-ghost use Rattle.tb_core.specs.declared.entry.Entry.{Entry as AnEntry};
+ghost use Rattle.tb_core.specs.Entries.{Entry as AnEntry};
 ghost use Rattle.tb_core.specs.Scans.{AreLegal, history_of};
 ghost use Rattle.tb_cause.specs.Indexes.{items_placed, items_told, placed_action};
 ghost use Rattle.tb_cause.specs.Keys.{IsOfTask, has, held_by};
@@ -16,13 +16,13 @@ use crate::standing::held_steps;
 use indexmap::IndexMap;
 use std::alloc::{AllocError, Global};
 use std::marker::Model;
-use tb_core::Entry;
-use tb_model::{Action, Event, Item, TaskName};
+use tb_core::History;
+use tb_model::{Action, Item, TaskName};
 
 /// The entries of a legal history, with what is looked up in them by place and by name.
 #[derive(Drop)]
 pub(crate) struct Indexed<'a> {
-    entries: &'a [Entry],
+    entries: History<'a>,
     // by the place of each step before which its task's newest step had generated an undeferred
     // child: that child
     held: IndexMap<u32, TaskName>,
@@ -34,19 +34,19 @@ impl<'a> Model for Indexed<'a> {
     ghost use Rattle.std.specs.Prelude.{List, nat_eq};
     ghost use Rattle.indexmap.specs.IndexMap.{get};
     ghost use Rattle.tb_model.specs.Names.{same_name};
-    ghost use Rattle.tb_core.specs.declared.entry.Entry.{Entry as AnEntry};
+    ghost use Rattle.tb_core.specs.Entries.{Entry as AnEntry};
     ghost use Rattle.tb_cause.specs.Indexes.{AreIndexed};
 
     ghost Value = { List AnEntry };
 
-    ghost view = { λ i. i.entries.now };
+    ghost view = { λ i. i.entries };
 
-    ghost invariant = { λ i. AreIndexed i.entries.now (get nat_eq i.held) (get same_name i.spawns) };
+    ghost invariant = { λ i. AreIndexed i.entries (get nat_eq i.held) (get same_name i.spawns) };
 }
 
 impl<'a> Indexed<'a> {
     /// Passes over the entries twice.
-    pub fn of(alloc: Global, entries: &'a [Entry]) -> Result<Indexed<'a>, AllocError>
+    pub fn of(alloc: Global, entries: &History<'a>) -> Result<Indexed<'a>, AllocError>
         requires legal { AreLegal entries.now }
         requires bound { length entries.now ≤ 1000000 }
         ensures { IfOk result (λ indexed. indexed ≡ entries.now) }
@@ -54,7 +54,7 @@ impl<'a> Indexed<'a> {
         let held = held_steps(alloc, entries)?;
         let spawns = spawns_of(alloc, entries)?;
         Ok(Indexed {
-            entries,
+            entries: entries.again(),
             held,
             spawns,
         })
@@ -65,7 +65,7 @@ impl<'a> Indexed<'a> {
         ensures legal { AreLegal self.now }
         ensures bound { length self.now ≤ 1000000 }
     {
-        let _entries = self.entries;
+        let _entries = &self.entries;
     }
 
     /// How many entries there are.
@@ -85,19 +85,27 @@ impl<'a> Indexed<'a> {
     }
 
     /// The entries in front of this place.
-    pub fn front(&self, at: usize) -> &[Entry]
+    pub fn front(&self, at: usize) -> History<'_>
         requires { at < length self.now }
-        ensures { result.now ≡ take at self.now }
+        ensures { result ≡ take at self.now }
     {
-        &self.entries[..at]
+        self.entries.front(at)
     }
 
-    /// The event of the entry at this place.
-    pub fn event_at(&self, at: usize) -> &Event
+    /// The task of the entry at this place.
+    pub fn task_at(&self, at: usize) -> &TaskName
         requires { at < length self.now }
-        ensures { (e : AnEntry) → e ≡ get_or self.now at e → result.now ≡ e.event }
+        ensures { (e : AnEntry) → e ≡ get_or self.now at e → result.now ≡ e.event.task }
     {
-        event_in(self.entries, at)
+        self.entries.task(at)
+    }
+
+    /// The action of the entry at this place.
+    pub fn action_at(&self, at: usize) -> &Action
+        requires { at < length self.now }
+        ensures { (e : AnEntry) → e ≡ get_or self.now at e → result.now ≡ e.event.action }
+    {
+        self.entries.action(at)
     }
 
     /// Whether there is a key of the task of the entry at this place.
@@ -105,7 +113,7 @@ impl<'a> Indexed<'a> {
         requires { at < length self.now }
         ensures { IsOfTask self.now at (has keys.now) result }
     {
-        has_task(&keys.tasks, &self.event_at(at).task)
+        has_task(&keys.tasks, self.task_at(at))
     }
 
     /// The same, where it is known of the entry in front of this place, which mostly is of the same
@@ -117,7 +125,7 @@ impl<'a> Indexed<'a> {
         requires last { IsOfTask self.now (at - 1) (has keys.now) of_last }
         ensures { IsOfTask self.now at (has keys.now) result }
     {
-        if self.event_at(at).task == self.event_at(at - 1).task {
+        if self.entries.are_of_one(at, at - 1) {
             return of_last;
         }
         self.is_of_task(keys, at)
@@ -131,7 +139,7 @@ impl<'a> Indexed<'a> {
         ensures { IsOfTask self.now at (has keys.now) result }
     {
         self.history_is_legal();
-        if self.event_at(at).task == self.event_at(at + 1).task {
+        if self.entries.are_of_one(at, at + 1) {
             return of_last;
         }
         self.is_of_task(keys, at)
@@ -162,25 +170,18 @@ impl<'a> Indexed<'a> {
         ensures { result.now ≡ items_told self.now task.now }
     {
         match self.spawn_of(task) {
-            Some(at) => items_at(self.entries, at),
+            Some(at) => items_at(&self.entries, at),
             None => &[],
         }
     }
 }
 
-fn event_in(entries: &[Entry], at: usize) -> &Event
-    requires { at < length entries.now }
-    ensures { (e : AnEntry) → e ≡ get_or entries.now at e → result.now ≡ e.event }
-{
-    &entries[at].event
-}
-
 /// The items that the spawn at this place names.
-fn items_at(entries: &[Entry], at: usize) -> &[Item]
+fn items_at<'a>(entries: &History<'a>, at: usize) -> &'a [Item]
     requires { at < length entries.now }
     ensures { result.now ≡ items_placed entries.now at }
 {
-    match &entries[at].event.action {
+    match entries.action(at) {
         Action::Spawn(spawned) => spawned.get().items.as_slice(),
         _ => &[],
     }

@@ -5,7 +5,7 @@ ghost use Rattle.std.specs.List.{All};
 ghost use Rattle.tb_model.specs.declared.step_id.StepId.{StepId};
 ghost use Rattle.tb_model.specs.Facts.{is_of};
 ghost use Rattle.tb_places.specs.Where.{places_where};
-ghost use Rattle.tb_core.specs.declared.entry.Entry.{Entry as AnEntry};
+ghost use Rattle.tb_core.specs.Entries.{Entry as AnEntry};
 ghost use Rattle.tb_core.specs.Renumbering.{events_in};
 ghost use Rattle.tb_core.specs.Scans.{step_at};
 ghost use Rattle.tb_core.specs.Soundness.{departure};
@@ -14,13 +14,13 @@ ghost use Rattle.tb_cause.specs.Indexes.{AreNumbers};
 use crate::counting::count_step;
 use indexmap::IndexMap;
 use std::alloc::{AllocError, Global};
-use tb_core::{Core, Entry, step_among, step_at};
+use tb_core::{Core, History, step_among, step_at};
 use tb_model::StepId;
 
 /// The names of the steps at these places. Where they are few, each is counted among the entries.
 pub(crate) fn names_at(
     alloc: Global,
-    entries: &[Entry],
+    entries: &History<'_>,
     places: &[u32],
 ) -> Result<Vec<StepId>, AllocError>
     requires bound { length entries.now ≤ 1000000 }
@@ -39,7 +39,7 @@ pub(crate) fn names_at(
 pub(crate) fn names_in(
     alloc: Global,
     core: &Core,
-    entries: &[Entry],
+    entries: &History<'_>,
     places: &[u32],
 ) -> Result<Vec<StepId>, AllocError>
     requires same { map departure (reverse entries.now) ≡ core.now.run.steps }
@@ -56,7 +56,7 @@ pub(crate) fn names_in(
 fn names_found(
     alloc: Global,
     core: &Core,
-    entries: &[Entry],
+    entries: &History<'_>,
     places: &[u32],
 ) -> Result<Vec<StepId>, AllocError>
     requires same { map departure (reverse entries.now) ≡ core.now.run.steps }
@@ -76,7 +76,7 @@ fn names_found(
 /// that was found last: mostly this one is the next of its task, and then it isn't searched for.
 fn name_found(
     core: &Core,
-    entries: &[Entry],
+    entries: &History<'_>,
     at: usize,
     near: &mut usize,
 ) -> Result<StepId, AllocError>
@@ -85,7 +85,7 @@ fn name_found(
     requires within { at < length entries.now }
     ensures { IfOk result (λ id. step_at entries.now at ≡ Some id) }
 {
-    let own = core.events_of(&entries[at].event.task);
+    let own = core.events_of(entries.task(at));
     if stands_next(own, at, *near) {
         *near += 1;
         return name_numbered(own, entries, at, *near);
@@ -106,7 +106,12 @@ fn stands_next(own: &[u32], at: usize, near: usize) -> bool
 }
 
 /// The name of the step at this place, which is the kth of those of its task.
-fn name_numbered(_own: &[u32], entries: &[Entry], at: usize, k: usize) -> Result<StepId, AllocError>
+fn name_numbered(
+    _own: &[u32],
+    entries: &History<'_>,
+    at: usize,
+    k: usize,
+) -> Result<StepId, AllocError>
     requires bound { length entries.now ≤ 1000000 }
     requires within { at < length entries.now }
     requires own { (e : AnEntry) → slice_get entries.now at ≡ Some e →
@@ -119,7 +124,11 @@ fn name_numbered(_own: &[u32], entries: &[Entry], at: usize, k: usize) -> Result
     Ok(id)
 }
 
-fn few_names(alloc: Global, entries: &[Entry], places: &[u32]) -> Result<Vec<StepId>, AllocError>
+fn few_names(
+    alloc: Global,
+    entries: &History<'_>,
+    places: &[u32],
+) -> Result<Vec<StepId>, AllocError>
     requires bound { length entries.now ≤ 1000000 }
     requires places { All (λ p. p < length entries.now) places.now }
     ensures { IfOk result (λ steps. map (λ (s : StepId). Some s) steps.items ≡ map (step_at entries.now) places.now) }
@@ -134,7 +143,7 @@ fn few_names(alloc: Global, entries: &[Entry], places: &[u32]) -> Result<Vec<Ste
 /// The same, where these are the numbers of all steps.
 fn names_by(
     alloc: Global,
-    entries: &[Entry],
+    entries: &History<'_>,
     places: &[u32],
     numbers: &[u32],
 ) -> Result<Vec<StepId>, AllocError>
@@ -150,17 +159,17 @@ fn names_by(
 }
 
 /// The name of the step at this place, which is its task's kth.
-fn named(entries: &[Entry], at: usize, k: u32) -> Result<StepId, AllocError>
+fn named(entries: &History<'_>, at: usize, k: u32) -> Result<StepId, AllocError>
     requires within { at < length entries.now }
     requires number { (id : StepId) → step_at entries.now at ≡ Some id → k ≡ id.k }
     ensures { IfOk result (λ id. step_at entries.now at ≡ Some id) }
 {
-    let task = entries[at].event.task.clone()?;
+    let task = entries.task(at).clone()?;
     Ok(StepId { task, k })
 }
 
 /// The number of each step among the steps of its task, from 1.
-fn numbers_of(alloc: Global, entries: &[Entry]) -> Result<Vec<u32>, AllocError>
+fn numbers_of(alloc: Global, entries: &History<'_>) -> Result<Vec<u32>, AllocError>
     requires bound { length entries.now ≤ 1000000 }
     ensures { IfOk result (λ numbers. AreNumbers entries.now (length entries.now) numbers.items) }
 {
@@ -168,7 +177,7 @@ fn numbers_of(alloc: Global, entries: &[Entry]) -> Result<Vec<u32>, AllocError>
     let mut numbers = Vec::with_capacity(alloc, entries.len())?;
     let mut near = 0_usize;
     for at in 0..entries.len() {
-        let k = count_step(&mut counts, &mut near, &entries[at].event.task)?;
+        let k = count_step(&mut counts, &mut near, entries.task(at))?;
         numbers.push(k)?;
     }
     Ok(numbers)

@@ -2,7 +2,7 @@
 //! pass ends where all that is left is needed by way of what was found.
 
 ghost use Rattle.std.specs.Prelude.{◌≡◌, ◌<◌, ◌≤◌, ◌+◌, ◌∷◌, [], ◌++◌, ◌&&◌, ◌||◌, not, IfOk, OnOk, IfSome, Some, false, length, reverse, get_or, if◌then◌else◌};
-ghost use Rattle.tb_core.specs.declared.entry.Entry.{Entry as AnEntry};
+ghost use Rattle.tb_core.specs.Entries.{Entry as AnEntry};
 ghost use Rattle.tb_core.specs.Scans.{AreLegal};
 ghost use Rattle.tb_cause.specs.Asked.{AreAskedAt, gives_any};
 ghost use Rattle.tb_cause.specs.Indexes.{items_told};
@@ -14,22 +14,26 @@ use crate::causes::{enter, is_asked, note_at};
 use crate::indexed::Indexed;
 use crate::keys::Keys;
 use std::alloc::{AllocError, Global};
-use tb_core::Entry;
+use tb_core::History;
 use tb_model::Action;
 
 /// The places of the steps that the one at this place needs immediately.
-pub fn nearest_places(alloc: Global, entries: &[Entry], at: usize) -> Result<Vec<u32>, AllocError>
+pub fn nearest_places(
+    alloc: Global,
+    entries: &History<'_>,
+    at: usize,
+) -> Result<Vec<u32>, AllocError>
     requires legal { AreLegal entries.now }
     requires bound { length entries.now ≤ 1000000 }
     requires within { at < length entries.now }
     ensures { IfOk result (λ places. AreNearest entries.now at places.items) }
 {
-    let places = nearest_among(alloc, &entries[..at + 1], at)?;
+    let places = nearest_among(alloc, &entries.front(at + 1), at)?;
     Ok(places)
 }
 
 /// The same, where nothing that stands behind the step need be there.
-fn nearest_among(alloc: Global, entries: &[Entry], at: usize) -> Result<Vec<u32>, AllocError>
+fn nearest_among(alloc: Global, entries: &History<'_>, at: usize) -> Result<Vec<u32>, AllocError>
     requires legal { AreLegal entries.now }
     requires bound { length entries.now ≤ 1000000 }
     requires within { at < length entries.now }
@@ -112,11 +116,11 @@ fn lone_spawn(indexed: &Indexed<'_>, at: usize) -> Option<usize>
     ensures { IfSome result (λ spawn. (spawn < at) × IsReach indexed.now at spawn (spawn + 1)) }
 {
     indexed.history_is_legal();
-    let event = indexed.event_at(at);
-    match &event.action {
+    match indexed.action_at(at) {
         Action::Start => {
-            let spawn = indexed.spawn_of(&event.task)?;
-            if indexed.items_of(&event.task).is_empty() && spawn < at {
+            let task = indexed.task_at(at);
+            let spawn = indexed.spawn_of(task)?;
+            if indexed.items_of(task).is_empty() && spawn < at {
                 Some(spawn)
             } else {
                 None

@@ -19,30 +19,32 @@ use crate::keys::{Keys, put, put_cell, put_item};
 use crate::taking::comes_behind;
 use indexmap::IndexSet;
 use std::alloc::AllocError;
-use tb_core::Entry;
-use tb_model::{Action, Event, Item, Kind, Place, TaskName};
+use tb_core::History;
+use tb_model::{Action, Item, Kind, Place, TaskName};
 
-/// Puts the keys that the event takes. It stands behind these entries, and at an undeferred child
-/// if one is named; where `of_task` is set, there is a key of its task.
+/// Puts the keys that the task's action takes. It stands behind these entries, and at an undeferred
+/// child if one is named; where `of_task` is set, there is a key of the task.
 pub(crate) fn note(
     keys: &mut Keys,
     indexed: &Indexed<'_>,
-    front: &[Entry],
-    event: &Event,
+    front: &History<'_>,
+    task: &TaskName,
+    action: &Action,
     held: Option<&TaskName>,
     of_task: bool,
 ) -> Result<(), AllocError>
-    requires held { option_copied held ≡ held_by (own event.now.task (history_of front.now)) }
-    requires opened { event.now.action ≡ Close → groups (own event.now.task (history_of front.now)) ≢ [] }
-    requires of_task { IsTrue of_task → has keys.old (Task event.now.task) ≡ true }
+    requires held { option_copied held ≡ held_by (own task.now (history_of front.now)) }
+    requires opened { action.now ≡ Close → groups (own task.now (history_of front.now)) ≢ [] }
+    requires of_task { IsTrue of_task → has keys.old (Task task.now) ≡ true }
     ensures { OnOk result ((k : Key) → has keys.new k
-        ≡ (asks (items_told indexed.now) (history_of front.now) event.now k || has keys.old k)) }
+        ≡ (asks (items_told indexed.now) (history_of front.now)
+        (record { task = task.now; action = action.now }) k || has keys.old k)) }
 {
-    note_by_items(keys, indexed, &event.task, &event.action)?;
-    note_by_wait(keys, front, &event.task, &event.action)?;
-    note_by_action(keys, &event.action)?;
+    note_by_items(keys, indexed, task, action)?;
+    note_by_wait(keys, front, task, action)?;
+    note_by_action(keys, action)?;
     note_held(keys, held)?;
-    note_own(keys, &event.task, of_task)?;
+    note_own(keys, task, of_task)?;
     Ok(())
 }
 
@@ -83,7 +85,7 @@ fn note_by_action(keys: &mut Keys, action: &Action) -> Result<(), AllocError>
 
 fn note_by_wait(
     keys: &mut Keys,
-    front: &[Entry],
+    front: &History<'_>,
     task: &TaskName,
     action: &Action,
 ) -> Result<(), AllocError>
@@ -104,7 +106,7 @@ fn note_by_wait(
     }
 }
 
-fn note_members(keys: &mut Keys, front: &[Entry], task: &TaskName) -> Result<(), AllocError>
+fn note_members(keys: &mut Keys, front: &History<'_>, task: &TaskName) -> Result<(), AllocError>
     requires opened { groups (own task.now (history_of front.now)) ≢ [] }
     ensures { OnOk result ((k : Key) → has keys.new k
         ≡ (group_key (innermost (groups (own task.now (history_of front.now)))) k || has keys.old k)) }
@@ -115,18 +117,18 @@ fn note_members(keys: &mut Keys, front: &[Entry], task: &TaskName) -> Result<(),
 /// Puts the children of the innermost open group.
 fn note_group(
     set: &mut IndexSet<TaskName>,
-    front: &[Entry],
+    front: &History<'_>,
     task: &TaskName,
 ) -> Result<(), AllocError>
     requires opened { groups (own task.now (history_of front.now)) ≢ [] }
     ensures { OnOk result ((q : Name) → contains same_name set.new q
         ≡ (list_any (λ c. same_name c q) (innermost (groups (own task.now (history_of front.now)))) || contains same_name set.old q)) }
 {
-    let mut rest = front;
+    let mut rest = front.again();
     let mut closed = 0_usize;
-    'back: while let [older @ .., newest] = rest {
-        if newest.event.task == *task {
-            match &newest.event.action {
+    'back: while let Some((older, its_task, action)) = rest.split_newest() {
+        if *its_task == *task {
+            match action {
                 Action::Open => {
                     if closed == 0 {
                         return Ok(());

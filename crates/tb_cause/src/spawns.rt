@@ -9,20 +9,20 @@ ghost use Rattle.tb_cause.specs.Indexes.{is_spawned_child, AreSpawns};
 
 use indexmap::IndexMap;
 use std::alloc::{AllocError, Global};
-use tb_core::Entry;
+use tb_core::History;
 use tb_model::{Action, TaskName};
 
 /// The place of the spawn of each task.
 pub(crate) fn spawns_of(
     alloc: Global,
-    entries: &[Entry],
+    entries: &History<'_>,
 ) -> Result<IndexMap<TaskName, u32>, AllocError>
     requires bound { length entries.now ≤ 1000000 }
     ensures { IfOk result (λ spawns. AreSpawns entries.now (length entries.now) (get same_name spawns)) }
 {
     let mut spawns = IndexMap::new(alloc);
     for at in 0..entries.len() {
-        if let Some(child) = spawned(&entries[at].event.action) {
+        if let Some(child) = spawned(entries.action(at)) {
             put_spawn(&mut spawns, child, at as u32)?;
         }
     }

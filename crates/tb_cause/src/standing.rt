@@ -8,14 +8,14 @@ ghost use Rattle.tb_cause.specs.Keys.{held_by};
 
 use indexmap::IndexMap;
 use std::alloc::{AllocError, Global};
-use tb_core::Entry;
-use tb_model::{Action, Event, TaskName};
+use tb_core::History;
+use tb_model::{Action, TaskName};
 
 /// By the place of each step before which its task's newest step had generated an undeferred child:
 /// that child.
 pub(crate) fn held_steps(
     alloc: Global,
-    entries: &[Entry],
+    entries: &History<'_>,
 ) -> Result<IndexMap<u32, TaskName>, AllocError>
     requires bound { length entries.now ≤ 1000000 }
     ensures { IfOk result (λ held. AreHeld entries.now (length entries.now) (get nat_eq held)) }
@@ -23,7 +23,7 @@ pub(crate) fn held_steps(
     let mut standing = IndexMap::new(alloc);
     let mut held = IndexMap::new(alloc);
     for at in 0..entries.len() {
-        if let Some(child) = pass(&mut standing, &entries[at].event)? {
+        if let Some(child) = pass(&mut standing, entries.task(at), entries.action(at))? {
             put_child(&mut held, at as u32, child)?;
         }
     }
@@ -37,21 +37,22 @@ fn put_child(held: &mut IndexMap<u32, TaskName>, at: u32, child: TaskName) -> Re
     Ok(())
 }
 
-/// The undeferred child at which the event's task stands; behind the event it stands at another or
-/// at none.
+/// The undeferred child at which the task stands; behind the action it stands at another or at
+/// none.
 fn pass(
     standing: &mut IndexMap<TaskName, TaskName>,
-    event: &Event,
+    task: &TaskName,
+    action: &Action,
 ) -> Result<Option<TaskName>, AllocError>
-    ensures left { IfOk result (λ o. o ≡ get same_name standing.old event.now.task) }
+    ensures left { IfOk result (λ o. o ≡ get same_name standing.old task.now) }
     ensures standing { OnOk result ((t : Name) → get same_name standing.new t ≡
-        (if same_name event.now.task t then held_by (event.now.action ∷ []) else get same_name standing.old t)) }
+        (if same_name task.now t then held_by (action.now ∷ []) else get same_name standing.old t)) }
 {
-    let left = leave(standing, &event.task);
-    if let Action::Spawn(spawned) = &event.action {
+    let left = leave(standing, task);
+    if let Action::Spawn(spawned) = action {
         let spawn = spawned.get();
         if !spawn.deferred {
-            standing.insert(event.task.clone()?, spawn.child.clone()?)?;
+            standing.insert(task.clone()?, spawn.child.clone()?)?;
         }
     }
     Ok(left)

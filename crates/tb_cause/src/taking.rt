@@ -17,32 +17,34 @@ use crate::indexed::Indexed;
 use crate::keys::{Keys, has_item};
 use indexmap::IndexSet;
 use std::alloc::AllocError;
-use tb_core::Entry;
-use tb_model::{Action, Event, Item, Kind, Place, TaskName};
+use tb_core::History;
+use tb_model::{Action, Item, Kind, Place, TaskName};
 
-/// Whether the event takes one of the keys. It stands behind these entries, and at an undeferred
-/// child if one is named; `of_task` says whether there is a key of its task.
+/// Whether the task's action takes one of the keys. It stands behind these entries, and at an
+/// undeferred child if one is named; `of_task` says whether there is a key of the task.
 pub(crate) fn takes_some(
     keys: &Keys,
     indexed: &Indexed<'_>,
-    front: &[Entry],
-    event: &Event,
+    front: &History<'_>,
+    task: &TaskName,
+    action: &Action,
     held: Option<&TaskName>,
     of_task: bool,
 ) -> Result<bool, AllocError>
-    requires held { option_copied held ≡ held_by (own event.now.task (history_of front.now)) }
-    requires of_task { of_task ≡ has keys.now (Task event.now.task) }
+    requires held { option_copied held ≡ held_by (own task.now (history_of front.now)) }
+    requires of_task { of_task ≡ has keys.now (Task task.now) }
     ensures { IfOk result (λ b.
-        b ≡ takes_any (has keys.now) (items_told indexed.now) (history_of front.now) event.now) }
+        b ≡ takes_any (has keys.now) (items_told indexed.now) (history_of front.now)
+        (record { task = task.now; action = action.now })) }
 {
     if of_task
         || takes_held(keys, held)
-        || takes_by_action(keys, &event.action)
-        || takes_by_wait(keys, front, &event.task, &event.action)
+        || takes_by_action(keys, action)
+        || takes_by_wait(keys, front, task, action)
     {
         return Ok(true);
     }
-    let found = takes_by_items(keys, indexed, &event.task, &event.action)?;
+    let found = takes_by_items(keys, indexed, task, action)?;
     Ok(found)
 }
 
@@ -66,7 +68,7 @@ fn takes_by_action(keys: &Keys, action: &Action) -> bool
     }
 }
 
-fn takes_by_wait(keys: &Keys, front: &[Entry], task: &TaskName, action: &Action) -> bool
+fn takes_by_wait(keys: &Keys, front: &History<'_>, task: &TaskName, action: &Action) -> bool
     ensures { result ≡ wait_any (has keys.now) (history_of front.now) task.now action.now }
 {
     match action {
@@ -80,15 +82,15 @@ fn takes_by_wait(keys: &Keys, front: &[Entry], task: &TaskName, action: &Action)
 }
 
 /// Whether some child of the innermost open group is in the set.
-fn takes_of_group(set: &IndexSet<TaskName>, front: &[Entry], task: &TaskName) -> bool
+fn takes_of_group(set: &IndexSet<TaskName>, front: &History<'_>, task: &TaskName) -> bool
     ensures { result ≡ list_any (contains same_name set.now) (innermost (groups (own task.now (history_of front.now)))) }
 {
-    let mut rest = front;
+    let mut rest = front.again();
     let mut closed = 0_usize;
     let mut found = false;
-    'back: while let [older @ .., newest] = rest {
-        if newest.event.task == *task {
-            match &newest.event.action {
+    'back: while let Some((older, its_task, action)) = rest.split_newest() {
+        if *its_task == *task {
+            match action {
                 Action::Open => {
                     if closed == 0 {
                         return found;

@@ -9,7 +9,7 @@ use crate::breakpoint::Breakpoint;
 use crate::breaks::Break;
 use std::alloc::Global;
 use std::marker::Model;
-use tb_model::Event;
+use tb_model::{Action, TaskName};
 
 /// Numbered breakpoints. A number is never used again; at most 64 stand at once, and the last number
 /// is 1,000,000.
@@ -76,12 +76,13 @@ impl Breakpoints {
         drop_number(&mut self.standing, number);
     }
 
-    /// The number of the first breakpoint that the step meets. Its task stood at this line.
+    /// The number of the first breakpoint that the step meets, which the task took with this action.
+    /// The task stood at this line.
     #[inline(always)]
-    pub fn met(&self, line: u32, event: &Event) -> Option<u32>
-        ensures { result ≡ met line event.now self.now.standing }
+    pub fn met(&self, line: u32, task: &TaskName, action: &Action) -> Option<u32>
+        ensures { result ≡ met line (record { task = task.now; action = action.now }) self.now.standing }
     {
-        first_met(&self.standing, line, event)
+        first_met(&self.standing, line, task, action)
     }
 
     /// The breakpoints that stand, in the order in which they were made.
@@ -94,11 +95,11 @@ impl Breakpoints {
 }
 
 #[inline(always)]
-fn first_met(breakpoints: &[Breakpoint], line: u32, event: &Event) -> Option<u32>
-    ensures { result ≡ met line event.now breakpoints.now }
+fn first_met(breakpoints: &[Breakpoint], line: u32, task: &TaskName, action: &Action) -> Option<u32>
+    ensures { result ≡ met line (record { task = task.now; action = action.now }) breakpoints.now }
 {
     for breakpoint in breakpoints {
-        if breakpoint.at.meets(line, event) {
+        if breakpoint.at.meets(line, task, action) {
             return Some(breakpoint.number);
         }
     }

@@ -4,7 +4,7 @@ ghost use Rattle.std.specs.Prelude.{◌≡◌};
 ghost use Rattle.tb_model.specs.Facts;
 ghost use Rattle.tb_control.specs.Breaks.{meets};
 
-use tb_model::{Action, Event, TaskName};
+use tb_model::{Action, TaskName};
 
 /// A kind of step.
 #[derive(Clone, Debug, Drop)]
@@ -22,16 +22,17 @@ pub enum Break {
 }
 
 impl Break {
-    /// Whether the step is of this kind. Its task stood at this line.
-    pub fn meets(&self, line: u32, event: &Event) -> bool
-        ensures { result ≡ meets line event.now self.now }
+    /// Whether the step, which the task took with this action, is of this kind. The task stood at this
+    /// line.
+    pub fn meets(&self, line: u32, task: &TaskName, action: &Action) -> bool
+        ensures { result ≡ meets line (record { task = task.now; action = action.now }) self.now }
     {
         match self {
-            Break::Task(task) => event.is_of(task),
-            Break::Cell(cell) => touches(&event.action, *cell),
-            Break::Body(body) => event.action.is_start() && line == *body,
-            Break::Print => event.action.is_print(),
-            Break::Fault => matches!(event.action, Action::Fault),
+            Break::Task(watched) => *task == *watched,
+            Break::Cell(cell) => touches(action, *cell),
+            Break::Body(body) => action.is_start() && line == *body,
+            Break::Print => action.is_print(),
+            Break::Fault => matches!(action, Action::Fault),
         }
     }
 }

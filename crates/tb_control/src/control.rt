@@ -7,7 +7,7 @@ use crate::breakpoints::Breakpoints;
 use crate::claims::Claims;
 use crate::mode::Mode;
 use tb_core::Removed;
-use tb_model::Event;
+use tb_model::{Action, TaskName};
 
 /// Who is at which task, where the run pauses, and whether it has.
 #[derive(Drop)]
@@ -18,14 +18,14 @@ pub struct Control {
 }
 
 impl Control {
-    /// A step was taken, whose task stood at this line: the claim on the task ends, and the mode
-    /// counts the step.
+    /// The task, which stood at this line, took a step with this action: the claim on the task ends,
+    /// and the mode counts the step.
     #[inline(always)]
-    pub fn step_taken(&mut self, line: u32, event: &Event)
-        ensures { self.new ≡ behind_step line event.now self.old }
+    pub fn step_taken(&mut self, line: u32, task: &TaskName, action: &Action)
+        ensures { self.new ≡ behind_step line (record { task = task.now; action = action.now }) self.old }
     {
-        self.claims.withdraw(&event.task);
-        self.mode = self.mode.behind(self.breakpoints.met(line, event));
+        self.claims.withdraw(task);
+        self.mode = self.mode.behind(self.breakpoints.met(line, task, action));
     }
 
     /// A step was removed: the claims on its task, and on what it generated, are withdrawn.

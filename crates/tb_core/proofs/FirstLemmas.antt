@@ -8,7 +8,7 @@ use Rattle.tb_model.specs.Legal.{Cells, Legal}
 use Rattle.tb_model.specs.Needs.{needs, step_of}
 use Rattle.tb_model.specs.Needers.{first_needer}
 use Rattle.tb_laws.proofs.NeedersLemmas.{none_here, next_needer, needer_stays}
-use Rattle.tb_core.specs.declared.entry.Entry.{Entry}
+use Rattle.tb_core.specs.Entries.{Entry}
 use Rattle.tb_core.specs.Scans.{AreLegal, history_of, step_behind, step_at}
 use Rattle.tb_core.proofs.ScanLemmas.{history_cut, history_more}
 
@@ -26,7 +26,7 @@ front_legal entries at e within here l = record {
 
 -- ---- the step at a place
 
-there : (entries : List Entry) (at : ℕ) → at < length entries → (e : Entry) × (e ≡ get_or entries at e)
+pub there : (entries : List Entry) (at : ℕ) → at < length entries → (e : Entry) × (e ≡ get_or entries at e)
 there entries at within =
     ⊎_elim (λ found. (found.0, sym found.3)) (λ past. absurd (omega (arith, past.0))) (slice_get_cases entries at).1
 
@@ -71,17 +71,21 @@ module _ (entries : List Entry) (at later : ℕ) (u w : Entry) (id : StepId) (be
       (next_needer u.event F b w.event before))
 
   -- the test, as it is made of the entries
-  tested : (b : Bool) → needs front (get_or entries later w).event (get_or entries at u).event ≡ b → first_needer id (w.event ∷ front) ≡ (if b then Some (step_of front w.event) else None)
-  tested b h =
-      next ∙ ap (λ c. if c then Some (step_of front w.event) else None) (ap₂ (λ (x y : Entry). needs front x.event y.event) here first ∙ h)
+  abbrev IsTold : Bool → Type 0
+  IsTold b = AreLegal (take later entries) → (x y : Entry) → x ≡ get_or entries later x → y ≡ get_or entries at y → b ≡ needs front x.event y.event
+
+  tested : (b : Bool) → AreLegal entries → IsTold b → first_needer id (w.event ∷ front) ≡ (if b then Some (step_of front w.event) else None)
+  tested b legal told =
+      next ∙ ap (λ c. if c then Some (step_of front w.event) else None) (sym (told (front_legal entries later w within here legal) w u here first))
 
   -- one entry more
-  pub none_next : needs front (get_or entries later w).event (get_or entries at u).event ≡ false → first_needer id (history_of (take (later + 1) entries)) ≡ None
-  none_next h = ap (first_needer id) (history_more entries later w within here) ∙ tested false h
+  pub none_next : (b : Bool) → AreLegal entries → IsTold b → b ≡ false → first_needer id (history_of (take (later + 1) entries)) ≡ None
+  none_next b legal told h =
+      ap (first_needer id) (history_more entries later w within here) ∙ tested b legal told ∙ ap (λ c. if c then Some (step_of front w.event) else None) h
 
   -- the one that was found
-  pub found_first : needs front (get_or entries later w).event (get_or entries at u).event ≡ true → step_at entries later ≡ first_needer id (history_of entries)
-  found_first h =
+  pub found_first : (b : Bool) → AreLegal entries → IsTold b → b ≡ true → step_at entries later ≡ first_needer id (history_of entries)
+  found_first b legal told h =
       step_read entries later w within here
       ∙ sym (ap (first_needer id) (history_cut entries later w within here)
-      ∙ needer_stays id (history_of (drop (suc later) entries)) (w.event ∷ front) (step_of front w.event) (tested true h))
+      ∙ needer_stays id (history_of (drop (suc later) entries)) (w.event ∷ front) (step_of front w.event) (tested b legal told ∙ ap (λ c. if c then Some (step_of front w.event) else None) h))

@@ -1,17 +1,15 @@
 -- Scans of a task's actions from the newest: its open groups, and who is a member of one.
-use Rattle.std.proofs.Common.{◌≡◌, ◌≢◌, ◌≤◌, ◌-◌, ◌+◌, ℕ, zero, suc, List, [], ◌∷◌, ◌++◌, Bool, true, false, ◌||◌, nat_le, cond, length, map, drop, take, get_or, refl, sym, ap, ◌∙◌, append_assoc, arith}
+use Rattle.std.proofs.Common.{◌≡◌, ◌≢◌, ◌≤◌, ◌-◌, ◌+◌, ℕ, zero, suc, List, [], ◌∷◌, ◌++◌, Bool, true, false, ◌||◌, nat_le, cond, length, map, drop, refl, sym, ap, ◌∙◌, append_assoc, arith}
 use Rattle.std.specs.List.{list_any}
 use Rattle.tb_model.specs.declared.action.Action.{Action}
 use Rattle.tb_model.specs.declared.action.Action.TheVariants.{Start, Let, Load, Store, Print, Spawn, Wait, Open, Close, Test, End, Fault}
 use Rattle.tb_model.specs.declared.step_id.StepId.{StepId}
+use Rattle.tb_model.specs.declared.event.Event.{Event}
 use Rattle.tb_model.specs.Names.{Name, is_within}
-use Rattle.tb_model.specs.Facts.{is_of, own}
+use Rattle.tb_model.specs.Facts.{History, is_of, own}
 use Rattle.tb_model.specs.State.{open_groups, children_since, is_member_of}
-use Rattle.tb_core.specs.declared.entry.Entry.{Entry}
 use Rattle.tb_core.specs.Groups.{makes_member}
-use Rattle.tb_core.specs.Scans.{history_of}
-use Rattle.tb_model.proofs.FactsLemmas.{own_other}
-use Rattle.tb_core.proofs.ScanLemmas.{history_newest, own_newest}
+use Rattle.tb_model.proofs.FactsLemmas.{own_mine, own_other}
 
 -- the groups of t that stay open where so many more are closed after these actions
 abbrev pub open_behind : Name → ℕ → List Action → List StepId
@@ -67,37 +65,40 @@ at_open_inside t (suc k) acts h =
     let less : k ≡ suc k - 1 = omega arith in
     ap (λ n. open_behind t n acts) less
 
--- the newest entry, of another task
-pub other_behind : (t : Name) (rest : List Entry) (e : Entry) → 1 ≤ length rest → e ≡ get_or rest (length rest - 1) e → is_of t e.event ≡ false → own t (history_of (take (length rest - 1) rest)) ≡ own t (history_of rest)
-other_behind t rest e some here other = sym (ap (own t) (history_newest rest e some here) ∙ own_other t e.event (history_of (take (length rest - 1) rest)) other)
+-- the newest event, of another task
+pub other_behind : (t : Name) (H G : History) (v : Event) → H ≡ v ∷ G → is_of t v ≡ false → own t G ≡ own t H
+other_behind t H G v more other = sym (ap (own t) more ∙ own_other t v G other)
 
-module _ (t : Name) (rest : List Entry) (e : Entry) (some : 1 ≤ length rest) (here : e ≡ get_or rest (length rest - 1) e) (mine : is_of t e.event ≡ true) where
+module _ (t : Name) (H G : History) (v : Event) (more : H ≡ v ∷ G) (mine : is_of t v ≡ true) where
   -- the actions in front of it
   abbrev older : List Action
-  older = own t (history_of (take (length rest - 1) rest))
+  older = own t G
 
-  pub one_more : length (own t (history_of rest)) ≡ suc (length older)
-  one_more = ap length (own_newest t rest e e.event.action some here mine refl)
+  newest : (a : Action) → v.action ≡ a → own t H ≡ a ∷ older
+  newest a is = ap (own t) more ∙ own_mine t v G mine ∙ ap (λ b. b ∷ older) is
 
-  pub behind_plain : (closed : ℕ) → is_plain e.event.action ≡ true → open_behind t closed older ≡ open_behind t closed (own t (history_of rest))
-  behind_plain closed is = sym (ap (open_behind t closed) (own_newest t rest e e.event.action some here mine refl) ∙ at_plain t closed e.event.action older is)
+  pub one_more : length (own t H) ≡ suc (length older)
+  one_more = ap length (newest v.action refl)
 
-  pub behind_close : (closed : ℕ) → e.event.action ≡ Close → open_behind t (closed + 1) older ≡ open_behind t closed (own t (history_of rest))
-  behind_close closed is = sym (ap (open_behind t closed) (own_newest t rest e Close some here mine is) ∙ at_close t closed older)
+  pub behind_plain : (closed : ℕ) → is_plain v.action ≡ true → open_behind t closed older ≡ open_behind t closed (own t H)
+  behind_plain closed is = sym (ap (open_behind t closed) (newest v.action refl) ∙ at_plain t closed v.action older is)
 
-  pub behind_inner : (closed : ℕ) → e.event.action ≡ Open → closed ≢ 0 → open_behind t (closed - 1) older ≡ open_behind t closed (own t (history_of rest))
-  behind_inner closed is inside = sym (ap (open_behind t closed) (own_newest t rest e Open some here mine is) ∙ at_open_inside t closed older inside)
+  pub behind_close : (closed : ℕ) → v.action ≡ Close → open_behind t (closed + 1) older ≡ open_behind t closed (own t H)
+  behind_close closed is = sym (ap (open_behind t closed) (newest Close is) ∙ at_close t closed older)
 
-  pub behind_open : (closed left : ℕ) (ids pushed : List StepId) → e.event.action ≡ Open → closed ≡ 0 → left ≡ length (own t (history_of rest)) → pushed ≡ ids ++ (record { task = t; k = left }) ∷ []
-      → pushed ++ open_behind t closed older ≡ ids ++ open_behind t closed (own t (history_of rest))
+  pub behind_inner : (closed : ℕ) → v.action ≡ Open → closed ≢ 0 → open_behind t (closed - 1) older ≡ open_behind t closed (own t H)
+  behind_inner closed is inside = sym (ap (open_behind t closed) (newest Open is) ∙ at_open_inside t closed older inside)
+
+  pub behind_open : (closed left : ℕ) (ids pushed : List StepId) → v.action ≡ Open → closed ≡ 0 → left ≡ length (own t H) → pushed ≡ ids ++ (record { task = t; k = left }) ∷ []
+      → pushed ++ open_behind t closed older ≡ ids ++ open_behind t closed (own t H)
   behind_open closed left ids pushed is none counted push =
       let at : left ≡ suc (length older) = counted ∙ one_more in
-      let whole : open_behind t 0 (own t (history_of rest)) ≡ (record { task = t; k = left }) ∷ open_behind t 0 older =
-      ap (open_behind t 0) (own_newest t rest e Open some here mine is) ∙ ap (λ k. (record { task = t; k = k }) ∷ open_behind t 0 older) (sym at) in
+      let whole : open_behind t 0 (own t H) ≡ (record { task = t; k = left }) ∷ open_behind t 0 older =
+      ap (open_behind t 0) (newest Open is) ∙ ap (λ k. (record { task = t; k = k }) ∷ open_behind t 0 older) (sym at) in
       ap (λ n. pushed ++ open_behind t n older) none
       ∙ (ap (λ l. l ++ open_behind t 0 older) push
       ∙ (append_assoc ids ((record { task = t; k = left }) ∷ []) (open_behind t 0 older)
-      ∙ (ap (λ l. ids ++ l) (sym whole) ∙ ap (λ n. ids ++ open_behind t n (own t (history_of rest))) (sym none))))
+      ∙ (ap (λ l. ids ++ l) (sym whole) ∙ ap (λ n. ids ++ open_behind t n (own t H)) (sym none))))
 
   -- ---- members
 
@@ -122,21 +123,21 @@ module _ (t : Name) (rest : List Entry) (e : Entry) (some : 1 ≤ length rest) (
   not_since : (k : ℕ) (m : Name) (a : Action) (acts : List Action) → nat_le k (length acts) ≡ false → is_member_of k (a ∷ acts) m ≡ false
   not_since k m a acts h = ap (λ b. list_any (λ c. is_within c m) (cond b (Rattle.tb_model.specs.State.with_child a (children_since k acts)) [])) h
 
-  module _ (k : ℕ) (m : Name) (left : ℕ) (counted : left ≡ length (own t (history_of rest))) where
+  module _ (k : ℕ) (m : Name) (left : ℕ) (counted : left ≡ length (own t H)) where
     abbrev whole : Bool
-    whole = is_member_of k (own t (history_of rest)) m
+    whole = is_member_of k (own t H) m
 
     pub no_member : left ≤ k → whole ≡ false
     no_member h =
-        ap (λ acts. is_member_of k acts m) (own_newest t rest e e.event.action some here mine refl)
-        ∙ not_since k m e.event.action older (grind (arith, h, counted, one_more))
+        ap (λ acts. is_member_of k acts m) (newest v.action refl)
+        ∙ not_since k m v.action older (grind (arith, h, counted, one_more))
 
-    pub some_member : (left ≤ k → ⊥) → makes_member e.event.action m ≡ true → whole ≡ true
+    pub some_member : (left ≤ k → ⊥) → makes_member v.action m ≡ true → whole ≡ true
     some_member h is =
-        ap (λ acts. is_member_of k acts m) (own_newest t rest e e.event.action some here mine refl)
-        ∙ (since k m e.event.action older (grind (arith, h, counted, one_more)) ∙ ap (λ b. b || is_member_of k older m) is)
+        ap (λ acts. is_member_of k acts m) (newest v.action refl)
+        ∙ (since k m v.action older (grind (arith, h, counted, one_more)) ∙ ap (λ b. b || is_member_of k older m) is)
 
-    pub member_behind : (left ≤ k → ⊥) → makes_member e.event.action m ≡ false → is_member_of k older m ≡ whole
+    pub member_behind : (left ≤ k → ⊥) → makes_member v.action m ≡ false → is_member_of k older m ≡ whole
     member_behind h is =
-        sym (ap (λ acts. is_member_of k acts m) (own_newest t rest e e.event.action some here mine refl)
-        ∙ (since k m e.event.action older (grind (arith, h, counted, one_more)) ∙ ap (λ b. b || is_member_of k older m) is))
+        sym (ap (λ acts. is_member_of k acts m) (newest v.action refl)
+        ∙ (since k m v.action older (grind (arith, h, counted, one_more)) ∙ ap (λ b. b || is_member_of k older m) is))

@@ -13,7 +13,7 @@ use Rattle.tb_undo.proofs.TieLemmas.{map_events}
 use Rattle.tb_places.specs.declared.places.Places.{Places}
 use Rattle.tb_places.specs.Places.{IsIndexOf}
 use Rattle.tb_places.specs.Where.{places_where}
-use Rattle.tb_core.specs.declared.entry.Entry.{Entry}
+use Rattle.tb_core.specs.Entries.{Entry}
 use Rattle.tb_core.specs.declared.removed.Removed.{Removed}
 use Rattle.tb_core.specs.Rolled.{removed_places}
 use Rattle.tb_core.specs.Seen.{Seen, history}

@@ -1,6 +1,7 @@
 pub mod ScanLemmas
 pub mod MemberLemmas
 pub mod GroupLemmas
+pub mod HistoryLemmas
 pub mod WalkLemmas
 pub mod NeedsLemmas
 pub mod FirstLemmas
@@ -14,5 +15,11 @@ pub mod RefusedLemmas
 pub mod UndoneLemmas
 pub mod RolledLemmas
 pub mod RenumberLemmas
+pub mod StoringLemmas
+pub mod HeldLemmas
+pub mod StoredLemmas
+pub mod UnwoundLemmas
+pub mod OutLemmas
+pub mod RolledOutLemmas
 pub mod IndexLemmas
 pub mod OwnLemmas

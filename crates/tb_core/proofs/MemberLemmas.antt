@@ -1,14 +1,13 @@
 -- A scan of a task's actions from the newest, for the members of its innermost open group.
-use Rattle.std.proofs.Common.{◌≡◌, ◌≢◌, ◌-◌, arith, ℕ, zero, suc, List, [], ◌∷◌, Bool, true, false, ◌&&◌, ◌||◌, refl, sym, ap, ◌∙◌, drop, map, ◌≤◌, length, take, get_or}
+use Rattle.std.proofs.Common.{◌≡◌, ◌≢◌, ◌-◌, arith, ℕ, zero, suc, List, [], ◌∷◌, Bool, true, false, ◌&&◌, ◌||◌, refl, sym, ap, ◌∙◌, drop, map}
 use Rattle.std.specs.List.{list_any}
 use Rattle.tb_model.specs.declared.action.Action.{Action}
 use Rattle.tb_model.specs.declared.spawn.Spawn.{Spawn as TheSpawn}
 use Rattle.tb_model.specs.declared.action.Action.TheVariants.{Spawn, Open, Close}
+use Rattle.tb_model.specs.declared.event.Event.{Event}
 use Rattle.tb_model.specs.Names.{Name, is_within}
-use Rattle.tb_model.specs.Facts.{groups, innermost, is_member, is_of, own}
-use Rattle.tb_core.specs.declared.entry.Entry.{Entry}
-use Rattle.tb_core.specs.Scans.{history_of}
-use Rattle.tb_core.proofs.ScanLemmas.{own_newest}
+use Rattle.tb_model.specs.Facts.{History, groups, innermost, is_member, is_of, own}
+use Rattle.tb_model.proofs.FactsLemmas.{own_mine}
 
 -- one of these groups is open
 abbrev pub some_open : List (List Name) → Bool
@@ -79,32 +78,35 @@ at_open_inside : (closed : ℕ) (found : Bool) (acts : List Action) (m : Name) �
 at_open_inside zero found acts m h = absurd (h refl)
 at_open_inside (suc k) found acts m h = ap (λ n. member_behind n found acts m) (omega arith)
 
--- ---- the newest entry, where it is one of the task's
+-- ---- the newest event, where it is one of the task's
 
-module _ (t m : Name) (rest : List Entry) (e : Entry) (some : 1 ≤ length rest) (here : e ≡ get_or rest (length rest - 1) e) (mine : is_of t e.event ≡ true) where
+module _ (t m : Name) (H G : History) (v : Event) (more : H ≡ v ∷ G) (mine : is_of t v ≡ true) where
   -- the actions in front of it
   abbrev older : List Action
-  older = own t (history_of (take (length rest - 1) rest))
+  older = own t G
+
+  newest : (a : Action) → v.action ≡ a → own t H ≡ a ∷ older
+  newest a is = ap (own t) more ∙ own_mine t v G mine ∙ ap (λ b. b ∷ older) is
 
   -- it opened a group that is closed
-  pub behind_open : (closed : ℕ) (found : Bool) → e.event.action ≡ Open → closed ≢ 0 → member_behind (closed - 1) found older m ≡ member_behind closed found (own t (history_of rest)) m
+  pub behind_open : (closed : ℕ) (found : Bool) → v.action ≡ Open → closed ≢ 0 → member_behind (closed - 1) found older m ≡ member_behind closed found (own t H) m
   behind_open closed found is inside =
-      sym (ap (λ acts. member_behind closed found acts m) (own_newest t rest e Open some here mine is) ∙ at_open_inside closed found older m inside)
+      sym (ap (λ acts. member_behind closed found acts m) (newest Open is) ∙ at_open_inside closed found older m inside)
 
   -- it generated one that m is within
-  pub behind_member : (closed : ℕ) (found : Bool) (s : TheSpawn) → e.event.action ≡ Spawn s
-      → is_within s.child m ≡ true → member_behind closed true older m ≡ member_behind closed found (own t (history_of rest)) m
+  pub behind_member : (closed : ℕ) (found : Bool) (s : TheSpawn) → v.action ≡ Spawn s
+      → is_within s.child m ≡ true → member_behind closed true older m ≡ member_behind closed found (own t H) m
   behind_member closed found s is within =
       sym
-      (ap (λ acts. member_behind closed found acts m) (own_newest t rest e (Spawn s) some here mine is)
+      (ap (λ acts. member_behind closed found acts m) (newest (Spawn s) is)
       ∙ at_spawn closed found s older m
       ∙ ap (λ b. member_behind closed b older m) (ap (λ b. found || b) within ∙ or_true found))
 
   -- or another
-  pub behind_other : (closed : ℕ) (found : Bool) (s : TheSpawn) → e.event.action ≡ Spawn s
-      → is_within s.child m ≡ false → member_behind closed found older m ≡ member_behind closed found (own t (history_of rest)) m
+  pub behind_other : (closed : ℕ) (found : Bool) (s : TheSpawn) → v.action ≡ Spawn s
+      → is_within s.child m ≡ false → member_behind closed found older m ≡ member_behind closed found (own t H) m
   behind_other closed found s is within =
       sym
-      (ap (λ acts. member_behind closed found acts m) (own_newest t rest e (Spawn s) some here mine is)
+      (ap (λ acts. member_behind closed found acts m) (newest (Spawn s) is)
       ∙ at_spawn closed found s older m
       ∙ ap (λ b. member_behind closed b older m) (ap (λ b. found || b) within ∙ or_false found))

@@ -5,7 +5,7 @@ use Rattle.tb_model.specs.Lines.{events_of}
 use Rattle.tb_model.proofs.UndoLemmas.{AreFree}
 use Rattle.tb_undo.specs.Steps.{replaced_for}
 use Rattle.tb_undo.proofs.MiddleLemmas.{record_left}
-use Rattle.tb_core.specs.declared.entry.Entry.{Entry}
+use Rattle.tb_core.specs.Entries.{Entry}
 use Rattle.tb_core.specs.Packing.{replaced_in}
 use Rattle.tb_core.specs.Soundness.{departure}
 use Rattle.tb_core.specs.Soundness.{AreRecords}

@@ -5,7 +5,7 @@ use Rattle.std.proofs.lemmas.Bool.{false≢true, or_cases, or_left, or_right}
 use Rattle.tb_model.specs.Names.{Name, same_name, is_child, is_within}
 use Rattle.tb_model.specs.Facts.{own, items_of, is_member, holds}
 use Rattle.tb_model.specs.State.{spawn_of, items_in}
-use Rattle.tb_core.specs.declared.entry.Entry.{Entry}
+use Rattle.tb_core.specs.Entries.{Entry}
 use Rattle.tb_core.specs.Scans.{AreLegal, history_of}
 use Rattle.tb_model.proofs.TestLemmas.{same_true, same_refl}
 use Rattle.tb_model.proofs.FactsLemmas.{AreChildren, group_children, first_children, held_child}

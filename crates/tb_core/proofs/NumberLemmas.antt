@@ -16,7 +16,7 @@ use Rattle.tb_undo.specs.State.{Seen as Tables}
 use Rattle.tb_places.specs.declared.places.Places.{Places}
 use Rattle.tb_places.specs.Places.{IsIndexOf, IsNamed}
 use Rattle.tb_places.proofs.PlacesLemmas.{index_grown}
-use Rattle.tb_core.specs.declared.entry.Entry.{Entry}
+use Rattle.tb_core.specs.Entries.{Entry}
 use Rattle.tb_core.specs.Seen.{Seen, history}
 use Rattle.tb_core.specs.Soundness.{departure, names_in, seen, IsSound}
 

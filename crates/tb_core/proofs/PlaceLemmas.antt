@@ -14,7 +14,7 @@ use Rattle.tb_undo.specs.State.{Seen as Tables, task_of}
 use Rattle.tb_undo.specs.Standings.{Standing, standing_of}
 use Rattle.tb_undo.proofs.TaskLemmas.{unacted_in}
 use Rattle.tb_core.specs.Seen.{Seen}
-use Rattle.tb_core.specs.declared.entry.Entry.{Entry}
+use Rattle.tb_core.specs.Entries.{Entry}
 use Rattle.tb_core.specs.Scans.{history_of}
 use Rattle.tb_core.specs.Soundness.{departure, IsSound}
 use Rattle.tb_core.proofs.ShownLemmas.{not_there, stands_as}

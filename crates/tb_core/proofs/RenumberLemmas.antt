@@ -1,13 +1,13 @@
 -- The places of the entries, where some of these go.
 use Rattle.std.proofs.Common.{◌≡◌, ◌<◌, ◌≤◌, ◌+◌, ◌==◌, ℕ, zero, suc, List, [], ◌∷◌, ◌++◌, Bool, true, false, length, take, drop, get_or, reverse, remove, refl, sym, ap, ap₂, ◌∙◌, subst, arith, rules, append_assoc, append-nil, add-one, if◌then◌else◌, not}
-use Rattle.std.proofs.lemmas.List.{length-append, length-map, length-reverse, reverse-append}
+use Rattle.std.proofs.lemmas.List.{length-append, length-map, length-reverse, length-take-le, reverse-append, take-append-drop}
 use Rattle.std.proofs.lemmas.Bool.Decides.{nat_tests}
 use Rattle.tb_model.specs.declared.event.Event.{Event}
 use Rattle.tb_model.specs.declared.step_id.StepId.{StepId}
 use Rattle.tb_model.specs.Names.{Name}
 use Rattle.tb_model.specs.Facts.{History, prepend_if}
 use Rattle.tb_model.specs.Needs.{is_removed, without}
-use Rattle.tb_core.specs.declared.entry.Entry.{Entry}
+use Rattle.tb_core.specs.Entries.{Entry}
 use Rattle.tb_core.specs.Rolled.{removed_places}
 use Rattle.tb_places.specs.declared.places.Places.{Places}
 use Rattle.tb_places.specs.Places.{IsIndexOf, IsNamed, HasRoomFor, HasRoomForAll, KeepsRoom}
@@ -279,3 +279,28 @@ module _ (names : List Name) (first : ℕ) (going : List ℕ) (es : List Entry) 
         (ap (λ l. r.done ++ x.event ∷ l) more ∙ sym (append_assoc r.done (x.event ∷ []) (drop (at + 1) (events_in es))))
         (room_kept names _ p new keeps next_room);
   }
+
+-- ---- where the loop begins and ends
+
+pub refills_first : (names : List Name) (first : ℕ) (going : List ℕ) (events : List Event) (p : Places) → first ≤ length events → IsIndexOf names (take first events) p → HasRoomForAll names events p → Refills names first going events first 0 first p
+refills_first names first going events p within index room = record {
+  done = take first events;
+  index = index;
+  count = sym (length-take-le first events (omega (arith, within)));
+  few = omega arith;
+  whole = refl;
+  room = subst (λ l. HasRoomForAll names l p) (sym (take-append-drop first events)) room;
+}
+
+none_behind : (n : ℕ) (events : List Event) → length events ≤ n → drop n events ≡ []
+none_behind zero [] h = refl
+none_behind zero (e ∷ es) h = absurd (omega (arith, h))
+none_behind (suc n) [] h = refl
+none_behind (suc n) (e ∷ es) h = none_behind n es (omega (arith, h))
+
+pub refills_last : (names : List Name) (first : ℕ) (going : List ℕ) (events : List Event) (at next place : ℕ) (p : Places) → length events ≤ at → Refills names first going events at next place p
+    → IsIndexOf names (take first events ++ left_from first going (drop first events)) p
+refills_last names first going events at next place p past r =
+    subst (λ l. IsIndexOf names l p)
+    (sym (append-nil r.done) ∙ ap (λ l. r.done ++ left_from at (drop next going) l) (sym (none_behind at events past)) ∙ r.whole)
+    r.index

@@ -19,9 +19,10 @@ use Rattle.tb_model.proofs.UndoLemmas.{single}
 use Rattle.tb_undo.specs.State.{Seen as Tables, IsState}
 use Rattle.tb_undo.specs.Steps.{Precedes, Stands, IsWithout}
 use Rattle.tb_undo.proofs.TieLemmas.{map_events}
-use Rattle.tb_core.specs.declared.entry.Entry.{Entry}
+use Rattle.tb_core.specs.Entries.{Entry}
 use Rattle.tb_core.specs.declared.removed.Removed.{Removed}
-use Rattle.tb_core.specs.Rolled.{removed_places, removed_steps, removals, RollsBack}
+use Rattle.tb_core.specs.declared.rollback.Rollback.{Rollback}
+use Rattle.tb_core.specs.Rolled.{removed_places, removed_steps, removals, IsOfHistory, RollsBack}
 use Rattle.tb_core.specs.Seen.{Seen}
 use Rattle.tb_core.specs.Packing.{replaced_in}
 use Rattle.tb_core.specs.Soundness.{departure, seen, IsSound}
@@ -122,6 +123,21 @@ module _ (e : StepId) (v : Event) (H : History) (ps : List ℕ) (at : ℕ) (left
       by : (b : Bool) → is_removed e H v ≡ b → prepend_if b (length H) rest ≡ at ∷ reverse ps → (is_removed e H v ≡ false) × (at < length H) × (ps ++ at ∷ [] ≡ reverse rest)
       by true q f = absurd (h (sym (first_same (length H) at rest (reverse ps) f)))
       by false q f = (q, below f, left ∙ ap (λ b. reverse (prepend_if b (length H) rest)) q)
+
+-- ---- nothing is taken off yet
+
+pub first_unwinds : (r : Rollback) (old : List Entry) (qs : List ℕ) (steps : List StepId) (removed : List Removed) → IsOfHistory (events (reverse old)) r → removed ≡ [] → qs ≡ r.places.items → steps ≡ r.steps.items → Unwinds r.step old old [] qs steps removed
+first_unwinds r old qs steps removed ready none places names = record {
+  later = [];
+  parts = refl;
+  stay = refl;
+  gone = none;
+  places_left = places ∙ ready.places;
+  steps_left = names ∙ ready.steps;
+}
+
+pub first_tied : (old : List Entry) (before : Tables) → StayTied (reverse old) before ([] ++ reverse old) before
+first_tied old before first root_line limit s = s
 
 -- ---- one entry more
 
@@ -226,6 +242,11 @@ module _ (e : StepId) (old es es' : List Entry) (o : Option Entry) (u : Entry) (
     -- its name is there
     pub some_step : (steps' : List StepId) (i : Option StepId) → steps ≡ steps' ++ option_to_list i → (0 < length steps → IsSome i) → IsSome i
     some_step steps' i out tells_some = tells_some (omega (arith, ap length next_step, length-append (reverse (removed_steps e (events front))) (step_of (events front) u.event ∷ [])))
+
+    -- and it is the step's
+    pub its_name : (steps' : List StepId) (i : Option StepId) (id : StepId) → steps ≡ steps' ++ option_to_list i → i ≡ Some id → id ≡ step_of (events front) u.event
+    its_name steps' i id out name =
+        (same_from_push steps' (reverse (removed_steps e (events front))) id (step_of (events front) u.event) (sym (out ∙ ap (λ x. steps' ++ option_to_list x) name) ∙ next_step)).1
 
     pub goes : (steps' : List StepId) (i : Option StepId) (id : StepId) → steps ≡ steps' ++ option_to_list i → i ≡ Some id → (removed' : List Removed) → removed' ≡ removed ++ (record { id = id; action = u.event.action }) ∷ []
         → (ps' : List ℕ) → ps ≡ ps' → Unwinds e old es' kept ps' steps' removed'

@@ -15,7 +15,7 @@ use Rattle.tb_model.specs.Needs.{is_step}
 use Rattle.tb_model.specs.Equivalent.{stands}
 use Rattle.tb_laws.proofs.OrderedLemmas.{the_step}
 use Rattle.tb_model.proofs.FactsLemmas.{own_mine, own_other}
-use Rattle.tb_core.specs.declared.entry.Entry.{Entry}
+use Rattle.tb_core.specs.Entries.{Entry}
 use Rattle.tb_core.specs.Soundness.{departure}
 use Rattle.tb_core.specs.Scans.{history_of, step_behind, step_at}
 
@@ -125,6 +125,39 @@ has_not_so_many i H steps counted beyond = out (stands i H) refl
     out : (b : Bool) → stands i H ≡ b → false ≡ b
     out true s = absurd (omega (arith, beyond, counted, (numbered i H s).1))
     out false s = refl
+
+-- the step isn't among those up to this place, of which so many are its task's
+pub record IsNotYet (i : StepId) (entries : List Entry) (at count : ℕ) : Type 0 where
+  pub counted : count ≡ length (own i.task (history_of (take at entries)))
+  pub within : count ≤ at
+  pub none : stands i (history_of (take at entries)) ≡ false
+
+module _ (i : StepId) (entries : List Entry) (at count : ℕ) (e : Entry) (within : at < length entries) (here : e ≡ get_or entries at e) (is : IsNotYet i entries at count) where
+  abbrev before : History
+  before = history_of (take at entries)
+
+  next : history_of (take (at + 1) entries) ≡ e.event ∷ before
+  next = history_more entries at e within here
+
+  -- nor is it the next, of another task
+  pub not_of_other : is_of i.task e.event ≡ false → IsNotYet i entries (at + 1) count
+  not_of_other other = record {
+    counted = is.counted ∙ sym (ap (λ H. length (own i.task H)) next ∙ ap length (own_other i.task e.event before other));
+    within = omega (arith, is.within);
+    none = ap (stands i) next ∙ ap (λ b. (b && (i.k == suc (length (own i.task before)))) || stands i before) other ∙ is.none;
+  }
+
+  -- or of another number
+  pub not_of_number : is_of i.task e.event ≡ true → count + 1 ≢ i.k → IsNotYet i entries (at + 1) (count + 1)
+  not_of_number mine other = record {
+    counted = let more : length (own i.task (history_of (take (at + 1) entries))) ≡ suc (length (own i.task before)) = ap (λ H. length (own i.task H)) next ∙ ap length (own_mine i.task e.event before mine) in omega (arith, more, is.counted);
+    within = omega (arith, is.within);
+    none = ap (stands i) next ∙ by (i.k == suc (length (own i.task before))) refl;
+  }
+    where
+      by : (b : Bool) → (i.k == suc (length (own i.task before))) ≡ b → ((is_of i.task e.event && (i.k == suc (length (own i.task before)))) || stands i before) ≡ false
+      by true q = absurd (other (omega (arith, eqb-true i.k _ q, is.counted)))
+      by false q = ap (λ b. (b && (i.k == suc (length (own i.task before)))) || stands i before) mine ∙ ap (λ b. b || stands i before) q ∙ is.none
 
 -- ---- the same from the newest entry on
 

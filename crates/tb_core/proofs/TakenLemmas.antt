@@ -23,7 +23,7 @@ use Rattle.tb_undo.specs.State.{Seen as Tables, IsState}
 use Rattle.tb_undo.specs.Changes.{AreSame, HasRoomFor}
 use Rattle.tb_undo.specs.Steps.{Follows, IsAhead, IsBehind, IsRecord, replaced_for}
 use Rattle.tb_undo.proofs.StateLemmas.{state_same}
-use Rattle.tb_core.specs.declared.entry.Entry.{Entry}
+use Rattle.tb_core.specs.Entries.{Entry}
 use Rattle.tb_core.specs.Packing.{packed, replaced_in}
 use Rattle.tb_core.specs.Soundness.{departure}
 use Rattle.tb_core.specs.Seen.{Seen, history}

@@ -22,7 +22,7 @@ use Rattle.tb_undo.specs.State.{Seen as Tables, IsState}
 use Rattle.tb_undo.specs.Steps.{Precedes, Stands, IsWithout}
 use Rattle.tb_undo.proofs.TieLemmas.{map_events}
 use Rattle.tb_undo.proofs.MiddleLemmas.{lines_kept}
-use Rattle.tb_core.specs.declared.entry.Entry.{Entry}
+use Rattle.tb_core.specs.Entries.{Entry}
 use Rattle.tb_core.specs.Packing.{replaced_in}
 use Rattle.tb_core.specs.Soundness.{departure}
 use Rattle.tb_core.specs.Scans.{AreLegal, history_of, step_behind, step_at}

@@ -40,10 +40,6 @@ Fills s t a v =
     (first : Cells) (root_line : ℕ) (D : List Departure) → IsState first root_line D s → IsSpawned (events_of D) t → v ≡ record { task = t; action = completed first (events_of D) t a }
 
 -- what can be used again of an event
-abbrev pub spare_task : Option Event → Option Name
-spare_task None = None
-spare_task (Some v) = Some v.task
-
 abbrev pub spawn_in : Action → Option TheSpawn
 spawn_in (Spawn s) = Some s
 spawn_in _ = None

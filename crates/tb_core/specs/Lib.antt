@@ -4,11 +4,14 @@ pub mod Situation
 pub mod Filling
 pub mod Naming
 pub mod Outcomes
+pub mod Entries
 pub mod Packing
+pub mod Storing
 pub mod Soundness
 pub mod Scans
 pub mod Listed
 pub mod Groups
 pub mod Rolled
 pub mod Unwinding
+pub mod UnwindingStored
 pub mod Renumbering

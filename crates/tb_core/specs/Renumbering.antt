@@ -4,7 +4,7 @@ use Rattle.tb_model.specs.declared.event.Event.{Event}
 use Rattle.tb_model.specs.Names.{Name}
 use Rattle.tb_places.specs.declared.places.Places.{Places}
 use Rattle.tb_places.specs.Places.{IsIndexOf, HasRoomForAll}
-use Rattle.tb_core.specs.declared.entry.Entry.{Entry}
+use Rattle.tb_core.specs.Entries.{Entry}
 
 -- the events of entries that come from the oldest
 abbrev pub events_in : List Entry → List Event

@@ -5,7 +5,7 @@ use Rattle.tb_model.specs.Facts.{History}
 use Rattle.tb_model.specs.Legal.{Cells, Legal}
 use Rattle.tb_model.specs.Lines.{events_of}
 use Rattle.tb_model.specs.Needs.{step_of}
-use Rattle.tb_core.specs.declared.entry.Entry.{Entry}
+use Rattle.tb_core.specs.Entries.{Entry}
 use Rattle.tb_core.specs.Soundness.{departure}
 
 -- the events of these entries, the newest first

@@ -10,7 +10,7 @@ use Rattle.tb_undo.specs.Steps.{replaced_for}
 use Rattle.tb_undo.specs.Changes.{HasRoomFor}
 use Rattle.tb_places.specs.declared.places.Places.{Places}
 use Rattle.tb_places.specs.Places.{HasRoomFor as HasRoomForPlaces}
-use Rattle.tb_core.specs.declared.entry.Entry.{Entry}
+use Rattle.tb_core.specs.Entries.{Entry}
 use Rattle.tb_core.specs.Packing.{replaced_in}
 use Rattle.tb_core.specs.Seen.{Seen}
 

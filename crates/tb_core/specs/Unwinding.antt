@@ -6,7 +6,7 @@ use Rattle.tb_model.specs.Legal.{Cells}
 use Rattle.tb_model.specs.Lines.{events_of, without_lines}
 use Rattle.tb_model.specs.Needs.{is_removed, step_of}
 use Rattle.tb_undo.specs.State.{Seen as Tables}
-use Rattle.tb_core.specs.declared.entry.Entry.{Entry}
+use Rattle.tb_core.specs.Entries.{Entry}
 use Rattle.tb_core.specs.declared.removed.Removed.{Removed}
 use Rattle.tb_core.specs.Rolled.{removed_places, removed_steps, removals}
 use Rattle.tb_core.specs.Soundness.{departure, IsSound}

@@ -1,46 +1,46 @@
-//! A step of the history.
+//! A step of the history as it is stored.
 
 ghost use Rattle.std.specs.Prelude.{◌≡◌};
-ghost use Rattle.tb_core.specs.Packing.{packed, replaced_in};
+ghost use Rattle.tb_core.specs.Storing.{replaced_stored, stored};
 
 use std::mem::size_of;
-use tb_model::{Action, Event};
+use tb_model::Action;
 use tb_store::Replaced;
 
-/// An event, the line at which it left its task, and what it replaced, in few bytes: whether there is a
-/// number, and of which register, its action says.
+/// A step, and what it replaced, in few bytes. Its task is given by its place among the names of the
+/// tables, which a name keeps for good. Whether there is a number, and of which register, the action says.
 #[derive(Drop)]
 pub struct Entry {
-    pub event: Event,
-    pub to: u32,
-    /// The line at which its task stood.
-    pub at: u32,
+    pub(crate) action: Action,
     /// The number that it replaced, of a cell or of a register, and 0 where it replaced none.
-    pub number: i64,
+    pub(crate) number: i64,
+    pub(crate) task: u32,
+    /// The line at which its task stood. That to which the step led is the line of the task's next one.
+    pub(crate) at: u32,
 }
 
-const _: () = prove!(size_of::<Entry>() == 48);
+const _: () = prove!(size_of::<Entry>() == 32);
 
 impl Entry {
-    /// The entry of an event that leaves its task at this line, and replaces so much.
+    /// The entry of an action of the task at this place, which replaces so much.
     #[inline(always)]
-    pub fn new(event: Event, to: u32, replaced: Replaced) -> Entry
-        ensures { result ≡ packed event to replaced }
+    pub(crate) fn new(task: u32, action: Action, replaced: Replaced) -> Entry
+        ensures { result ≡ stored task action replaced }
     {
         Entry {
-            event,
-            to,
-            at: replaced.at,
+            action,
             number: replaced.number.unwrap_or(0),
+            task,
+            at: replaced.at,
         }
     }
 
-    /// What the event replaced.
-    pub fn replaced(&self) -> Replaced
-        ensures { result ≡ replaced_in self.now }
+    /// What the step replaced.
+    pub(crate) fn replaced(&self) -> Replaced
+        ensures { result ≡ replaced_stored self.now }
     {
         let at = self.at;
-        match &self.event.action {
+        match &self.action {
             Action::Let { reg, .. } | Action::Load { reg, .. } => Replaced {
                 number: Some(self.number),
                 reg: Some(*reg),

@@ -5,25 +5,33 @@ ghost use Rattle.tb_model.specs.declared.event.Event.{Event as AnEvent};
 ghost use Rattle.tb_model.specs.declared.spawn.Spawn.{Spawn as ASpawn};
 ghost use Rattle.tb_model.specs.Names.{child};
 ghost use Rattle.tb_plan.specs.Plans.{names_allowed};
-ghost use Rattle.tb_core.specs.Filling.{spare_task, spare_spawn, Fills, IsNextSpawn, IsRunOf, IsWhole};
+ghost use Rattle.tb_core.specs.Filling.{spare_spawn, Fills, IsNextSpawn, IsRunOf, IsWhole};
 
 use std::alloc::AllocError;
 use tb_model::{Action, Event, Spawned, TaskName};
 use tb_plan::Plan;
 use tb_undo::Tables;
 
-/// What can be used again of an event that isn't wanted any longer: its task's name, and its spawn.
-pub fn spares(event: Option<Event>) -> (Option<TaskName>, Option<Spawned>)
-    ensures task { result.0 ≡ spare_task event }
-    ensures spawn { result.1 ≡ spare_spawn event }
+/// What can be used again of an event that isn't wanted any longer: its spawn.
+pub fn spare_spawn(event: Option<Event>) -> Option<Spawned>
+    ensures { result ≡ spare_spawn event }
 {
     match event {
-        Some(Event { task, action }) => match action {
-            Action::Spawn(spawned) => (Some(task), Some(spawned)),
-            _ => (Some(task), None),
+        Some(Event { task: _, action }) => match action {
+            Action::Spawn(spawned) => Some(spawned),
+            _ => None,
         },
-        None => (None, None),
+        None => None,
     }
+}
+
+/// The action of an event whose task's name isn't wanted any longer.
+#[inline(always)]
+pub fn action_of(event: Event) -> Action
+    ensures { result ≡ event.action }
+{
+    let Event { task: _, action } = event;
+    action
 }
 
 /// No event is kept any longer.
@@ -42,23 +50,6 @@ fn drop_event(place: &mut Option<Event>)
     ensures { place.new ≡ None }
 {
     *place = None;
-}
-
-/// A copy of the name: the spare one, where it is the same.
-pub fn copy_of(name: &TaskName, spare: Option<TaskName>) -> Result<TaskName, AllocError>
-    ensures ok { IfOk result (λ copy. copy ≡ name.now) }
-    ensures room { spare ≡ Some name.now → IsOk result }
-{
-    match spare {
-        Some(spare) => {
-            if spare == *name {
-                Ok(spare)
-            } else {
-                name.clone()
-            }
-        }
-        None => name.clone(),
-    }
 }
 
 /// The event of the plan.

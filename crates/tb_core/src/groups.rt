@@ -7,19 +7,19 @@ ghost use Rattle.tb_model.specs.State.{Faulted, status_of, is_member_of, open_gr
 ghost use Rattle.tb_core.specs.Groups.{is_among, makes_member};
 ghost use Rattle.tb_core.specs.Scans.{history_of};
 
-use crate::entry::Entry;
+use crate::history::History;
 use crate::places::steps_of;
 use std::alloc::{AllocError, Global};
 use tb_model::{Action, StepId, TaskName};
 
 /// Whether the newest step of the task is a fault.
-pub fn newest_is_fault(entries: &[Entry], t: &TaskName) -> bool
+pub fn newest_is_fault(entries: &History<'_>, t: &TaskName) -> bool
     ensures { IsTrue result ↔ (status_of (own t.now (history_of entries.now)) ≡ Faulted) }
 {
-    let mut rest = entries;
-    'back: while let [older @ .., newest] = rest {
-        if newest.event.task == *t {
-            return is_fault(&newest.event.action);
+    let mut rest = entries.again();
+    'back: while let Some((older, task, action)) = rest.split_newest() {
+        if *task == *t {
+            return is_fault(action);
         }
         rest = older;
     }
@@ -35,7 +35,7 @@ fn is_fault(action: &Action) -> bool
 /// The task's open groups, each by the step that opened it, from the innermost to the outermost.
 pub fn open_groups(
     alloc: Global,
-    entries: &[Entry],
+    entries: &History<'_>,
     t: &TaskName,
 ) -> Result<Vec<StepId>, AllocError>
     requires { length entries.now ≤ 1000000 }
@@ -44,10 +44,10 @@ pub fn open_groups(
     let mut ids = Vec::new(alloc);
     let mut left = steps_of(entries, t);
     let mut closed = 0_usize;
-    let mut rest = entries;
-    'back: while let [older @ .., newest] = rest {
-        if newest.event.task == *t {
-            match &newest.event.action {
+    let mut rest = entries.again();
+    'back: while let Some((older, task, action)) = rest.split_newest() {
+        if *task == *t {
+            match action {
                 Action::Open => {
                     if closed == 0 {
                         ids.push(step(t, left as u32)?)?;
@@ -76,7 +76,7 @@ fn step(task: &TaskName, k: u32) -> Result<StepId, AllocError>
 }
 
 /// Whether the task is a child of `t`, or a member of its open group of the kth step.
-pub fn is_among(entries: &[Entry], t: &TaskName, group: Option<u32>, u: &TaskName) -> bool
+pub fn is_among(entries: &History<'_>, t: &TaskName, group: Option<u32>, u: &TaskName) -> bool
     ensures { result ≡ is_among (own t.now (history_of entries.now)) t.now group u.now }
 {
     match group {
@@ -86,18 +86,18 @@ pub fn is_among(entries: &[Entry], t: &TaskName, group: Option<u32>, u: &TaskNam
 }
 
 /// Whether the task is a member of the open group of the kth step of `t`.
-fn is_member_of(entries: &[Entry], t: &TaskName, k: u32, m: &TaskName) -> bool
+fn is_member_of(entries: &History<'_>, t: &TaskName, k: u32, m: &TaskName) -> bool
     ensures { result ≡ is_member_of k (own t.now (history_of entries.now)) m.now }
 {
     let mut left = steps_of(entries, t);
-    let mut rest = entries;
-    'back: while let [older @ .., newest] = rest {
-        if newest.event.task == *t {
+    let mut rest = entries.again();
+    'back: while let Some((older, task, action)) = rest.split_newest() {
+        if *task == *t {
             if left <= k as usize {
                 return false;
             }
             left -= 1;
-            if makes_member(&newest.event.action, m) {
+            if makes_member(action, m) {
                 return true;
             }
         }

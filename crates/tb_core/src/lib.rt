@@ -6,7 +6,9 @@ mod elsewhere;
 mod entry;
 mod filling;
 mod groups;
+mod history;
 mod needing;
+mod numbers;
 mod places;
 mod removed;
 mod renumbering;
@@ -19,6 +21,7 @@ mod unwinding;
 
 pub use elsewhere::Elsewhere;
 pub use entry::Entry;
+pub use history::History;
 pub use needing::{first_needer, is_apart, is_before, is_covered, needs};
 pub use places::{ordinal_of, place_in, place_of, step_among, step_at};
 pub use removed::Removed;

@@ -1,54 +1,74 @@
 //! Which event of the entries needs which. It is found by scans: nothing is kept for it, and no
 //! memory is taken.
 
-ghost use Rattle.std.specs.Prelude.{◌≡◌, ◌<◌, ◌||◌, IfSome, Some, length};
+ghost use Rattle.std.specs.Prelude.{◌≡◌, ◌<◌, ◌||◌, IfSome, Some, length, take, get_or};
 ghost use Rattle.tb_model.specs.declared.step_id.StepId.{StepId};
 ghost use Rattle.tb_model.specs.Facts.{before, apart, covers};
 ghost use Rattle.tb_model.specs.Needs;
 ghost use Rattle.tb_model.specs.Needers;
+ghost use Rattle.tb_core.specs.Entries.{Entry as AnEntry};
 ghost use Rattle.tb_core.specs.Scans.{AreLegal, history_of, step_at, found_step};
 
-use crate::entry::Entry;
+use crate::history::History;
 use crate::scans::{holds, is_member, items_of};
-use tb_model::{Action, Event, Item, TaskName, some_apart, some_before};
+use tb_model::{Action, Item, TaskName, some_apart, some_before};
 
 /// The place of the earliest entry that needs the one at this place.
-#[tactic(auto, using(crate::proofs::FirstLemmas::front_legal, crate::proofs::FirstLemmas::none_yet, crate::proofs::FirstLemmas::none_next, crate::proofs::FirstLemmas::found_first))]
-pub fn first_needer(entries: &[Entry], at: usize) -> Option<usize>
+pub fn first_needer(entries: &History<'_>, at: usize) -> Option<usize>
     requires { at < length entries.now }
     ensures needer { (id : StepId) → AreLegal entries.now → step_at entries.now at ≡ Some id →
         found_step entries.now result ≡ Needers.first_needer id (history_of entries.now) }
     ensures within { IfSome result (λ by. by < length entries.now) }
 {
-    for later in at + 1..entries.len() {
-        if needs(&entries[..later], &entries[later].event, &entries[at].event) {
+    let end = entries.len();
+    for later in at + 1..end {
+        if needs(entries, later, at) {
             return Some(later);
         }
     }
     None
 }
 
-/// Whether `v`, which stands behind these entries, directly needs their event `u`.
-pub fn needs(front: &[Entry], v: &Event, u: &Event) -> bool
-    ensures { AreLegal front.now → result ≡ Needs.needs (history_of front.now) v.now u.now }
+/// Whether the step at the place `later` directly needs that at the place `earlier`.
+pub fn needs(entries: &History<'_>, later: usize, earlier: usize) -> bool
+    requires later { later < length entries.now }
+    requires earlier { earlier < length entries.now }
+    ensures { AreLegal (take later entries.now) → (v u : AnEntry) →
+        v ≡ get_or entries.now later v → u ≡ get_or entries.now earlier u →
+        result ≡ Needs.needs (history_of (take later entries.now)) v.event u.event }
 {
-    u.is_of(&v.task)
-        || (u.spawns(&v.task)
-            || (v.action.conflicts_with(&u.action)
-                || ((u.action.is_end() && needs_end_of(front, v, &u.task))
-                    || (v.action.is_print() && u.action.is_print()))))
+    let found = needs_event(
+        &entries.front(later),
+        entries.task(later),
+        entries.action(later),
+        entries.task(earlier),
+        entries.action(earlier),
+    );
+    found
 }
 
-/// Whether `v` comes behind the end of `u`.
-fn needs_end_of(front: &[Entry], v: &Event, u: &TaskName) -> bool
-    ensures { AreLegal front.now →
-        result ≡ Needs.needs_end_of (history_of front.now) v.now.task v.now.action u.now }
+/// Whether the action `a` of `t`, which comes after these steps, directly needs the action `b` of `u` among them.
+fn needs_event(front: &History<'_>, t: &TaskName, a: &Action, u: &TaskName, b: &Action) -> bool
+    ensures { AreLegal front.now → result ≡ Needs.needs (history_of front.now)
+        (record { task = t.now; action = a.now }) (record { task = u.now; action = b.now }) }
 {
-    holds(front, &v.task, u) || waits_for(front, &v.task, &v.action, u)
+    *u == *t
+        || (b.is_spawn_of(t)
+            || (a.conflicts_with(b)
+                || ((b.is_end() && needs_end_of(front, t, a, u))
+                    || (a.is_print() && b.is_print()))))
+}
+
+/// Whether the action of `t` comes behind the end of `u`.
+fn needs_end_of(front: &History<'_>, t: &TaskName, action: &Action, u: &TaskName) -> bool
+    ensures { AreLegal front.now →
+        result ≡ Needs.needs_end_of (history_of front.now) t.now action.now u.now }
+{
+    holds(front, t, u) || waits_for(front, t, action, u)
 }
 
 /// Whether the action of `t` waits for the end of `u`.
-fn waits_for(front: &[Entry], t: &TaskName, action: &Action, u: &TaskName) -> bool
+fn waits_for(front: &History<'_>, t: &TaskName, action: &Action, u: &TaskName) -> bool
     ensures { AreLegal front.now →
         result ≡ Needs.waits_for (history_of front.now) t.now action.now u.now }
 {
@@ -61,14 +81,14 @@ fn waits_for(front: &[Entry], t: &TaskName, action: &Action, u: &TaskName) -> bo
 }
 
 /// Whether `u` is an elder sibling on which `t` depends.
-pub fn is_before(front: &[Entry], u: &TaskName, t: &TaskName) -> bool
+pub fn is_before(front: &History<'_>, u: &TaskName, t: &TaskName) -> bool
     ensures { AreLegal front.now → result ≡ before (history_of front.now) u.now t.now }
 {
     u.is_elder_of(t) && some_before(items_of(front, t), items_of(front, u))
 }
 
 /// Whether the siblings `u` and `t` exclude each other.
-pub fn is_apart(front: &[Entry], u: &TaskName, t: &TaskName) -> bool
+pub fn is_apart(front: &History<'_>, u: &TaskName, t: &TaskName) -> bool
     ensures { AreLegal front.now → result ≡ apart (history_of front.now) u.now t.now }
 {
     (u.is_elder_of(t) && some_apart(items_of(front, t), items_of(front, u)))
@@ -76,7 +96,7 @@ pub fn is_apart(front: &[Entry], u: &TaskName, t: &TaskName) -> bool
 }
 
 /// Whether a `taskwait` of `t` with these items waits for `u`.
-pub fn is_covered(front: &[Entry], t: &TaskName, items: &[Item], u: &TaskName) -> bool
+pub fn is_covered(front: &History<'_>, t: &TaskName, items: &[Item], u: &TaskName) -> bool
     ensures { AreLegal front.now → result ≡ covers (history_of front.now) t.now items.now u.now }
 {
     t.is_parent_of(u) && (items.is_empty() || some_before(items, items_of(front, u)))

@@ -2,27 +2,27 @@
 
 ghost use Rattle.std.specs.Prelude.{◌≡◌, ◌<◌, ◌≤◌, ◌↔◌, IfOk, IfSome, IsSome, IsTrue, Some, length, slice_get};
 ghost use Rattle.tb_model.specs.declared.step_id.StepId.{StepId};
-ghost use Rattle.tb_core.specs.declared.entry.Entry.{Entry as AnEntry};
-ghost use Rattle.tb_model.specs.Facts.{History, own, is_of};
+ghost use Rattle.tb_core.specs.Entries.{Entry as AnEntry};
+ghost use Rattle.tb_model.specs.Facts.{History as Events, own, is_of};
 ghost use Rattle.tb_model.specs.Equivalent.{stands};
 ghost use Rattle.tb_core.specs.Scans.{history_of, step_at};
 ghost use Rattle.tb_places.specs.Where.{places_where};
 ghost use Rattle.tb_core.specs.Renumbering.{events_in};
 
-use crate::entry::Entry;
+use crate::history::History;
 use std::alloc::AllocError;
 use tb_model::{StepId, TaskName};
 
 /// The place of a step: where the kth event of its task stands.
 #[tactic(auto, using(crate::proofs::ScanLemmas::found_stands, crate::proofs::ScanLemmas::found_step_at))]
-pub fn place_of(entries: &[Entry], id: &StepId) -> Option<usize>
+pub fn place_of(entries: &History<'_>, id: &StepId) -> Option<usize>
     ensures there { IsSome result ↔ IsTrue (stands id.now (history_of entries.now)) }
     ensures step { IfSome result (λ at. step_at entries.now at ≡ Some id.now) }
     ensures within { IfSome result (λ at. at < length entries.now) }
 {
     let mut count = 0;
-    for (at, entry) in entries.iter().enumerate() {
-        if entry.event.task == id.task {
+    for at in 0..entries.len() {
+        if entries.is_of(at, &id.task) {
             count += 1;
             if count == id.k as usize {
                 return Some(at);
@@ -33,7 +33,7 @@ pub fn place_of(entries: &[Entry], id: &StepId) -> Option<usize>
 }
 
 /// The place of a step, read off those of its task's steps.
-pub fn place_in(own: &[u32], entries: &[Entry], id: &StepId) -> Option<usize>
+pub fn place_in(own: &[u32], entries: &History<'_>, id: &StepId) -> Option<usize>
     requires { own.now ≡ places_where (is_of id.now.task) (events_in entries.now) }
     ensures there { IsSome result ↔ IsTrue (stands id.now (history_of entries.now)) }
     ensures step { IfSome result (λ at. step_at entries.now at ≡ Some id.now) }
@@ -47,7 +47,7 @@ pub fn place_in(own: &[u32], entries: &[Entry], id: &StepId) -> Option<usize>
 
 /// Whether a task with this many steps has the step.
 pub fn is_number_of(id: &StepId, steps: usize) -> bool
-    ensures { (H : History) → steps ≡ length (own id.now.task H) → result ≡ stands id.now H }
+    ensures { (H : Events) → steps ≡ length (own id.now.task H) → result ≡ stands id.now H }
 {
     if id.k == 0 {
         return false;
@@ -59,32 +59,32 @@ pub fn is_number_of(id: &StepId, steps: usize) -> bool
 }
 
 /// The step at this place. It can be refused where a copy of its task's name can, beyond three numbers.
-pub fn step_at(entries: &[Entry], at: usize) -> Result<StepId, AllocError>
+pub fn step_at(entries: &History<'_>, at: usize) -> Result<StepId, AllocError>
     requires within { at < length entries.now }
     requires bound { length entries.now ≤ 1000000 }
     ensures { IfOk result (λ id. step_at entries.now at ≡ Some id) }
 {
-    let task = entries[at].event.task.clone()?;
+    let task = entries.task(at).clone()?;
     let k = ordinal_of(entries, at);
     Ok(StepId { task, k })
 }
 
 /// The step at this place, where its task's places are these.
-pub fn step_among(own: &[u32], entries: &[Entry], at: usize) -> Result<StepId, AllocError>
+pub fn step_among(own: &[u32], entries: &History<'_>, at: usize) -> Result<StepId, AllocError>
     requires within { at < length entries.now }
     requires bound { length entries.now ≤ 1000000 }
     requires own { (e : AnEntry) → slice_get entries.now at ≡ Some e →
         own.now ≡ places_where (is_of e.event.task) (events_in entries.now) }
     ensures { IfOk result (λ id. step_at entries.now at ≡ Some id) }
 {
-    let task = entries[at].event.task.clone()?;
+    let task = entries.task(at).clone()?;
     let k = ordinal_among(own, entries, at);
     Ok(StepId { task, k })
 }
 
 /// The number of the step at this place, found among its task's places. Where it isn't among them,
 /// the steps in front of it are counted.
-fn ordinal_among(own: &[u32], entries: &[Entry], at: usize) -> u32
+fn ordinal_among(own: &[u32], entries: &History<'_>, at: usize) -> u32
     requires within { at < length entries.now }
     requires bound { length entries.now ≤ 1000000 }
     requires own { (e : AnEntry) → slice_get entries.now at ≡ Some e →
@@ -98,24 +98,26 @@ fn ordinal_among(own: &[u32], entries: &[Entry], at: usize) -> u32
 }
 
 /// The number of the step at this place among the steps of its task, from 1.
-pub fn ordinal_of(entries: &[Entry], at: usize) -> u32
+pub fn ordinal_of(entries: &History<'_>, at: usize) -> u32
     requires within { at < length entries.now }
     requires bound { length entries.now ≤ 1000000 }
     ensures { (id : StepId) → step_at entries.now at ≡ Some id → result ≡ id.k }
 {
-    steps_of(&entries[..at], &entries[at].event.task) as u32 + 1
+    steps_of(&entries.front(at), entries.task(at)) as u32 + 1
 }
 
 /// How many of the entries are the task's.
-pub(crate) fn steps_of(entries: &[Entry], t: &TaskName) -> usize
+pub(crate) fn steps_of(entries: &History<'_>, t: &TaskName) -> usize
     ensures count { result ≡ length (own t.now (history_of entries.now)) }
     ensures within { result ≤ length entries.now }
 {
     let mut count = 0;
-    for entry in entries {
-        if entry.event.task == *t {
+    let mut rest = entries.again();
+    'back: while let Some((older, task, _)) = rest.split_newest() {
+        if *task == *t {
             count += 1;
         }
+        rest = older;
     }
     count
 }

@@ -1,11 +1,14 @@
 //! The places of the entries, where some of these go. Those that come after the first that goes are
-//! taken off the indexes, and put back one lower for each that went; the rest isn't looked at. The tables
-//! tell each task's number.
+//! taken off the indexes, and put back one lower for each that went; the rest isn't looked at. Each
+//! entry has its task's number.
 
 ghost use Rattle.std.specs.Prelude.{◌≡◌, ◌≤◌, ◌<◌, ◌++◌, ℕ, IsTrue, false, length, take, drop};
+ghost use Rattle.std.specs.List.{AllZip, IsDistinct};
+ghost use Rattle.tb_model.specs.Names.{same_name};
 ghost use Rattle.tb_places.specs.Places.{IsIndexOf, HasRoomForAll};
 ghost use Rattle.tb_core.specs.Renumbering.{events_in, goes_at, left_from};
 ghost use Rattle.tb_core.specs.Soundness.{names_in};
+ghost use Rattle.tb_core.specs.Storing.{IsStored, entries_in};
 
 use crate::entry::Entry;
 use tb_places::Places;
@@ -13,10 +16,13 @@ use tb_undo::Tables;
 
 /// Renumbers the entries that stay where those at these places, which rise, go.
 pub fn renumber(places: &mut Places, tables: &Tables, entries: &[Entry], going: &[u32])
-    requires index { IsIndexOf (names_in tables.now) (events_in entries.now) places.old }
+    requires index { IsIndexOf (names_in tables.now) (events_in (entries_in tables.now entries.now)) places.old }
+    requires stored { AllZip (IsStored (names_in tables.now)) entries.now (entries_in tables.now entries.now) }
     requires bound { length entries.now ≤ 1000000 }
-    ensures { IsIndexOf (names_in tables.now) (left_from 0 going.now (events_in entries.now)) places.new }
+    ensures { IsIndexOf (names_in tables.now) (left_from 0 going.now (events_in (entries_in tables.now entries.now))) places.new }
 {
+    // each name is there once
+    let _ = tables.name(0);
     let first = first_of(going, entries.len());
     cut(places, tables, entries, first);
     refill(places, tables, entries, first, going);
@@ -34,41 +40,41 @@ fn first_of(going: &[u32], end: usize) -> usize
 }
 
 /// Takes the entries from this place on off the indexes.
-fn cut(places: &mut Places, tables: &Tables, entries: &[Entry], first: usize)
-    requires index { IsIndexOf (names_in tables.now) (events_in entries.now) places.old }
+fn cut(places: &mut Places, _tables: &Tables, entries: &[Entry], first: usize)
+    requires index { IsIndexOf (names_in _tables.now) (events_in (entries_in _tables.now entries.now)) places.old }
+    requires stored { AllZip (IsStored (names_in _tables.now)) entries.now (entries_in _tables.now entries.now) }
+    requires distinct { IsDistinct same_name (names_in _tables.now) }
     requires within { first ≤ length entries.now }
-    ensures index { IsIndexOf (names_in tables.now) (take first (events_in entries.now)) places.new }
-    ensures room { HasRoomForAll (names_in tables.now) (events_in entries.now) places.new }
+    ensures index { IsIndexOf (names_in _tables.now) (take first (events_in (entries_in _tables.now entries.now))) places.new }
+    ensures room { HasRoomForAll (names_in _tables.now) (events_in (entries_in _tables.now entries.now)) places.new }
 {
     let mut at = entries.len();
-    let mut near = 0;
     'back: while first < at {
         at -= 1;
-        let event = &entries[at].event;
-        let number = tables.walk_place(&mut near, &event.task);
-        places.pop(number, event);
+        let entry = &entries[at];
+        places.pop(Some(entry.task as usize), &entry.action);
     }
 }
 
 /// Puts those that stay back, each with its new place.
-fn refill(places: &mut Places, tables: &Tables, entries: &[Entry], first: usize, going: &[u32])
-    requires index { IsIndexOf (names_in tables.now) (take first (events_in entries.now)) places.old }
-    requires room { HasRoomForAll (names_in tables.now) (events_in entries.now) places.old }
+fn refill(places: &mut Places, _tables: &Tables, entries: &[Entry], first: usize, going: &[u32])
+    requires index { IsIndexOf (names_in _tables.now) (take first (events_in (entries_in _tables.now entries.now))) places.old }
+    requires room { HasRoomForAll (names_in _tables.now) (events_in (entries_in _tables.now entries.now)) places.old }
+    requires stored { AllZip (IsStored (names_in _tables.now)) entries.now (entries_in _tables.now entries.now) }
+    requires distinct { IsDistinct same_name (names_in _tables.now) }
     requires within { first ≤ length entries.now }
     requires bound { length entries.now ≤ 1000000 }
-    ensures { IsIndexOf (names_in tables.now) (take first (events_in entries.now)
-        ++ left_from first going.now (drop first (events_in entries.now))) places.new }
+    ensures { IsIndexOf (names_in _tables.now) (take first (events_in (entries_in _tables.now entries.now))
+        ++ left_from first going.now (drop first (events_in (entries_in _tables.now entries.now)))) places.new }
 {
     let mut next = 0;
-    let mut near = 0;
     let mut place = first as u32;
     for at in first..entries.len() {
         if goes(going, next, at) {
             next += 1;
         } else {
-            let event = &entries[at].event;
-            let number = tables.walk_place(&mut near, &event.task);
-            places.push_reserved(number, event, place);
+            let entry = &entries[at];
+            places.push_reserved(Some(entry.task as usize), &entry.action, place);
             place += 1;
         }
     }

@@ -22,7 +22,9 @@ ghost use Rattle.tb_core.specs.Scans.{AreLegal};
 
 use crate::answers::{config, named, stale, stands_so};
 use crate::entry::Entry;
-use crate::filling::{copy_event, copy_of, fill_in, forget, planned, spares};
+use crate::filling::{action_of, copy_event, fill_in, forget, planned, spare_spawn};
+use crate::history::History;
+use crate::numbers::number_in;
 use crate::places::is_number_of;
 use crate::step_refusal::StepRefusal;
 use std::alloc::{AllocError, Global};
@@ -52,13 +54,18 @@ impl Model for Core {
     ghost use Rattle.tb_core.specs.Seen.{Held};
     ghost use Rattle.tb_core.specs.Soundness.{seen, names_in, IsSound, HasReserved};
     ghost use Rattle.tb_core.specs.Renumbering.{events_in};
+    ghost use Rattle.std.specs.List.{AllZip};
+    ghost use Rattle.tb_core.specs.Storing.{IsStored, entries_in};
     ghost use Rattle.tb_places.specs.Places.{IsIndexOf};
 
     ghost Value = { Held };
 
-    ghost view = { λ c. record { run = seen c.first.items c.root_line c.limit (reverse c.entries.items); reserved = c.reserved } };
+    ghost view = { λ c. record { run = seen c.first.items c.root_line c.limit (reverse (entries_in c.tables c.entries.items)); reserved = c.reserved } };
 
-    ghost invariant = { λ c. IsSound c.first.items c.root_line c.limit (reverse c.entries.items) c.tables × HasReserved c.reserved (vec_capacity c.entries - vec_len c.entries) c.tables c.places × IsIndexOf (names_in c.tables) (events_in c.entries.items) c.places };
+    ghost invariant = { λ c. IsSound c.first.items c.root_line c.limit (reverse (entries_in c.tables c.entries.items)) c.tables
+        × HasReserved c.reserved (vec_capacity c.entries - vec_len c.entries) c.tables c.places
+        × IsIndexOf (names_in c.tables) (events_in (entries_in c.tables c.entries.items)) c.places
+        × AllZip (IsStored (names_in c.tables)) c.entries.items (entries_in c.tables c.entries.items) };
 }
 
 impl Core {
@@ -174,11 +181,12 @@ impl Core {
 
     /// The newest event.
     #[inline(always)]
-    pub fn newest(&self) -> Option<&Event>
-        ensures { option_copied result ≡ slice_get (history self.now.run) 0 }
+    pub fn newest(&self) -> Option<(&TaskName, &Action)>
+        ensures some { IfSome result (λ p. slice_get (history self.now.run) 0 ≡ Some (record { task = p.0.now; action = p.1.now })) }
+        ensures none { IfNone result (slice_get (history self.now.run) 0 ≡ None) }
     {
-        match self.entries.last() {
-            Some(entry) => Some(&entry.event),
+        match self.legal_entries().split_newest() {
+            Some((_, task, action)) => Some((task, action)),
             None => None,
         }
     }
@@ -305,11 +313,13 @@ impl Core {
         let at = self.count();
         reserve_one(&mut self.entries)?;
         forget(&mut self.reserved);
-        let number = self.tables.place(&event.task);
-        self.places.reserve(number, &event)?;
+        let task = number_in(&self.tables, &event.task);
+        self.places.reserve(Some(task as usize), &event.action)?;
         let replaced = self.tables.apply(&event, to)?;
-        self.places.push_reserved(number, &event, at);
-        self.entries.push_reserved(Entry::new(event, to, replaced));
+        self.places
+            .push_reserved(Some(task as usize), &event.action, at);
+        self.entries
+            .push_reserved(Entry::new(task, action_of(event), replaced));
         Ok(())
     }
 
@@ -326,8 +336,8 @@ impl Core {
         self.entries.reserve(1)?;
         self.reserved = None;
         self.tables.reserve_apply(&event)?;
-        let number = self.tables.place(&event.task);
-        self.places.reserve(number, &event)?;
+        let task = number_in(&self.tables, &event.task);
+        self.places.reserve(Some(task as usize), &event.action)?;
         self.reserved = Some(copy);
         Ok(event)
     }
@@ -347,15 +357,17 @@ impl Core {
             config,
             action,
         } = plan;
-        let (its_name, its_spawn) = spares(self.reserved.take());
-        let task = copy_of(&config.task, its_name)?;
-        let event = fill_in(&self.tables, config.task, action, its_spawn)?;
+        let spare = spare_spawn(self.reserved.take());
+        let event = fill_in(&self.tables, config.task, action, spare)?;
         self.entries.reserve(1)?;
-        let number = self.tables.place(&event.task);
-        self.places.reserve(number, &event)?;
+        let number = number_in(&self.tables, &event.task);
+        self.places.reserve(Some(number as usize), &event.action)?;
         let replaced = self.tables.apply(&event, to)?;
-        self.places.push_reserved(number, &event, at);
-        self.entries.push_reserved(Entry::new(event, to, replaced));
+        self.places
+            .push_reserved(Some(number as usize), &event.action, at);
+        let Event { task, action } = event;
+        self.entries
+            .push_reserved(Entry::new(number, action, replaced));
         Ok(StepId {
             task,
             k: config.steps + 1,
@@ -364,13 +376,13 @@ impl Core {
 
     /// The steps that stand, from the oldest to the newest, each with the line at which it left its
     /// task and what it replaced: they are a legal history.
-    pub fn legal_entries(&self) -> &[Entry]
-        ensures steps { map departure (reverse result.now) ≡ self.now.run.steps }
-        ensures legal { AreLegal result.now }
-        ensures records { AreRecords self.now.run.cells self.now.run.root_line (reverse result.now) }
-        ensures bound { length result.now ≤ 1000000 }
+    pub fn legal_entries(&self) -> History<'_>
+        ensures steps { map departure (reverse result) ≡ self.now.run.steps }
+        ensures legal { AreLegal result }
+        ensures records { AreRecords self.now.run.cells self.now.run.root_line (reverse result) }
+        ensures bound { length result ≤ 1000000 }
     {
-        self.entries.as_slice()
+        History::of(self.entries.as_slice(), &self.tables)
     }
 }
 
@@ -388,10 +400,10 @@ fn name_every_field(core: &Core, entry: &Entry) {
         reserved: _,
     } = core;
     let Entry {
-        event: _,
-        to: _,
-        at: _,
+        action: _,
         number: _,
+        task: _,
+        at: _,
     } = entry;
 }
 

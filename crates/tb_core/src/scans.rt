@@ -6,24 +6,24 @@ ghost use Rattle.tb_model.specs.Facts;
 ghost use Rattle.tb_model.specs.State.{items_in, spawn_of};
 ghost use Rattle.tb_core.specs.Scans.{AreLegal, history_of};
 
-use crate::entry::Entry;
+use crate::history::History;
 use tb_model::{Action, Item, TaskName};
 
 /// The depend items of the task.
 #[tactic(auto, using(crate::proofs::NeedsLemmas::items_named))]
-pub(crate) fn items_of<'a>(front: &'a [Entry], t: &TaskName) -> &'a [Item]
+pub(crate) fn items_of<'a>(front: &History<'a>, t: &TaskName) -> &'a [Item]
     ensures { AreLegal front.now → result.now ≡ Facts.items_of t.now (history_of front.now) }
 {
     named_items(front, t)
 }
 
 /// The items that the spawn of the task names.
-fn named_items<'a>(front: &'a [Entry], t: &TaskName) -> &'a [Item]
+fn named_items<'a>(front: &History<'a>, t: &TaskName) -> &'a [Item]
     ensures { result.now ≡ items_in (spawn_of t.now (history_of front.now)) }
 {
-    let mut rest = front;
-    'back: while let [older @ .., newest] = rest {
-        match &newest.event.action {
+    let mut rest = front.again();
+    'back: while let Some((older, _, action)) = rest.split_newest() {
+        match action {
             Action::Spawn(spawned) => {
                 let spawn = spawned.get();
                 if spawn.child == *t {
@@ -39,7 +39,7 @@ fn named_items<'a>(front: &'a [Entry], t: &TaskName) -> &'a [Item]
 
 /// Whether the newest action of `t` generated the undeferred child `u`.
 #[tactic(auto, using(crate::proofs::NeedsLemmas::held_within))]
-pub fn holds(front: &[Entry], t: &TaskName, u: &TaskName) -> bool
+pub fn holds(front: &History<'_>, t: &TaskName, u: &TaskName) -> bool
     ensures { AreLegal front.now →
         result ≡ Facts.holds (Facts.own t.now (history_of front.now)) u.now }
 {
@@ -47,13 +47,13 @@ pub fn holds(front: &[Entry], t: &TaskName, u: &TaskName) -> bool
     t.is_parent_of(u) && newest_generated(front, t, u)
 }
 
-fn newest_generated(front: &[Entry], t: &TaskName, u: &TaskName) -> bool
+fn newest_generated(front: &History<'_>, t: &TaskName, u: &TaskName) -> bool
     ensures { result ≡ Facts.holds (Facts.own t.now (history_of front.now)) u.now }
 {
-    let mut rest = front;
-    'back: while let [older @ .., newest] = rest {
-        if newest.event.task == *t {
-            return is_undeferred(&newest.event.action, u);
+    let mut rest = front.again();
+    'back: while let Some((older, task, action)) = rest.split_newest() {
+        if *task == *t {
+            return is_undeferred(action, u);
         }
         rest = older;
     }
@@ -74,7 +74,7 @@ fn is_undeferred(action: &Action, u: &TaskName) -> bool
 
 /// Whether the task is a member of the innermost group that `t` has open.
 #[tactic(auto, using(crate::proofs::NeedsLemmas::member_within))]
-pub fn is_member(front: &[Entry], t: &TaskName, m: &TaskName) -> bool
+pub fn is_member(front: &History<'_>, t: &TaskName, m: &TaskName) -> bool
     ensures { AreLegal front.now →
         result ≡ Facts.is_member (Facts.own t.now (history_of front.now)) m.now }
 {
@@ -82,15 +82,15 @@ pub fn is_member(front: &[Entry], t: &TaskName, m: &TaskName) -> bool
     m.is_within(t) && is_in_innermost(front, t, m)
 }
 
-fn is_in_innermost(front: &[Entry], t: &TaskName, m: &TaskName) -> bool
+fn is_in_innermost(front: &History<'_>, t: &TaskName, m: &TaskName) -> bool
     ensures { result ≡ Facts.is_member (Facts.own t.now (history_of front.now)) m.now }
 {
-    let mut rest = front;
+    let mut rest = front.again();
     let mut closed = 0_usize;
     let mut found = false;
-    'back: while let [older @ .., newest] = rest {
-        if newest.event.task == *t {
-            match &newest.event.action {
+    'back: while let Some((older, task, action)) = rest.split_newest() {
+        if *task == *t {
+            match action {
                 Action::Open => {
                     if closed == 0 {
                         return found;

@@ -3,8 +3,13 @@
 
 ghost use Rattle.std.specs.Prelude.{◌≡◌, ◌≤◌, ◌+◌, ◌++◌, reverse, vec_len, vec_capacity};
 ghost use Rattle.tb_wait.specs.Kin.{KeepsNames};
+ghost use Rattle.tb_undo.specs.Steps.{Stands, IsWithout};
+ghost use Rattle.std.specs.List.{AllZip};
+ghost use Rattle.tb_core.specs.Soundness.{names_in};
+ghost use Rattle.tb_core.specs.Storing.{IsStored, entries_in, replaced_stored};
+ghost use Rattle.tb_core.specs.UnwindingStored.{UnwoundStored};
 ghost use Rattle.tb_core.specs.Rolled.{IsOfHistory};
-ghost use Rattle.tb_core.specs.Unwinding.{events, AreTied, Unwound};
+ghost use Rattle.tb_core.specs.Unwinding.{events, AreTied};
 
 use crate::entry::Entry;
 use crate::removed::Removed;
@@ -19,9 +24,10 @@ pub fn unwind(
     tables: &mut Tables,
     rollback: Rollback,
 ) -> (Vec<Entry>, Vec<Removed>)
-    requires tied { AreTied (reverse entries.old.items) tables.old }
-    requires ready { IsOfHistory (events (reverse entries.old.items)) rollback }
-    ensures unwound { Unwound rollback.step entries.old.items tables.old entries.new.items
+    requires tied { AreTied (reverse (entries_in tables.old entries.old.items)) tables.old }
+    requires stored { AllZip (IsStored (names_in tables.old)) entries.old.items (entries_in tables.old entries.old.items) }
+    requires ready { IsOfHistory (events (reverse (entries_in tables.old entries.old.items))) rollback }
+    ensures unwound { UnwoundStored rollback.step (entries_in tables.old entries.old.items) tables.old entries.new.items
         result.0.items tables.new result.1.items }
     ensures names { KeepsNames tables.old.waits.tasks tables.new.waits.tasks }
     ensures capacity { vec_capacity entries.new ≡ vec_capacity entries.old }
@@ -39,10 +45,8 @@ pub fn unwind(
     'back: while let Some(at) = next {
         let entry = entries.pop().unwrap();
         if entries.len() == at as usize {
-            let replaced = entry.replaced();
-            let event = entry.event;
-            tables.revert(&event, replaced);
-            removed.push_reserved(told(steps.pop().unwrap(), event));
+            let id = steps.pop().unwrap();
+            removed.push_reserved(take_back(tables, entry, id));
             next = places.pop();
         } else {
             kept.push_reserved(entry);
@@ -51,12 +55,25 @@ pub fn unwind(
     (kept, removed)
 }
 
-/// What is told of a step that goes.
-fn told(id: StepId, event: Event) -> Removed
-    ensures { result ≡ record { id = id; action = event.action } }
+/// Takes a step back by its own record: its task is that of its name.
+pub fn take_back(tables: &mut Tables, entry: Entry, id: StepId) -> Removed
+    requires { Stands tables.old (record { task = id.task; action = entry.action }) (replaced_stored entry) }
+    ensures without { IsWithout tables.old (record { task = id.task; action = entry.action }) (replaced_stored entry) tables.new }
+    ensures names { KeepsNames tables.old.waits.tasks tables.new.waits.tasks }
+    ensures removed { result ≡ record { id = id; action = entry.action } }
 {
+    let replaced = entry.replaced();
+    let StepId { task, k } = id;
+    let event = Event {
+        task,
+        action: entry.action,
+    };
+    tables.revert(&event, replaced);
     Removed {
-        id,
+        id: StepId {
+            task: event.task,
+            k,
+        },
         action: event.action,
     }
 }

@@ -10,3 +10,5 @@ mod opening;
 mod places;
 #[cfg(test)]
 mod roll;
+#[cfg(test)]
+mod taking;

@@ -1,15 +1,13 @@
 //! The places that a core lends, against a scan of its steps: after each step, undo and rollback of
 //! histories that are made by a fixed rule.
 
-ghost use Rattle.std.specs.Prelude.{IsTrue};
-ghost use Rattle.tb_core.specs.Outcomes.{Fits};
-
+use crate::taking::fits;
 use std::alloc::AllocGlobal;
 use std::mem;
 use std::process::Abort;
-use tb_core::{Core, Entry};
-use tb_model::{Action, Event, StepId, TaskName};
-use tb_plan::{Plan, plan};
+use tb_core::{Core, History};
+use tb_model::{Action, StepId, TaskName};
+use tb_plan::plan;
 use tb_read::{Program, read};
 use tb_roll::roll;
 
@@ -35,23 +33,23 @@ enum Wanted<'a> {
     Print,
 }
 
-fn passes(event: &Event, wanted: &Wanted) -> bool {
+fn passes(task: &TaskName, action: &Action, wanted: &Wanted) -> bool {
     match wanted {
-        Wanted::Task(task) => event.task == **task,
-        Wanted::Cell(cell) => match &event.action {
+        Wanted::Task(whose) => *task == **whose,
+        Wanted::Cell(cell) => match action {
             Action::Load { cell: loaded, .. } => loaded == cell,
             Action::Store { cell: stored, .. } => stored == cell,
             _ => false,
         },
-        Wanted::Print => event.action.is_print(),
+        Wanted::Print => action.is_print(),
     }
 }
 
 /// These are the places of exactly the steps that are wanted.
-fn compare(rt: &impl Abort, found: &[u32], entries: &[Entry], wanted: &Wanted) {
+fn compare(rt: &impl Abort, found: &[u32], entries: &History<'_>, wanted: &Wanted) {
     let mut next = 0;
-    for (at, entry) in entries.iter().enumerate() {
-        if passes(&entry.event, wanted) {
+    for at in 0..entries.len() {
+        if passes(entries.task(at), entries.action(at), wanted) {
             assert!(rt; next < found.len());
             assert_eq!(rt; found[next] as usize, at);
             next += 1;
@@ -64,26 +62,12 @@ fn compare_all(rt: &(impl Abort + AllocGlobal), core: &Core) {
     let entries = core.legal_entries();
     for text in TASKS {
         let task = TaskName::parse(rt.alloc(), text.as_bytes()).expect(rt, text);
-        compare(rt, core.events_of(&task), entries, &Wanted::Task(&task));
+        compare(rt, core.events_of(&task), &entries, &Wanted::Task(&task));
     }
     for cell in 0..4 {
-        compare(rt, core.touches(cell), entries, &Wanted::Cell(cell));
+        compare(rt, core.touches(cell), &entries, &Wanted::Cell(cell));
     }
-    compare(rt, core.prints(), entries, &Wanted::Print);
-}
-
-/// Whether the plan is for the core's cells, starts a task exactly in front of its first step, and
-/// closes no group.
-fn fits(core: &Core, plan: &Plan) -> bool
-    ensures { IsTrue result → Fits core.now.run plan.now }
-{
-    if plan.instr.cells as usize != core.cells().len() {
-        return false;
-    }
-    if plan.action.is_start() != (plan.config.steps == 0) {
-        return false;
-    }
-    !matches!(&plan.action, Action::Close)
+    compare(rt, core.prints(), &entries, &Wanted::Print);
 }
 
 /// The task takes its next step, if it has one.
@@ -121,11 +105,11 @@ fn make_move(rt: &(impl Abort + AllocGlobal), program: &Program, core: &mut Core
         k: (seed >> 16) % 9,
     };
     if kind == 6 {
-        mem::forget(core.undo(&id));
+        mem::forget(core.undo(id));
     } else {
         mem::forget(roll(rt.alloc(), core, &id));
+        mem::forget(id);
     }
-    mem::forget(id);
 }
 
 fn run_history(rt: &(impl Abort + AllocGlobal), text: &[u8], first: u32) {

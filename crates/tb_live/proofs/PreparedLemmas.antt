@@ -1,5 +1,5 @@
 -- What is prepared, and whether it is what is asked for.
-use Rattle.std.proofs.Common.{◌≡◌, ◌↔◌, ◌<◌, ◌≤◌, ℕ, List, Bool, true, refl, sym, ap, ap₂, ◌∙◌, subst, Option, Some, None, option_map, arith}
+use Rattle.std.proofs.Common.{◌≡◌, ◌↔◌, ◌≤◌, ℕ, List, Bool, true, refl, sym, ap, ap₂, ◌∙◌, subst, Option, Some, None, option_map, arith}
 use Rattle.std.specs.Prelude.{IfSome, is_some}
 use Rattle.tb_model.specs.declared.entry.Entry.{Entry}
 use Rattle.tb_model.specs.declared.entry.Entry.TheVariants.{Stepped, Rolled}
@@ -12,7 +12,7 @@ use Rattle.tb_core.specs.Seen.{Held}
 use Rattle.tb_roll.specs.declared.readied.Ready.{Ready}
 use Rattle.tb_live.specs.declared.prepared.Prepared.{Prepared}
 use Rattle.tb_live.specs.declared.prepared.Prepared.TheVariants.{Step, Roll}
-use Rattle.tb_live.specs.Preparing.{HasRoom, HasStepRoom, HoldsStep, HoldsRoll, entry_of, held_event, held_name, held_roll}
+use Rattle.tb_live.specs.Preparing.{HasRoom, HasStepRoom, HoldsStep, HoldsRoll, entry_of, held_event, held_roll, MayRoll}
 
 pub same_step : (a b : StepId) (e : Bool) → a.k ≡ b.k → e ≡ same_name a.task b.task → (e ≡ true) ↔ (a ≡ b)
 same_step a b e k m = (
@@ -53,11 +53,6 @@ event_taken None seat t h e = h
 event_taken (Some (Step whose v)) seat t h e = cc
 event_taken (Some (Roll whose i r)) seat t h e = h
 
-pub name_taken : (o : Option Prepared) (seat : ℕ) (i : StepId) → HoldsRoll o seat i → held_name o ≡ Some i
-name_taken None seat i h = absurd h
-name_taken (Some (Step whose v)) seat i h = absurd h
-name_taken (Some (Roll whose j r)) seat i h = ap Some h.1
-
 pub roll_taken : (o : Option Prepared) (seat : ℕ) (i : StepId) → HoldsRoll o seat i → IfSome (held_roll o) (λ r. (o ≡ Some (Roll seat r.0 r.1)) × (r.0 ≡ i))
 roll_taken None seat i h = tt
 roll_taken (Some (Step whose v)) seat i h = tt
@@ -79,11 +74,11 @@ event_room limit P c entries spare (Some (Step whose u)) seat t v room h e =
     (ap (λ (x : Event). x.task) (sym z) ∙ h.1, subst (HasStepRoom limit P c entries spare) z room)
 event_room limit P c entries spare (Some (Roll whose i r)) seat t v room h e = absurd h
 
--- a place is free for its entry
-pub roll_free : (limit : ℕ) (P : Program) (c : Held) (entries : List Entry) (spare : ℕ) (o : Option Prepared) (seat : ℕ) (i : StepId) → HasRoom limit P c entries spare o → HoldsRoll o seat i → 0 < spare
-roll_free limit P c entries spare None seat i room h = absurd h
-roll_free limit P c entries spare (Some (Step whose u)) seat i room h = absurd h
-roll_free limit P c entries spare (Some (Roll whose j r)) seat i room h = room.free
+-- the rollback that is prepared has its names, and a place is free for its entry
+pub may_roll : (limit : ℕ) (P : Program) (c : Held) (entries : List Entry) (spare : ℕ) (o : Option Prepared) (seat : ℕ) (i : StepId) → HasRoom limit P c entries spare o → HoldsRoll o seat i → MayRoll spare i o
+may_roll limit P c entries spare None seat i room h = absurd h
+may_roll limit P c entries spare (Some (Step whose u)) seat i room h = absurd h
+may_roll limit P c entries spare (Some (Roll whose j r)) seat i room h = (room.free, ap₂ (λ (a b : StepId). Some (a, b)) h.1 (room.step ∙ h.1))
 
 -- more places serve as well
 pub room_more : (limit : ℕ) (P : Program) (c : Held) (entries : List Entry) (spare more : ℕ) (o : Option Prepared) → spare ≤ more → HasRoom limit P c entries spare o → HasRoom limit P c entries more o

@@ -38,6 +38,7 @@ use Rattle.tb_control.specs.Claims.{Claims, is_hit, AreLawful}
 use Rattle.tb_control.specs.Controls.{behind_removal}
 use Rattle.tb_live.specs.Session.{Session, history, is_full, with_entry, numbers_from, cell_numbers}
 use Rattle.tb_live.specs.Moves.{UndoesFor}
+use Rattle.tb_live.specs.Rollbacks.{EntersUndo}
 use Rattle.tb_live.specs.Soundness.{IsSound, IsLawful}
 use Rattle.tb_control.proofs.ControlLemmas.{withdrawn_alike, undo_hits, lawful_rolled}
 use Rattle.tb_next.proofs.NativeLemmas.{next_so, line_fits}
@@ -186,17 +187,16 @@ pub record LiveUndoes (seat : ℕ) (P : Program) (limit : ℕ) (s : Session) (i 
   pub lawful : IsLawful (reverse pushed) after
   pub undoes : UndoesFor seat s i (shown P limit pushed after) removed
 
-pub live_undoes : (seat : ℕ) (P : Program) (limit : ℕ) (entries spare pushed : List Entry) (before after : Control) (run new : Seen) (s : Session) (i copy : StepId) (removed : Removed)
+pub live_undoes : (seat : ℕ) (P : Program) (limit : ℕ) (entries pushed : List Entry) (before after : Control) (run new : Seen) (s : Session) (i : StepId) (removed : Removed)
     → shown P limit entries before ≡ s → IsSound P limit (reverse entries) run × IsLawful (reverse entries) before → is_full s ≡ false
-    → TakesBack run i new removed → copy ≡ i → spare ≡ entries → pushed ≡ spare ++ Rolled seat copy ∷ [] → after ≡ behind_removal (removed ∷ []) before
+    → EntersUndo seat run i new entries pushed removed → after ≡ behind_removal (removed ∷ []) before
     → LiveUndoes seat P limit s i pushed after new removed
-live_undoes seat P limit entries spare pushed before after run new s i copy removed shows both room b same kept grows withdraws =
+live_undoes seat P limit entries pushed before after run new s i removed shows both room e withdraws =
+    let b = e.takes in
     let sound = both.0 in
     let J = reverse entries in
     let room' : nat_le limit (length J) ≡ false = ap is_full shows ∙ room in
-    let all : reverse pushed ≡ Rolled seat i ∷ J =
-    ap reverse (grows ∙ ap (λ es. es ++ Rolled seat copy ∷ []) kept) ∙ reverse-append entries (Rolled seat copy ∷ []) ∙ ap (λ (w : StepId). Rolled seat w ∷ J) same
-    in
+    let all : reverse pushed ≡ Rolled seat i ∷ J = ap reverse e.grows ∙ reverse-append entries (Rolled seat i ∷ []) in
     let legal : LegalFor P (hist J) = subst (LegalFor P) sound.leaves sound.fits.legal in
     let stood : stands i (hist J) ≡ true = ap (stands i) (sym sound.leaves) ∙ b.free.stands in
     let free : first_needer i (hist J) ≡ None = ap (first_needer i) (sym sound.leaves) ∙ b.free.unneeded in

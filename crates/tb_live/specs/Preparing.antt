@@ -37,10 +37,10 @@ abbrev pub held_event : Option Prepared → Option Event
 held_event (Some (Step seat v)) = Some v
 held_event _ = None
 
--- the step whose rollback is prepared
-abbrev pub held_name : Option Prepared → Option StepId
-held_name (Some (Roll seat i ready)) = Some i
-held_name _ = None
+-- the step whose rollback is prepared, twice named
+abbrev pub held_names : Option Prepared → Option (StepId × StepId)
+held_names (Some (Roll seat i ready)) = Some (i, ready.rollback.step)
+held_names _ = None
 
 -- the rollback that is prepared
 abbrev pub held_roll : Option Prepared → Option (StepId × Ready)
@@ -62,6 +62,10 @@ pub record IsRollReadied (limit : ℕ) (core : Held) (i : StepId) (entries : Lis
   pub readied : IsOfHistory (history core.run) ready.rollback
   pub room : IsFalse (has_no_place limit entries)
   pub free : 0 < spare
+
+-- the rollback of the step is prepared, under two of its names, and a place of the journal is free
+abbrev pub MayRoll : ℕ → StepId → Option Prepared → Type 0
+MayRoll spare i o = (0 < spare) × (held_names o ≡ Some (i, i))
 
 -- the event is the next of its task
 pub record HasStepRoom (limit : ℕ) (P : Program) (core : Held) (entries : List Entry) (spare : ℕ) (v : Event) : Type 0 where

@@ -9,6 +9,7 @@ mod moves;
 mod prepared;
 mod rolling;
 mod stepping;
+mod undoing;
 
 pub use answer::Answer;
 pub use commit_refusal::CommitRefusal;

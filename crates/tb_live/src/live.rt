@@ -18,16 +18,17 @@ ghost use Rattle.tb_live.specs.Session.{opened, with_seat, history, is_full, cel
 ghost use Rattle.tb_next.specs.Newest.{last_store, last_print};
 ghost use Rattle.tb_live.specs.Moves.{StepsBy, LeastStepsBy, LeastStepsFor, UndoneFor, RollsFor, KeepsAll, Hinders, refusal_for, MayUndo};
 
-use crate::prepared::{Prepared, forget, take_name, take_roll};
-use crate::rolling::{enter_roll, fresh_name};
+use crate::prepared::{Prepared, forget, take_roll};
+use crate::rolling::enter_roll;
 use crate::stepping::{enter_apart, enter_clear, enter_step, for_least};
+use crate::undoing::enter_undo;
 pub use ending::end;
 use std::alloc::{AllocError, Global};
 use std::marker::Model;
 use tb_control::{Breakpoints, Claims, Control, Mode};
 use tb_core::{Core, Removed, StepRefusal, UndoRefusal};
 use tb_journal::Journal;
-use tb_model::{Entry, Event, StepId, TaskName};
+use tb_model::{Action, StepId, TaskName};
 use tb_next::{
     Floor, coming_of, known_coming, least_behind, least_wanting, newest_print, newest_store,
     refusal_of, wanting,
@@ -116,9 +117,11 @@ impl Live {
         self.core.output()
     }
 
-    /// The newest event that stands.
-    pub fn newest(&self) -> Option<&Event>
-        ensures { option_copied result ≡ slice_get (history self.now.session) 0 }
+    /// The newest step that stands: the task that took it, and what it did.
+    pub fn newest(&self) -> Option<(&TaskName, &Action)>
+        ensures some { IfSome result (λ p. slice_get (history self.now.session) 0
+            ≡ Some (record { task = p.0.now; action = p.1.now })) }
+        ensures none { IfNone result (slice_get (history self.now.session) 0 ≡ None) }
     {
         self.core.newest()
     }
@@ -251,8 +254,8 @@ impl Live {
         refusal_of(self.alloc, &self.program, &self.core, near, task)
     }
 
-    /// Takes a step back that nothing needs, for the seat. The step is looked for once. A refusal
-    /// changes nothing, and keeps what is prepared.
+    /// Takes a step back that nothing needs, for the seat. The step is looked for once, where its
+    /// rollback isn't prepared. A refusal changes nothing, and keeps what is prepared.
     pub fn undo(&mut self, seat: u32, id: &StepId) -> Result<Removed, UndoRefusal>
         ensures undone { UndoneFor seat self.old.session id.now self.new.session result }
         ensures kept { OnErr result (self.new ≡ self.old) }
@@ -262,16 +265,16 @@ impl Live {
         if self.is_full() {
             return Err(self.core.keeps(id).unwrap_or(UndoRefusal::Full));
         }
-        let fresh = match fresh_name(&mut self.journal, &self.prepared, seat, id) {
-            Ok(fresh) => fresh,
-            Err(_) => return Err(self.core.keeps(id).unwrap_or(UndoRefusal::Memory)),
-        };
-        match self.core.undo(id) {
+        match enter_undo(
+            &mut self.core,
+            &mut self.journal,
+            &mut self.prepared,
+            seat,
+            id,
+        ) {
             Ok(removed) => {
-                let name = take_name(&mut self.prepared, fresh, id);
                 self.floor.forget();
                 self.control.step_removed(&removed);
-                self.journal.push_reserved(Entry::Rolled { seat, id: name });
                 Ok(removed)
             }
             Err(refusal) => Err(refusal),
@@ -310,13 +313,15 @@ impl Live {
     pub fn last_store(&self, cell: u32) -> Result<Option<StepId>, AllocError>
         ensures { IfOk result (λ id. id ≡ last_store cell (history self.now.session)) }
     {
-        newest_store(self.core.touches(cell), self.core.legal_entries(), cell)
+        let entries = self.core.legal_entries();
+        newest_store(self.core.touches(cell), &entries, cell)
     }
 
     /// The last print.
     pub fn last_print(&self) -> Result<Option<StepId>, AllocError>
         ensures { IfOk result (λ id. id ≡ last_print (history self.now.session)) }
     {
-        newest_print(self.core.prints(), self.core.legal_entries())
+        let entries = self.core.legal_entries();
+        newest_print(self.core.prints(), &entries)
     }
 }

@@ -1,7 +1,7 @@
 //! What is prepared for the next change.
 
 ghost use Rattle.std.specs.Prelude.{◌≡◌, ◌↔◌, Some, None, IfOk, IfSome, IfNone, IsSome, IsTrue};
-ghost use Rattle.tb_live.specs.Preparing.{HoldsStep, HoldsRoll, held_event, held_name, held_roll};
+ghost use Rattle.tb_live.specs.Preparing.{HoldsStep, HoldsRoll, held_event, held_names, held_roll};
 ghost use Rattle.tb_live.specs.declared.prepared.Prepared.TheVariants as prepared;
 
 use std::alloc::AllocError;
@@ -75,34 +75,13 @@ fn take_rollback(place: &mut Option<Prepared>) -> Option<(StepId, Ready)>
     }
 }
 
-/// The name of a step for its entry: the fresh one, else the one that is prepared. Nothing is prepared
-/// any longer.
-pub fn take_name(place: &mut Option<Prepared>, fresh: Option<StepId>, step: &StepId) -> StepId
-    requires fresh { IfSome fresh (λ id. id ≡ step.now) }
-    requires held { IfNone fresh (held_name place.old ≡ Some step.now) }
-    ensures name { result ≡ step.now }
-    ensures after { place.new ≡ None }
-{
-    let held = forget_roll(place);
-    match fresh.or(held) {
-        Some(name) => name,
-        None => unreachable!(),
-    }
-}
-
-/// The step whose rollback is prepared. Nothing is prepared any longer.
-fn forget_roll(place: &mut Option<Prepared>) -> Option<StepId>
-    ensures name { result ≡ held_name place.old }
+/// Two names of the step whose rollback is prepared. Nothing is prepared any longer.
+pub fn take_names(place: &mut Option<Prepared>) -> Option<(StepId, StepId)>
+    ensures names { result ≡ held_names place.old }
     ensures after { place.new ≡ None }
 {
     match place.take() {
-        Some(
-            Prepared::Roll {
-                seat: _,
-                id,
-                ready: _,
-            },
-        ) => Some(id),
+        Some(Prepared::Roll { seat: _, id, ready }) => Some((id, ready.rollback.step)),
         _ => None,
     }
 }

@@ -1,11 +1,10 @@
 //! A rollback, with its entry in the journal.
 
-ghost use Rattle.std.specs.Prelude.{◌≡◌, ◌<◌, ◌≤◌, Some, IfOk, IfErr, IsOk, IsSome, IfSome, IfNone, OnOk, OnErr};
+ghost use Rattle.std.specs.Prelude.{◌≡◌, ◌≤◌, IfOk, IfErr, IsOk, IsSome, IfSome, OnErr};
 ghost use Rattle.tb_live.specs.Rollbacks.{EntersRollback, RefusesRollback};
-ghost use Rattle.tb_live.specs.Preparing.{HoldsRoll, IsRollReadied, held_name};
+ghost use Rattle.tb_live.specs.Preparing.{IsRollReadied};
 
-use crate::prepared::{Prepared, holds_roll};
-use std::alloc::{AllocError, Global};
+use std::alloc::Global;
 use tb_core::{Core, Removed, place_of};
 use tb_journal::Journal;
 use tb_model::{Entry, StepId};
@@ -26,7 +25,8 @@ pub fn ready_roll(
     ensures spare { journal.old.room ≤ journal.new.room }
 {
     if limit as usize <= journal.len() {
-        return Err(match place_of(core.legal_entries(), step) {
+        let entries = core.legal_entries();
+        return Err(match place_of(&entries, step) {
             Some(_) => RollRefusal::Full,
             None => RollRefusal::NoSuchStep,
         });
@@ -74,28 +74,4 @@ pub fn enter_roll(
     };
     journal.push_reserved(Entry::Rolled { seat, id });
     Ok(finish(core, ready))
-}
-
-/// A name of the step for its entry, for which the journal has room; none where the one that is
-/// prepared serves, and then without memory.
-pub fn fresh_name(
-    journal: &mut Journal,
-    prepared: &Option<Prepared>,
-    seat: u32,
-    step: &StepId,
-) -> Result<Option<StepId>, AllocError>
-    requires { HoldsRoll prepared.now seat step.now
-        → 0 < journal.old.room }
-    ensures entries { journal.new.items ≡ journal.old.items }
-    ensures name { IfOk result (λ o. IfSome o (λ id. id ≡ step.now)) }
-    ensures held { IfOk result (λ o. IfNone o (held_name prepared.now ≡ Some step.now)) }
-    ensures free { OnOk result (0 < journal.new.room) }
-    ensures spare { journal.old.room ≤ journal.new.room }
-    ensures room { HoldsRoll prepared.now seat step.now → IsOk result }
-{
-    if holds_roll(prepared, seat, step) {
-        return Ok(None);
-    }
-    journal.reserve()?;
-    Ok(Some(step.clone()?))
 }

@@ -90,7 +90,7 @@ pub fn enter_readied(
     let line = plan.config.at;
     let id = core.step_reserved(plan);
     floor.step_taken(core);
-    control.step_taken(line, &event);
+    control.step_taken(line, &event.task, &event.action);
     journal.push_step(seat, event);
     id
 }
@@ -192,8 +192,8 @@ fn follow(control: &mut Control, core: &Core, line: u32)
     ensures { (v : AnEvent) → slice_get (history core.now.run) 0 ≡ Some v →
         control.new ≡ behind_step line v control.old }
 {
-    if let Some(event) = core.newest() {
-        control.step_taken(line, event);
+    if let Some((task, action)) = core.newest() {
+        control.step_taken(line, task, action);
     }
 }
 
@@ -223,7 +223,7 @@ fn take(
     let new = journal.turn_for(task)?;
     core.step_clear(task, action, to)?;
     match core.newest() {
-        Some(event) => journal.push_short(seat, new, &event.action),
+        Some((_, action)) => journal.push_short(seat, new, action),
         None => unreachable!(),
     }
     Ok(())

@@ -83,12 +83,7 @@ const FAULTY: &[u8] = b"cells 0\nbody main 0\nload r0 0\nend\n";
 fn ends_and_fills(rt: HostRuntime) {
     let mut live = opened(rt.alloc(), FAULTY, 3).expect(&rt, "an accepted program");
     step_root(&rt, &mut live, &[100, 100, 2]);
-    assert!(rt;
-        matches!(
-            live.newest().map(|event| &event.action),
-            Some(Action::Fault)
-        )
-    );
+    assert!(rt; matches!(live.newest(), Some((_, Action::Fault))));
     assert!(rt; live.is_full());
     undo_all(&rt, &mut live, &[(2, 3), (1, 2)]);
     mem::forget(live);

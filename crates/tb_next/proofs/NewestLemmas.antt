@@ -12,7 +12,7 @@ use Rattle.tb_model.specs.Lines.{Departure}
 use Rattle.tb_model.specs.Needs.{step_of}
 use Rattle.tb_places.specs.Where.{places_where}
 use Rattle.tb_places.proofs.WhereLemmas.{places_push_yes, places_push_no}
-use Rattle.tb_core.specs.declared.entry.Entry.{Entry}
+use Rattle.tb_core.specs.Entries.{Entry}
 use Rattle.tb_core.specs.Scans.{history_of, step_behind, found_step}
 use Rattle.tb_core.specs.Soundness.{departure}
 use Rattle.tb_core.proofs.ScanLemmas.{history_more}
@@ -176,11 +176,18 @@ module _ (wide : Event → Bool) (passes : Action → Bool) (entries : List Entr
         pub next_within : at < length entries
         next_within = omega (arith, next.within, l.within)
 
-        module _ (e : Entry) (here : e ≡ get_or entries at e) where
-          pub next_found : passes (get_or entries at e).event.action ≡ true → found_step entries (Some at) ≡ last_where passes (history_of entries)
-          next_found h = found_here at e next_within here (ap (λ (x : Entry). passes x.event.action) here ∙ h) (next.none ∙ l.none)
+        -- what was read there is what the step did
+        module _ (a : Action) (read : (e : Entry) → e ≡ get_or entries at e → a ≡ e.event.action) where
+          x : (e : Entry) × (e ≡ get_or entries at e)
+          x = some_entry entries at next_within
 
-          pub next_passed : passes (get_or entries at e).event.action ≡ false → AreLeft places (left - 1)
+          did : (b : Bool) → passes a ≡ b → passes x.0.event.action ≡ b
+          did b h = ap passes (sym (read x.0 x.1)) ∙ h
+
+          pub next_found : passes a ≡ true → found_step entries (Some at) ≡ last_where passes (history_of entries)
+          next_found h = found_here at x.0 next_within x.1 (did true h) (next.none ∙ l.none)
+
+          pub next_passed : passes a ≡ false → AreLeft places (left - 1)
           next_passed h =
               let after : suc at ≡ at + 1 = omega arith in
               record {
@@ -188,7 +195,7 @@ module _ (wide : Event → Bool) (passes : Action → Bool) (entries : List Entr
                 within = omega (arith, next_within);
                 few = omega (arith, l.few);
                 are = next.rest;
-                none = sym (last_no at e next_within here (ap (λ (x : Entry). passes x.event.action) here ∙ h)) ∙ ap last_before after ∙ next.none ∙ l.none;
+                none = sym (last_no at x.0 next_within x.1 (did false h)) ∙ ap last_before after ∙ next.none ∙ l.none;
               }
 
       -- ---- the last of all the places

@@ -118,9 +118,9 @@ impl Floor {
     pub fn step_taken(&mut self, core: &Core)
         ensures { IsCarried (history core.now.run) self.old self.new }
     {
-        if let Some(event) = core.newest() {
-            if event.action.is_end() {
-                self.task_ended(core, &event.task);
+        if let Some((task, action)) = core.newest() {
+            if action.is_end() {
+                self.task_ended(core, task);
             }
         }
     }

@@ -7,7 +7,7 @@ ghost use Rattle.tb_core.specs.Scans.{found_step, history_of};
 ghost use Rattle.tb_next.specs.Newest.{last_store, last_print};
 
 use std::alloc::AllocError;
-use tb_core::{Entry, step_at};
+use tb_core::{History, step_at};
 use tb_model::{Action, StepId};
 
 fn is_store_to(action: &Action, cell: u32) -> bool
@@ -23,7 +23,7 @@ fn is_store_to(action: &Action, cell: u32) -> bool
 /// places.
 pub fn newest_store(
     places: &[u32],
-    entries: &[Entry],
+    entries: &History<'_>,
     cell: u32,
 ) -> Result<Option<StepId>, AllocError>
     requires places { places.now ≡
@@ -38,7 +38,7 @@ pub fn newest_store(
 }
 
 /// The place of the last store among these: the loads after it are passed over.
-fn place_of_store(places: &[u32], entries: &[Entry], cell: u32) -> Option<usize>
+fn place_of_store(places: &[u32], entries: &History<'_>, cell: u32) -> Option<usize>
     requires { places.now ≡
         places_where (λ v. touches cell v.action) (reverse (history_of entries.now)) }
     ensures step { found_step entries.now result ≡ last_store cell (history_of entries.now) }
@@ -48,7 +48,7 @@ fn place_of_store(places: &[u32], entries: &[Entry], cell: u32) -> Option<usize>
     'back: while 0 < left {
         left -= 1;
         let at = places[left] as usize;
-        if is_store_to(&entries[at].event.action, cell) {
+        if is_store_to(entries.action(at), cell) {
             return Some(at);
         }
     }
@@ -56,7 +56,7 @@ fn place_of_store(places: &[u32], entries: &[Entry], cell: u32) -> Option<usize>
 }
 
 /// The last print, where the prints stand at these places.
-pub fn newest_print(places: &[u32], entries: &[Entry]) -> Result<Option<StepId>, AllocError>
+pub fn newest_print(places: &[u32], entries: &History<'_>) -> Result<Option<StepId>, AllocError>
     requires places { places.now ≡
         places_where (λ v. is_print v.action) (reverse (history_of entries.now)) }
     requires bound { length entries.now ≤ 1000000 }

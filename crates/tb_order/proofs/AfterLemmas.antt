@@ -10,7 +10,7 @@ use Rattle.tb_model.specs.Facts.{History, own}
 use Rattle.tb_model.specs.Needs.{is_step, step_of}
 use Rattle.tb_model.proofs.LeastLemmas.{later_not_step}
 use Rattle.tb_model.proofs.RemovalLemmas.{own_grows, not_step, its_step}
-use Rattle.tb_core.specs.declared.entry.Entry.{Entry}
+use Rattle.tb_core.specs.Entries.{Entry}
 use Rattle.tb_core.specs.Scans.{history_of}
 use Rattle.tb_core.proofs.FirstLemmas.{step_read}
 use Rattle.tb_cause.proofs.ConeLemmas.{there, some_same}

@@ -6,11 +6,13 @@ use Rattle.std.proofs.lemmas.Bool.{false≢true}
 use Rattle.std.proofs.lemmas.Option.{slice_get_read, slice_get_cases}
 use Rattle.std.proofs.lemmas.List.{take_all}
 use Rattle.indexmap.proofs.ReorderLemmas.{map-reverse}
+use Rattle.tb_model.specs.declared.action.Action.{Action}
 use Rattle.tb_model.specs.declared.event.Event.{Event}
 use Rattle.tb_model.specs.declared.step_id.StepId.{StepId}
 use Rattle.tb_model.specs.Facts.{History, prepend_if}
+use Rattle.tb_model.specs.Names.{Name}
 use Rattle.tb_model.specs.Needs.{step_of}
-use Rattle.tb_core.specs.declared.entry.Entry.{Entry}
+use Rattle.tb_core.specs.Entries.{Entry}
 use Rattle.tb_core.specs.Scans.{history_of, step_at}
 use Rattle.tb_core.proofs.FirstLemmas.{step_read}
 use Rattle.tb_core.proofs.ScanLemmas.{history_more}
@@ -41,6 +43,13 @@ same_causes (x ∷ xs) [] h = absurd (not_empty (Some x) (some_causes xs) h)
 same_causes (x ∷ xs) (y ∷ ys) h =
     ap₂ (λ c cs. c ∷ cs) (some_same x y (list_head (Some x) (Some y) (some_causes xs) (some_causes ys) h)) (same_causes xs ys (list_tail (Some x) (Some y) (some_causes xs) (some_causes ys) h))
 
+-- an event as it is read
+pub event_read : (t : Name) (a : Action) (e : Event) → t ≡ e.task → a ≡ e.action → ◌≡◌ {A = Event} (record { task = t; action = a }) e
+event_read t a e task action = ap₂ (λ s b. event s b) task action
+  where
+    event : Name → Action → Event
+    event s b = record { task = s; action = b }
+
 module _ (front : List Entry) (v : Event) where
   abbrev F : History
   F = history_of front
@@ -66,15 +75,14 @@ module _ (front : List Entry) (v : Event) where
     kinded : is_some (told front v p) ≡ true → cause F v K x.event ≡ option_map (as_cause (step_of K x.event)) (need_kind F v x.event)
     kinded near = way_of (as_cause (step_of K x.event)) (needs_by_way (step_of K x.event) F v) (need_kind F v x.event) (sym (ap is_some told_here) ∙ near)
 
-    pub has_kind : is_some (told front v p) ≡ true → is_some (need_kind F v (get_or front p x).event) ≡ true
+    pub has_kind : is_some (told front v p) ≡ true → is_some (need_kind F v x.event) ≡ true
     has_kind near =
-        ap (λ (y : Entry). is_some (need_kind F v y.event)) (sym here)
-        ∙ unmapped (as_cause (step_of K x.event)) (need_kind F v x.event) (ap is_some (sym (told_here ∙ kinded near)) ∙ near)
+        unmapped (as_cause (step_of K x.event)) (need_kind F v x.event) (ap is_some (sym (told_here ∙ kinded near)) ∙ near)
 
-    pub told_as : is_some (told front v p) ≡ true → (kind : NeedKind) → need_kind F v (get_or front p x).event ≡ Some kind → (id : StepId) → step_at front p ≡ Some id → told front v p ≡ Some (record { kind = kind; step = id })
+    pub told_as : is_some (told front v p) ≡ true → (kind : NeedKind) → need_kind F v x.event ≡ Some kind → (id : StepId) → step_at front p ≡ Some id → told front v p ≡ Some (record { kind = kind; step = id })
     told_as near kind k id named =
         told_here ∙ kinded near
-        ∙ ap₂ (λ i o. option_map (as_cause i) o) (some_same _ _ (sym (step_read front p x within here) ∙ named)) (ap (λ (y : Entry). need_kind F v y.event) here ∙ k)
+        ∙ ap₂ (λ i o. option_map (as_cause i) o) (some_same _ _ (sym (step_read front p x within here) ∙ named)) k
 
   -- ---- all of them
 

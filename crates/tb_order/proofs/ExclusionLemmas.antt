@@ -1,8 +1,8 @@
 -- Where no tasks exclude each other, it makes no difference whether exclusion counts.
-use Rattle.std.proofs.Common.{◌≡◌, ◌<◌, ◌-◌, ◌==◌, ℕ, List, [], ◌∷◌, Bool, true, false, ◌&&◌, ◌||◌, cond, length, take, refl, sym, ap, ap₂, ◌∙◌, Option, Some, None, slice_get, arith}
+use Rattle.std.proofs.Common.{◌≡◌, ◌≢◌, ◌<◌, ◌≤◌, ◌+◌, ◌-◌, ◌==◌, ◌⊎◌, inl, inr, get_or, ℕ, List, [], ◌∷◌, Bool, true, false, ◌&&◌, ◌||◌, cond, length, take, refl, sym, ap, ap₂, ◌∙◌, Option, Some, None, slice_get, arith}
 use Rattle.std.specs.List.{list_any}
 use Rattle.std.specs.Option.{option_or, option_map}
-use Rattle.std.proofs.lemmas.Bool.{false≢true, or_parts}
+use Rattle.std.proofs.lemmas.Bool.{cases_eq, false≢true, or_parts}
 use Rattle.std.proofs.lemmas.List.Folds.{list_any-append}
 use Rattle.tb_model.specs.declared.kind.Kind.{Kind}
 use Rattle.tb_model.specs.declared.kind.Kind.TheVariants.{In, Out, Inout, Mutexinoutset, Inoutset}
@@ -22,8 +22,9 @@ use Rattle.tb_races.specs.declared.need_kind.NeedKind.{NeedKind}
 use Rattle.tb_races.specs.declared.need_kind.NeedKind.TheVariants.{Task, Spawn as Generates, Conflict as Conflicts, Before, Apart, Wait as Waits, Group, Undeferred}
 use Rattle.tb_races.specs.Kinds.{some_if, shared, end_kind}
 use Rattle.tb_races.specs.Orders.{Synchronised, WithExclusion, counts_some, links, followers, comes_after}
-use Rattle.tb_core.specs.declared.entry.Entry.{Entry}
+use Rattle.tb_core.specs.Entries.{Entry}
 use Rattle.tb_core.specs.Scans.{history_of, step_at}
+use Rattle.tb_core.proofs.ScanLemmas.{history_more}
 use Rattle.tb_order.specs.declared.tasks.Tasks.{Tasks}
 use Rattle.tb_order.specs.declared.clocks.Clocks.{Clocks}
 use Rattle.tb_order.specs.Clocks.{after_so, is_after, is_below, row_at, origin, origin_reaches, AreTasks, AreClocks}
@@ -135,6 +136,17 @@ after_same entries p q h = at (slice_get entries p) (step_at entries q)
     at None e = refl
     at (Some v) None = refl
     at (Some v) (Some e) = comes_same e (history_of (take p entries)) v.event h
+
+-- one step more that has none
+pub none_more : (entries : List Entry) (at : ℕ) (x : Entry) → at < length entries → x ≡ get_or entries at x → has_exclusive (items_in (Some x.event.action)) ≡ false
+    → ((p : ℕ) → p ≤ at → excludes_some (history_of (take p entries)) ≡ false) → (p : ℕ) → p ≤ at + 1 → excludes_some (history_of (take p entries)) ≡ false
+none_more entries at x within here none so_far p low = by (cases_eq p (at + 1))
+  where
+    by : (p ≡ at + 1) ⊎ (p ≢ at + 1) → excludes_some (history_of (take p entries)) ≡ false
+    by (inl e) =
+        ap (λ m. excludes_some (history_of (take m entries))) e ∙ ap excludes_some (history_more entries at x within here)
+        ∙ ap₂ (λ a b. a || b) none (so_far at (omega arith))
+    by (inr d) = so_far p (omega (arith, low, d))
 
 -- so one clock tells both orders
 pub clocks_same : (entries : List Entry) (tasks : Tasks) (clocks : Clocks) → ((p : ℕ) → p < length entries → excludes_some (history_of (take p entries)) ≡ false)

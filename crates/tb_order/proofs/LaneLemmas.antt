@@ -12,7 +12,7 @@ use Rattle.tb_model.specs.declared.step_id.StepId.{StepId}
 use Rattle.tb_model.specs.Facts.{History, is_of, is_end, spawns}
 use Rattle.tb_model.specs.Needs.{is_step, step_of}
 use Rattle.tb_model.proofs.RemovalLemmas.{its_step}
-use Rattle.tb_core.specs.declared.entry.Entry.{Entry}
+use Rattle.tb_core.specs.Entries.{Entry}
 use Rattle.tb_core.specs.Scans.{history_of, step_at}
 use Rattle.tb_core.proofs.FirstLemmas.{step_read}
 use Rattle.tb_core.proofs.ScanLemmas.{history_more, history_cut}
@@ -255,7 +255,7 @@ kept_other lanes i j v other =
 
 module _ (entries : List Entry) (at : ℕ) (x : Entry) (within : at < length entries) (here : x ≡ get_or entries at x) where
   abbrev a : Action
-  a = (get_or entries at x).event.action
+  a = x.event.action
 
   -- the next place of a lane, in which the step is or isn't
   next_lane : (j : ℕ) (b : Bool) → is_in j a ≡ b → lane entries j (at + 1) ≡ cond b (at ∷ filter (stays entries x.event) (lane entries j at)) (lane entries j at)
@@ -263,7 +263,7 @@ module _ (entries : List Entry) (at : ℕ) (x : Entry) (within : at < length ent
       let next : at + 1 ≡ suc at = omega arith in
       ap (lane entries j) next
       ∙ ap (λ e. lane_after entries j at e (lane entries j at)) (read entries at x within here)
-      ∙ ap (λ c. cond c (at ∷ filter (stays entries x.event) (lane entries j at)) (lane entries j at)) (ap (λ (y : Entry). is_in j y.event.action) here ∙ h)
+      ∙ ap (λ c. cond c (at ∷ filter (stays entries x.event) (lane entries j at)) (lane entries j at)) h
 
   pub lanes_same : lane_of a ≡ None → (old : List (Vec ℕ Global)) → AreLanes entries at old → AreLanes entries (at + 1) old
   lanes_same none old are j = are j ∙ sym (next_lane j false (in_no_lane a j none))
@@ -285,10 +285,10 @@ module _ (entries : List Entry) (at : ℕ) (x : Entry) (within : at < length ent
 
 -- what a lane has after one place more of it was looked at
 module _ (entries : List Entry) (at p : ℕ) (x y v : Entry) (within : at < length entries) (here : x ≡ get_or entries at x) (inside : p < length entries) (there_is : y ≡ get_or entries p y) (v_is : slice_get entries at ≡ Some v) where
-  pub stays_tested : (b : Bool) → b ≡ replaces (get_or entries at x).event (get_or entries p y).event → stays entries v.event p ≡ not b
+  pub stays_tested : (b : Bool) → b ≡ replaces x.event y.event → stays entries v.event p ≡ not b
   stays_tested b h =
       ap (stays_so v.event) (read entries p y inside there_is)
-      ∙ ap not (ap₂ (λ (e f : Entry). replaces e.event f.event) (some_same v x (sym v_is ∙ read entries at x within here) ∙ here) there_is ∙ sym h)
+      ∙ ap not (ap (λ (e : Entry). replaces e.event y.event) (some_same v x (sym v_is ∙ read entries at x within here)) ∙ sym h)
 
 pub lane_grown : (f : ℕ → Bool) (at : ℕ) (xs : List ℕ) (i : ℕ) → i < length xs → (next : List ℕ) → next ≡ at ∷ filter f (take i xs) → (b : Bool) → f (get_or xs i 0) ≡ b → next ++ cond b (get_or xs i 0 ∷ []) [] ≡ at ∷ filter f (take (i + 1) xs)
 lane_grown f at xs i low next so_far b h =

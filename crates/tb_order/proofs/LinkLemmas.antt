@@ -9,7 +9,7 @@ use Rattle.tb_model.specs.Names.{Name}
 use Rattle.tb_model.specs.Facts.{History, is_of, is_end, spawns, is_spawn_of}
 use Rattle.std.proofs.lemmas.Option.{slice_get_read}
 use Rattle.tb_cause.proofs.ConeLemmas.{some_same}
-use Rattle.tb_core.specs.declared.entry.Entry.{Entry}
+use Rattle.tb_core.specs.Entries.{Entry}
 use Rattle.tb_core.specs.Scans.{history_of}
 use Rattle.tb_races.specs.declared.conflict.Conflict.{Conflict}
 use Rattle.tb_races.specs.declared.need_kind.NeedKind.{NeedKind}
@@ -98,13 +98,20 @@ module _ (o : Order) (entries : List Entry) (p x : ℕ) (w : p < length entries)
 
   -- an end, as the code reads it
   module _ (a b : Entry) (here : a ≡ get_or entries p a) (there : b ≡ get_or entries x b) (end : is_end_at entries x ≡ true) where
-    a_is : at o entries p w ≡ get_or entries p a
-    a_is = some_same _ _ (sym (at_read o entries p w) ∙ slice_get_read entries (length entries) p a refl w here) ∙ here
+    a_is : at o entries p w ≡ a
+    a_is = some_same _ _ (sym (at_read o entries p w) ∙ slice_get_read entries (length entries) p a refl w here)
 
-    b_is : at o entries x i ≡ get_or entries x b
-    b_is = some_same _ _ (sym (at_read o entries x i) ∙ slice_get_read entries (length entries) x b refl i there) ∙ there
+    b_is : at o entries x i ≡ b
+    b_is = some_same _ _ (sym (at_read o entries x i) ∙ slice_get_read entries (length entries) x b refl i there)
 
-    pub end_linked : links_at o entries p x ≡ (is_of (get_or entries p a).event.task (get_or entries x b).event || counts_some o (end_kind (history_of (take p entries)) (get_or entries p a).event.task (get_or entries p a).event.action (get_or entries x b).event.task))
+    pub end_linked : links_at o entries p x ≡ (is_of a.event.task b.event || counts_some o (end_kind (history_of (take p entries)) a.event.task a.event.action b.event.task))
     end_linked =
         links_is o entries p x w i ∙ end_links o (history_of (take p entries)) v u (sym end_is ∙ end)
         ∙ ap₂ (λ (c d : Entry). is_of c.event.task d.event || counts_some o (end_kind (history_of (take p entries)) c.event.task c.event.action d.event.task)) a_is b_is
+
+-- what is read of the two, and of those in front
+pub end_read : (entries : List Entry) (p : ℕ) (a b : Entry) (front : List Entry) (t : Name) (act : Action) (u : Name) → front ≡ take p entries → t ≡ a.event.task → act ≡ a.event.action → u ≡ b.event.task
+    → end_kind (history_of front) t act u ≡ end_kind (history_of (take p entries)) a.event.task a.event.action b.event.task
+end_read entries p a b front t act u cut task action other =
+    ap (λ (es : List Entry). end_kind (history_of es) t act u) cut ∙ ap₂ (λ s c. end_kind (history_of (take p entries)) s c u) task action
+    ∙ ap (end_kind (history_of (take p entries)) a.event.task a.event.action) other

@@ -12,7 +12,7 @@ use Rattle.tb_model.proofs.FactsLemmas.{acted_spawned, spawned_by, not_again, sp
 use Rattle.tb_model.proofs.TestLemmas.{same_true, same_refl}
 use Rattle.tb_cause.proofs.ConeLemmas.{some_same}
 use Rattle.std.proofs.lemmas.Option.{slice_get_read}
-use Rattle.tb_core.specs.declared.entry.Entry.{Entry}
+use Rattle.tb_core.specs.Entries.{Entry}
 use Rattle.tb_core.specs.Scans.{AreLegal}
 use Rattle.tb_races.specs.Orders.{Synchronised}
 use Rattle.tb_order.specs.declared.tasks.Tasks.{Tasks}
@@ -105,8 +105,11 @@ module _ (entries : List Entry) where
         by false h = are t (ap (is_last entries t) e ∙ of_is t m i ∙ h)
 
     -- what the step generates is noted
-    pub newest_spawn : (old new : Places) → ((t : Name) → of_at entries t n ≡ false → place_of old t ≡ touched entries t n) → ((t : Name) → place_of new t ≡ cond (spawns t v) (suc n) (place_of old t)) → AreNewest entries (suc n) new
-    newest_spawn old new are put t h = put t ∙ ap (cond (spawns t v) (suc n)) (are t h) ∙ sym (touched_other t n w (sym (of_is t n w) ∙ h))
+    pub newest_spawn : (old new : Places) → ((t : Name) → of_at entries t n ≡ false → place_of old t ≡ touched entries t n) → ((t : Name) → place_of new t ≡ cond (spawns t v) (n + 1) (place_of old t)) → AreNewest entries (n + 1) new
+    newest_spawn old new are put =
+        let next : suc n ≡ n + 1 = omega arith in
+        subst (λ m. ((t : Name) → place_of new t ≡ cond (spawns t v) m (place_of old t)) → AreNewest entries m new) next
+        (λ noted t h. noted t ∙ ap (cond (spawns t v) (suc n)) (are t h) ∙ sym (touched_other t n w (sym (of_is t n w) ∙ h))) put
 
   -- ---- what is in front
 
@@ -334,15 +337,14 @@ module _ (entries : List Entry) (n : ℕ) (w : n < length entries) (x : Entry) (
     y_is : ev entries m i ≡ y.event
     y_is = ap (λ (e : Entry). e.event) (entry_same entries m i y there)
 
-    pub own_tested : (r : Bool) → r ≡ is_of (get_or entries n x).event.task (get_or entries m y).event → both_at of_one entries n m ≡ r
-    own_tested r is =
-        both_is Synchronised entries n m w i of_one ∙ ap₂ of_one x_is y_is ∙ ap₂ (λ (a b : Entry). is_of a.event.task b.event) here there ∙ sym is
+    pub own_tested : (r : Bool) → r ≡ is_of x.event.task y.event → both_at of_one entries n m ≡ r
+    own_tested r is = both_is Synchronised entries n m w i of_one ∙ ap₂ of_one x_is y_is ∙ sym is
 
-    pub put_newest : n ≡ suc m → (old new : Places) → AreNewest entries n old → IsPut old (get_or entries m y).event.task n new → (t : Name) → place_of new t ≡ touched entries t n
-    put_newest e old new are put = newest_put entries n w m i e old new are (subst (λ s. IsPut old s n new) (ap (λ (z : Entry). z.event.task) (sym there) ∙ ap (λ (v : Event). v.task) (sym y_is)) put)
+    pub put_newest : n ≡ suc m → (s : Name) → s ≡ y.event.task → (old new : Places) → AreNewest entries n old → IsPut old s n new → (t : Name) → place_of new t ≡ touched entries t n
+    put_newest e s named old new are put = newest_put entries n w m i e old new are (subst (λ z. IsPut old z n new) (named ∙ ap (λ (v : Event). v.task) (sym y_is)) put)
 
     -- where the step in front is of the same task
-    pub same_newest : n ≡ suc m → is_of (get_or entries n x).event.task (get_or entries m y).event ≡ true → (old : Places) → AreNewest entries n old → (t : Name) → of_at entries t n ≡ false → place_of old t ≡ touched entries t n
+    pub same_newest : n ≡ suc m → is_of x.event.task y.event ≡ true → (old : Places) → AreNewest entries n old → (t : Name) → of_at entries t n ≡ false → place_of old t ≡ touched entries t n
     same_newest e mine old are t other =
         are t (ap (is_last entries t) e ∙ of_is entries t m i ∙ ap (λ s. same_name s t) same ∙ sym (of_is entries t n w) ∙ other)
       where
@@ -352,9 +354,9 @@ module _ (entries : List Entry) (n : ℕ) (w : n < length entries) (x : Entry) (
 pub first_newest : (entries : List Entry) (n : ℕ) (old : Places) → n ≡ 0 → AreNewest entries n old → (t : Name) → place_of old t ≡ touched entries t n
 first_newest entries n old e are t = are t (ap (is_last entries t) e)
 
-pub told_place : (entries : List Entry) (n : ℕ) (w : n < length entries) (x : Entry) → x ≡ get_or entries n x → (places : Places) → ((t : Name) → place_of places t ≡ touched entries t n) → (r : ℕ) → r ≡ place_of places (get_or entries n x).event.task → (v : Entry) → slice_get entries n ≡ Some v → r ≡ touched entries v.event.task n
-told_place entries n w x here places all r is v v_is =
-    is ∙ all (get_or entries n x).event.task ∙ ap (λ (e : Entry). touched entries e.event.task n) (sym here ∙ some_same x v (sym (slice_get_read entries (length entries) n x refl w here) ∙ v_is))
+pub told_place : (entries : List Entry) (n : ℕ) (w : n < length entries) (x : Entry) → x ≡ get_or entries n x → (places : Places) → ((t : Name) → place_of places t ≡ touched entries t n) → (s : Name) → s ≡ x.event.task → (r : ℕ) → r ≡ place_of places s → (v : Entry) → slice_get entries n ≡ Some v → r ≡ touched entries v.event.task n
+told_place entries n w x here places all s named r is v v_is =
+    is ∙ all s ∙ ap (λ t. touched entries t n) named ∙ ap (λ (e : Entry). touched entries e.event.task n) (some_same x v (sym (slice_get_read entries (length entries) n x refl w here) ∙ v_is))
 
 -- all of them
 pub numbered_all : (entries : List Entry) (n count : ℕ) (tasks : Tasks) → n ≡ length entries → AreNumbered entries n count tasks → AreTasks entries tasks

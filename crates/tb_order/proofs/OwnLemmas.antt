@@ -15,11 +15,11 @@ use Rattle.tb_model.proofs.SettledLemmas.{items_settled}
 use Rattle.tb_model.proofs.SiblingsLemmas.{no_items}
 use Rattle.tb_model.proofs.StateLemmas.{items_of_spawn}
 use Rattle.tb_model.proofs.TestLemmas.{same_refl, same_true}
-use Rattle.tb_core.specs.declared.entry.Entry.{Entry}
+use Rattle.tb_core.specs.Entries.{Entry}
 use Rattle.tb_core.specs.Scans.{AreLegal, history_of}
 use Rattle.tb_core.proofs.ScanLemmas.{history_cut}
 use Rattle.std.proofs.lemmas.Option.{slice_get_read}
-use Rattle.tb_cause.proofs.ConeLemmas.{some_same}
+use Rattle.tb_cause.proofs.ConeLemmas.{some_same, there}
 use Rattle.tb_races.specs.Orders.{Synchronised}
 use Rattle.tb_order.specs.declared.tasks.Tasks.{Tasks}
 use Rattle.tb_order.specs.Clocks.{AreTasks, Behind, alone, generated, going_on, both_at, of_one, generates, touches, origin, number, previous}
@@ -191,17 +191,19 @@ module _ (entries : List Entry) where
 
 -- ---- what the code reads
 
-pub got : (entries : List Entry) (i : ℕ) (x v : Entry) → i < length entries → x ≡ get_or entries i x → slice_get entries i ≡ Some v → get_or entries i x ≡ v
-got entries i x v l here is = sym here ∙ some_same x v (sym (slice_get_read entries (length entries) i x refl l here) ∙ is)
+pub got : (entries : List Entry) (i : ℕ) (v : Entry) → i < length entries → slice_get entries i ≡ Some v → v ≡ get_or entries i v
+got entries i v l is =
+    let x = there entries i l in
+    subst (λ (y : Entry). y ≡ get_or entries i y) (some_same x.0 v (sym (slice_get_read entries (length entries) i x.0 refl l x.1) ∙ is)) x.1
 
 module _ (entries : List Entry) (tasks : Tasks) (are : AreTasks entries tasks) (p : ℕ) (w : p < length entries) (v : Entry) (v_is : slice_get entries p ≡ Some v) where
   same_task : (at Synchronised entries p w).event.task ≡ v.event.task
   same_task = ap (λ (e : Entry). e.event.task) (some_same _ v (sym (at_read Synchronised entries p w) ∙ v_is))
 
-  pub held_here : (b : ℕ) (y : Entry) → b < length entries → y ≡ get_or entries b y → previous tasks p ≡ suc b → number tasks b ≡ number tasks p → own v.event.task (H entries p) ≡ (get_or entries b y).event.action ∷ own v.event.task (H entries b)
+  pub held_here : (b : ℕ) (y : Entry) → b < length entries → y ≡ get_or entries b y → previous tasks p ≡ suc b → number tasks b ≡ number tasks p → own v.event.task (H entries p) ≡ y.event.action ∷ own v.event.task (H entries b)
   held_here b y ib there prev same =
-      subst (λ s. own s (H entries p) ≡ (get_or entries b y).event.action ∷ own s (H entries b)) same_task
-      (head_here entries tasks are p w b ib prev same ∙ ap (λ (e : Entry). e.event.action ∷ own (at Synchronised entries p w).event.task (H entries b)) (some_same _ _ (sym (at_read Synchronised entries b ib) ∙ slice_get_read entries (length entries) b y refl ib there) ∙ there))
+      subst (λ s. own s (H entries p) ≡ y.event.action ∷ own s (H entries b)) same_task
+      (head_here entries tasks are p w b ib prev same ∙ ap (λ (e : Entry). e.event.action ∷ own (at Synchronised entries p w).event.task (H entries b)) (some_same _ _ (sym (at_read Synchronised entries b ib) ∙ slice_get_read entries (length entries) b y refl ib there)))
 
   pub held_none : (previous tasks p ≡ 0) ⊎ ((b : ℕ) × (previous tasks p ≡ suc b) × (number tasks b ≢ number tasks p)) → own v.event.task (H entries p) ≡ []
   held_none c = subst (λ s. own s (H entries p) ≡ []) same_task (head_none entries tasks are p w c)

@@ -4,7 +4,7 @@ use Rattle.std.proofs.lemmas.Bool.{or_cases, or_left, or_right, both_ways, false
 use Rattle.tb_model.specs.Names.{same_name}
 use Rattle.tb_model.specs.Facts.{spawns}
 use Rattle.tb_model.proofs.TestLemmas.{same_true}
-use Rattle.tb_core.specs.declared.entry.Entry.{Entry}
+use Rattle.tb_core.specs.Entries.{Entry}
 use Rattle.tb_races.specs.Orders.{Order}
 use Rattle.tb_order.specs.declared.tasks.Tasks.{Tasks}
 use Rattle.tb_order.specs.declared.clocks.Clocks.{Clocks}

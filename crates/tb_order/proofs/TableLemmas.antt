@@ -6,7 +6,7 @@ use Rattle.std.proofs.lemmas.List.{get_or_append_left, length-append, length-map
 use Rattle.std.proofs.lemmas.Option.{slice_get_read}
 use Rattle.std.proofs.Math.Seq.{get_or-append_seam}
 use Rattle.tb_model.specs.Facts.{is_end}
-use Rattle.tb_core.specs.declared.entry.Entry.{Entry}
+use Rattle.tb_core.specs.Entries.{Entry}
 use Rattle.tb_races.specs.Orders.{Order}
 use Rattle.tb_order.specs.declared.tasks.Tasks.{Tasks}
 use Rattle.tb_order.specs.declared.clocks.Clocks.{Clocks}
@@ -82,10 +82,10 @@ module _ (o : Order) (entries : List Entry) (tasks : Tasks) (n : ℕ) where
 -- ---- the ends
 
 module _ (entries : List Entry) (n : ℕ) (w : n < length entries) (x : Entry) (here : x ≡ get_or entries n x) where
-  end_here : (b : Bool) → b ≡ is_end (get_or entries n x).event.action → is_end_at entries n ≡ b
-  end_here b h = ap ends_so (slice_get_read entries (length entries) n x refl w here) ∙ ap (λ (e : Entry). is_end e.event.action) here ∙ sym h
+  end_here : (b : Bool) → b ≡ is_end x.event.action → is_end_at entries n ≡ b
+  end_here b h = ap ends_so (slice_get_read entries (length entries) n x refl w here) ∙ sym h
 
-  pub ends_more : (old new : List ℕ) → new ≡ old ++ n ∷ [] → true ≡ is_end (get_or entries n x).event.action → AreEnds entries n old → AreEnds entries (n + 1) new
+  pub ends_more : (old new : List ℕ) → new ≡ old ++ n ∷ [] → true ≡ is_end x.event.action → AreEnds entries n old → AreEnds entries (n + 1) new
   ends_more old new e h are = record {
     each = λ i l. each i l (cases_eq i (length old));
     all = λ y l q. all y l q (cases_eq y n);
@@ -113,7 +113,7 @@ module _ (entries : List Entry) (n : ℕ) (w : n < length entries) (x : Entry) (
       all y l q (inl s) = (length old, omega (arith, many), last ∙ sym s)
       all y l q (inr d) = let f = are.all y (omega (arith, l, d)) q in (f.0, omega (arith, f.1, many), kept f.0 f.1 ∙ f.2)
 
-  pub ends_same : (old new : List ℕ) → new ≡ old → false ≡ is_end (get_or entries n x).event.action → AreEnds entries n old → AreEnds entries (n + 1) new
+  pub ends_same : (old new : List ℕ) → new ≡ old → false ≡ is_end x.event.action → AreEnds entries n old → AreEnds entries (n + 1) new
   ends_same old new e h are =
       subst (AreEnds entries (n + 1)) (sym e)
       (record {

@@ -5,7 +5,7 @@ use Rattle.tb_model.specs.declared.action.Action.{Action}
 use Rattle.tb_model.specs.declared.action.Action.TheVariants.{Load, Store, Print}
 use Rattle.tb_model.specs.declared.event.Event.{Event}
 use Rattle.tb_model.specs.Facts.{is_of}
-use Rattle.tb_core.specs.declared.entry.Entry.{Entry}
+use Rattle.tb_core.specs.Entries.{Entry}
 
 -- what the action shares with others: the output has number 0, and each cell the next after its own
 abbrev pub lane_of : Action → Option ℕ

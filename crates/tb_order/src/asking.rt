@@ -22,10 +22,10 @@ pub fn causes(alloc: Global, core: &Core, step: &StepId) -> Result<Vec<Cause>, C
         ↔ IsFalse (stands step.now (history core.now.run)) }
 {
     let entries = core.legal_entries();
-    let Some(at) = place_among(core, entries, step) else {
+    let Some(at) = place_among(core, &entries, step) else {
         return Err(CauseRefusal::NoSuchStep);
     };
-    match immediate(alloc, entries, at) {
+    match immediate(alloc, &entries, at) {
         Ok(causes) => Ok(causes),
         Err(_) => Err(CauseRefusal::Memory),
     }
@@ -37,5 +37,6 @@ pub fn races(alloc: Global, core: &Core) -> Result<Vec<Race>, AllocError>
     ensures { IfOk result (λ races.
         races.items ≡ reverse (Racing.races (history core.now.run))) }
 {
-    races_among(alloc, core.legal_entries())
+    let entries = core.legal_entries();
+    races_among(alloc, &entries)
 }

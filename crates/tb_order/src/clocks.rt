@@ -1,7 +1,7 @@
 //! What an order puts in front of each step of a history.
 
 ghost use Rattle.std.specs.Prelude.{◌≡◌, ◌<◌, ◌≤◌, ℕ, List, Vec, length, slice_index_or};
-ghost use Rattle.tb_core.specs.declared.entry.Entry.{Entry};
+ghost use Rattle.tb_core.specs.Entries.{Entry};
 ghost use Rattle.tb_races.specs.Orders.{Order};
 ghost use Rattle.tb_order.specs.Clocks as is;
 ghost use Rattle.tb_order.specs.Clocks.{AreTasks, AreClocks, IsShaped, row_at, row_in};

@@ -6,17 +6,17 @@ ghost use Rattle.tb_model.specs.State.{items_in};
 ghost use Rattle.tb_order.specs.Exclusion.{excludes_some, has_exclusive};
 
 use crate::waiting::action_items;
-use tb_core::Entry;
+use tb_core::History;
 use tb_model::{Action, Kind};
 
 /// Whether some task has an item by which it may exclude others. The contract says what a no means: a
 /// needless yes would only cost a second table of clocks.
-pub fn exclude_some(entries: &[Entry]) -> bool
+pub fn exclude_some(entries: &History<'_>) -> bool
     ensures { IsFalse result → (p : ℕ) → p < length entries.now →
         excludes_some (history_of (take p entries.now)) ≡ false }
 {
     for at in 0..entries.len() {
-        if has_exclusive(&entries[at].event.action) {
+        if has_exclusive(entries.action(at)) {
             return true;
         }
     }

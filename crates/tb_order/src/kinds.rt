@@ -1,13 +1,14 @@
 //! Why a step directly needs an earlier one, found by scans: nothing is kept for it.
 
-ghost use Rattle.std.specs.Prelude.{◌≡◌};
+ghost use Rattle.std.specs.Prelude.{◌≡◌, ◌<◌, length, get_or};
+ghost use Rattle.tb_core.specs.Entries.{Entry};
 ghost use Rattle.tb_core.specs.Scans.{AreLegal, history_of};
 ghost use Rattle.tb_races.specs.Kinds;
 ghost use Rattle.tb_races.specs.Racing;
 ghost use Rattle.tb_order.specs.Linking;
 
-use tb_core::{Entry, holds, is_apart, is_before, is_covered, is_member};
-use tb_model::{Action, Event, TaskName};
+use tb_core::{History, holds, is_apart, is_before, is_covered, is_member};
+use tb_model::{Action, TaskName};
 use tb_races::{Conflict, NeedKind};
 
 /// Whether a need of the kind is one of synchronisation, where exclusion counts or doesn't.
@@ -22,34 +23,45 @@ pub fn counts(exclusion: bool, kind: Option<NeedKind>) -> bool
     }
 }
 
-/// Why `v`, which stands behind these entries, directly needs their event `u`.
-pub fn need_kind(front: &[Entry], v: &Event, u: &Event) -> Option<NeedKind>
-    ensures { AreLegal front.now → result ≡ Kinds.need_kind (history_of front.now) v.now u.now }
+/// Why the action `a` of `t`, which comes after these steps, directly needs the action `b` of `u`
+/// among them.
+pub fn need_kind(
+    front: &History<'_>,
+    t: &TaskName,
+    a: &Action,
+    u: &TaskName,
+    b: &Action,
+) -> Option<NeedKind>
+    ensures { AreLegal front.now → result ≡ Kinds.need_kind (history_of front.now)
+        (record { task = t.now; action = a.now }) (record { task = u.now; action = b.now }) }
 {
-    if u.is_of(&v.task) {
+    if *u == *t {
         return Some(NeedKind::Task);
     }
-    if u.spawns(&v.task) {
+    if b.is_spawn_of(t) {
         return Some(NeedKind::Spawn);
     }
-    if let Some(shares) = shared(&v.action, &u.action) {
+    if let Some(shares) = shared(a, b) {
         return Some(NeedKind::Conflict(shares));
     }
-    if u.action.is_end() {
-        end_kind(front, &v.task, &v.action, &u.task)
+    if b.is_end() {
+        end_kind(front, t, a, u)
     } else {
         None
     }
 }
 
-/// What a later and an earlier event of different tasks share, so that their order can be seen.
-pub fn conflict(v: &Event, u: &Event) -> Option<Conflict>
-    ensures { result ≡ Racing.conflict v.now u.now }
+/// What a later and an earlier step of different tasks share, so that their order can be seen.
+pub fn conflict(entries: &History<'_>, later: usize, earlier: usize) -> Option<Conflict>
+    requires later { later < length entries.now }
+    requires earlier { earlier < length entries.now }
+    ensures { (v u : Entry) → v ≡ get_or entries.now later v → u ≡ get_or entries.now earlier u →
+        result ≡ Racing.conflict v.event u.event }
 {
-    if u.is_of(&v.task) {
+    if entries.are_of_one(later, earlier) {
         None
     } else {
-        shared(&v.action, &u.action)
+        shared(entries.action(later), entries.action(earlier))
     }
 }
 
@@ -77,7 +89,7 @@ fn shared(later: &Action, earlier: &Action) -> Option<Conflict>
 }
 
 /// Why the action of `t` comes behind the end of `u`.
-fn end_kind(front: &[Entry], t: &TaskName, action: &Action, u: &TaskName) -> Option<NeedKind>
+fn end_kind(front: &History<'_>, t: &TaskName, action: &Action, u: &TaskName) -> Option<NeedKind>
     ensures { AreLegal front.now →
         result ≡ Kinds.end_kind (history_of front.now) t.now action.now u.now }
 {
@@ -94,7 +106,7 @@ fn end_kind(front: &[Entry], t: &TaskName, action: &Action, u: &TaskName) -> Opt
 }
 
 /// Why the action of `t` waits for the end of `u`.
-fn wait_kind(front: &[Entry], t: &TaskName, action: &Action, u: &TaskName) -> Option<NeedKind>
+fn wait_kind(front: &History<'_>, t: &TaskName, action: &Action, u: &TaskName) -> Option<NeedKind>
     ensures { AreLegal front.now →
         result ≡ Kinds.wait_kind (history_of front.now) t.now action.now u.now }
 {
@@ -119,7 +131,7 @@ fn wait_kind(front: &[Entry], t: &TaskName, action: &Action, u: &TaskName) -> Op
 }
 
 /// Why the start of `t` waits for the end of `u`.
-fn start_kind(front: &[Entry], t: &TaskName, u: &TaskName) -> Option<NeedKind>
+fn start_kind(front: &History<'_>, t: &TaskName, u: &TaskName) -> Option<NeedKind>
     ensures { AreLegal front.now →
         result ≡ Linking.start_kind (history_of front.now) t.now u.now }
 {

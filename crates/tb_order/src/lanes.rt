@@ -1,14 +1,14 @@
 //! The newest steps at each cell and at the output: those with which a later step may race.
 
-ghost use Rattle.std.specs.Prelude.{◌≡◌, ◌<◌, ◌+◌, ◌∷◌, ℕ, List, IfOk, OnOk, Some, length, filter, slice_get};
+ghost use Rattle.std.specs.Prelude.{◌≡◌, ◌<◌, ◌+◌, ◌∷◌, ℕ, List, IfOk, OnOk, Some, length, filter, get_or, slice_get};
 ghost use Rattle.std.specs.List.{All};
-ghost use Rattle.tb_core.specs.declared.entry.Entry.{Entry};
+ghost use Rattle.tb_core.specs.Entries.{Entry};
 ghost use Rattle.tb_order.specs.Lanes;
 ghost use Rattle.tb_order.specs.Lanes.{AreLanes, kept_in, stays};
 
 use std::alloc::{AllocError, Global};
-use tb_core::Entry;
-use tb_model::{Action, Event};
+use tb_core::History;
+use tb_model::Action;
 
 /// The number of what the action shares with others: 0 for the output, and for each cell the next
 /// after its own.
@@ -23,11 +23,16 @@ fn lane_of(action: &Action) -> Option<usize>
     }
 }
 
-/// Whether whatever conflicts with `u` conflicts with `v` too, where both are at one cell or print.
-fn replaces(v: &Event, u: &Event) -> bool
-    ensures { result ≡ Lanes.replaces v.now u.now }
+/// Whether whatever conflicts with the earlier step conflicts with the later one too, where both are
+/// at one cell or print.
+fn replaces(entries: &History<'_>, later: usize, earlier: usize) -> bool
+    requires later { later < length entries.now }
+    requires earlier { earlier < length entries.now }
+    ensures { (v u : Entry) → v ≡ get_or entries.now later v → u ≡ get_or entries.now earlier u →
+        result ≡ Lanes.replaces v.event u.event }
 {
-    u.is_of(&v.task) && (!is_load(&v.action) || is_load(&u.action))
+    entries.are_of_one(later, earlier)
+        && (!is_load(entries.action(later)) || is_load(entries.action(earlier)))
 }
 
 fn is_load(action: &Action) -> bool
@@ -61,14 +66,14 @@ pub fn lane_at(lanes: &[Vec<usize>], i: usize) -> &[usize]
 pub fn note(
     alloc: Global,
     lanes: &mut Vec<Vec<usize>>,
-    entries: &[Entry],
+    entries: &History<'_>,
     at: usize,
 ) -> Result<(), AllocError>
     requires within { at < length entries.now }
     requires noted { AreLanes entries.now at lanes.old.items }
     ensures { OnOk result (AreLanes entries.now (at + 1) lanes.new.items) }
 {
-    let Some(i) = lane_of(&entries[at].event.action) else {
+    let Some(i) = lane_of(entries.action(at)) else {
         return Ok(());
     };
     grow(alloc, lanes, i)?;
@@ -91,7 +96,7 @@ fn grow(alloc: Global, lanes: &mut Vec<Vec<usize>>, i: usize) -> Result<(), Allo
 /// The lane with the step at this place, without those that it replaces.
 fn lane_with(
     alloc: Global,
-    entries: &[Entry],
+    entries: &History<'_>,
     at: usize,
     lane: &[usize],
 ) -> Result<Vec<usize>, AllocError>
@@ -103,7 +108,7 @@ fn lane_with(
     let mut next = Vec::new(alloc);
     next.push(at)?;
     for place in lane {
-        if !replaces(&entries[at].event, &entries[*place].event) {
+        if !replaces(entries, at, *place) {
             next.push(*place)?;
         }
     }

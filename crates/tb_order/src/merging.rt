@@ -1,7 +1,7 @@
 //! The clocks of a history.
 
 ghost use Rattle.std.specs.Prelude.{◌≡◌, ◌<◌, ◌≤◌, ◌+◌, ◌||◌, ◌&&◌, ◌==◌, ℕ, List, Vec, false, length, nat_lt, slice_index_or, IfOk, OnOk};
-ghost use Rattle.tb_core.specs.declared.entry.Entry.{Entry};
+ghost use Rattle.tb_core.specs.Entries.{Entry};
 ghost use Rattle.tb_core.specs.Scans.{AreLegal};
 ghost use Rattle.tb_races.specs.Orders.{Order};
 ghost use Rattle.tb_order.specs.Clocks as is;
@@ -12,13 +12,13 @@ use crate::clocks::{Clocks, bound, reaches, row};
 use crate::tasks::{Tasks, step_before};
 use crate::waiting::{may_wait, waits};
 use std::alloc::{AllocError, Global};
-use tb_core::Entry;
+use tb_core::History;
 
 /// What the order puts in front of each of these entries, where exclusion counts or doesn't.
 pub fn clocks_of(
     alloc: Global,
     exclusion: bool,
-    entries: &[Entry],
+    entries: &History<'_>,
     tasks: &Tasks,
 ) -> Result<Clocks, AllocError>
     requires legal { AreLegal entries.now }
@@ -33,7 +33,7 @@ pub fn clocks_of(
     for at in 0..entries.len() {
         let next = row_of(alloc, exclusion, entries, tasks, &mut clocks, &ends, at)?;
         clocks.of.push(next)?;
-        if entries[at].event.action.is_end() {
+        if entries.action(at).is_end() {
             ends.push(at)?;
         }
     }
@@ -44,7 +44,7 @@ pub fn clocks_of(
 fn row_of(
     alloc: Global,
     exclusion: bool,
-    entries: &[Entry],
+    entries: &History<'_>,
     tasks: &Tasks,
     clocks: &mut Clocks,
     ends: &[usize],
@@ -92,7 +92,7 @@ fn row_before(tasks: &Tasks, clocks: &Clocks, at: usize) -> usize
 fn merge(
     next: &mut Vec<usize>,
     exclusion: bool,
-    entries: &[Entry],
+    entries: &History<'_>,
     tasks: &Tasks,
     clocks: &Clocks,
     ends: &[usize],

@@ -1,8 +1,9 @@
 //! Which steps of a history are of one task.
 
-ghost use Rattle.std.specs.Prelude.{◌≡◌, ◌<◌, ◌+◌, ◌≤◌, length, slice_get, Some, IfOk, OnOk, suc, ℕ, true, false, IsTrue};
-ghost use Rattle.tb_core.specs.declared.entry.Entry.{Entry};
+ghost use Rattle.std.specs.Prelude.{◌≡◌, ◌<◌, ◌+◌, ◌≤◌, length, slice_get, Some, IfOk, OnOk, suc, ℕ, true, false, IsTrue, if◌then◌else◌};
+ghost use Rattle.tb_core.specs.Entries.{Entry};
 ghost use Rattle.tb_core.specs.Scans.{AreLegal};
+ghost use Rattle.tb_model.specs.Facts.{is_spawn_of};
 ghost use Rattle.tb_model.specs.Names.{Name};
 ghost use Rattle.tb_order.specs.Clocks as is;
 ghost use Rattle.tb_order.specs.Clocks.{AreTasks, both_at, of_one};
@@ -11,11 +12,11 @@ ghost use Rattle.tb_order.specs.Numbering.{AreNewest, AreNumbered, IsAdded, IsPu
 use crate::tasks::Tasks;
 use indexmap::IndexMap;
 use std::alloc::{AllocError, Global};
-use tb_core::Entry;
+use tb_core::History;
 use tb_model::{Action, TaskName};
 
 /// The steps of these entries by their tasks.
-pub fn tasks_of(alloc: Global, entries: &[Entry]) -> Result<Tasks, AllocError>
+pub fn tasks_of(alloc: Global, entries: &History<'_>) -> Result<Tasks, AllocError>
     requires legal { AreLegal entries.now }
     ensures { IfOk result (AreTasks entries.now) }
 {
@@ -28,7 +29,7 @@ pub fn tasks_of(alloc: Global, entries: &[Entry]) -> Result<Tasks, AllocError>
     let mut count = 0_usize;
     for at in 0..entries.len() {
         let previous = previous_of(&mut newest, entries, at)?;
-        note_spawn(&mut newest, entries, at)?;
+        note_spawn(&mut newest, entries.action(at), at + 1)?;
         count = add(&mut tasks, entries, at, previous, count)?;
     }
     Ok(tasks)
@@ -37,7 +38,7 @@ pub fn tasks_of(alloc: Global, entries: &[Entry]) -> Result<Tasks, AllocError>
 /// Adds the step at this place, and tells how many tasks there are then.
 fn add(
     tasks: &mut Tasks,
-    entries: &[Entry],
+    entries: &History<'_>,
     at: usize,
     previous: usize,
     count: usize,
@@ -61,13 +62,13 @@ fn add(
 }
 
 /// Whether the step that is told is of the same task.
-fn is_own(entries: &[Entry], at: usize, previous: usize) -> bool
+fn is_own(entries: &History<'_>, at: usize, previous: usize) -> bool
     requires at { at < length entries.now }
     requires previous { previous ≤ at }
     ensures own { IsTrue result → (b : ℕ) × (previous ≡ suc b) × (both_at of_one entries.now at b ≡ true) }
     ensures other { result ≡ false → (b : ℕ) → previous ≡ suc b → both_at of_one entries.now at b ≡ false }
 {
-    previous > 0 && entries[previous - 1].event.is_of(&entries[at].event.task)
+    previous > 0 && entries.are_of_one(at, previous - 1)
 }
 
 fn push(tasks: &mut Tasks, previous: usize, number: usize, origin: usize) -> Result<(), AllocError>
@@ -83,7 +84,7 @@ fn push(tasks: &mut Tasks, previous: usize, number: usize, origin: usize) -> Res
 /// steps on isn't looked for by name.
 fn previous_of(
     newest: &mut IndexMap<TaskName, usize>,
-    entries: &[Entry],
+    entries: &History<'_>,
     at: usize,
 ) -> Result<usize, AllocError>
     requires at { at < length entries.now }
@@ -93,30 +94,26 @@ fn previous_of(
     ensures newest { OnOk result ((t : Name) → of_at entries.now t at ≡ false →
         place_of newest.new.entries t ≡ touched entries.now t at) }
 {
-    let task = &entries[at].event.task;
     if at > 0 {
-        let last = &entries[at - 1].event;
-        if last.is_of(task) {
+        if entries.are_of_one(at, at - 1) {
             return Ok(at);
         }
-        put(newest, &last.task, at)?;
+        put(newest, entries.task(at - 1), at)?;
     }
-    Ok(place_in(newest, task))
+    Ok(place_in(newest, entries.task(at)))
 }
 
-/// Notes what the step at this place generates.
+/// Notes the place for the task that the action generates, if it generates one.
 fn note_spawn(
     newest: &mut IndexMap<TaskName, usize>,
-    entries: &[Entry],
-    at: usize,
+    action: &Action,
+    place: usize,
 ) -> Result<(), AllocError>
-    requires at { at < length entries.now }
-    requires newest { (t : Name) → of_at entries.now t at ≡ false →
-        place_of newest.old.entries t ≡ touched entries.now t at }
-    ensures { OnOk result (AreNewest entries.now (at + 1) newest.new.entries) }
+    ensures { OnOk result ((t : Name) → place_of newest.new.entries t
+        ≡ (if is_spawn_of t action.now then place else place_of newest.old.entries t)) }
 {
-    match &entries[at].event.action {
-        Action::Spawn(spawned) => put(newest, &spawned.get().child, at + 1),
+    match action {
+        Action::Spawn(spawned) => put(newest, &spawned.get().child, place),
         _ => Ok(()),
     }
 }

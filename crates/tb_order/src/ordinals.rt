@@ -1,18 +1,22 @@
 //! Which step of its task each step of a history is.
 
 ghost use Rattle.std.specs.Prelude.{◌≡◌, ◌<◌, ◌≤◌, ◌+◌, ℕ, List, Some, suc, length, take, slice_get, slice_index_or, IfOk};
-ghost use Rattle.tb_core.specs.declared.entry.Entry.{Entry};
+ghost use Rattle.tb_core.specs.Entries.{Entry};
 ghost use Rattle.tb_core.specs.Scans.{history_of, step_at};
 ghost use Rattle.tb_model.specs.Facts;
 ghost use Rattle.tb_order.specs.Clocks.{AreOrdinals, AreTasks, IsShaped};
 
 use crate::tasks::{Tasks, step_before};
 use std::alloc::{AllocError, Global};
-use tb_core::Entry;
+use tb_core::History;
 use tb_model::StepId;
 
 /// The number of each of these entries among the steps of its task.
-pub fn ordinals_of(alloc: Global, entries: &[Entry], tasks: &Tasks) -> Result<Vec<u32>, AllocError>
+pub fn ordinals_of(
+    alloc: Global,
+    entries: &History<'_>,
+    tasks: &Tasks,
+) -> Result<Vec<u32>, AllocError>
     requires tasks { AreTasks entries.now tasks.now }
     requires bound { length entries.now ≤ 1000000 }
     ensures listed { IfOk result (λ ks. length ks.items ≡ length entries.now) }
@@ -44,14 +48,14 @@ fn next_ordinal(tasks: &Tasks, ordinals: &[u32], at: usize) -> u32
 }
 
 /// The step at this place.
-pub fn named(entries: &[Entry], ordinals: &[u32], at: usize) -> Result<StepId, AllocError>
+pub fn named(entries: &History<'_>, ordinals: &[u32], at: usize) -> Result<StepId, AllocError>
     requires at { at < length entries.now }
     requires listed { length ordinals.now ≡ length entries.now }
     requires told { AreOrdinals entries.now (length entries.now) ordinals.now }
     ensures { IfOk result (λ id. step_at entries.now at ≡ Some id) }
 {
     Ok(StepId {
-        task: entries[at].event.task.clone()?,
+        task: entries.task(at).clone()?,
         k: ordinals[at],
     })
 }

@@ -1,7 +1,7 @@
 //! Which steps race.
 
 ghost use Rattle.std.specs.Prelude.{◌≡◌, ◌<◌, ◌≤◌, IfOk, Some, length, take, reverse, slice_get, false, true};
-ghost use Rattle.tb_core.specs.declared.entry.Entry.{Entry};
+ghost use Rattle.tb_core.specs.Entries.{Entry};
 ghost use Rattle.tb_core.specs.Scans.{AreLegal, history_of};
 ghost use Rattle.tb_races.specs.Racing;
 ghost use Rattle.tb_order.specs.Clocks.{AreClocks, AreOrdinals, AreTasks};
@@ -17,11 +17,11 @@ use crate::numbering::tasks_of;
 use crate::ordinals::{named, ordinals_of};
 use crate::tasks::Tasks;
 use std::alloc::{AllocError, Global};
-use tb_core::Entry;
+use tb_core::History;
 use tb_races::{Conflict, Race};
 
 /// The race of each entry that has one.
-pub fn races_among(alloc: Global, entries: &[Entry]) -> Result<Vec<Race>, AllocError>
+pub fn races_among(alloc: Global, entries: &History<'_>) -> Result<Vec<Race>, AllocError>
     requires legal { AreLegal entries.now }
     requires bound { length entries.now ≤ 1000000 }
     ensures { IfOk result (λ races.
@@ -40,7 +40,7 @@ pub fn races_among(alloc: Global, entries: &[Entry]) -> Result<Vec<Race>, AllocE
 /// The same by what stands in front of each, where exclusion doesn't count and where it does.
 fn races_by(
     alloc: Global,
-    entries: &[Entry],
+    entries: &History<'_>,
     tasks: &Tasks,
     ordinals: &[u32],
     loose: &Clocks,
@@ -57,7 +57,7 @@ fn races_by(
     let mut races = Vec::new(alloc);
     let mut lanes = Vec::new(alloc);
     for at in 0..entries.len() {
-        let lane = lane_for(&lanes, &entries[at].event.action);
+        let lane = lane_for(&lanes, entries.action(at));
         if let Some(race) = race_at(entries, tasks, ordinals, loose, strict, at, lane)? {
             races.push(race)?;
         }
@@ -68,7 +68,7 @@ fn races_by(
 
 /// The race that is named for the entry at this place. The lane has those with which it may race.
 fn race_at(
-    entries: &[Entry],
+    entries: &History<'_>,
     tasks: &Tasks,
     ordinals: &[u32],
     loose: &Clocks,
@@ -96,7 +96,7 @@ fn race_at(
 /// counts or doesn't.
 fn newest_race(
     exclusion: bool,
-    entries: &[Entry],
+    entries: &History<'_>,
     tasks: &Tasks,
     ordinals: &[u32],
     clocks: &Clocks,
@@ -129,7 +129,7 @@ fn newest_race(
 /// What the entries at these places race over.
 fn contested(
     exclusion: bool,
-    entries: &[Entry],
+    entries: &History<'_>,
     tasks: &Tasks,
     clocks: &Clocks,
     at: usize,
@@ -146,5 +146,5 @@ fn contested(
     if reaches(tasks, clocks, at, first) {
         return None;
     }
-    conflict(&entries[at].event, &entries[first].event)
+    conflict(entries, at, first)
 }

@@ -2,7 +2,7 @@
 
 ghost use Rattle.std.specs.Prelude.{◌≡◌, ◌<◌, ◌≤◌, ◌∷◌, ◌||◌, ℕ, List, Bool, length, take, slice_get, IsFalse, IsTrue, Some, false};
 ghost use Rattle.tb_model.specs.declared.action.Action.{Action};
-ghost use Rattle.tb_core.specs.declared.entry.Entry.{Entry};
+ghost use Rattle.tb_core.specs.Entries.{Entry};
 ghost use Rattle.tb_core.specs.Scans.{AreLegal, history_of};
 ghost use Rattle.tb_model.specs.Facts;
 ghost use Rattle.tb_model.specs.Names.{Name};
@@ -15,12 +15,12 @@ ghost use Rattle.tb_order.specs.Linking.{order_of};
 
 use crate::kinds::counts;
 use crate::tasks::{Tasks, step_before};
-use tb_core::{Entry, is_member};
+use tb_core::{History, is_member};
 use tb_model::{Action, Item, TaskName, some_apart, some_before};
 use tb_races::NeedKind;
 
 /// Whether the step at this place may be linked to ends of others. A start without depend items isn't.
-pub fn may_wait(entries: &[Entry], tasks: &Tasks, at: usize) -> bool
+pub fn may_wait(entries: &History<'_>, tasks: &Tasks, at: usize) -> bool
     requires legal { AreLegal entries.now }
     requires tasks { AreTasks entries.now tasks.now }
     requires at { at < length entries.now }
@@ -28,7 +28,7 @@ pub fn may_wait(entries: &[Entry], tasks: &Tasks, at: usize) -> bool
         → IsTrue (links_at (order_of exclusion) entries.now at x) → IsTrue (both_at of_one entries.now at x) }
 {
     let items = items_of(entries, tasks, at);
-    waits_by_itself(&entries[at].event.action, items) || is_held(entries, tasks, at)
+    waits_by_itself(entries.action(at), items) || is_held(entries, tasks, at)
 }
 
 /// Whether the action, of a task with these depend items, is one that waits.
@@ -44,14 +44,14 @@ fn waits_by_itself(action: &Action, items: &[Item]) -> bool
 }
 
 /// Whether the task generated an undeferred child right in front of the step at this place.
-fn is_held(entries: &[Entry], tasks: &Tasks, at: usize) -> bool
+fn is_held(entries: &History<'_>, tasks: &Tasks, at: usize) -> bool
     requires tasks { AreTasks entries.now tasks.now }
     requires at { at < length entries.now }
     ensures { IsFalse result → (v : Entry) → slice_get entries.now at ≡ Some v → (u : Name) →
         Facts.holds (Facts.own v.event.task (history_of (take at entries.now))) u ≡ false }
 {
     match step_before(tasks, at) {
-        Some(before) => holds_some(&entries[before].event.action),
+        Some(before) => holds_some(entries.action(before)),
         None => false,
     }
 }
@@ -66,14 +66,14 @@ fn holds_some(action: &Action) -> bool
 }
 
 /// Whether the task of the step at this place stood at its undeferred child `u`.
-fn holds(entries: &[Entry], tasks: &Tasks, at: usize, u: &TaskName) -> bool
+fn holds(entries: &History<'_>, tasks: &Tasks, at: usize, u: &TaskName) -> bool
     requires tasks { AreTasks entries.now tasks.now }
     requires at { at < length entries.now }
     ensures { (v : Entry) → slice_get entries.now at ≡ Some v →
         result ≡ Facts.holds (Facts.own v.event.task (history_of (take at entries.now))) u.now }
 {
     match step_before(tasks, at) {
-        Some(before) => is_undeferred(&entries[before].event.action, u),
+        Some(before) => is_undeferred(entries.action(before), u),
         None => false,
     }
 }
@@ -92,37 +92,37 @@ fn is_undeferred(action: &Action, u: &TaskName) -> bool
 
 /// Whether the step at this place is linked to the end at the other, where exclusion counts or
 /// doesn't.
-pub fn waits(exclusion: bool, entries: &[Entry], tasks: &Tasks, at: usize, end: usize) -> bool
+pub fn waits(exclusion: bool, entries: &History<'_>, tasks: &Tasks, at: usize, end: usize) -> bool
     requires legal { AreLegal entries.now }
     requires tasks { AreTasks entries.now tasks.now }
     requires at { at < length entries.now }
     requires end { end < at }
     ensures { IsTrue (is_end_at entries.now end) → result ≡ links_at (order_of exclusion) entries.now at end }
 {
-    let v = &entries[at].event;
-    let u = &entries[end].event;
+    if entries.are_of_one(at, end) {
+        return true;
+    }
+    let front = entries.front(at);
+    let ended = entries.task(end);
     let items = items_of(entries, tasks, at);
     let others = items_of(entries, tasks, end);
-    let held = holds(entries, tasks, at, &u.task);
-    u.is_of(&v.task)
-        || counts(
-            exclusion,
-            end_kind(
-                &entries[..at],
-                &v.task,
-                items,
-                &v.action,
-                &u.task,
-                others,
-                held,
-            ),
-        )
+    let held = holds(entries, tasks, at, ended);
+    let kind = end_kind(
+        &front,
+        entries.task(at),
+        items,
+        entries.action(at),
+        ended,
+        others,
+        held,
+    );
+    counts(exclusion, kind)
 }
 
 /// Why the action of `t` comes behind the end of `u`, where these are their items, and `t` stood at
 /// `u` or didn't.
 fn end_kind(
-    front: &[Entry],
+    front: &History<'_>,
     t: &TaskName,
     items: &[Item],
     action: &Action,
@@ -150,7 +150,7 @@ fn end_kind(
 
 /// Why it waits for that end.
 fn wait_kind(
-    front: &[Entry],
+    front: &History<'_>,
     t: &TaskName,
     items: &[Item],
     action: &Action,
@@ -191,7 +191,7 @@ fn covers(items: &[Item], others: &[Item]) -> bool
 
 /// Why the start of `t` waits for the end of `u`.
 fn start_kind(
-    front: &[Entry],
+    front: &History<'_>,
     t: &TaskName,
     items: &[Item],
     u: &TaskName,
@@ -214,7 +214,7 @@ fn start_kind(
 }
 
 /// The depend items of the task of the step at this place.
-fn items_of<'a>(entries: &'a [Entry], tasks: &Tasks, at: usize) -> &'a [Item]
+fn items_of<'a>(entries: &History<'a>, tasks: &Tasks, at: usize) -> &'a [Item]
     requires legal { AreLegal entries.now }
     requires tasks { AreTasks entries.now tasks.now }
     requires at { at < length entries.now }
@@ -228,11 +228,11 @@ fn items_of<'a>(entries: &'a [Entry], tasks: &Tasks, at: usize) -> &'a [Item]
     named_items(entries, origin - 1)
 }
 
-fn named_items(entries: &[Entry], at: usize) -> &[Item]
+fn named_items<'a>(entries: &History<'a>, at: usize) -> &'a [Item]
     requires { at < length entries.now }
     ensures { (v : Entry) → slice_get entries.now at ≡ Some v → result.now ≡ items_in (Some v.event.action) }
 {
-    action_items(&entries[at].event.action)
+    action_items(entries.action(at))
 }
 
 /// Those that the action gives to a child.

@@ -35,14 +35,14 @@ pub record IsIndexOf (names : List Name) (events : List Event) (p : Places) : Ty
 
 -- ---- room
 
--- the places of the event, whose task has this number, take no memory
-pub record HasRoomAs (p : Places) (number : Option ℕ) (e : Event) : Type 0 where
+-- the places of an event with this action, whose task has this number, take no memory
+pub record HasRoomAs (p : Places) (number : Option ℕ) (a : Action) : Type 0 where
   pub own : HasRoomAt p.own number
-  pub mark : HasRoomAt p.marks (event_mark e)
+  pub mark : HasRoomAt p.marks (mark_of a)
 
 -- the same, by its task's name
 abbrev pub HasRoomFor : List Name → Places → Event → Type 0
-HasRoomFor names p e = HasRoomAs p (event_number names e) e
+HasRoomFor names p e = HasRoomAs p (event_number names e) e.action
 
 -- nor do those of all of these
 pub record HasRoomForAll (names : List Name) (events : List Event) (p : Places) : Type 0 where

@@ -11,7 +11,7 @@ ghost use Rattle.tb_places.specs.Where.{places_where};
 use crate::marks::mark_of;
 use crate::rows::Rows;
 use std::alloc::{AllocError, Global};
-use tb_model::Event;
+use tb_model::Action;
 
 /// Where the events of a history stand: those of each task, those that load from a cell or store to
 /// it, and those that print. Neither the history nor the tasks' names are kept here: a task is given by a
@@ -61,38 +61,39 @@ impl Places {
         self.marks.row(0)
     }
 
-    /// Makes room for the places of the event, whose task has this number.
+    /// Makes room for the places of an event with this action, whose task has this number.
     #[inline(always)]
-    pub fn reserve(&mut self, number: Option<usize>, event: &Event) -> Result<(), AllocError>
+    pub fn reserve(&mut self, number: Option<usize>, action: &Action) -> Result<(), AllocError>
         ensures same { (names : List Name) (events : List AnEvent) → IsIndexOf names events self.old →
             IsIndexOf names events self.new }
-        ensures ok { OnOk result (HasRoomAs self.new number event.now) }
-        ensures succeeds { HasRoomAs self.old number event.now → IsOk result }
+        ensures ok { OnOk result (HasRoomAs self.new number action.now) }
+        ensures succeeds { HasRoomAs self.old number action.now → IsOk result }
     {
         self.own.reserve_at(number)?;
-        self.marks.reserve_at(mark_of(&event.action))
+        self.marks.reserve_at(mark_of(action))
     }
 
-    /// Notes the place of an event that comes after all others, and whose task has this number.
+    /// Notes the place of an event that comes after all others, has this action, and whose task has this number.
     #[inline(always)]
-    pub fn push_reserved(&mut self, number: Option<usize>, event: &Event, at: u32)
-        requires { HasRoomAs self.old number event.now }
-        ensures pushed { (names : List Name) (events : List AnEvent) → number ≡ event_number names event.now →
-            IsNamed names event.now → IsIndexOf names events self.old →
-            at ≡ length events → IsIndexOf names (events ++ event.now ∷ []) self.new }
+    pub fn push_reserved(&mut self, number: Option<usize>, action: &Action, at: u32)
+        requires { HasRoomAs self.old number action.now }
+        ensures pushed { (names : List Name) (events : List AnEvent) (e : AnEvent) → e.action ≡ action.now →
+            number ≡ event_number names e → IsNamed names e → IsIndexOf names events self.old →
+            at ≡ length events → IsIndexOf names (events ++ e ∷ []) self.new }
         ensures room { KeepsRoom self.old self.new }
     {
         self.own.push_at(number, at);
-        self.marks.push_at(mark_of(&event.action), at);
+        self.marks.push_at(mark_of(action), at);
     }
 
-    /// Forgets the place of the last event, whose task has this number. Its room stays.
-    pub fn pop(&mut self, number: Option<usize>, event: &Event)
-        ensures popped { (names : List Name) (events : List AnEvent) → number ≡ event_number names event.now →
-            IsIndexOf names (events ++ event.now ∷ []) self.old → IsIndexOf names events self.new }
+    /// Forgets the place of the last event, which has this action, and whose task has this number. Its room stays.
+    pub fn pop(&mut self, number: Option<usize>, action: &Action)
+        ensures popped { (names : List Name) (events : List AnEvent) (e : AnEvent) → e.action ≡ action.now →
+            number ≡ event_number names e → IsIndexOf names (events ++ e ∷ []) self.old →
+            IsIndexOf names events self.new }
         ensures room { KeepsRoom self.old self.new }
     {
         self.own.pop_at(number);
-        self.marks.pop_at(mark_of(&event.action));
+        self.marks.pop_at(mark_of(action));
     }
 }

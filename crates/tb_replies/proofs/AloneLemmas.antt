@@ -12,7 +12,7 @@ use Rattle.tb_control.specs.declared.mode.Mode.{Mode}
 use Rattle.tb_control.specs.declared.mode.Mode.TheVariants.{Resumed, Counting, Paused}
 use Rattle.tb_control.specs.declared.paused_by.PausedBy.TheVariants.{Break as ByBreak, Count as ByCount, Pause as ByPause}
 use Rattle.tb_live.specs.Claims.{Claims, AreFreeFrom, claim_of, with_claim, withdrawn, unless}
-use Rattle.tb_live.specs.Modes.{counting, counted, is_paused}
+use Rattle.tb_live.specs.Modes.{counting, is_paused}
 use Rattle.tb_live.specs.Modes as modes
 use Rattle.tb_live.specs.Pauses.{with_mode}
 use Rattle.tb_live.specs.Runs.{unclaimed}

@@ -1,13 +1,14 @@
 -- The steps that stand, told in pieces.
-use Rattle.std.proofs.Common.{◌≡◌, ◌<◌, ◌≤◌, ◌+◌, ℕ, suc, List, [], ◌∷◌, ◌++◌, map, reverse, take, drop, length, refl, sym, ap, ap₂, ◌∙◌, append_assoc, append-nil, subst, get_or, Option}
+use Rattle.std.proofs.Common.{◌≡◌, ◌≤◌, ◌+◌, ℕ, suc, List, [], ◌∷◌, ◌++◌, map, reverse, take, drop, length, refl, sym, ap, ap₂, ◌∙◌, append_assoc, append-nil, subst, Option}
 use Rattle.std.proofs.lemmas.List.{take_all, take-append-drop, length-map, length-reverse}
 use Rattle.std.specs.Fmt.{decimal}
 use Rattle.std.specs.Prelude.{codes}
 use Rattle.tb_lines.proofs.KnownLemmas.{appends_nil}
+use Rattle.tb_model.specs.declared.event.Event.{Event}
 use Rattle.tb_model.specs.Facts.{History}
 use Rattle.tb_model.specs.Lines.{Departure}
 use Rattle.tb_model.specs.Program.{Program}
-use Rattle.tb_core.specs.declared.entry.Entry.{Entry}
+use Rattle.tb_core.specs.Entries.{Entry}
 use Rattle.tb_core.specs.Scans.{history_of}
 use Rattle.tb_core.specs.Soundness.{departure}
 use Rattle.tb_core.proofs.ScanLemmas.{history_of-append}
@@ -18,6 +19,7 @@ use Rattle.tb_draft.proofs.WrittenLemmas.{told_on, front_held, longer}
 use Rattle.tb_view.specs.declared.view.View.TheVariants.{Hist}
 use Rattle.tb_view.specs.Lines.{line, event_line, step_line}
 use Rattle.tb_view.specs.Steps.{Counts, AreCounts, count_of, history_lines, history_text}
+use Rattle.tb_view.proofs.CountLemmas.{IsReadAt}
 use Rattle.tb_view.proofs.WalkLemmas.{told_more}
 use Rattle.tb_replies.specs.Replies.{Reply, shown}
 use Rattle.tb_replies.specs.Told.{Begins}
@@ -51,10 +53,10 @@ module _ (P : Program) (entries : List Entry) (start : List ℕ) where
   all_told = start ++ history_lines P (history_of entries)
 
   -- the line of one more waits
-  pub line_waits : (a b : Option (List ℕ)) (i : ℕ) (e : Entry) (counts : Counts) (text more : List ℕ) → i < length entries → e ≡ get_or entries i e → AreCounts (history_of (take i entries)) counts
-      → Told a b text (λ told. told ≡ so_far i) → more ≡ text ++ event_line P (record { task = e.event.task; k = suc (count_of counts e.event.task) }) e.event → Told a b more (λ told. told ≡ so_far (i + 1))
-  line_waits a b i e counts text more within here are t grows =
-      told_on a b text more _ _ t (λ front is. told_more P entries i e counts start (front ++ text) (front ++ more) within here are is (longer front text _ more grows))
+  pub line_waits : (a b : Option (List ℕ)) (i : ℕ) (v : Event) (counts : Counts) (text more : List ℕ) → IsReadAt entries i v → AreCounts (history_of (take i entries)) counts
+      → Told a b text (λ told. told ≡ so_far i) → more ≡ text ++ event_line P (record { task = v.task; k = suc (count_of counts v.task) }) v → Told a b more (λ told. told ≡ so_far (i + 1))
+  line_waits a b i v counts text more read are t grows =
+      told_on a b text more _ _ t (λ front is. told_more P entries i v counts start (front ++ text) (front ++ more) read are is (longer front text _ more grows))
 
   -- no more are told
   pub lines_begun : (a b : Option (List ℕ)) (i : ℕ) (text : List ℕ) → Told a b text (λ told. told ≡ so_far i) → WroteFront a b all_told

@@ -3,7 +3,7 @@ use Rattle.std.proofs.Common.{◌≡◌, ◌≤◌, ◌+◌, ℕ, suc, List, [],
 use Rattle.std.proofs.lemmas.List.{length-map, length-reverse}
 use Rattle.tb_model.specs.Names.{Name}
 use Rattle.tb_model.specs.Lines.{events_of}
-use Rattle.tb_core.specs.declared.entry.Entry.{Entry}
+use Rattle.tb_core.specs.Entries.{Entry}
 use Rattle.tb_core.specs.Seen.{Seen}
 use Rattle.tb_core.specs.Seen as core
 use Rattle.tb_core.specs.Soundness.{departure}

@@ -11,7 +11,7 @@ ghost use Rattle.tb_draft.specs.Written.{Told, WroteFront};
 
 use crate::unwritten::Unwritten;
 use std::alloc::Global;
-use tb_core::Entry;
+use tb_core::History;
 use tb_draft::Draft;
 use tb_lines::Sink;
 use tb_live::Live;
@@ -24,7 +24,7 @@ fn tell_steps<K: Sink>(
     sink: &mut K,
     text: &mut Draft,
     program: &Program,
-    entries: &[Entry],
+    entries: &History<'_>,
 ) -> Result<(), Unwritten>
     requires few { length entries.now ≤ 1000000 }
     requires failures { K.failures sink.old < 2 ^ 64 - 1 }
@@ -36,8 +36,8 @@ fn tell_steps<K: Sink>(
     ensures failed { IfErr result (λ why. K.failures sink.new ≡ K.failures sink.old + failed_at why) }
 {
     let mut counts = StepCounts::none(alloc);
-    'steps: for entry in entries {
-        counts.append_next(text, program, &entry.event)?;
+    'steps: for at in 0..entries.len() {
+        counts.append_next(text, program, entries.task(at), entries.action(at))?;
         text.pass_on(sink)?;
     }
     Ok(())
@@ -55,7 +55,7 @@ pub fn history_reply<K: Sink>(alloc: Global, sink: &mut K, live: &Live) -> Resul
     ensures failed { IfErr result (λ why. K.failures sink.new ≡ K.failures sink.old + failed_at why) }
 {
     let entries = live.core().legal_entries();
-    let mut text = history_head(alloc, entries)?;
-    tell_steps(alloc, sink, &mut text, live.program(), entries)?;
+    let mut text = history_head(alloc, &entries)?;
+    tell_steps(alloc, sink, &mut text, live.program(), &entries)?;
     Ok(text)
 }

@@ -9,14 +9,14 @@ use tb_live::Live;
 use tb_model::StepId;
 use tb_view::append_line;
 
-/// Appends the line of the newest event that stands, of which this is the step.
+/// Appends the line of the newest step that stands, which this names.
 #[inline(always)]
 pub fn append_newest(text: &mut Draft, live: &Live, id: &StepId) -> Result<(), AllocError>
     ensures { OnOk result (text.new
         ≡ text.old ++ newest_line live.now.session id.now) }
 {
-    if let Some(event) = live.newest() {
-        append_line(text, live.program(), &event.task, id.k, &event.action)?;
+    if let Some((task, action)) = live.newest() {
+        append_line(text, live.program(), task, id.k, action)?;
     }
     Ok(())
 }

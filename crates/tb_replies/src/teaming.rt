@@ -25,7 +25,7 @@ fn course_text(alloc: Global, live: &Live, count: u32, stop: Stop) -> Result<Dra
 {
     let mut text = Draft::new(alloc);
     let entries = live.core().legal_entries();
-    append_newest(alloc, &mut text, live.program(), entries, count as usize)?;
+    append_newest(alloc, &mut text, live.program(), &entries, count as usize)?;
     append_end(&mut text, Taken { count, stop })?;
     Ok(text)
 }

@@ -10,7 +10,7 @@ use Rattle.tb_model.specs.Names.{Name, same_name}
 use Rattle.tb_model.specs.Needs.{step_of}
 use Rattle.tb_model.proofs.FactsLemmas.{own_mine, own_other}
 use Rattle.tb_model.proofs.TestLemmas.{same_true, same_refl}
-use Rattle.tb_core.specs.declared.entry.Entry.{Entry}
+use Rattle.tb_core.specs.Entries.{Entry}
 use Rattle.tb_core.specs.Scans.{history_of, step_at}
 use Rattle.tb_core.proofs.FirstLemmas.{step_read}
 use Rattle.tb_core.proofs.ScanLemmas.{history_of-append, history_more}
@@ -132,15 +132,12 @@ module _ (entries others : List Entry) (places : List ℕ) (count : length place
 
 -- ---- the step at a place, where the steps of its task in front of it are matched
 
-module _ (entries others : List Entry) (at begin : ℕ) (e : Entry) (within : at < length entries) (here : e ≡ get_or entries at e) (counted : length (own e.event.task (history_of (take begin others))) ≡ length (own e.event.task (history_of (take at entries)))) where
-  abbrev t : Name
-  t = e.event.task
-
+module _ (entries others : List Entry) (at begin : ℕ) (e : Entry) (t : Name) (within : at < length entries) (here : e ≡ get_or entries at e) (named : t ≡ e.event.task) (counted : length (own t (history_of (take begin others))) ≡ length (own t (history_of (take at entries)))) where
   abbrev front : List Action
   front = own t (history_of (take at entries))
 
   mine : own t (history_of entries) ≡ own t (history_of (drop (at + 1) entries)) ++ e.event.action ∷ front
-  mine = own_here t entries at e within here (same_refl t)
+  mine = own_here t entries at e within here (of_its e.event.task t (sym named))
 
   -- no step of its task is left
   pub none_left : own t (history_of others) ≡ own t (history_of (take begin others)) → AreFound entries others → ⊥
@@ -164,7 +161,9 @@ module _ (entries others : List Entry) (at begin : ℕ) (e : Entry) (within : at
     pub found_same : w.event.action ≡ e.event.action → IsSameStep entries at others q
     found_same act = record {
       within = inside;
-      step = step ∙ ap (λ n. Some (record { task = t; k = suc n })) counted ∙ sym (step_read entries at e within here);
+      step =
+          step ∙ ap (λ n. Some (record { task = t; k = suc n })) counted
+          ∙ ap (λ u. Some (record { task = u; k = suc (length (own u (history_of (take at entries)))) })) named ∙ sym (step_read entries at e within here);
       action = action_read others q w inside its ∙ ap Some act ∙ sym (action_read entries at e within here);
     }
 
@@ -181,15 +180,15 @@ module _ (entries others : List Entry) (at begin : ℕ) (e : Entry) (within : at
 -- ---- the scans
 
 -- the first that is found is the task's next step
-pub next_found : (entries : List Entry) (at begin : ℕ) (t : Name) (e : Entry) → at < length entries → e ≡ get_or entries at e → same_name (get_or entries at e).event.task t ≡ true
+pub next_found : (entries : List Entry) (at begin : ℕ) (t : Name) (e : Entry) → at < length entries → e ≡ get_or entries at e → is_of t e.event ≡ true
     → own t (history_of (take at entries)) ≡ own t (history_of (take begin entries)) → step_at entries at ≡ Some (next_step t entries begin)
 next_found entries at begin t e within here mine same =
-    let task : e.event.task ≡ t = same_true e.event.task t (ap (λ (x : Entry). same_name x.event.task t) here ∙ mine) in
+    let task : e.event.task ≡ t = same_true e.event.task t mine in
     step_read entries at e within here ∙ ap (λ u. Some (record { task = u; k = suc (length (own u (history_of (take at entries)))) })) task
     ∙ ap (λ (acts : List Action). Some (record { task = t; k = suc (length acts) })) same
 
 -- the last of the task in front of a place, and where it stands among the others
-module _ (entries others : List Entry) (places : List ℕ) (at left : ℕ) (t : Name) (e : Entry) (matched : AreMatched entries places others) (within : left < length entries) (here : e ≡ get_or entries left e) (known : left < length places) (mine : same_name (get_or entries left e).event.task t ≡ true) (same : own t (history_of (take (left + 1) entries)) ≡ own t (history_of (take at entries))) where
+module _ (entries others : List Entry) (places : List ℕ) (at left : ℕ) (t : Name) (e : Entry) (matched : AreMatched entries places others) (within : left < length entries) (here : e ≡ get_or entries left e) (known : left < length places) (mine : is_of t e.event ≡ true) (same : own t (history_of (take (left + 1) entries)) ≡ own t (history_of (take at entries))) where
   abbrev q : ℕ
   q = get_or places left 0
 
@@ -202,7 +201,7 @@ module _ (entries others : List Entry) (places : List ℕ) (at left : ℕ) (t : 
   pub behind_counted : length (own t (history_of (take (q + 1) others))) ≡ length (own t (history_of (take at entries)))
   behind_counted =
       let w = there others q its.within in
-      let task : e.event.task ≡ t = same_true e.event.task t (ap (λ (x : Entry). same_name x.event.task t) here ∙ mine) in
+      let task : e.event.task ≡ t = same_true e.event.task t mine in
       let w_task = same_task entries others left q e w.0 within here its.within w.1 its ∙ task in
       let n = subst (λ u. length (own u (history_of (take q others))) ≡ length (own u (history_of (take left entries)))) task (same_count entries others left q e w.0 within here its.within w.1 its) in
       omega (arith, n, ap length (own_more t others q w.0 its.within w.1 (of_its w.0.event.task t w_task)), ap length (own_more t entries left e within here (of_its e.event.task t task)), ap length same)

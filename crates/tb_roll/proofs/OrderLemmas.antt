@@ -12,7 +12,7 @@ use Rattle.tb_model.specs.Ordered.{all_first, ordered}
 use Rattle.tb_model.proofs.FactsLemmas.{own_mine}
 use Rattle.tb_laws.proofs.OrderedLemmas.{in_order, from_order}
 use Rattle.tb_model.proofs.RemovalLemmas.{its_step, own_grows}
-use Rattle.tb_core.specs.declared.entry.Entry.{Entry}
+use Rattle.tb_core.specs.Entries.{Entry}
 use Rattle.tb_core.specs.Scans.{history_of, step_at}
 use Rattle.tb_core.proofs.FirstLemmas.{step_read}
 use Rattle.tb_core.proofs.ScanLemmas.{history_of-append, history_cut, history_more}

@@ -9,7 +9,7 @@ use Rattle.tb_model.specs.Equivalent.{stands}
 use Rattle.tb_model.specs.Facts.{History, prepend_if}
 use Rattle.tb_model.specs.Lines.{Departure}
 use Rattle.tb_model.specs.Needs.{is_removed, step_of}
-use Rattle.tb_core.specs.declared.entry.Entry.{Entry}
+use Rattle.tb_core.specs.Entries.{Entry}
 use Rattle.tb_core.specs.declared.removed.Removed.{Removed}
 use Rattle.tb_core.specs.declared.rollback.Rollback.{Rollback}
 use Rattle.tb_core.specs.Rolled.{removed_places, removed_steps, removals, IsOfHistory}

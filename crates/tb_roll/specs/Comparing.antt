@@ -6,7 +6,7 @@ use Rattle.tb_model.specs.declared.step_id.StepId.{StepId}
 use Rattle.tb_model.specs.Equivalent.{comes_first, needs_in}
 use Rattle.tb_model.specs.Facts.{History, own}
 use Rattle.tb_model.specs.Names.{Name}
-use Rattle.tb_core.specs.declared.entry.Entry.{Entry}
+use Rattle.tb_core.specs.Entries.{Entry}
 use Rattle.tb_core.specs.Scans.{history_of, step_at}
 
 -- the first actions are the oldest of all

@@ -1,18 +1,17 @@
 //! Whether two runs are one, up to the order of steps that don't need each other.
 
-ghost use Rattle.std.specs.Prelude.{◌≡◌, ◌≤◌, ◌<◌, ◌↔◌, IfOk, IsTrue, List, Some, length, take};
+ghost use Rattle.std.specs.Prelude.{◌≡◌, ◌≤◌, ◌<◌, ◌↔◌, IfOk, IsTrue, List, Some, get_or, length, take};
 ghost use Rattle.tb_model.specs.declared.step_id.StepId.{StepId};
 ghost use Rattle.tb_model.specs.Equivalent.{Equivalent};
 ghost use Rattle.tb_model.specs.Ordered.{all_first, ordered};
-ghost use Rattle.tb_core.specs.declared.entry.Entry.{Entry};
+ghost use Rattle.tb_core.specs.Entries.{Entry};
 ghost use Rattle.tb_core.specs.Scans.{AreLegal, history_of, step_at};
 ghost use Rattle.tb_core.specs.Seen.{history};
 ghost use Rattle.tb_roll.specs.Comparing.{AreMatched, IsFoundIn};
 
 use crate::matching::places_in;
 use std::alloc::{AllocError, Global};
-use tb_core::{Core, Entry, needs};
-use tb_model::Event;
+use tb_core::{Core, History, needs};
 
 /// Whether the two histories are equivalent. Where one program fits both, they have then the same
 /// state, the same next events and the same needs.
@@ -22,14 +21,18 @@ pub fn same_run(alloc: Global, one: &Core, other: &Core) -> Result<bool, AllocEr
 {
     let entries = one.legal_entries();
     let others = other.legal_entries();
-    if !is_found_in(alloc, entries, others)? {
+    if !is_found_in(alloc, &entries, &others)? {
         return Ok(false);
     }
-    is_found_in(alloc, others, entries)
+    is_found_in(alloc, &others, &entries)
 }
 
 /// Whether each step stands among the others with its action, and each direct need in its order.
-fn is_found_in(alloc: Global, entries: &[Entry], others: &[Entry]) -> Result<bool, AllocError>
+fn is_found_in(
+    alloc: Global,
+    entries: &History<'_>,
+    others: &History<'_>,
+) -> Result<bool, AllocError>
     requires legal { AreLegal entries.now }
     requires bound { length others.now ≤ 1000000 }
     ensures { IfOk result (λ found.
@@ -42,34 +45,35 @@ fn is_found_in(alloc: Global, entries: &[Entry], others: &[Entry]) -> Result<boo
 }
 
 /// Whether each entry stands behind those that it directly needs, also by these places.
-fn is_in_order(entries: &[Entry], places: &[u32]) -> bool
+fn is_in_order(entries: &History<'_>, places: &[u32]) -> bool
     requires legal { AreLegal entries.now }
     requires count { length places.now ≡ length entries.now }
     ensures { (others : List Entry) → AreMatched entries.now places.now others →
         result ≡ ordered (history_of others) (history_of entries.now) }
 {
     for later in 0..entries.len() {
-        if !comes_behind(entries, places, later, &entries[later].event) {
+        if !comes_behind(entries, places, later) {
             return false;
         }
     }
     true
 }
 
-/// Whether the event, which stands at this place, comes behind those that it directly needs.
-fn comes_behind(entries: &[Entry], places: &[u32], later: usize, event: &Event) -> bool
+/// Whether the step at this place comes behind those that it directly needs.
+fn comes_behind(entries: &History<'_>, places: &[u32], later: usize) -> bool
     requires legal { AreLegal (take later entries.now) }
     requires count { length places.now ≡ length entries.now }
     requires within { later < length entries.now }
-    ensures { (others : List Entry) (i : StepId) → AreMatched entries.now places.now others →
-        step_at entries.now later ≡ Some i →
-        result ≡ all_first (history_of others) i (history_of (take later entries.now)) event.now
+    ensures { (others : List Entry) (i : StepId) (v : Entry) →
+        AreMatched entries.now places.now others →
+        step_at entries.now later ≡ Some i → v ≡ get_or entries.now later v →
+        result ≡ all_first (history_of others) i (history_of (take later entries.now)) v.event
         (history_of (take later entries.now)) }
 {
     let place = places[later];
     for earlier in 0..later {
         // Comparing the places is cheap.
-        if place <= places[earlier] && needs(&entries[..later], event, &entries[earlier].event) {
+        if place <= places[earlier] && needs(entries, later, earlier) {
             return false;
         }
     }

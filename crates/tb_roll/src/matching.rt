@@ -4,20 +4,20 @@
 ghost use Rattle.std.specs.Prelude.{◌≡◌, ◌≤◌, ◌<◌, IfOk, IfSome, IfNone, List, Some, length, take};
 ghost use Rattle.tb_model.specs.Facts.{own};
 ghost use Rattle.tb_model.specs.Names.{Name};
-ghost use Rattle.tb_core.specs.declared.entry.Entry.{Entry};
+ghost use Rattle.tb_core.specs.Entries.{Entry};
 ghost use Rattle.tb_core.specs.Scans.{history_of, step_at};
 ghost use Rattle.tb_roll.specs.Comparing.{AreFound, AreMatched, IsSameStep, next_step};
 
 use crate::same_action::is_same_action;
 use std::alloc::{AllocError, Global};
-use tb_core::Entry;
+use tb_core::History;
 use tb_model::TaskName;
 
 /// The places of the steps among the others, where each stands there with the same action.
 pub fn places_in(
     alloc: Global,
-    entries: &[Entry],
-    others: &[Entry],
+    entries: &History<'_>,
+    others: &History<'_>,
 ) -> Result<Option<Vec<u32>>, AllocError>
     requires bound { length others.now ≤ 1000000 }
     ensures matched { IfOk result (λ o. IfSome o (λ places.
@@ -38,19 +38,19 @@ pub fn places_in(
 
 /// The place among the others of the step at this place, where it stands there with the same
 /// action. The places of those in front of it are known.
-fn place_in(entries: &[Entry], at: usize, others: &[Entry], places: &[u32]) -> Option<usize>
+fn place_in(entries: &History<'_>, at: usize, others: &History<'_>, places: &[u32]) -> Option<usize>
     requires within { at < length entries.now }
     requires count { length places.now ≡ at }
     requires matched { AreMatched entries.now places.now others.now }
     ensures same { IfSome result (λ place. IsSameStep entries.now at others.now place) }
     ensures absent { IfNone result (AreFound entries.now others.now → ⊥) }
 {
-    let event = &entries[at].event;
-    let begin = behind_last(entries, at, places, &event.task);
-    let Some(place) = next_of(others, begin, &event.task) else {
+    let task = entries.task(at);
+    let begin = behind_last(entries, at, places, task);
+    let Some(place) = next_of(others, begin, task) else {
         return None;
     };
-    if is_same_action(&others[place].event.action, &event.action) {
+    if is_same_action(others.action(place), entries.action(at)) {
         Some(place)
     } else {
         None
@@ -58,7 +58,7 @@ fn place_in(entries: &[Entry], at: usize, others: &[Entry], places: &[u32]) -> O
 }
 
 /// The place among the others behind the last step of the task in front of this place.
-fn behind_last(entries: &[Entry], at: usize, places: &[u32], task: &TaskName) -> usize
+fn behind_last(entries: &History<'_>, at: usize, places: &[u32], task: &TaskName) -> usize
     requires within { at < length entries.now }
     requires count { length places.now ≡ at }
     ensures count { (others : List Entry) → AreMatched entries.now places.now others →
@@ -70,7 +70,7 @@ fn behind_last(entries: &[Entry], at: usize, places: &[u32], task: &TaskName) ->
     let mut left = at;
     'back: while 0 < left {
         left -= 1;
-        if entries[left].event.task == *task {
+        if entries.is_of(left, task) {
             return places[left] as usize + 1;
         }
     }
@@ -78,7 +78,7 @@ fn behind_last(entries: &[Entry], at: usize, places: &[u32], task: &TaskName) ->
 }
 
 /// The place of the first step of the task from `begin` on.
-fn next_of(entries: &[Entry], begin: usize, task: &TaskName) -> Option<usize>
+fn next_of(entries: &History<'_>, begin: usize, task: &TaskName) -> Option<usize>
     requires within { begin ≤ length entries.now }
     ensures step { IfSome result (λ place.
         step_at entries.now place ≡ Some (next_step task.now entries.now begin)) }
@@ -87,7 +87,7 @@ fn next_of(entries: &[Entry], begin: usize, task: &TaskName) -> Option<usize>
         (own task.now (history_of entries.now) ≡ own task.now (history_of (take begin entries.now))) }
 {
     for at in begin..entries.len() {
-        if entries[at].event.task == *task {
+        if entries.is_of(at, task) {
             return Some(at);
         }
     }

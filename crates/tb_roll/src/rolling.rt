@@ -12,7 +12,7 @@ use crate::readied::Ready;
 use crate::roll_refusal::RollRefusal;
 use std::alloc::{AllocError, Global};
 use tb_cause::{Cone, cone_in, place_among};
-use tb_core::{Core, Entry, Removed, Rollback};
+use tb_core::{Core, History, Removed, Rollback};
 use tb_model::StepId;
 
 /// Finds what goes with a step, and takes all memory for the rollback.
@@ -23,10 +23,10 @@ pub fn ready(alloc: Global, core: &Core, step: &StepId) -> Result<Ready, RollRef
     ensures refused { IfErr result (Stays core.now.run step.now) }
 {
     let entries = core.legal_entries();
-    let Some(at) = place_among(core, entries, step) else {
+    let Some(at) = place_among(core, &entries, step) else {
         return Err(RollRefusal::NoSuchStep);
     };
-    match prepare(alloc, core, entries, at, step) {
+    match prepare(alloc, core, &entries, at, step) {
         Ok(rollback) => Ok(Ready { rollback }),
         Err(_) => Err(RollRefusal::Memory),
     }
@@ -58,7 +58,7 @@ pub fn roll(alloc: Global, core: &mut Core, step: &StepId) -> Result<Vec<Removed
 fn prepare(
     alloc: Global,
     core: &Core,
-    entries: &[Entry],
+    entries: &History<'_>,
     at: usize,
     step: &StepId,
 ) -> Result<Rollback, AllocError>

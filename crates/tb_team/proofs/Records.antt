@@ -1,16 +1,18 @@
 -- What the records of steps say of breakpoints.
-use Rattle.std.proofs.Common.{◌≡◌, ◌<◌, ◌≤◌, ◌-◌, ℕ, suc, List, [], ◌∷◌, ◌++◌, Bool, true, false, ◌&&◌, not, length, map, take, drop, reverse, refl, sym, ap, ap₂, ◌∙◌, subst, arith, length-drop, append_assoc, get_or}
+use Rattle.std.proofs.Common.{◌≡◌, ◌<◌, ◌≤◌, ◌+◌, ◌-◌, ℕ, suc, List, [], ◌∷◌, ◌++◌, Bool, true, false, ◌&&◌, not, length, map, take, drop, reverse, refl, sym, ap, ap₂, ◌∙◌, subst, arith, length-drop, append_assoc, get_or}
 use Rattle.std.specs.Prelude.{is_some}
 use Rattle.std.specs.List.{list_all}
 use Rattle.std.proofs.lemmas.List.{reverse-append, length-reverse, length-take-le, take-append-drop, drop_all}
 use Rattle.std.proofs.Math.Seq.{drop-cons}
 use Rattle.std.proofs.lemmas.List.Folds.{list_all-append}
+use Rattle.tb_model.specs.declared.action.Action.{Action}
 use Rattle.tb_model.specs.Facts.{History}
 use Rattle.tb_model.specs.Lines.{LinesFit, events_of}
+use Rattle.tb_model.specs.Names.{Name}
 use Rattle.tb_model.specs.Program.{Program, LegalFor}
 use Rattle.tb_model.proofs.LinesLemmas.{line_kept}
 use Rattle.tb_model.specs.Legal.{Cells}
-use Rattle.tb_core.specs.declared.entry.Entry.{Entry as Step}
+use Rattle.tb_core.specs.Entries.{Entry as Step}
 use Rattle.tb_core.specs.Seen.{Seen}
 use Rattle.tb_live.specs.Soundness.{Fits}
 use Rattle.tb_core.specs.Soundness.{AreRecords, departure}
@@ -31,6 +33,12 @@ pub record AreRun (P : Program) (steps : List Step) : Type 0 where
 pub shorter_run : (P : Program) (c : Step) (steps : List Step) → AreRun P (c ∷ steps) → AreRun P steps
 shorter_run P c steps are = record { records = are.records.0; lines = are.lines.0; legal = (are.legal.0.0, are.legal.1.0) }
 
+-- what is read of a record says whether the step met a breakpoint
+pub met_as_read : (points : List Breakpoint) (step : Step) (line : ℕ) (t : Name) (a : Action) → line ≡ step.at → t ≡ step.event.task → a ≡ step.event.action → is_some (met line (record { task = t; action = a }) points) ≡ is_met points step
+met_as_read points step line t a at task did =
+    ap₂ (λ (k : ℕ) (u : Name). is_some (met k (record { task = u; action = a }) points)) at task
+    ∙ ap (λ (b : Action). is_some (met step.at (record { task = step.event.task; action = b }) points)) did
+
 -- the record's line is the one at which the task stood
 pub met_by_record : (P : Program) (points : List Breakpoint) (c : Step) (steps : List Step) → AreRun P (c ∷ steps) → is_met points c ≡ meets_newest P points (history_of (c ∷ steps))
 met_by_record P points c steps are =
@@ -42,6 +50,31 @@ pub none_by_records : (P : Program) (points : List Breakpoint) (cs steps : List 
 none_by_records P points [] steps are = refl
 none_by_records P points (c ∷ cs) steps are =
     ap₂ (λ a b. not a && b) (met_by_record P points c (cs ++ steps) are) (none_by_records P points cs steps (shorter_run P c (cs ++ steps) are))
+
+-- none of the steps from the one place on met a breakpoint, as far as the other
+abbrev pub none_between : List Breakpoint → List Step → ℕ → ℕ → Bool
+none_between points steps from to = list_all (λ step. not (is_met points step)) (take (to - from) (drop from steps))
+
+module _ (points : List Breakpoint) (steps : List Step) where
+  -- the step at the place, and those after it
+  one_more : (at to : ℕ) (step : Step) → at < to → to ≤ length steps → step ≡ get_or steps at step → none_between points steps at to ≡ (not (is_met points step) && none_between points steps (at + 1) to)
+  one_more at to step below within here =
+      let fewer : to - at ≡ suc (to - (at + 1)) = omega arith in
+      let inside : at < length steps = omega arith in
+      let next : suc at ≡ at + 1 = omega arith in
+      let parts : drop at steps ≡ step ∷ drop (at + 1) steps = drop-cons steps at step inside ∙ ap₂ (λ (x : Step) (k : ℕ). x ∷ drop k steps) (sym here) next in
+      ap₂ (λ (k : ℕ) (l : List Step). list_all (λ step. not (is_met points step)) (take k l)) fewer parts
+
+  pub none_there : (at to : ℕ) (step : Step) → at < to → to ≤ length steps → step ≡ get_or steps at step → is_met points step ≡ true → false ≡ none_between points steps at to
+  none_there at to step below within here met = sym (one_more at to step below within here ∙ ap (λ b. not b && none_between points steps (at + 1) to) met)
+
+  pub none_behind : (at to : ℕ) (step : Step) → at < to → to ≤ length steps → step ≡ get_or steps at step → is_met points step ≡ false → none_between points steps (at + 1) to ≡ none_between points steps at to
+  none_behind at to step below within here unmet = sym (one_more at to step below within here ∙ ap (λ b. not b && none_between points steps (at + 1) to) unmet)
+
+  pub none_left : (at to : ℕ) → to ≤ at → true ≡ none_between points steps at to
+  none_left at to out =
+      let none : 0 ≡ to - at = omega arith in
+      ap (λ k. list_all (λ step. not (is_met points step)) (take k (drop at steps))) none
 
 -- a test of all doesn't depend on the order
 pub all_reversed : {X : Type 0} (p : X → Bool) (xs : List X) → list_all p xs ≡ true → list_all p (reverse xs) ≡ true
@@ -60,10 +93,8 @@ all_reversed p (x ∷ xs) h =
 
 -- the steps from the oldest on: so many of the newest, but for the newest, and what is left of the history
 module _ (P : Program) (points : List Breakpoint) (steps : List Step) (count : ℕ) where
-  pub none_before : 1 < count → count ≤ length steps → AreRun P (reverse steps)
-      → list_all (λ c. not (is_met points c)) (take (length steps - 1 - (length steps - count)) (drop (length steps - count) steps)) ≡ true
-      → none_met P points (count - 1) (drop 1 (history_of (reverse steps))) ≡ true
-  none_before some enough are none =
+  before_newest : 1 < count → count ≤ length steps → AreRun P (reverse steps) → none_between points steps (length steps - count) (length steps - 1) ≡ true → none_met P points (count - 1) (drop 1 (history_of (reverse steps))) ≡ true
+  before_newest some enough are none =
       let first = length steps - count in
       let mid = take (length steps - 1 - first) (drop first steps) in
       let last = drop (length steps - 1 - first) (drop first steps) in
@@ -95,6 +126,10 @@ module _ (P : Program) (points : List Breakpoint) (steps : List Step) (count : �
           subst (λ k. none_met P points k (drop 1 (history_of (reverse steps))) ≡ true) n
           (subst (λ (l : List Step). none_met P points (length (reverse mid)) (drop 1 (history_of l)) ≡ true) (sym whole) done)
 
+  -- the same of a number that is their count
+  pub none_before : (all : ℕ) → all ≡ length steps → 1 < count → count ≤ all → AreRun P (reverse steps) → none_between points steps (all - count) (all - 1) ≡ true → none_met P points (count - 1) (drop 1 (history_of (reverse steps))) ≡ true
+  none_before all counted some few are none = before_newest some (omega (arith, counted, few)) are (subst (λ k. none_between points steps (k - count) (k - 1) ≡ true) counted none)
+
 -- the newest step, the last of those from the oldest on
 pub newest_by_record : (P : Program) (points : List Breakpoint) (front : List Step) (c : Step) → AreRun P (reverse (front ++ c ∷ [])) → is_met points c ≡ meets_newest P points (history_of (reverse (front ++ c ∷ [])))
 newest_by_record P points front c are =
@@ -111,9 +146,11 @@ run_of P run steps fits same records = record {
 }
 
 -- the last of the entries is the newest step
-pub newest_at : (P : Program) (points : List Breakpoint) (steps : List Step) (c : Step) (H : History) → 1 ≤ length steps → c ≡ get_or steps (length steps - 1) c → AreRun P (reverse steps) → history_of (reverse steps) ≡ H
+pub newest_at : (P : Program) (points : List Breakpoint) (steps : List Step) (all : ℕ) (c : Step) (H : History) → all ≡ length steps → 1 ≤ all → c ≡ get_or steps (all - 1) c → AreRun P (reverse steps) → history_of (reverse steps) ≡ H
     → is_met points c ≡ meets_newest P points H
-newest_at P points steps c H some here are same =
+newest_at P points steps all c H counted most there are same =
+    let some : 1 ≤ length steps = omega arith in
+    let here : c ≡ get_or steps (length steps - 1) c = subst (λ k. c ≡ get_or steps (k - 1) c) counted there in
     let front = take (length steps - 1) steps in
     let within : length steps - 1 < length steps = last_within (length steps) some in
     let last : drop (length steps - 1) steps ≡ c ∷ [] =
@@ -121,3 +158,8 @@ newest_at P points steps c H some here are same =
     let whole : steps ≡ front ++ c ∷ [] = sym (take-append-drop (length steps - 1) steps) ∙ ap (λ l. front ++ l) last in
     newest_by_record P points front c (subst (λ l. AreRun P (reverse l)) whole are)
     ∙ (ap (λ (l : List Step). meets_newest P points (history_of (reverse l))) (sym whole) ∙ ap (meets_newest P points) same)
+
+-- without steps none is the newest
+pub no_newest : (P : Program) (points : List Breakpoint) (steps : List Step) (H : History) → length steps ≡ 0 → history_of (reverse steps) ≡ H → false ≡ meets_newest P points H
+no_newest P points [] H none same = ap (meets_newest P points) same
+no_newest P points (c ∷ steps) H none same = absurd (omega (arith, none))

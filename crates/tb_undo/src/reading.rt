@@ -1,8 +1,10 @@
 //! What the tables tell of a task, of the cells and of the output.
 
-ghost use Rattle.std.specs.Prelude.{◌≡◌, ◌<◌, [], ℕ, List, Some, None, IfSome, length, option_map, reverse, if◌then◌else◌};
-ghost use Rattle.std.specs.List.{list_any};
+ghost use Rattle.std.specs.Prelude.{◌≡◌, ◌<◌, ◌≤◌, [], ℕ, List, Some, None, IfSome, length, option_map, reverse, slice_get, if◌then◌else◌};
+ghost use Rattle.std.specs.List.{IsDistinct, list_any};
+ghost use Rattle.std.specs.Map.{keys_of};
 ghost use Rattle.std.specs.Option.{option_copied};
+ghost use Rattle.tb_model.specs.Names.{same_name};
 ghost use Rattle.tb_model.specs.LeastNames.{IsLeastName};
 ghost use Rattle.tb_model.specs.Facts.{own, ends, last, before, apart, is_spawned, items_of};
 ghost use Rattle.tb_model.specs.State.{open_groups, printed};
@@ -29,12 +31,14 @@ impl Tables {
         self.waits.place(self.near, name)
     }
 
-    /// The same in a walk over tasks, which hands on the place of the last one.
+    /// The name of the task at this place, whether the task stands or not. A place fits in 32 bits.
     #[inline(always)]
-    pub fn walk_place(&self, near: &mut usize, name: &TaskName) -> Option<usize>
-        ensures { result ≡ place self.now.waits.tasks name.now }
+    pub fn name(&self, at: usize) -> Option<&TaskName>
+        ensures name { option_copied result ≡ slice_get (keys_of self.now.waits.tasks) at }
+        ensures distinct { IsDistinct same_name (keys_of self.now.waits.tasks) }
+        ensures bound { length self.now.waits.tasks ≤ 4294967295 }
     {
-        self.waits.walk_place(near, name)
+        self.waits.name(at)
     }
 
     /// Whether the task was generated.

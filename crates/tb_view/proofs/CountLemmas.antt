@@ -7,13 +7,15 @@ use Rattle.indexmap.specs.IndexMap.{IndexMap, IsUnique, with_value_at}
 use Rattle.indexmap.proofs.CallerLemmas.{updates-with_value_at}
 use Rattle.indexmap.proofs.MapLemmas.{Found-position, index-first}
 use Rattle.indexmap.proofs.RemoveLemmas.{own_first}
+use Rattle.tb_model.specs.declared.action.Action.{Action}
 use Rattle.tb_model.specs.declared.event.Event.{Event}
 use Rattle.tb_model.specs.Facts.{History, is_of, own, prepend_if}
 use Rattle.tb_model.specs.Names.{Name, same_name}
 use Rattle.tb_model.specs.NameLaws.{same_name_equivalence}
 use Rattle.tb_model.proofs.TestLemmas.{same_true}
-use Rattle.tb_core.specs.declared.entry.Entry.{Entry}
+use Rattle.tb_core.specs.Entries.{Entry}
 use Rattle.tb_core.specs.Scans.{history_of}
+use Rattle.tb_core.proofs.RenumberLemmas.{some_entry}
 use Rattle.tb_core.proofs.ScanLemmas.{history_more}
 use Rattle.tb_cause.proofs.ConeLemmas.{count_front}
 use Rattle.tb_view.specs.Steps.{Counts, count_of, IsCounted, AreCounts}
@@ -46,14 +48,32 @@ counts_more H v old new counts more t = at (same_name v.task t) (more t)
     at true h = h ∙ ap suc (counts t)
     at false h = h ∙ counts t
 
-module _ (entries : List Entry) (i : ℕ) (e : Entry) (within : i < length entries) (here : e ≡ get_or entries i e) where
-  -- the counts behind one entry more
-  pub counted : (old new : Counts) → AreCounts (history_of (take i entries)) old → IsCounted old e.event.task new → AreCounts (history_of (take (i + 1) entries)) new
-  counted old new counts more = subst (λ H. AreCounts H new) (sym (history_more entries i e within here)) (counts_more (history_of (take i entries)) e.event old new counts more)
+-- the event is that of the step at the place
+pub record IsReadAt (entries : List Entry) (i : ℕ) (v : Event) : Type 0 where
+  pub step : Entry
+  pub within : i < length entries
+  pub here : step ≡ get_or entries i step
+  pub same : v ≡ step.event
 
-  -- no count is so large that it can't grow
-  pub few : (counts : Counts) (t : Name) → length entries ≤ 1000000 → AreCounts (history_of (take i entries)) counts → count_of counts t < 4294967295
-  few counts t bound are = omega (arith, are t, own_within t (history_of (take i entries)), count_front entries i (omega (arith, within)), within, bound)
+-- the task and the action that are read there
+pub read_at : (entries : List Entry) (i : ℕ) (t : Name) (a : Action) → i < length entries → ((e : Entry) → e ≡ get_or entries i e → t ≡ e.event.task) → ((e : Entry) → e ≡ get_or entries i e → a ≡ e.event.action)
+    → IsReadAt entries i (record { task = t; action = a })
+read_at entries i t a within task action =
+    let w = some_entry entries i within in
+    let event : Name → Action → Event = λ u b. record { task = u; action = b } in
+    record { step = w.0; within = within; here = w.1; same = ap₂ event (task w.0 w.1) (action w.0 w.1) }
+
+-- the history behind one entry more
+pub read_more : (entries : List Entry) (i : ℕ) (v : Event) → IsReadAt entries i v → history_of (take (i + 1) entries) ≡ v ∷ history_of (take i entries)
+read_more entries i v is = history_more entries i is.step is.within is.here ∙ ap (λ (u : Event). u ∷ history_of (take i entries)) (sym is.same)
+
+-- the counts behind one entry more
+pub counted : (entries : List Entry) (i : ℕ) (v : Event) (old new : Counts) → IsReadAt entries i v → AreCounts (history_of (take i entries)) old → IsCounted old v.task new → AreCounts (history_of (take (i + 1) entries)) new
+counted entries i v old new is counts more = subst (λ H. AreCounts H new) (sym (read_more entries i v is)) (counts_more (history_of (take i entries)) v old new counts more)
+
+-- no count is so large that it can't grow
+pub few : (entries : List Entry) (i : ℕ) (counts : Counts) (t : Name) → i < length entries → length entries ≤ 1000000 → AreCounts (history_of (take i entries)) counts → count_of counts t < 4294967295
+few entries i counts t within bound are = omega (arith, are t, own_within t (history_of (take i entries)), count_front entries i (omega (arith, within)), within, bound)
 
 pub on_ok : {A E : Type 0} (r : Result A E) (P : Type 0) → IsOk r → OnOk r P → P
 on_ok (Ok x) P ok h = h

@@ -1,19 +1,22 @@
 -- The lines of immediate needs.
 use Rattle.std.proofs.Common.{◌≡◌, ◌<◌, ℕ, suc, List, [], ◌∷◌, ◌++◌, false, cond, map, reverse, length, take, drop, refl, sym, ap, ap₂, ◌∙◌, Some, get_or}
 use Rattle.std.proofs.lemmas.Bool.{or_parts}
+use Rattle.tb_model.specs.declared.action.Action.{Action}
 use Rattle.tb_model.specs.declared.event.Event.{Event}
 use Rattle.tb_model.specs.declared.step_id.StepId.{StepId}
 use Rattle.tb_model.specs.Equivalent.{stands}
 use Rattle.tb_model.specs.Facts.{History}
+use Rattle.tb_model.specs.Names.{Name}
 use Rattle.tb_model.specs.Needs.{is_step, step_of}
 use Rattle.tb_model.specs.Program.{Program}
 use Rattle.tb_model.proofs.LeastLemmas.{later_not_step}
 use Rattle.tb_model.proofs.RemovalLemmas.{its_step}
-use Rattle.tb_core.specs.declared.entry.Entry.{Entry}
+use Rattle.tb_core.specs.Entries.{Entry}
 use Rattle.tb_core.specs.Scans.{history_of, step_at}
 use Rattle.tb_core.specs.Seen.{Seen, history as events}
 use Rattle.tb_core.specs.Soundness.{departure}
 use Rattle.tb_core.proofs.FirstLemmas.{step_read}
+use Rattle.tb_core.proofs.RenumberLemmas.{some_entry}
 use Rattle.tb_core.proofs.ScanLemmas.{history_cut}
 use Rattle.tb_cause.proofs.ConeLemmas.{some_same}
 use Rattle.tb_live.specs.Session.{Session, history}
@@ -30,13 +33,25 @@ line_here P v (w ∷ later) front =
     ∙ line_here P v later front
 
 -- the entry at its place has its line
-pub line_found : (P : Program) (entries : List Entry) (at : ℕ) (x : Entry) (i : StepId) → at < length entries → x ≡ get_or entries at x → step_at entries at ≡ Some i → line_of P i (history_of entries) ≡ event_line P i (get_or entries at x).event
+line_found : (P : Program) (entries : List Entry) (at : ℕ) (x : Entry) (i : StepId) → at < length entries → x ≡ get_or entries at x → step_at entries at ≡ Some i → line_of P i (history_of entries) ≡ event_line P i x.event
 line_found P entries at x i within here is =
     let F = history_of (take at entries) in
     let same = some_same _ _ (sym (step_read entries at x within here) ∙ is) in
     ap₂ (line_of P) (sym same) (history_cut entries at x within here)
     ∙ line_here P x.event (history_of (drop (suc at) entries)) F
-    ∙ ap₂ (λ j (y : Entry). event_line P j y.event) same here
+    ∙ ap (λ j. event_line P j x.event) same
+
+-- the same by the task and the action that are read there
+pub line_read : (P : Program) (entries : List Entry) (at : ℕ) (i : StepId) (t : Name) (a : Action) → at < length entries → step_at entries at ≡ Some i
+    → ((x : Entry) → x ≡ get_or entries at x → t ≡ x.event.task) → ((x : Entry) → x ≡ get_or entries at x → a ≡ x.event.action)
+    → event_line P (record { task = t; k = i.k }) (record { task = t; action = a }) ≡ line_of P i (history_of entries)
+line_read P entries at i t a within is task action =
+    let w = some_entry entries at within in
+    let x = w.0 in
+    let mine = ap (λ (j : StepId). j.task) (some_same _ _ (sym (step_read entries at x within w.1) ∙ is)) in
+    ap₂ (λ (u : Name) (b : Action). event_line P (record { task = u; k = i.k }) (record { task = u; action = b })) (task x w.1) (action x w.1)
+    ∙ ap (λ (u : Name). event_line P (record { task = u; k = i.k }) x.event) mine
+    ∙ sym (line_found P entries at x i within w.1 is)
 
 -- a step that doesn't stand has none
 pub line_missing : (P : Program) (i : StepId) (H : History) → stands i H ≡ false → line_of P i H ≡ []

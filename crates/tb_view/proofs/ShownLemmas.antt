@@ -7,7 +7,7 @@ use Rattle.tb_model.specs.Facts.{History, is_spawned}
 use Rattle.tb_model.specs.Lines.{events_of}
 use Rattle.tb_model.specs.Names.{Name}
 use Rattle.tb_model.specs.Program.{Program}
-use Rattle.tb_core.specs.declared.entry.Entry.{Entry}
+use Rattle.tb_core.specs.Entries.{Entry}
 use Rattle.tb_core.specs.Scans.{history_of}
 use Rattle.tb_core.specs.Seen.{Seen, history as events}
 use Rattle.tb_core.specs.Soundness.{departure}

@@ -1,5 +1,5 @@
 -- Steps told one after another, along the entries.
-use Rattle.std.proofs.Common.{◌≡◌, ◌<◌, ◌≤◌, ◌+◌, ◌-◌, ◌⊎◌, inl, inr, ℕ, suc, List, [], ◌∷◌, ◌++◌, Bool, true, false, ◌&&◌, ◌||◌, ◌==◌, cond, nat_le, length, take, drop, reverse, refl, sym, ap, ap₂, ◌∙◌, subst, arith, get_or, append_assoc, append-nil, ne_eqb, eq-eqb}
+use Rattle.std.proofs.Common.{◌≡◌, ◌<◌, ◌≤◌, ◌+◌, ◌-◌, ◌⊎◌, inl, inr, ℕ, suc, List, [], ◌∷◌, ◌++◌, Bool, true, false, ◌&&◌, ◌||◌, ◌==◌, cond, nat_le, length, take, drop, reverse, refl, sym, ap, ap₂, ◌∙◌, subst, arith, append_assoc, append-nil, ne_eqb, eq-eqb}
 use Rattle.std.proofs.lemmas.Bool.{or_parts, and_from}
 use Rattle.std.proofs.lemmas.Bool.Decides.{nat_tests}
 use Rattle.std.proofs.lemmas.List.{reverse-append, reverse-reverse, take_all, drop-drop, drop_all, drop_more}
@@ -12,48 +12,49 @@ use Rattle.tb_model.specs.Program.{Program}
 use Rattle.tb_model.proofs.FactsLemmas.{own_mine}
 use Rattle.tb_model.proofs.RemovalLemmas.{own_grows}
 use Rattle.tb_model.proofs.TestLemmas.{same_true, same_refl}
-use Rattle.tb_core.specs.declared.entry.Entry.{Entry}
+use Rattle.tb_core.specs.Entries.{Entry}
 use Rattle.tb_core.specs.Scans.{history_of}
 use Rattle.tb_core.proofs.ScanLemmas.{history_more, history_of-append}
 use Rattle.tb_view.specs.Lines.{event_line, step_line}
+use Rattle.tb_view.proofs.CountLemmas.{IsReadAt, read_more}
 use Rattle.tb_view.specs.Steps.{history_lines, newest_lines, same_step, is_among, is_first, chosen_lines, AreStepsOf, Counts, count_of, AreCounts}
 
 -- ---- all steps
 
 -- a step by its task's count
-abbrev counted_step : Counts → Entry → StepId
-counted_step counts e = record { task = e.event.task; k = suc (count_of counts e.event.task) }
+abbrev counted_step : Counts → Event → StepId
+counted_step counts v = record { task = v.task; k = suc (count_of counts v.task) }
 
-is_its : (H : History) (e : Entry) (counts : Counts) → AreCounts H counts → counted_step counts e ≡ step_of H e.event
-is_its H e counts are = ap (λ n. record { task = e.event.task; k = suc n }) (are e.event.task)
+is_its : (H : History) (v : Event) (counts : Counts) → AreCounts H counts → counted_step counts v ≡ step_of H v
+is_its H v counts are = ap (λ n. record { task = v.task; k = suc n }) (are v.task)
 
 -- the text with one line more
-pub told_more : (P : Program) (entries : List Entry) (i : ℕ) (e : Entry) (counts : Counts) (head text text' : List ℕ) → i < length entries → e ≡ get_or entries i e
-    → AreCounts (history_of (take i entries)) counts → text ≡ head ++ history_lines P (history_of (take i entries)) → text' ≡ text ++ event_line P (counted_step counts e) e.event
+pub told_more : (P : Program) (entries : List Entry) (i : ℕ) (v : Event) (counts : Counts) (head text text' : List ℕ) → IsReadAt entries i v
+    → AreCounts (history_of (take i entries)) counts → text ≡ head ++ history_lines P (history_of (take i entries)) → text' ≡ text ++ event_line P (counted_step counts v) v
     → text' ≡ head ++ history_lines P (history_of (take (i + 1) entries))
-told_more P entries i e counts head text text' within here are so_far grows =
+told_more P entries i v counts head text text' is are so_far grows =
     let F = history_of (take i entries) in
-    grows ∙ ap₂ (λ x (n : StepId). x ++ event_line P n e.event) so_far (is_its F e counts are) ∙ append_assoc head (history_lines P F) (step_line P F e.event)
-    ∙ ap (λ H. head ++ history_lines P H) (sym (history_more entries i e within here))
+    grows ∙ ap₂ (λ x (n : StepId). x ++ event_line P n v) so_far (is_its F v counts are) ∙ append_assoc head (history_lines P F) (step_line P F v)
+    ∙ ap (λ H. head ++ history_lines P H) (sym (read_more entries i v is))
 
 -- the text with one line more, where the entry is one of the newest
-pub newest_more : (P : Program) (entries : List Entry) (i place first : ℕ) (e : Entry) (counts : Counts) (head text text' : List ℕ) → i < length entries → e ≡ get_or entries i e → place ≡ i
+pub newest_more : (P : Program) (entries : List Entry) (i first : ℕ) (v : Event) (counts : Counts) (head text text' : List ℕ) → IsReadAt entries i v
     → AreCounts (history_of (take i entries)) counts → text ≡ head ++ newest_lines P (i - first) (history_of (take i entries))
-    → text' ≡ text ++ cond (nat_le first place) (event_line P (counted_step counts e) e.event) []
+    → text' ≡ text ++ cond (nat_le first i) (event_line P (counted_step counts v) v) []
     → text' ≡ head ++ newest_lines P (i + 1 - first) (history_of (take (i + 1) entries))
-newest_more P entries i place first e counts head text text' within here at are so_far grows = by_place (nat_le first place) refl grows
+newest_more P entries i first v counts head text text' read are so_far grows = by_place (nat_le first i) refl grows
   where
-    by_place : (b : Bool) → nat_le first place ≡ b → text' ≡ text ++ cond b (event_line P (counted_step counts e) e.event) [] → text' ≡ head ++ newest_lines P (i + 1 - first) (history_of (take (i + 1) entries))
+    by_place : (b : Bool) → nat_le first i ≡ b → text' ≡ text ++ cond b (event_line P (counted_step counts v) v) [] → text' ≡ head ++ newest_lines P (i + 1 - first) (history_of (take (i + 1) entries))
     by_place true is grows =
         let F = history_of (take i entries) in
-        let behind : first ≤ place = grind (arith, nat_tests) in
-        let n : i + 1 - first ≡ suc (i - first) = omega (arith, at, behind) in
-        grows ∙ ap₂ (λ x (n : StepId). x ++ event_line P n e.event) so_far (is_its F e counts are) ∙ append_assoc head (newest_lines P (i - first) F) (step_line P F e.event)
-        ∙ ap₂ (λ k H. head ++ newest_lines P k H) (sym n) (sym (history_more entries i e within here))
+        let behind : first ≤ i = grind (arith, nat_tests) in
+        let n : i + 1 - first ≡ suc (i - first) = omega (arith, behind) in
+        grows ∙ ap₂ (λ x (n : StepId). x ++ event_line P n v) so_far (is_its F v counts are) ∙ append_assoc head (newest_lines P (i - first) F) (step_line P F v)
+        ∙ ap₂ (λ k H. head ++ newest_lines P k H) (sym n) (sym (read_more entries i v read))
     by_place false is grows =
-        let front : place < first = grind (arith, nat_tests) in
-        let n : i - first ≡ 0 = omega (arith, at, front) in
-        let m : i + 1 - first ≡ 0 = omega (arith, at, front) in
+        let front : i < first = grind (arith, nat_tests) in
+        let n : i - first ≡ 0 = omega (arith, front) in
+        let m : i + 1 - first ≡ 0 = omega (arith, front) in
         grows ∙ append-nil text ∙ so_far ∙ ap (λ k. head ++ newest_lines P k (history_of (take i entries))) n ∙ ap (λ k. head ++ newest_lines P k (history_of (take (i + 1) entries))) (sym m)
 
 pub newest_all : (P : Program) (entries : List Entry) (i count : ℕ) (head text : List ℕ) → length entries ≤ i → i ≤ length entries → count ≤ length entries
@@ -201,8 +202,7 @@ pub record Walked (P : Program) (entries : List Entry) (S : List StepId) (i foun
 pub walk_begins : (P : Program) (entries : List Entry) (S : List StepId) (text : List ℕ) → Walked P entries S 0 0 text (text ++ walk P S [] entries)
 walk_begins P entries S text = record { within = omega arith; rest = refl }
 
-module _ (P : Program) (entries : List Entry) (S : List StepId) (i found found' : ℕ) (e : Entry) (counts : Counts) (text text' all : List ℕ) (within : i < length entries) (here : e ≡ get_or entries i e)
-    (are : AreCounts (history_of (take i entries)) counts) where
+module _ (P : Program) (entries : List Entry) (S : List StepId) (i found found' : ℕ) (v : Event) (counts : Counts) (text text' all : List ℕ) (is : IsReadAt entries i v) (are : AreCounts (history_of (take i entries)) counts) where
   abbrev F : History
   F = history_of (take i entries)
 
@@ -213,20 +213,21 @@ module _ (P : Program) (entries : List Entry) (S : List StepId) (i found found' 
   dropped true = sym (drop-drop 1 found S)
   dropped false = refl
 
-  pub walk_goes_on : Walked P entries S i found text all → found' ≡ cond (first (counted_step counts e)) (found + 1) found → found' ≤ length S
-      → text' ≡ text ++ cond (first (counted_step counts e)) (event_line P (counted_step counts e) e.event) [] → Walked P entries S (i + 1) found' text' all
+  pub walk_goes_on : Walked P entries S i found text all → found' ≡ cond (first (counted_step counts v)) (found + 1) found → found' ≤ length S
+      → text' ≡ text ++ cond (first (counted_step counts v)) (event_line P (counted_step counts v) v) [] → Walked P entries S (i + 1) found' text' all
   walk_goes_on so_far next bound grows =
-      let n = is_its F e counts are in
+      let e = is.step in
+      let n : counted_step counts v ≡ its F e = ap (counted_step counts) is.same ∙ is_its F e.event counts are in
       let es = drop (i + 1) entries in
       let told = cond (first (its F e)) (step_line P F e.event) [] in
       let after = cond (first (its F e)) (drop 1 (drop found S)) (drop found S) in
-      let steps : drop found' S ≡ after = ap (λ m. drop m S) next ∙ dropped (first (counted_step counts e)) ∙ ap (λ m. cond (first m) (drop 1 (drop found S)) (drop found S)) n in
-      let left : drop i entries ≡ e ∷ es = drop_more entries i e within ∙ ap (λ x. x ∷ es) (sym here) in
+      let steps : drop found' S ≡ after = ap (λ m. drop m S) next ∙ dropped (first (counted_step counts v)) ∙ ap (λ m. cond (first m) (drop 1 (drop found S)) (drop found S)) n in
+      let left : drop i entries ≡ e ∷ es = drop_more entries i e is.within ∙ ap (λ x. x ∷ es) (sym is.here) in
       record {
         within = bound;
         rest =
-            ap₂ (λ x T. x ++ walk P T (history_of (take (i + 1) entries)) es) (grows ∙ ap (λ m. text ++ cond (first m) (event_line P m e.event) []) n) steps
-            ∙ ap (λ H. (text ++ told) ++ walk P after H es) (history_more entries i e within here)
+            ap₂ (λ x T. x ++ walk P T (history_of (take (i + 1) entries)) es) (grows ∙ ap₂ (λ m (u : Event). text ++ cond (first m) (event_line P m u) []) n is.same) steps
+            ∙ ap (λ H. (text ++ told) ++ walk P after H es) (history_more entries i e is.within is.here)
             ∙ append_assoc text told (walk P after (e.event ∷ F) es)
             ∙ ap (λ es. text ++ walk P (drop found S) F es) (sym left) ∙ so_far.rest;
       }

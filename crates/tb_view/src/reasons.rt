@@ -7,7 +7,7 @@ ghost use Rattle.tb_view.specs.Reasons;
 
 use crate::step_line::append_line;
 use std::alloc::{AllocError, Global};
-use tb_core::{Entry, place_of};
+use tb_core::{History, place_of};
 use tb_draft::Draft;
 use tb_model::StepId;
 use tb_races::{Cause, Conflict, NeedKind, Race};
@@ -43,21 +43,17 @@ fn append_kind(text: &mut Draft, kind: NeedKind) -> Result<(), AllocError>
 }
 
 /// Appends the line of a step of the history, and nothing for other steps.
-#[tactic(auto, using(crate::proofs::ReasonLemmas::line_found))]
 fn append_step(
     text: &mut Draft,
     program: &Program,
-    entries: &[Entry],
+    entries: &History<'_>,
     step: &StepId,
 ) -> Result<(), AllocError>
     ensures { OnOk result (text.new
         ≡ text.old ++ Reasons.line_of program.now step.now (history_of entries.now)) }
 {
     match place_of(entries, step) {
-        Some(at) => {
-            let event = &entries[at].event;
-            append_line(text, program, &event.task, step.k, &event.action)
-        }
+        Some(at) => append_line(text, program, entries.task(at), step.k, entries.action(at)),
         None => Ok(()),
     }
 }
@@ -66,7 +62,7 @@ fn append_step(
 fn append_cause(
     text: &mut Draft,
     program: &Program,
-    entries: &[Entry],
+    entries: &History<'_>,
     cause: &Cause,
 ) -> Result<(), AllocError>
     ensures { OnOk result (text.new
@@ -81,7 +77,7 @@ fn append_cause(
 pub(crate) fn causes_text(
     alloc: Global,
     program: &Program,
-    entries: &[Entry],
+    entries: &History<'_>,
     causes: &[Cause],
 ) -> Result<Draft, AllocError>
     ensures { IfOk result (λ text. text

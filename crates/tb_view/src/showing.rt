@@ -42,7 +42,10 @@ fn why_text(alloc: Global, live: &Live, id: &StepId) -> Result<Draft, ViewRefusa
 {
     let core = live.core();
     match needs(alloc, core, id) {
-        Ok(steps) => told(chosen_text(alloc, "why", live.program(), core.legal_entries(), &steps)),
+        Ok(steps) => {
+            let entries = core.legal_entries();
+            told(chosen_text(alloc, "why", live.program(), &entries, &steps))
+        }
         Err(CauseRefusal::NoSuchStep) => Err(ViewRefusal::NoSuchStep),
         Err(CauseRefusal::Memory) => Err(ViewRefusal::Memory),
     }
@@ -54,7 +57,10 @@ fn needed_at_once(alloc: Global, live: &Live, id: &StepId) -> Result<Draft, View
 {
     let core = live.core();
     match causes(alloc, core, id) {
-        Ok(causes) => told(causes_text(alloc, live.program(), core.legal_entries(), &causes)),
+        Ok(causes) => {
+            let entries = core.legal_entries();
+            told(causes_text(alloc, live.program(), &entries, &causes))
+        }
         Err(CauseRefusal::NoSuchStep) => Err(ViewRefusal::NoSuchStep),
         Err(CauseRefusal::Memory) => Err(ViewRefusal::Memory),
     }
@@ -76,7 +82,10 @@ fn who_text(alloc: Global, live: &Live, id: &StepId) -> Result<Draft, ViewRefusa
 {
     let core = live.core();
     match needed_by(alloc, core, id) {
-        Ok(steps) => told(chosen_text(alloc, "who", live.program(), core.legal_entries(), &steps)),
+        Ok(steps) => {
+            let entries = core.legal_entries();
+            told(chosen_text(alloc, "who", live.program(), &entries, &steps))
+        }
         Err(CauseRefusal::NoSuchStep) => Err(ViewRefusal::NoSuchStep),
         Err(CauseRefusal::Memory) => Err(ViewRefusal::Memory),
     }
@@ -112,7 +121,10 @@ pub fn draft(alloc: Global, live: &Live, view: &View) -> Result<Draft, ViewRefus
     match view {
         View::Cells => told(cells_text(alloc, live.cells())),
         View::Out => told(out_text(alloc, live.output())),
-        View::Hist => told(history_text(alloc, live.program(), live.core().legal_entries())),
+        View::Hist => {
+            let entries = live.core().legal_entries();
+            told(history_text(alloc, live.program(), &entries))
+        }
         View::Why { id } => why_text(alloc, live, id),
         View::Causes { id } => needed_at_once(alloc, live, id),
         View::Who { id } => who_text(alloc, live, id),

@@ -10,7 +10,7 @@ use indexmap::IndexMap;
 use std::alloc::{AllocError, Global};
 use std::marker::Model;
 use tb_draft::Draft;
-use tb_model::{Event, TaskName};
+use tb_model::{Action, TaskName};
 use tb_read::Program;
 
 /// How many steps each task has taken so far, along a history: so each line can tell its step's number.
@@ -50,22 +50,23 @@ impl StepCounts {
         count_step(&mut self.counts, &mut self.near, task)
     }
 
-    /// Appends the line of the next step of its task, and counts it. Where memory runs out a part of the line may stand,
-    /// and the step may be counted.
+    /// Appends the line of the task's next step, which has this action, and counts it. Where memory runs out a part of the
+    /// line may stand, and the step may be counted.
     #[inline(always)]
     pub fn append_next(
         &mut self,
         text: &mut Draft,
         program: &Program,
-        event: &Event,
+        task: &TaskName,
+        action: &Action,
     ) -> Result<(), AllocError>
-        requires { count_of self.old event.now.task < 4294967295 }
+        requires { count_of self.old task.now < 4294967295 }
         ensures text { OnOk result (text.new ≡ text.old ++ event_line program.now
-            (record { task = event.now.task; k = suc (count_of self.old event.now.task) })
-            event.now) }
-        ensures counts { OnOk result (IsCounted self.old event.now.task self.new) }
+            (record { task = task.now; k = suc (count_of self.old task.now) })
+            (record { task = task.now; action = action.now })) }
+        ensures counts { OnOk result (IsCounted self.old task.now self.new) }
     {
-        let k = self.count(&event.task)?;
-        append_line(text, program, &event.task, k, &event.action)
+        let k = self.count(task)?;
+        append_line(text, program, task, k, action)
     }
 }

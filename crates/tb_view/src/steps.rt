@@ -8,13 +8,13 @@ ghost use Rattle.tb_view.specs.Steps.{history_text, newest_lines, chosen_text, A
 use crate::step_counts::StepCounts;
 use crate::step_line::append_line;
 use std::alloc::{AllocError, Global};
-use tb_core::Entry;
+use tb_core::History;
 use tb_draft::Draft;
-use tb_model::{Event, StepId, TaskName};
+use tb_model::{Action, StepId, TaskName};
 use tb_read::Program;
 
 /// How many steps there are, as a line.
-pub fn history_head(alloc: Global, entries: &[Entry]) -> Result<Draft, AllocError>
+pub fn history_head(alloc: Global, entries: &History<'_>) -> Result<Draft, AllocError>
     ensures { IfOk result (λ text. text ≡ line (codes "hist " ++ decimal (length entries.now))) }
 {
     let count = entries.len();
@@ -26,38 +26,39 @@ pub fn history_head(alloc: Global, entries: &[Entry]) -> Result<Draft, AllocErro
 pub(crate) fn history_text(
     alloc: Global,
     program: &Program,
-    entries: &[Entry],
+    entries: &History<'_>,
 ) -> Result<Draft, AllocError>
     requires { length entries.now ≤ 1000000 }
     ensures { IfOk result (λ text. text ≡ history_text program.now (history_of entries.now)) }
 {
     let mut text = history_head(alloc, entries)?;
     let mut counts = StepCounts::none(alloc);
-    'steps: for entry in entries {
-        counts.append_next(&mut text, program, &entry.event)?;
+    'steps: for at in 0..entries.len() {
+        counts.append_next(&mut text, program, entries.task(at), entries.action(at))?;
     }
     Ok(text)
 }
 
-/// Counts the next step of its task, and appends its line where it is told.
+/// Counts the task's next step, which has this action, and appends its line where it is told.
 fn append_if(
     text: &mut Draft,
     program: &Program,
     counts: &mut StepCounts,
-    event: &Event,
+    task: &TaskName,
+    action: &Action,
     is_told: bool,
 ) -> Result<(), AllocError>
-    requires { count_of counts.old event.now.task < 4294967295 }
+    requires { count_of counts.old task.now < 4294967295 }
     ensures text { OnOk result (text.new ≡ text.old ++ (if is_told then event_line program.now
-        (record { task = event.now.task; k = suc (count_of counts.old event.now.task) })
-        event.now
+        (record { task = task.now; k = suc (count_of counts.old task.now) })
+        (record { task = task.now; action = action.now })
         else [])) }
-    ensures counts { OnOk result (IsCounted counts.old event.now.task counts.new) }
+    ensures counts { OnOk result (IsCounted counts.old task.now counts.new) }
 {
     if is_told {
-        counts.append_next(text, program, event)
+        counts.append_next(text, program, task, action)
     } else {
-        counts.count(&event.task)?;
+        counts.count(task)?;
         Ok(())
     }
 }
@@ -67,7 +68,7 @@ pub fn append_newest(
     alloc: Global,
     text: &mut Draft,
     program: &Program,
-    entries: &[Entry],
+    entries: &History<'_>,
     count: usize,
 ) -> Result<(), AllocError>
     requires bound { length entries.now ≤ 1000000 }
@@ -77,10 +78,9 @@ pub fn append_newest(
 {
     let first = entries.len() - count;
     let mut counts = StepCounts::none(alloc);
-    let mut place = 0;
-    'steps: for entry in entries {
-        append_if(text, program, &mut counts, &entry.event, first <= place)?;
-        place += 1;
+    'steps: for at in 0..entries.len() {
+        let (task, action) = (entries.task(at), entries.action(at));
+        append_if(text, program, &mut counts, task, action, first <= at)?;
     }
     Ok(())
 }
@@ -96,35 +96,36 @@ fn is_next(steps: &[StepId], found: usize, task: &TaskName, k: u32) -> bool
     }
 }
 
-/// Appends the line of the next step of its task, where it is the next of these steps, and tells
-/// how many of them were found then.
+/// Appends the line of the task's next step, which has this action, where it is the next of these
+/// steps, and tells how many of them were found then.
 fn append_chosen(
     text: &mut Draft,
     program: &Program,
     counts: &mut StepCounts,
-    event: &Event,
+    task: &TaskName,
+    action: &Action,
     steps: &[StepId],
     found: usize,
 ) -> Result<usize, AllocError>
-    requires few { count_of counts.old event.now.task < 4294967295 }
+    requires few { count_of counts.old task.now < 4294967295 }
     requires within { found ≤ length steps.now }
     ensures text { OnOk result (text.new ≡ text.old
-        ++ (if is_first (record { task = event.now.task; k = suc (count_of counts.old event.now.task) }) (drop found steps.now)
+        ++ (if is_first (record { task = task.now; k = suc (count_of counts.old task.now) }) (drop found steps.now)
         then event_line program.now
-        (record { task = event.now.task; k = suc (count_of counts.old event.now.task) })
-        event.now
+        (record { task = task.now; k = suc (count_of counts.old task.now) })
+        (record { task = task.now; action = action.now })
         else [])) }
     ensures found { IfOk result (λ n. n
-        ≡ (if is_first (record { task = event.now.task; k = suc (count_of counts.old event.now.task) }) (drop found steps.now)
+        ≡ (if is_first (record { task = task.now; k = suc (count_of counts.old task.now) }) (drop found steps.now)
         then found + 1 else found)) }
     ensures within { IfOk result (λ n. n ≤ length steps.now) }
-    ensures counts { OnOk result (IsCounted counts.old event.now.task counts.new) }
+    ensures counts { OnOk result (IsCounted counts.old task.now counts.new) }
 {
-    let k = counts.count(&event.task)?;
-    if !is_next(steps, found, &event.task, k) {
+    let k = counts.count(task)?;
+    if !is_next(steps, found, task, k) {
         return Ok(found);
     }
-    append_line(text, program, &event.task, k, &event.action)?;
+    append_line(text, program, task, k, action)?;
     Ok(found + 1)
 }
 
@@ -133,7 +134,7 @@ pub(crate) fn chosen_text(
     alloc: Global,
     word: &str,
     program: &Program,
-    entries: &[Entry],
+    entries: &History<'_>,
     steps: &[StepId],
 ) -> Result<Draft, AllocError>
     requires bound { length entries.now ≤ 1000000 }
@@ -146,8 +147,9 @@ pub(crate) fn chosen_text(
     let mut text = Draft::of(alloc, head);
     let mut counts = StepCounts::none(alloc);
     let mut found = 0;
-    'steps: for entry in entries {
-        found = append_chosen(&mut text, program, &mut counts, &entry.event, steps, found)?;
+    'steps: for at in 0..entries.len() {
+        let (task, action) = (entries.task(at), entries.action(at));
+        found = append_chosen(&mut text, program, &mut counts, task, action, steps, found)?;
     }
     Ok(text)
 }

@@ -15,18 +15,18 @@ use crate::listing::append_count;
 use crate::states::{append_state, state};
 use crate::step_line::body_name;
 use std::alloc::{AllocError, Global};
-use tb_core::{Core, Entry};
+use tb_core::{Core, History};
 use tb_draft::Draft;
 use tb_model::{Action, Item, TaskName};
 use tb_read::Program;
 
 /// The line that begins the body of a task.
-fn body_line(root_line: u32, entries: &[Entry], task: &TaskName) -> u32
+fn body_line(root_line: u32, entries: &History<'_>, task: &TaskName) -> u32
     ensures { result ≡ (called_by root_line (spawn_of task.now (history_of entries.now))).line }
 {
     let mut line = root_line;
-    'entries: for entry in entries {
-        line = spawned_line(&entry.event.action, task, line);
+    'entries: for at in 0..entries.len() {
+        line = spawned_line(entries.action(at), task, line);
     }
     line
 }
@@ -59,7 +59,8 @@ fn append_head(
     ensures { OnOk result (text.new
         ≡ text.old ++ head_text program.now (history core.now.run) task.now) }
 {
-    let begins = body_line(program.root_line(), core.legal_entries(), task);
+    let entries = core.legal_entries();
+    let begins = body_line(program.root_line(), &entries, task);
     text.push_str("task ")?;
     text.push_name(task)?;
     text.push_str("\nbody ")?;

@@ -13,7 +13,7 @@ use crate::named_tasks::NamedTasks;
 use crate::states::{append_state, state};
 use crate::step_line::body_name;
 use std::alloc::{AllocError, Global};
-use tb_core::{Core, Entry};
+use tb_core::{Core, History};
 use tb_draft::{Draft, ShortText};
 use tb_model::{Action, TaskName};
 use tb_read::Program;
@@ -36,14 +36,14 @@ fn insert_spawned(tasks: &mut NamedTasks, action: &Action) -> Result<(), AllocEr
 fn named_tasks(
     alloc: Global,
     root_line: u32,
-    entries: &[Entry],
+    entries: &History<'_>,
 ) -> Result<Vec<(TaskName, u32)>, AllocError>
     ensures { IfOk result (λ tasks. tasks.items ≡ named_tasks root_line (history_of entries.now)) }
 {
     let mut tasks = NamedTasks::new(alloc);
     tasks.insert(TaskName::root(alloc), root_line)?;
-    'entries: for entry in entries {
-        insert_spawned(&mut tasks, &entry.event.action)?;
+    'entries: for at in 0..entries.len() {
+        insert_spawned(&mut tasks, entries.action(at))?;
     }
     tasks.into_vec()
 }
@@ -117,7 +117,8 @@ pub(crate) fn tasks_text(alloc: Global, program: &Program, core: &Core) -> Resul
     requires { Fits program.now core.now.run }
     ensures { IfOk result (λ text. text ≡ tasks_text program.now (history core.now.run)) }
 {
-    let tasks = named_tasks(alloc, program.root_line(), core.legal_entries())?;
+    let entries = core.legal_entries();
+    let tasks = named_tasks(alloc, program.root_line(), &entries)?;
     let count = tasks.len();
     let head = format!(in alloc; "tasks {count}\n")?;
     let mut text = Draft::of(alloc, head);

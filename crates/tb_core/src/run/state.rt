@@ -18,14 +18,14 @@ impl Core {
     pub fn has_faulted(&self, task: &TaskName) -> bool
         ensures { IsTrue result ↔ (status_of (own task.now (history self.now.run)) ≡ Faulted) }
     {
-        newest_is_fault(self.legal_entries(), task)
+        newest_is_fault(&self.legal_entries(), task)
     }
 
     /// The task's open groups, each by the step that opened it, from the innermost to the outermost.
     pub fn open_groups(&self, task: &TaskName) -> Result<Vec<StepId>, AllocError>
         ensures { IfOk result (λ ids. ids.items ≡ open_groups_of task.now (history self.now.run)) }
     {
-        open_groups(self.alloc, self.legal_entries(), task)
+        open_groups(self.alloc, &self.legal_entries(), task)
     }
 
     /// The task's unended children, in the order of their names.
@@ -55,7 +55,7 @@ impl Core {
         let mut found = Vec::new(self.alloc);
         let mut after: Option<&TaskName> = None;
         'tasks: while let Some(name) = self.next_unended(after) {
-            if is_among(self.legal_entries(), task, group, name) {
+            if is_among(&self.legal_entries(), task, group, name) {
                 found.push(name.clone()?)?;
             }
             after = Some(name);

@@ -6,21 +6,22 @@ ghost use Rattle.tb_core.specs.Rolled.{IsOfHistory, RollsBack};
 ghost use Rattle.tb_core.specs.Seen.{history};
 
 use super::Core;
+use crate::history::History;
 use crate::needing::first_needer;
 use crate::places::{place_in, step_among};
 use crate::removed::Removed;
 use crate::renumbering::renumber;
 use crate::rollback::Rollback;
 use crate::undo_refusal::UndoRefusal;
-use crate::unwinding::{put_back, unwind};
+use crate::unwinding::{put_back, take_back, unwind};
 use tb_model::StepId;
 
 impl Core {
     /// Takes the entry at this place out, of a step that nothing needs.
-    fn take_out(&mut self, at: usize, id: &StepId) -> Removed
-        requires free { IsFree self.old.run id.now }
-        requires here { IsPlaceOfStep self.old.run id.now at }
-        ensures { TakesBack self.old.run id.now self.new.run result }
+    fn take_out(&mut self, at: usize, id: StepId) -> Removed
+        requires free { IsFree self.old.run id }
+        requires here { IsPlaceOfStep self.old.run id at }
+        ensures { TakesBack self.old.run id self.new.run result }
     {
         self.reserved = None;
         renumber(
@@ -30,16 +31,7 @@ impl Core {
             &[at as u32],
         );
         let entry = self.entries.remove(at);
-        let replaced = entry.replaced();
-        let event = entry.event;
-        self.tables.revert(&event, replaced);
-        Removed {
-            id: StepId {
-                task: event.task,
-                k: id.k,
-            },
-            action: event.action,
-        }
+        take_back(&mut self.tables, entry, id)
     }
 
     /// The place of a step that nothing needs.
@@ -49,15 +41,15 @@ impl Core {
         ensures kept { IfErr result (Keeps self.now.run id.now) }
     {
         let own = self.places.events_of(self.tables.place(&id.task));
-        let Some(at) = place_in(own, &self.entries, id) else {
+        let entries = History::of(self.entries.as_slice(), &self.tables);
+        let Some(at) = place_in(own, &entries, id) else {
             return Err(UndoRefusal::NoSuchStep);
         };
-        let Some(by) = first_needer(&self.entries, at) else {
+        let Some(by) = first_needer(&entries, at) else {
             return Ok(at);
         };
-        let task = &self.entries[by].event.task;
-        let own = self.places.events_of(self.tables.place(task));
-        match step_among(own, &self.entries, by) {
+        let own = self.places.events_of(self.tables.place(entries.task(by)));
+        match step_among(own, &entries, by) {
             Ok(by) => Err(UndoRefusal::Needed { by }),
             Err(_) => Err(UndoRefusal::Memory),
         }
@@ -72,13 +64,13 @@ impl Core {
     }
 
     /// Takes a step back that nothing needs, wherever it stands. It takes no memory where that is
-    /// done. Where it stands is known.
-    pub fn undo(&mut self, id: &StepId) -> Result<Removed, UndoRefusal>
-        ensures undone { Undone self.old.run id.now self.new.run result }
+    /// done. Where it stands is known. The name that is handed in is returned in the answer.
+    pub fn undo(&mut self, id: StepId) -> Result<Removed, UndoRefusal>
+        ensures undone { Undone self.old.run id self.new.run result }
         ensures err { OnErr result (self.new ≡ self.old) }
-        ensures succeeds { IsFree self.old.run id.now → IsOk result }
+        ensures succeeds { IsFree self.old.run id → IsOk result }
     {
-        match self.free_place(id) {
+        match self.free_place(&id) {
             Ok(at) => Ok(self.take_out(at, id)),
             Err(refusal) => Err(refusal),
         }

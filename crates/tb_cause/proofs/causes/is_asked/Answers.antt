@@ -1,5 +1,4 @@
-use Rattle.std.proofs.Common.{◌∙◌, ap, sym}
-use Rattle.tb_model.specs.declared.event.Event.{Event}
+use Rattle.std.proofs.Common.{◌∙◌, ap, ap₂, sym}
 use Rattle.tb_cause.specs.Asked.{gives_any}
 use Rattle.tb_cause.specs.Indexes.{items_told}
 use Rattle.tb_cause.specs.Keys.{Task, has}
@@ -9,7 +8,7 @@ use Rattle.tb_cause.proofs.causes.is_asked.Goals as goal
 pub gives_some-requires : goal.gives_some-requires
 gives_some-requires c =
     let w = there c.args.indexed.now c.args.at c.requires.within in
-    c.requires.of_task w.0 w.1 ∙ ap (λ (v : Event). has c.args.keys.now (Task v.task)) (sym (c.event_at-event.ensures w.0 w.1))
+    c.requires.of_task w.0 w.1 ∙ ap (λ t. has c.args.keys.now (Task t)) (sym (c.task_at-task.ensures w.0 w.1))
 
 pub returns : goal.returns
-returns c e is = c.in_ok-found.ensures ∙ ap (gives_any (has c.args.keys.now) (items_told c.args.indexed.now)) (c.event_at-event.ensures e is)
+returns c e is = c.in_ok-found.ensures ∙ ap₂ (λ t a. gives_any (has c.args.keys.now) (items_told c.args.indexed.now) (record { task = t; action = a })) (c.task_at-task.ensures e is) (c.action_at-action.ensures e is)

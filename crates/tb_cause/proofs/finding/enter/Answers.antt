@@ -1,5 +1,4 @@
-use Rattle.std.proofs.Common.{◌||◌, ◌∙◌, ap, sym}
-use Rattle.tb_model.specs.declared.event.Event.{Event}
+use Rattle.std.proofs.Common.{◌||◌, ◌∙◌, ap, ap₂, sym}
 use Rattle.tb_cause.specs.Indexes.{items_told}
 use Rattle.tb_cause.specs.Keys.{Task, gives, has}
 use Rattle.tb_cause.proofs.ConeLemmas.{there}
@@ -8,8 +7,8 @@ use Rattle.tb_cause.proofs.finding.enter.Goals as goal
 pub give-requires-clause-of_task : goal.give-requires-clause-of_task
 give-requires-clause-of_task c h =
     let w = there c.args.indexed.now c.args.at c.requires.within in
-    ap (λ (v : Event). has c.args.keys.now (Task v.task)) (c.event_at-event.ensures w.0 w.1) ∙ sym (c.requires.of_task h w.0 w.1)
+    ap (λ t. has c.args.keys.now (Task t)) (c.task_at-task.ensures w.0 w.1) ∙ sym (c.requires.of_task h w.0 w.1)
 
 pub returns-clause-keys : goal.returns-clause-keys
 returns-clause-keys c k e is =
-    c.in_ok-give.ensures k ∙ ap (λ (v : Event). gives (items_told c.args.indexed.now) v k || has c.args.keys.now k) (c.event_at-event.ensures e is)
+    c.in_ok-give.ensures k ∙ ap₂ (λ t a. gives (items_told c.args.indexed.now) (record { task = t; action = a }) k || has c.args.keys.now k) (c.task_at-task.ensures e is) (c.action_at-action.ensures e is)

@@ -8,7 +8,7 @@ use Rattle.tb_cause.proofs.noting.note.Goals as goal
 -- what is put before takes no key away
 pub note_own-requires : goal.note_own-requires
 note_own-requires c h =
-    let k = Task c.args.event.now.task in
+    let k = Task c.args.task.now in
     c.in_ok-note_held.ensures k ∙ or_right _ _ (c.in_ok-note_by_action.ensures k ∙ or_right _ _ (c.in_ok-note_by_wait.ensures k ∙ or_right _ _ (c.in_ok-note_by_items.ensures k ∙ or_right _ _ (c.requires.of_task h))))
 
 pub returns : goal.returns

@@ -1,4 +1,4 @@
-use Rattle.std.proofs.Common.{true, sym, ap, ◌∙◌, rules, ◌-◌, length, take}
+use Rattle.std.proofs.Common.{true, sym, ap, ◌∙◌, rules}
 use Rattle.indexmap.specs.IndexSet.{contains}
 use Rattle.tb_model.specs.declared.action.Action.TheVariants.{Spawn}
 use Rattle.tb_model.specs.Names.{same_name}
@@ -14,9 +14,9 @@ back-preserved-else-closed-eq0 c =
     let mine = sym c.eq.ensures ∙ c.if-eq.true in
     record {
       put = λ q.
-          behind_open c.args.task.now (λ x. same_name x q) l.rest.now c.newest-item.result c.in-len1-up.len_at_least c.newest-item.is mine l.closed (contains same_name l.set q) c.in-Open.is c.if-closed-eq0.false
+          behind_open c.args.task.now (λ x. same_name x q) (history_of l.rest) (history_of c.in-Some.older) _ c.in-Some.ensures.some mine l.closed (contains same_name l.set q) c.in-Open.is c.if-closed-eq0.false
           ∙ l.invariant.put q;
-      stays = behind_open c.args.task.now (λ x. true) l.rest.now c.newest-item.result c.in-len1-up.len_at_least c.newest-item.is mine l.closed true c.in-Open.is c.if-closed-eq0.false ∙ l.invariant.stays;
+      stays = behind_open c.args.task.now (λ x. true) (history_of l.rest) (history_of c.in-Some.older) _ c.in-Some.ensures.some mine l.closed true c.in-Open.is c.if-closed-eq0.false ∙ l.invariant.stays;
       fits = search rules;
     }
 
@@ -26,9 +26,9 @@ back-preserved-in-Close c =
     let mine = sym c.eq.ensures ∙ c.if-eq.true in
     record {
       put = λ q.
-          behind_close c.args.task.now (λ x. same_name x q) l.rest.now c.newest-item.result c.in-len1-up.len_at_least c.newest-item.is mine l.closed (contains same_name l.set q) c.in-Close.is
+          behind_close c.args.task.now (λ x. same_name x q) (history_of l.rest) (history_of c.in-Some.older) _ c.in-Some.ensures.some mine l.closed (contains same_name l.set q) c.in-Close.is
           ∙ l.invariant.put q;
-      stays = behind_close c.args.task.now (λ x. true) l.rest.now c.newest-item.result c.in-len1-up.len_at_least c.newest-item.is mine l.closed true c.in-Close.is ∙ l.invariant.stays;
+      stays = behind_close c.args.task.now (λ x. true) (history_of l.rest) (history_of c.in-Some.older) _ c.in-Some.ensures.some mine l.closed true c.in-Close.is ∙ l.invariant.stays;
       fits = search rules;
     }
 
@@ -40,10 +40,10 @@ back-preserved-in_ok-put-in-Spawn c =
     let mine = sym c.eq.ensures ∙ c.if-eq.true in
     record {
       put = λ q.
-          ap (λ b. member_behind l.closed b (own c.args.task.now (history_of (take (length l.rest.now - 1) l.rest.now))) (λ x. same_name x q))
+          ap (λ b. member_behind l.closed b (own c.args.task.now (history_of c.in-Some.older)) (λ x. same_name x q))
           (c.in_ok-put-in-Spawn.ensures q ∙ or_turned (same_name s.child q) (contains same_name l.set q))
-          ∙ behind_spawn c.args.task.now (λ x. same_name x q) l.rest.now c.newest-item.result c.in-len1-up.len_at_least c.newest-item.is mine l.closed (contains same_name l.set q) s is
+          ∙ behind_spawn c.args.task.now (λ x. same_name x q) (history_of l.rest) (history_of c.in-Some.older) _ c.in-Some.ensures.some mine l.closed (contains same_name l.set q) s is
           ∙ l.invariant.put q;
-      stays = behind_spawn c.args.task.now (λ x. true) l.rest.now c.newest-item.result c.in-len1-up.len_at_least c.newest-item.is mine l.closed true s is ∙ l.invariant.stays;
+      stays = behind_spawn c.args.task.now (λ x. true) (history_of l.rest) (history_of c.in-Some.older) _ c.in-Some.ensures.some mine l.closed true s is ∙ l.invariant.stays;
       fits = search rules;
     }

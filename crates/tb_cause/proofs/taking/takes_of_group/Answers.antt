@@ -2,6 +2,7 @@ use Rattle.std.proofs.Common.{sym, ap, ◌∙◌, rules}
 use Rattle.indexmap.specs.IndexSet.{contains}
 use Rattle.tb_model.specs.declared.action.Action.TheVariants.{Spawn}
 use Rattle.tb_model.specs.Names.{same_name}
+use Rattle.tb_core.specs.Scans.{history_of}
 use Rattle.tb_cause.proofs.GroupLemmas.{behind_open, behind_member, behind_other}
 use Rattle.tb_cause.proofs.taking.takes_of_group.Goals as goal
 
@@ -9,7 +10,7 @@ pub back-preserved-else-closed-eq0 : goal.back-preserved-else-closed-eq0
 back-preserved-else-closed-eq0 c =
     record {
       found =
-          behind_open c.args.task.now (contains same_name c.args.set.now) c.back.rest.now c.newest-item.result c.in-len1-up.len_at_least c.newest-item.is (sym c.eq.ensures ∙ c.if-eq.true) c.back.closed c.back.found
+          behind_open c.args.task.now (contains same_name c.args.set.now) (history_of c.back.rest) (history_of c.in-Some.older) _ c.in-Some.ensures.some (sym c.eq.ensures ∙ c.if-eq.true) c.back.closed c.back.found
           c.in-Open.is c.if-closed-eq0.false
           ∙ c.back.invariant.found;
       fits = search rules;
@@ -21,7 +22,7 @@ back-preserved-then-contains c =
     let is = c.in-Spawn.is ∙ ap (λ x. Spawn x) (sym c.get.ensures) in
     record {
       found =
-          behind_member c.args.task.now (contains same_name c.args.set.now) c.back.rest.now c.newest-item.result c.in-len1-up.len_at_least c.newest-item.is (sym c.eq.ensures ∙ c.if-eq.true) c.back.closed c.back.found
+          behind_member c.args.task.now (contains same_name c.args.set.now) (history_of c.back.rest) (history_of c.in-Some.older) _ c.in-Some.ensures.some (sym c.eq.ensures ∙ c.if-eq.true) c.back.closed c.back.found
           s is (sym c.contains.ensures ∙ c.if-contains.true)
           ∙ c.back.invariant.found;
       fits = search rules;
@@ -33,7 +34,7 @@ back-preserved-else-contains c =
     let is = c.in-Spawn.is ∙ ap (λ x. Spawn x) (sym c.get.ensures) in
     record {
       found =
-          behind_other c.args.task.now (contains same_name c.args.set.now) c.back.rest.now c.newest-item.result c.in-len1-up.len_at_least c.newest-item.is (sym c.eq.ensures ∙ c.if-eq.true) c.back.closed c.back.found
+          behind_other c.args.task.now (contains same_name c.args.set.now) (history_of c.back.rest) (history_of c.in-Some.older) _ c.in-Some.ensures.some (sym c.eq.ensures ∙ c.if-eq.true) c.back.closed c.back.found
           s is (sym c.contains.ensures ∙ c.if-contains.false)
           ∙ c.back.invariant.found;
       fits = search rules;

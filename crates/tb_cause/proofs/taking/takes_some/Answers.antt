@@ -10,9 +10,9 @@ pub returns : goal.returns
 returns c =
     let I = items_told c.args.indexed.now in
     let f = has c.args.keys.now in
-    let t = c.args.event.now.task in
+    let t = c.args.task.now in
     let H = history_of c.args.front.now in
-    only_last (f (Task t)) (held_any f (held_by (own t H))) (action_any f c.args.event.now.action) (wait_any f H t c.args.event.now.action) (items_any f I t c.args.event.now.action) c.in_ok-found.found
+    only_last (f (Task t)) (held_any f (held_by (own t H))) (action_any f c.args.action.now) (wait_any f H t c.args.action.now) (items_any f I t c.args.action.now) c.in_ok-found.found
     (sym c.requires.of_task ∙ c.if-of_task.false)
     (sym (ap (held_any f) c.requires.held) ∙ sym c.takes_held.ensures ∙ c.if-takes_held.false)
     (sym c.takes_by_action.ensures ∙ c.if-takes_by_action.false)

@@ -1,10 +1,14 @@
-use Rattle.std.proofs.Common.{◌≡◌, ◌≤◌, length, take}
+use Rattle.std.proofs.Common.{◌≡◌, ◌≤◌, ◌+◌, length}
 use Rattle.tb_model.specs.Facts.{own}
 use Rattle.tb_core.specs.Scans.{history_of}
 use Rattle.tb_core.proofs.places.steps_of.Given as goal
 
-abbrev pub invariant-loop-entry : goal.invariant-loop-entry
-invariant-loop-entry l = record {
-  counted : l.count ≡ length (own l.t (history_of (take l.entry-index l.entries)));
-  within : l.count ≤ l.entry-index;
+-- those that were counted, and those of the rest, are all
+abbrev pub invariant-back : goal.invariant-back
+invariant-back l = record {
+  counted : l.count + length (own l.t (history_of l.rest)) ≡ length (own l.t (history_of l.entries));
+  within : l.count + length l.rest ≤ length l.entries;
 }
+
+abbrev pub decreases-back : goal.decreases-back
+decreases-back l = length l.rest

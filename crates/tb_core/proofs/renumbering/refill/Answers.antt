@@ -1,32 +1,51 @@
-use Rattle.std.proofs.Common.{◌≡◌, List, [], ◌∷◌, ◌++◌, length, get_or, ◌∙◌, sym, subst}
-use Rattle.tb_places.specs.Places.{HasRoomAs, HasRoomFor, IsIndexOf, IsNamed}
+use Rattle.std.proofs.Common.{List, Some, arith, ◌∙◌, sym, subst}
+use Rattle.tb_places.specs.Places.{HasRoomAs}
+use Rattle.tb_core.specs.Entries.{Entry}
+use Rattle.tb_core.specs.Renumbering.{events_in}
 use Rattle.tb_core.specs.Soundness.{names_in}
-use Rattle.tb_model.specs.declared.event.Event.{Event}
-use Rattle.tb_core.specs.declared.entry.Entry.{Entry}
-use Rattle.tb_core.proofs.RenumberLemmas.{some_entry, refills_room, refills_named, refills_gone, refills_kept}
+use Rattle.tb_core.specs.Storing.{entries_in}
+use Rattle.tb_core.proofs.RenumberLemmas.{refills_first, refills_last, refills_room, refills_named, refills_gone, refills_kept}
+use Rattle.tb_core.proofs.StoredLemmas.{entry_there, events_many, stored_at, its_number}
 use Rattle.tb_core.proofs.renumbering.refill.Goals.{then-goes, else-goes}
 use Rattle.tb_core.proofs.renumbering.refill.Goals as goal
 
 pub push_reserved-requires : goal.push_reserved-requires
 push_reserved-requires c =
     let l = c.loop-at in
+    let names = names_in c.args._tables.now in
+    let es : List Entry = entries_in c.args._tables.now c.args.entries.now in
     let x = c.index-entries-at in
-    subst (λ n. HasRoomAs l.places n (get_or c.args.entries.now l.at x.result).event) (sym c.walk_place-number.ensures)
-    (subst (λ (e : Entry). HasRoomFor (names_in c.args.tables.now) l.places e.event) x.is (refills_room (names_in c.args.tables.now) c.args.first c.args.going.now c.args.entries.now l.at l.next l.place l.places l.invariant c.loop-at-test.true x.result x.is))
+    let w = stored_at names c.args.entries.now es l.at x.result c.requires.stored c.loop-at-test.true x.is in
+    let room = refills_room names c.args.first c.args.going.now es l.at l.next l.place l.places l.invariant w.within w.entry w.here in
+    subst (λ a. HasRoomAs l.places (Some x.result.task) a) (sym w.stored.action) (subst (λ n. HasRoomAs l.places n w.entry.event.action) (sym (its_number names x.result w.entry c.requires.distinct w.stored)) room)
 
 pub loop-at-preserved : goal.loop-at-preserved
 loop-at-preserved c =
     let l = c.loop-at in
     let going = c.args.going.now in
-    let es = c.args.entries.now in
-    let names = names_in c.args.tables.now in
-    let some = some_entry es l.at c.loop-at-test.true in
+    let names = names_in c.args._tables.now in
+    let es : List Entry = entries_in c.args._tables.now c.args.entries.now in
     elim c.if-goes.branch [
       | then-goes w ↦
-          rw (w.places-is, w.next-is, w.place-is) (refills_gone (names_in c.args.tables.now) c.args.first going es l.at l.next l.place l.places l.invariant c.loop-at-test.true some.0 some.1 (sym c.goes.ensures.goes ∙ w.if-goes.true))
+          let u = entry_there names c.args.entries.now es l.at c.requires.stored c.loop-at-test.true in
+          rw (w.places-is, w.next-is, w.place-is) (refills_gone names c.args.first going es l.at l.next l.place l.places l.invariant u.1 u.0 u.2 (sym c.goes.ensures.goes ∙ w.if-goes.true))
       | else-goes w ↦
           let x = w.index-entries-at in
-          rw (w.places-is, w.next-is, w.place-is) (refills_kept (names_in c.args.tables.now) c.args.first going es l.at l.next l.place l.places l.invariant c.loop-at-test.true x.result x.is w.push_reserved.new.self (sym c.goes.ensures.goes ∙ w.if-goes.false)
-          (subst (λ (e : Entry). (events : List Event) → IsIndexOf names events l.places → l.place ≡ length events → IsIndexOf names (events ++ e.event ∷ []) w.push_reserved.new.self) (sym x.is)
-          (λ events. w.push_reserved.ensures.pushed names events w.walk_place-number.ensures (subst (λ (e : Entry). IsNamed names e.event) x.is (refills_named names c.args.first going es l.at l.next l.place l.places l.invariant c.loop-at-test.true x.result x.is)))) w.push_reserved.ensures.room)
+          let u = stored_at names c.args.entries.now es l.at x.result c.requires.stored c.loop-at-test.true x.is in
+          let named = refills_named names c.args.first going es l.at l.next l.place l.places l.invariant u.within u.entry u.here in
+          rw (w.places-is, w.next-is, w.place-is) (refills_kept names c.args.first going es l.at l.next l.place l.places l.invariant u.within u.entry u.here w.push_reserved.new.self (sym c.goes.ensures.goes ∙ w.if-goes.false)
+          (λ events. w.push_reserved.ensures.pushed names events u.entry.event (sym u.stored.action) (its_number names x.result u.entry c.requires.distinct u.stored) named) w.push_reserved.ensures.room)
     ]
+
+pub loop-at-init : goal.loop-at-init
+loop-at-init c =
+    let names = names_in c.args._tables.now in
+    let es : List Entry = entries_in c.args._tables.now c.args.entries.now in
+    refills_first names c.args.first c.args.going.now (events_in es) c.args.places.now (omega (arith, c.requires.within, events_many names c.args.entries.now es c.requires.stored)) c.requires.index c.requires.room
+
+pub returns : goal.returns
+returns c =
+    let l = c.loop-at in
+    let names = names_in c.args._tables.now in
+    let es : List Entry = entries_in c.args._tables.now c.args.entries.now in
+    refills_last names c.args.first c.args.going.now (events_in es) l.at l.next l.place l.places (omega (arith, c.loop-at-test.false, events_many names c.args.entries.now es c.requires.stored)) l.invariant

@@ -6,14 +6,14 @@ use Rattle.tb_next.proofs.newest.place_of_store.Goals as goal
 pub back-init : goal.back-init
 back-init c = all_left (λ v. touches c.args.cell v.action) (is_store_to c.args.cell) c.args.entries.now (touches_wider c.args.cell) c.args.places.now c.requires
 
-pub bounds-entries-at : goal.bounds-entries-at
-bounds-entries-at c =
+pub action-requires : goal.action-requires
+action-requires c =
     next_within (λ v. touches c.args.cell v.action) (is_store_to c.args.cell) c.args.entries.now (touches_wider c.args.cell) c.args.places.now c.back.left c.back-test.true c.back.invariant
 
 pub returns-then-is_store_to-clause-step : goal.returns-then-is_store_to-clause-step
 returns-then-is_store_to-clause-step c =
     next_found (λ v. touches c.args.cell v.action) (is_store_to c.args.cell) c.args.entries.now (touches_wider c.args.cell) c.args.places.now c.back.left c.back-test.true c.back.invariant
-    c.index-entries-at.result c.index-entries-at.is (sym c.is_store_to.ensures ∙ c.if-is_store_to.true)
+    c.action.result.now c.action.ensures (sym c.is_store_to.ensures ∙ c.if-is_store_to.true)
 
 pub returns-then-is_store_to-clause-within : goal.returns-then-is_store_to-clause-within
 returns-then-is_store_to-clause-within c =
@@ -22,7 +22,7 @@ returns-then-is_store_to-clause-within c =
 pub back-preserved : goal.back-preserved
 back-preserved c =
     next_passed (λ v. touches c.args.cell v.action) (is_store_to c.args.cell) c.args.entries.now (touches_wider c.args.cell) c.args.places.now c.back.left c.back-test.true c.back.invariant
-    c.index-entries-at.result c.index-entries-at.is (sym c.is_store_to.ensures ∙ c.if-is_store_to.false)
+    c.action.result.now c.action.ensures (sym c.is_store_to.ensures ∙ c.if-is_store_to.false)
 
 pub returns-clause-step : goal.returns-clause-step
 returns-clause-step c =

@@ -7,7 +7,7 @@ use Rattle.tb_order.proofs.asking.causes.Goals as goal
 
 pub returns-in-Ok-clause-causes : goal.returns-in-Ok-clause-causes
 returns-in-Ok-clause-causes c =
-    let entries = c.legal_entries-entries.result.now in
+    let entries = c.legal_entries-entries.result in
     let x = there entries c.in-Some.at c.in-Some.ensures.within in
     c.in-Ok.ensures x.0 x.1
     ∙ ap reverse

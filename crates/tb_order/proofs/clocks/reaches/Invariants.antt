@@ -1,5 +1,5 @@
 use Rattle.std.proofs.Common.{◌≡◌, ◌<◌, ℕ, List, length}
-use Rattle.tb_core.specs.declared.entry.Entry.{Entry}
+use Rattle.tb_core.specs.Entries.{Entry}
 use Rattle.tb_races.specs.Orders.{Order}
 use Rattle.tb_order.specs.Clocks as is
 use Rattle.tb_order.specs.Clocks.{AreTasks, AreClocks}

@@ -1,36 +1,40 @@
-use Rattle.std.proofs.Common.{◌≡◌, ◌∙◌, ap, subst, map, take, get_or}
-use Rattle.tb_core.specs.declared.entry.Entry.{Entry}
+use Rattle.std.proofs.Common.{◌≡◌, ◌<◌, ◌∙◌, List, true, is_some, length, sym, ap₂, subst, map, take}
+use Rattle.std.specs.List.{All}
+use Rattle.tb_model.specs.declared.event.Event.{Event}
+use Rattle.tb_core.specs.Entries.{Entry}
+use Rattle.tb_core.specs.Scans.{AreLegal}
 use Rattle.tb_core.proofs.FirstLemmas.{front_legal}
-use Rattle.tb_cause.proofs.NearestLemmas.{at_one}
+use Rattle.tb_cause.proofs.ConeLemmas.{there}
 use Rattle.tb_order.specs.Told.{told}
-use Rattle.tb_order.proofs.CauseLemmas.{causes_told, places_near, places_within}
+use Rattle.tb_order.proofs.CauseLemmas.{causes_told, event_read, places_near, places_within}
 use Rattle.tb_order.proofs.immediate.immediate.Goals as goal
 
 pub causes_at-requires-clause-legal : goal.causes_at-requires-clause-legal
 causes_at-requires-clause-legal c =
-    let x = c.index-entries-at in
-    front_legal c.args.entries.now c.args.at x.result c.requires.within x.is c.requires.legal
+    let x = there c.args.entries.now c.args.at c.requires.within in
+    subst AreLegal (sym c.front-front.ensures) (front_legal c.args.entries.now c.args.at x.0 c.requires.within x.1 c.requires.legal)
 
 pub causes_at-requires-clause-within : goal.causes_at-requires-clause-within
 causes_at-requires-clause-within c =
-    let x = c.index-entries-at in
-    let front = take c.args.at c.args.entries.now in
-    places_within front x.result.event c.deref.result.now (c.deref.ensures.value ∙ c.in_ok-places.ensures x.result x.is)
+    let x = there c.args.entries.now c.args.at c.requires.within in
+    let places = c.deref.result.now in
+    subst (λ (front : List Entry). All (λ p. p < length front) places) (sym c.front-front.ensures)
+    (places_within (take c.args.at c.args.entries.now) x.0.event places (c.deref.ensures.value ∙ c.in_ok-places.ensures x.0 x.1))
 
 pub causes_at-requires-clause-near : goal.causes_at-requires-clause-near
 causes_at-requires-clause-near c =
-    let x = c.index-entries-at in
     let entries = c.args.entries.now in
     let at = c.args.at in
-    let y = get_or entries at x.result in
-    places_near (take at entries) y.event c.deref.result.now (c.deref.ensures.value ∙ c.in_ok-places.ensures y (subst (λ (z : Entry). z ≡ get_or entries at z) x.is x.is))
+    let x = there entries at c.requires.within in
+    let places = c.deref.result.now in
+    let read = event_read c.task.result.now c.action.result.now x.0.event (c.task.ensures x.0 x.1) (c.action.ensures x.0 x.1) in
+    subst (λ (e : Event). All (λ p. is_some (told c.front-front.result e p) ≡ true) places) (sym read)
+    (subst (λ (front : List Entry). All (λ p. is_some (told front x.0.event p) ≡ true) places) (sym c.front-front.ensures)
+    (places_near (take at entries) x.0.event places (c.deref.ensures.value ∙ c.in_ok-places.ensures x.0 x.1)))
 
 pub returns : goal.returns
 returns c v isv =
-    let x = c.index-entries-at in
-    let entries = c.args.entries.now in
-    let at = c.args.at in
-    let y = get_or entries at x.result in
-    let self : y ≡ get_or entries at y = subst (λ (z : Entry). z ≡ get_or entries at z) x.is x.is in
-    causes_told (take at entries) v.event c.deref.result.now (c.deref.ensures.value ∙ c.in_ok-places.ensures v isv) c.in_ok-causes.causes.items
-    (c.in_ok-causes.ensures ∙ ap (λ (z : Entry). map (told (take at entries) z.event) c.deref.result.now) (at_one entries at y v c.requires.within self isv))
+    let places = c.deref.result.now in
+    let read = event_read c.task.result.now c.action.result.now v.event (c.task.ensures v isv) (c.action.ensures v isv) in
+    causes_told (take c.args.at c.args.entries.now) v.event places (c.deref.ensures.value ∙ c.in_ok-places.ensures v isv) c.in_ok-causes.causes.items
+    (c.in_ok-causes.ensures ∙ ap₂ (λ (front : List Entry) (e : Event). map (told front e) places) c.front-front.ensures read)

@@ -1,5 +1,5 @@
 use Rattle.std.proofs.Common.{◌≡◌, ◌∷◌, Some, filter, take, slice_get}
-use Rattle.tb_core.specs.declared.entry.Entry.{Entry}
+use Rattle.tb_core.specs.Entries.{Entry}
 use Rattle.tb_order.specs.Lanes.{stays}
 use Rattle.tb_order.proofs.lanes.lane_with.Given as goal
 

@@ -1,5 +1,4 @@
-use Rattle.std.proofs.Common.{None, cond, length, sym, ap, ap₂, ◌∙◌, arith}
-use Rattle.tb_core.specs.declared.entry.Entry.{Entry}
+use Rattle.std.proofs.Common.{None, cond, length, sym, ap, ◌∙◌, arith}
 use Rattle.tb_races.specs.Racing.{conflict}
 use Rattle.tb_order.specs.Linking.{order_of}
 use Rattle.tb_order.proofs.AfterLemmas.{reach_tested}
@@ -17,9 +16,6 @@ pub returns : goal.returns
 returns c v u v_is u_is =
     let o = order_of c.args.exclusion in
     let entries = c.args.entries.now in
-    let x = c.index-entries-at in
-    let y = c.index-entries-first in
     let after = sym (reach_tested o entries c.args.at c.args.first c.requires.first c.requires.at v u v_is u_is) ∙ sym (c.reaches.ensures o entries (length entries) c.requires.tasks c.requires.clocks c.requires.at) ∙ c.if-reaches.false in
-    c.conflict.ensures
-    ∙ ap₂ (λ (a b : Entry). conflict a.event b.event) (got entries c.args.at x.result v c.requires.at x.is v_is) (got entries c.args.first y.result u (omega (arith, c.requires.at, c.requires.first)) y.is u_is)
+    c.conflict.ensures v u (got entries c.args.at v c.requires.at v_is) (got entries c.args.first u (omega (arith, c.requires.at, c.requires.first)) u_is)
     ∙ sym (ap (λ b. cond b None (conflict v.event u.event)) after)

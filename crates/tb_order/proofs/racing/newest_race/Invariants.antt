@@ -1,5 +1,5 @@
 use Rattle.std.proofs.Common.{◌≡◌, drop, Some, slice_get}
-use Rattle.tb_core.specs.declared.entry.Entry.{Entry}
+use Rattle.tb_core.specs.Entries.{Entry}
 use Rattle.tb_order.specs.Linking.{order_of}
 use Rattle.tb_order.proofs.LaneLemmas.{race_in}
 use Rattle.tb_order.proofs.racing.newest_race.Given as goal

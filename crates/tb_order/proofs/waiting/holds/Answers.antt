@@ -1,14 +1,21 @@
-use Rattle.std.proofs.Common.{sym, ap, ◌∙◌, arith}
+use Rattle.std.proofs.Common.{◌<◌, ◌∷◌, length, take, sym, ap, ◌∙◌, arith}
 use Rattle.tb_model.specs.Facts
+use Rattle.tb_core.specs.Scans.{history_of}
+use Rattle.tb_cause.proofs.ConeLemmas.{there}
 use Rattle.tb_order.proofs.OwnLemmas.{held_here, held_none}
 use Rattle.tb_order.proofs.waiting.holds.Goals as goal
 
 pub returns-in-Some : goal.returns-in-Some
 returns-in-Some c v is =
+    let entries = c.args.entries.now in
     let b = c.in-Some.ensures.own in
-    let y = c.index-entries-before in
-    c.is_undeferred.ensures _
-    ∙ sym (ap (λ acts. Facts.holds acts c.args.u.now) (held_here c.args.entries.now c.args.tasks.now c.requires.tasks c.args.at c.requires.at v is c.in-Some.before y.result (omega (arith, b.2, c.requires.at)) y.is b.0 b.1))
+    let inside : c.in-Some.before < length entries = omega (arith, b.2, c.requires.at) in
+    let y = there entries c.in-Some.before inside in
+    let u = c.args.u.now in
+    let older = Facts.own v.event.task (history_of (take c.in-Some.before entries)) in
+    c.is_undeferred.ensures older
+    ∙ ap (λ a. Facts.holds (a ∷ older) u) (c.action.ensures y.0 y.1)
+    ∙ sym (ap (λ acts. Facts.holds acts u) (held_here entries c.args.tasks.now c.requires.tasks c.args.at c.requires.at v is c.in-Some.before y.0 inside y.1 b.0 b.1))
 
 pub returns-in-None : goal.returns-in-None
 returns-in-None c v is =

@@ -1,7 +1,7 @@
-use Rattle.std.proofs.Common.{◌≡◌, List, Some, true, take}
+use Rattle.std.proofs.Common.{◌≡◌, List, Some, true, get_or, take}
 use Rattle.tb_model.specs.declared.step_id.StepId.{StepId}
 use Rattle.tb_model.specs.Ordered.{all_first}
-use Rattle.tb_core.specs.declared.entry.Entry.{Entry}
+use Rattle.tb_core.specs.Entries.{Entry}
 use Rattle.tb_core.specs.Scans.{history_of, step_at}
 use Rattle.tb_roll.specs.Comparing.{AreMatched}
 use Rattle.tb_roll.proofs.comparing.comes_behind.Given as goal
@@ -9,5 +9,5 @@ use Rattle.tb_roll.proofs.comparing.comes_behind.Given as goal
 -- it comes behind those that were asked
 abbrev pub invariant-loop-earlier : goal.invariant-loop-earlier
 invariant-loop-earlier l =
-    (others : List Entry) (i : StepId) → AreMatched l.entries l.places others → step_at l.entries l.later ≡ Some i
-    → all_first (history_of others) i (history_of (take l.later l.entries)) l.event (history_of (take l.earlier l.entries)) ≡ true
+    (others : List Entry) (i : StepId) (v : Entry) → AreMatched l.entries l.places others → step_at l.entries l.later ≡ Some i → v ≡ get_or l.entries l.later v
+    → all_first (history_of others) i (history_of (take l.later l.entries)) v.event (history_of (take l.earlier l.entries)) ≡ true

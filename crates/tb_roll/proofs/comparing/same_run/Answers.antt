@@ -7,6 +7,6 @@ use Rattle.tb_roll.proofs.comparing.same_run.Goals as goal
 
 pub returns : goal.returns
 returns c =
-    answered (history_of c.legal_entries-entries.result.now) (history_of c.legal_entries-others.result.now) (history c.args.one.now.run) (history c.args.other.now.run)
+    answered (history_of c.legal_entries-entries.result) (history_of c.legal_entries-others.result) (history c.args.one.now.run) (history c.args.other.now.run)
     (ap events_of c.legal_entries-entries.ensures.steps) (ap events_of c.legal_entries-others.ensures.steps) (c.in_ok-is_found_in.ensures.0 c.if-not-branch.false)
     c.is_found_in-2.result c.is_found_in-2.ensures

@@ -21,7 +21,7 @@ returns-in-Out-clause-shown c =
 
 pub returns-in-Hist-clause-shown : goal.returns-in-Hist-clause-shown
 returns-in-Hist-clause-shown c =
-    let all = entries_are c.args.live.now.session c.core.result.now.run c.legal_entries.result.now c.core.ensures.history c.legal_entries.ensures.steps in
+    let all = entries_are c.args.live.now.session c.core.result.now.run c.legal_entries-entries.result c.core.ensures.history c.legal_entries-entries.ensures.steps in
     subst (λ v. IfOk c.told-in-Hist.result (λ text. IsShown c.args.live.now.session v text)) (sym c.in-Hist.is)
     (ok_then c.told-in-Hist.result _ _ (λ given is. record { unrefused = refl; text_is = is ∙ ap₂ (λ (P : Program) H. history_text P H) c.program.ensures all }) (c.told-in-Hist.ensures.ok _ c.history_text.ensures))
 

@@ -1,4 +1,4 @@
-use Rattle.std.proofs.Common.{◌≡◌, ◌≤◌, ◌-◌, ◌++◌, length, take}
+use Rattle.std.proofs.Common.{◌≡◌, ◌-◌, ◌++◌, length, take}
 use Rattle.tb_core.specs.Scans.{history_of}
 use Rattle.tb_view.specs.Steps.{newest_lines, AreCounts}
 use Rattle.tb_view.proofs.steps.append_newest.Given as goal
@@ -6,8 +6,6 @@ use Rattle.tb_view.proofs.steps.append_newest.Given as goal
 -- the lines of the newest steps so far, and all steps so far are counted
 abbrev pub invariant-steps : goal.invariant-steps
 invariant-steps l = record {
-  counts : AreCounts (history_of (take l.entry-index l.entries)) l.counts;
-  within : l.entry-index ≤ length l.entries;
-  place : l.place ≡ l.entry-index;
-  text : l.text ≡ l.initial.text ++ newest_lines l.program (l.entry-index - (length l.entries - l.count)) (history_of (take l.entry-index l.entries));
+  counts : AreCounts (history_of (take l.at l.entries)) l.counts;
+  text : l.text ≡ l.initial.text ++ newest_lines l.program (l.at - (length l.entries - l.count)) (history_of (take l.at l.entries));
 }

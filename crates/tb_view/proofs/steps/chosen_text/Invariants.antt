@@ -9,7 +9,7 @@ use Rattle.tb_view.proofs.steps.chosen_text.Given as goal
 -- what is told so far, and what is left, are the whole; the steps so far are counted
 abbrev pub invariant-steps : goal.invariant-steps
 invariant-steps l = record {
-  counts : AreCounts (history_of (take l.entry-index l.entries)) l.counts;
-  walked : Walked l.program l.entries l.steps l.entry-index l.found l.text
+  counts : AreCounts (history_of (take l.at l.entries)) l.counts;
+  walked : Walked l.program l.entries l.steps l.at l.found l.text
       (line (l.word ++ codes " " ++ decimal (length l.steps)) ++ walk l.program l.steps [] l.entries);
 }

@@ -8,6 +8,6 @@ use Rattle.tb_view.proofs.steps.history_text.Given as goal
 -- the lines of the steps so far, which are counted
 abbrev pub invariant-steps : goal.invariant-steps
 invariant-steps l = record {
-  counts : AreCounts (history_of (take l.entry-index l.entries)) l.counts;
-  text : l.text ≡ line (codes "hist " ++ decimal (length l.entries)) ++ history_lines l.program (history_of (take l.entry-index l.entries));
+  counts : AreCounts (history_of (take l.at l.entries)) l.counts;
+  text : l.text ≡ line (codes "hist " ++ decimal (length l.entries)) ++ history_lines l.program (history_of (take l.at l.entries));
 }

@@ -5,4 +5,4 @@ use Rattle.tb_view.proofs.task_text.body_line.Given as goal
 
 -- the body's line by the steps so far
 abbrev pub invariant-entries : goal.invariant-entries
-invariant-entries l = l.line ≡ (called_by l.root_line (spawn_of l.task (history_of (take l.entry-index l.entries)))).line
+invariant-entries l = l.line ≡ (called_by l.root_line (spawn_of l.task (history_of (take l.at l.entries)))).line

@@ -5,4 +5,4 @@ use Rattle.tb_view.proofs.tasks.named_tasks.Given as goal
 
 -- the tasks of the steps so far
 abbrev pub invariant-entries : goal.invariant-entries
-invariant-entries l = l.tasks ≡ named_tasks l.root_line (history_of (take l.entry-index l.entries))
+invariant-entries l = l.tasks ≡ named_tasks l.root_line (history_of (take l.at l.entries))

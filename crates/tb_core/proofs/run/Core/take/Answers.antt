@@ -1,14 +1,15 @@
-use Rattle.std.proofs.Common.{◌∙◌, refl, sym, ap, subst, arith, Some, map, reverse, ◌++◌, [], ◌∷◌}
+use Rattle.std.proofs.Common.{◌∙◌, refl, sym, ap, subst, arith, Some}
 use Rattle.std.specs.Result.{IsOk}
 use Rattle.tb_places.specs.Places.{HasRoomAs}
 use Rattle.std.proofs.lemmas.Bool.{false≢true}
-use Rattle.tb_core.specs.Soundness.{departure}
+use Rattle.tb_model.specs.declared.event.Event.{Event}
 use Rattle.tb_core.specs.Seen.{Held}
 use Rattle.tb_core.specs.Filling.{spare_spawn}
 use Rattle.tb_core.proofs.ShownLemmas.{open_takes, takes_steps}
-use Rattle.tb_wait.proofs.RowLemmas.{keep_names}
 use Rattle.tb_core.proofs.NumberLemmas.{named_next}
-use Rattle.tb_core.proofs.TakenLemmas.{none_reserved, ahead, filled, fills, follows, sound_same, few_steps, appended, takes_so, index_same, index_added}
+use Rattle.tb_core.proofs.TakenLemmas.{none_reserved, ahead, filled, fills, follows, few_steps, takes_so}
+use Rattle.tb_core.specs.Storing.{entries_in}
+use Rattle.tb_core.proofs.HeldLemmas.{held_same, on_err, shown_run, entered}
 use Rattle.tb_core.proofs.run.Core.take.Goals as goal
 
 pub returns-in_err-event-clause-room : goal.returns-in_err-event-clause-room
@@ -16,33 +17,48 @@ returns-in_err-event-clause-room c reserved =
     let i = c.self.inside in
     let is = ap (λ (h : Held). h.run) c.self.view_is in
     let held = ap (λ (h : Held). h.reserved) c.self.view_is ∙ reserved in
-    let spare = c.spares-its_name.ensures.spawn ∙ ap spare_spawn (c.take.ensures.value ∙ held) in
+    let spare = c.spare_spawn-spare.ensures ∙ ap spare_spawn (c.take.ensures.value ∙ held) in
     absurd (false≢true (subst IsOk c.in_err-event.was (c.fill_in.ensures.room _
-    (fills i.first.items i.root_line i.limit i.entries.items i.tables c.self.invariant.0 c.args.self.now.run is c.args.plan.config.task c.args.plan.action (open_takes c.args.self.now.run c.args.plan c.requires.fits c.requires.ready) _ refl) spare)))
+    (fills i.first.items i.root_line i.limit (entries_in i.tables i.entries.items) i.tables c.self.invariant.0 c.args.self.now.run is c.args.plan.config.task c.args.plan.action (open_takes c.args.self.now.run c.args.plan c.requires.fits c.requires.ready) _ refl) spare)))
 
 pub apply-requires : goal.apply-requires
 apply-requires c =
     let i = c.self.inside in
     let is = ap (λ (h : Held). h.run) c.self.view_is in
-    let event = filled i.first.items i.root_line i.limit i.entries.items i.tables c.self.invariant.0 c.args.self.now.run is c.args.plan.config.task c.args.plan.action (open_takes c.args.self.now.run c.args.plan c.requires.fits c.requires.ready) c.in_ok-event.event c.in_ok-event.ensures.ok in
-    ahead i.first.items i.root_line i.limit i.entries.items i.tables c.self.invariant.0 c.args.self.now.run is c.in_ok-event.event (follows i.first.items i.root_line i.limit i.entries.items i.tables c.self.invariant.0 c.args.self.now.run is c.args.plan.config.task c.args.plan.action (open_takes c.args.self.now.run c.args.plan c.requires.fits c.requires.ready) c.in_ok-event.event event) c.requires.ready.room
+    let event = filled i.first.items i.root_line i.limit (entries_in i.tables i.entries.items) i.tables c.self.invariant.0 c.args.self.now.run is c.args.plan.config.task c.args.plan.action (open_takes c.args.self.now.run c.args.plan c.requires.fits c.requires.ready) c.in_ok-event.event c.in_ok-event.ensures.ok in
+    ahead i.first.items i.root_line i.limit (entries_in i.tables i.entries.items) i.tables c.self.invariant.0 c.args.self.now.run is c.in_ok-event.event (follows i.first.items i.root_line i.limit (entries_in i.tables i.entries.items) i.tables c.self.invariant.0 c.args.self.now.run is c.args.plan.config.task c.args.plan.action (open_takes c.args.self.now.run c.args.plan c.requires.fits c.requires.ready) c.in_ok-event.event event) c.requires.ready.room
+
+pub number_in-number-requires : goal.number_in-number-requires
+number_in-number-requires c =
+    let i = c.self.inside in
+    let is = ap (λ (h : Held). h.run) c.self.view_is in
+    let may = open_takes c.args.self.now.run c.args.plan c.requires.fits c.requires.ready in
+    let event = filled i.first.items i.root_line i.limit (entries_in i.tables i.entries.items) i.tables c.self.invariant.0 c.args.self.now.run is c.args.plan.config.task c.args.plan.action may c.in_ok-event.event c.in_ok-event.ensures.ok in
+    named_next i.first.items i.root_line i.limit (entries_in i.tables i.entries.items) i.tables c.self.invariant.0 c.args.self.now.run is c.in_ok-event.event
+    (follows i.first.items i.root_line i.limit (entries_in i.tables i.entries.items) i.tables c.self.invariant.0 c.args.self.now.run is c.args.plan.config.task c.args.plan.action may c.in_ok-event.event event)
 
 pub invariant_of-self-in_err-replaced : goal.invariant_of-self-in_err-replaced
 invariant_of-self-in_err-replaced c =
     let i = c.self.inside in
-    let is = ap (λ (h : Held). h.run) c.self.view_is in (
-      sound_same i.first.items i.root_line i.limit i.entries.items i.tables c.self.invariant.0
-          c.reserve.new.self.items c.apply.new.self c.reserve.ensures.items c.in_err-replaced.ensures.err,
-      none_reserved _ _ _ _ c.take.ensures.after,
-      index_same i.entries.items c.reserve.new.self.items i.places c.reserve-2.new.self i.tables c.apply.new.self c.reserve.ensures.items c.reserve-2.ensures.same c.apply.ensures.names c.self.invariant.2,
-    )
+    let h =
+    held_same i.first.items i.root_line i.limit i.entries.items c.reserve.new.self.items i.tables c.apply.new.self i.places c.reserve-2.new.self c.reserve.ensures.items c.in_err-replaced.ensures.err c.apply.ensures.names c.reserve-2.ensures.same
+    c.self.invariant.0 c.self.invariant.2 c.self.invariant.3 in
+    (h.sound, none_reserved _ _ _ _ c.take.ensures.after, h.index, h.stored)
+
+pub returns-in_err-replaced-clause-err : goal.returns-in_err-replaced-clause-err
+returns-in_err-replaced-clause-err c =
+    let i = c.self.inside in
+    let h =
+    held_same i.first.items i.root_line i.limit i.entries.items c.reserve.new.self.items i.tables c.apply.new.self i.places c.reserve-2.new.self c.reserve.ensures.items c.in_err-replaced.ensures.err c.apply.ensures.names c.reserve-2.ensures.same
+    c.self.invariant.0 c.self.invariant.2 c.self.invariant.3 in
+    on_err _ _ (shown_run i.first.items i.root_line i.limit c.reserve.new.self.items (entries_in i.tables i.entries.items) c.apply.new.self c.reserve-2.new.self h ∙ ap (λ (x : Held). x.run) c.self.view_is)
 
 pub returns-in_err-replaced-clause-room : goal.returns-in_err-replaced-clause-room
 returns-in_err-replaced-clause-room c reserved =
     let i = c.self.inside in
     let is = ap (λ (h : Held). h.run) c.self.view_is in
     let held = ap (λ (h : Held). h.reserved) c.self.view_is ∙ reserved in
-    let event = filled i.first.items i.root_line i.limit i.entries.items i.tables c.self.invariant.0 c.args.self.now.run is c.args.plan.config.task c.args.plan.action (open_takes c.args.self.now.run c.args.plan c.requires.fits c.requires.ready) c.in_ok-event.event c.in_ok-event.ensures.ok in
+    let event = filled i.first.items i.root_line i.limit (entries_in i.tables i.entries.items) i.tables c.self.invariant.0 c.args.self.now.run is c.args.plan.config.task c.args.plan.action (open_takes c.args.self.now.run c.args.plan c.requires.fits c.requires.ready) c.in_ok-event.event c.in_ok-event.ensures.ok in
     absurd (false≢true (subst IsOk c.in_err-replaced.was (c.apply.ensures.succeeds (c.self.invariant.1.tables c.in_ok-event.event (held ∙ ap Some (sym event))))))
 
 pub returns-in_err-reserve-2-clause-room : goal.returns-in_err-reserve-2-clause-room
@@ -50,15 +66,15 @@ returns-in_err-reserve-2-clause-room c reserved =
     let i = c.self.inside in
     let is = ap (λ (h : Held). h.run) c.self.view_is in
     let held = ap (λ (h : Held). h.reserved) c.self.view_is ∙ reserved in
-    let event = filled i.first.items i.root_line i.limit i.entries.items i.tables c.self.invariant.0 c.args.self.now.run is c.args.plan.config.task c.args.plan.action (open_takes c.args.self.now.run c.args.plan c.requires.fits c.requires.ready) c.in_ok-event.event c.in_ok-event.ensures.ok in
-    absurd (false≢true (subst IsOk c.in_err-reserve-2.was (c.reserve-2.ensures.succeeds (subst (λ n. HasRoomAs i.places n c.in_ok-event.event) (sym c.place-number.ensures) (c.self.invariant.1.places c.in_ok-event.event (held ∙ ap Some (sym event)))))))
+    let event = filled i.first.items i.root_line i.limit (entries_in i.tables i.entries.items) i.tables c.self.invariant.0 c.args.self.now.run is c.args.plan.config.task c.args.plan.action (open_takes c.args.self.now.run c.args.plan c.requires.fits c.requires.ready) c.in_ok-event.event c.in_ok-event.ensures.ok in
+    absurd (false≢true (subst IsOk c.in_err-reserve-2.was (c.reserve-2.ensures.succeeds (subst (λ n. HasRoomAs i.places n c.in_ok-event.event.action) c.number_in-number.ensures (c.self.invariant.1.places c.in_ok-event.event (held ∙ ap Some (sym event)))))))
 
 pub overflow_add-result : goal.overflow_add-result
 overflow_add-result c =
     let i = c.self.inside in
     let is = ap (λ (h : Held). h.run) c.self.view_is in
     let counted = ap (λ k. k.steps) c.requires.ready.current.here in
-    let bound = few_steps i.first.items i.root_line i.limit i.entries.items i.tables c.self.invariant.0 c.args.self.now.run is c.args.plan.config.task c.args.plan.action (open_takes c.args.self.now.run c.args.plan c.requires.fits c.requires.ready) in
+    let bound = few_steps i.first.items i.root_line i.limit (entries_in i.tables i.entries.items) i.tables c.self.invariant.0 c.args.self.now.run is c.args.plan.config.task c.args.plan.action (open_takes c.args.self.now.run c.args.plan c.requires.fits c.requires.ready) in
     omega (arith, bound, counted)
 
 pub invariant_of-self-2 : goal.invariant_of-self-2
@@ -66,27 +82,24 @@ invariant_of-self-2 c =
     let i = c.self.inside in
     let is = ap (λ (h : Held). h.run) c.self.view_is in
     let may = open_takes c.args.self.now.run c.args.plan c.requires.fits c.requires.ready in
-    let event = filled i.first.items i.root_line i.limit i.entries.items i.tables c.self.invariant.0 c.args.self.now.run is c.args.plan.config.task c.args.plan.action may c.in_ok-event.event c.in_ok-event.ensures.ok in (
-      (appended i.first.items i.root_line i.limit i.entries.items i.tables c.self.invariant.0 c.args.self.now.run is c.in_ok-event.event (follows i.first.items i.root_line i.limit i.entries.items i.tables c.self.invariant.0 c.args.self.now.run is c.args.plan.config.task c.args.plan.action may c.in_ok-event.event event) c.requires.ready.room
-          c.to-to.result c.in_ok-replaced.replaced c.reserve.new.self.items c.push_reserved-2.new.self.items c.apply.new.self c.reserve.ensures.items
-          (c.push_reserved-2.ensures.items ∙ ap (λ e. c.reserve.new.self.items ++ e ∷ []) c.new.ensures) c.in_ok-replaced.ensures.applied c.in_ok-replaced.ensures.replaced).sound',
-      none_reserved _ _ _ _ c.take.ensures.after,
-      index_added c.reserve.new.self.items c.push_reserved-2.new.self.items _ c.count-at.result c.args.self.now.run.steps c.reserve-2.new.self c.push_reserved.new.self i.tables c.apply.new.self c.place-number.result
-          (sym (ap (λ (h : Held). h.run.steps) c.self.view_is) ∙ ap (λ l. map departure (reverse l)) (sym c.reserve.ensures.items)) c.count-at.ensures.count (c.push_reserved-2.ensures.items ∙ ap (λ e. c.reserve.new.self.items ++ e ∷ []) c.new.ensures) c.push_reserved.ensures.pushed
-          c.place-number.ensures (named_next i.first.items i.root_line i.limit i.entries.items i.tables c.self.invariant.0 c.args.self.now.run is c.in_ok-event.event (follows i.first.items i.root_line i.limit i.entries.items i.tables c.self.invariant.0 c.args.self.now.run is c.args.plan.config.task c.args.plan.action may c.in_ok-event.event event)) c.apply.ensures.names
-          (index_same i.entries.items c.reserve.new.self.items i.places c.reserve-2.new.self i.tables i.tables c.reserve.ensures.items c.reserve-2.ensures.same (keep_names i.tables.waits.tasks) c.self.invariant.2),
-    )
+    let event = filled i.first.items i.root_line i.limit (entries_in i.tables i.entries.items) i.tables c.self.invariant.0 c.args.self.now.run is c.args.plan.config.task c.args.plan.action may c.in_ok-event.event c.in_ok-event.ensures.ok in
+    let follow = follows i.first.items i.root_line i.limit (entries_in i.tables i.entries.items) i.tables c.self.invariant.0 c.args.self.now.run is c.args.plan.config.task c.args.plan.action may c.in_ok-event.event event in
+    let h =
+    entered i.first.items i.root_line i.limit i.entries.items i.tables i.places c.self.invariant.0 c.self.invariant.2 c.self.invariant.3 c.args.self.now.run is c.in_ok-event.event follow c.requires.ready.room c.to-to.result c.in_ok-replaced.replaced c.number_in-number.result
+    c.reserve.new.self.items c.push_reserved-2.new.self.items c.new.result c.apply.new.self c.count-at.result c.reserve-2.new.self c.push_reserved.new.self c.reserve.ensures.items c.push_reserved-2.ensures.items c.new.ensures c.number_in-number.ensures
+    c.in_ok-replaced.ensures.applied c.in_ok-replaced.ensures.replaced c.apply.ensures.names c.reserve-2.ensures.same c.push_reserved.ensures.pushed c.count-at.ensures.count in
+    (h.sound', none_reserved _ _ _ _ c.take.ensures.after, h.index', h.stored')
 
 pub returns-clause-ok : goal.returns-clause-ok
 returns-clause-ok c =
     let i = c.self.inside in
     let is = ap (λ (h : Held). h.run) c.self.view_is in
     let may = open_takes c.args.self.now.run c.args.plan c.requires.fits c.requires.ready in
-    let event = filled i.first.items i.root_line i.limit i.entries.items i.tables c.self.invariant.0 c.args.self.now.run is c.args.plan.config.task c.args.plan.action may c.in_ok-event.event c.in_ok-event.ensures.ok in
-    let follow = follows i.first.items i.root_line i.limit i.entries.items i.tables c.self.invariant.0 c.args.self.now.run is c.args.plan.config.task c.args.plan.action may c.in_ok-event.event event in
-    let now = (appended i.first.items i.root_line i.limit i.entries.items i.tables c.self.invariant.0 c.args.self.now.run is c.in_ok-event.event follow c.requires.ready.room
-    c.to-to.result c.in_ok-replaced.replaced c.reserve.new.self.items c.push_reserved-2.new.self.items c.apply.new.self c.reserve.ensures.items
-    (c.push_reserved-2.ensures.items ∙ ap (λ e. c.reserve.new.self.items ++ e ∷ []) c.new.ensures) c.in_ok-replaced.ensures.applied c.in_ok-replaced.ensures.replaced).now
-    in
+    let event = filled i.first.items i.root_line i.limit (entries_in i.tables i.entries.items) i.tables c.self.invariant.0 c.args.self.now.run is c.args.plan.config.task c.args.plan.action may c.in_ok-event.event c.in_ok-event.ensures.ok in
+    let follow = follows i.first.items i.root_line i.limit (entries_in i.tables i.entries.items) i.tables c.self.invariant.0 c.args.self.now.run is c.args.plan.config.task c.args.plan.action may c.in_ok-event.event event in
+    let h =
+    entered i.first.items i.root_line i.limit i.entries.items i.tables i.places c.self.invariant.0 c.self.invariant.2 c.self.invariant.3 c.args.self.now.run is c.in_ok-event.event follow c.requires.ready.room c.to-to.result c.in_ok-replaced.replaced c.number_in-number.result
+    c.reserve.new.self.items c.push_reserved-2.new.self.items c.new.result c.apply.new.self c.count-at.result c.reserve-2.new.self c.push_reserved.new.self c.reserve.ensures.items c.push_reserved-2.ensures.items c.new.ensures c.number_in-number.ensures
+    c.in_ok-replaced.ensures.applied c.in_ok-replaced.ensures.replaced c.apply.ensures.names c.reserve-2.ensures.same c.push_reserved.ensures.pushed c.count-at.ensures.count in
     takes_steps c.args.self.now.run c.args.plan c.to-to.result _ c.in_ok-event.event _ c.requires.ready.current c.requires.ready.room
-    (takes_so c.args.self.now.run c.args.plan.config.task c.args.plan.action c.to-to.result _ c.in_ok-event.event event follow now) (sym c.to-to.ensures) c.in_ok-task.ensures.ok refl
+    (takes_so c.args.self.now.run c.args.plan.config.task c.args.plan.action c.to-to.result _ c.in_ok-event.event event follow h.run) (sym c.to-to.ensures) (ap (λ (v : Event). v.task) event) refl

@@ -1,0 +1,86 @@
+-- One stored entry: its place, its number, and what it replaced.
+use Rattle.std.proofs.Common.{◌≡◌, ◌<◌, ℕ, ℤ, List, [], ◌∷◌, ◌++◌, Option, Some, length, get_or, refl, sym, ap, ap₂, ◌∙◌, subst, arith}
+use Rattle.std.specs.List.{AllZip, IsDistinct}
+use Rattle.std.specs.Option.{option_to_list}
+use Rattle.std.proofs.lemmas.List.{length-map}
+use Rattle.std.proofs.lemmas.Slice.Zip.{AllZip-long}
+use Rattle.tb_model.specs.declared.action.Action.{Action}
+use Rattle.tb_model.specs.declared.event.Event.{Event}
+use Rattle.tb_model.specs.declared.step_id.StepId.{StepId}
+use Rattle.tb_model.specs.Names.{Name, same_name}
+use Rattle.tb_model.proofs.TestLemmas.{same_refl}
+use Rattle.tb_store.specs.declared.replaced.Replaced.{Replaced}
+use Rattle.tb_undo.specs.Tasks.{register_by}
+use Rattle.tb_places.specs.Places.{event_number}
+use Rattle.tb_places.proofs.NameLemmas.{number_at}
+use Rattle.tb_core.specs.declared.entry.Entry.{Entry as Stored}
+use Rattle.tb_core.specs.Entries.{Entry}
+use Rattle.tb_core.specs.Packing.{number_in, replaced_in}
+use Rattle.tb_core.specs.Renumbering.{events_in}
+use Rattle.tb_core.specs.Storing.{IsStored, replaced_stored}
+use Rattle.tb_core.proofs.HistoryLemmas.{zip_at}
+use Rattle.tb_core.proofs.RenumberLemmas.{some_entry}
+
+pub events_many : (names : List Name) (ss : List Stored) (es : List Entry) → AllZip (IsStored names) ss es → length ss ≡ length (events_in es)
+events_many names ss es z = sym (AllZip-long (IsStored names) ss es z) ∙ sym (length-map es (λ (e : Entry). e.event))
+
+-- the entry at a place, which is stored so
+pub record IsAt (names : List Name) (es : List Entry) (at : ℕ) (s : Stored) : Type 0 where
+  pub entry : Entry
+  pub within : at < length es
+  pub here : entry ≡ get_or es at entry
+  pub stored : IsStored names s entry
+
+pub stored_at : (names : List Name) (ss : List Stored) (es : List Entry) (at : ℕ) (s : Stored) → AllZip (IsStored names) ss es → at < length ss → s ≡ get_or ss at s → IsAt names es at s
+stored_at names ss es at s z within here =
+    let inside : at < length es = omega (arith, within, AllZip-long (IsStored names) ss es z) in
+    let w = some_entry es at inside in
+    record { entry = w.0; within = inside; here = w.1; stored = zip_at (IsStored names) ss es at s w.0 z within here w.1 }
+
+pub entry_there : (names : List Name) (ss : List Stored) (es : List Entry) (at : ℕ) → AllZip (IsStored names) ss es → at < length ss → (e : Entry) × (at < length es) × (e ≡ get_or es at e)
+entry_there names ss es at z within =
+    let inside : at < length es = omega (arith, within, AllZip-long (IsStored names) ss es z) in
+    let w = some_entry es at inside in
+    (w.0, inside, w.1)
+
+-- its task has the number that is stored
+pub its_number : (names : List Name) (s : Stored) (e : Entry) → IsDistinct same_name names → IsStored names s e → Some s.task ≡ event_number names e.event
+its_number names s e distinct is = sym (number_at names s.task e.event.task e.event.task distinct is.task (same_refl e.event.task))
+
+-- what it replaced
+pub same_record : (names : List Name) (s : Stored) (e : Entry) → IsStored names s e → replaced_stored s ≡ replaced_in e
+same_record names s e is =
+    ap (λ a. put (number_in a s.number) (register_by a) s.at) is.action
+    ∙ ap (λ n. put (number_in e.event.action n) (register_by e.event.action) s.at) is.number
+    ∙ ap (λ l. put (number_in e.event.action e.number) (register_by e.event.action) l) is.at
+  where
+    put : Option ℤ → Option ℕ → ℕ → Replaced
+    put n r l = record { number = n; reg = r; at = l }
+
+abbrev pub made : Name → Action → Event
+made t a = record { task = t; action = a }
+
+-- its event, by its step's name
+pub same_event : (names : List Name) (s : Stored) (e : Entry) (id : StepId) → IsStored names s e → id.task ≡ e.event.task → made id.task s.action ≡ e.event
+same_event names s e id is task = ap₂ made task is.action
+
+-- ---- the last is taken off
+
+pub record IsLastOf (names : List Name) (ss' : List Stored) (s : Stored) (es : List Entry) : Type 0 where
+  pub front : List Entry
+  pub last : Entry
+  pub parts : es ≡ front ++ last ∷ []
+  pub stored : AllZip (IsStored names) ss' front
+  pub one : IsStored names s last
+
+last_stored : (names : List Name) (ss : List Stored) (s : Stored) (es : List Entry) → AllZip (IsStored names) (ss ++ s ∷ []) es → IsLastOf names ss s es
+last_stored names [] s [] z = absurd z
+last_stored names [] s (e ∷ []) z = record { front = []; last = e; parts = refl; stored = tt; one = z.0 }
+last_stored names [] s (e ∷ d ∷ es) z = absurd z.1
+last_stored names (x ∷ ss) s [] z = absurd z
+last_stored names (x ∷ ss) s (e ∷ es) z =
+    let r = last_stored names ss s es z.1 in
+    record { front = e ∷ r.front; last = r.last; parts = ap (λ l. e ∷ l) r.parts; stored = (z.0, r.stored); one = r.one }
+
+pub taken_off : (names : List Name) (ss ss' : List Stored) (o : Option Stored) (s : Stored) (es : List Entry) → ss ≡ ss' ++ option_to_list o → o ≡ Some s → AllZip (IsStored names) ss es → IsLastOf names ss' s es
+taken_off names ss ss' o s es parts is z = last_stored names ss' s es (subst (λ l. AllZip (IsStored names) l es) (parts ∙ ap (λ x. ss' ++ option_to_list x) is) z)

@@ -1,0 +1,16 @@
+use Rattle.tb_core.specs.Soundness.{names_in}
+use Rattle.tb_core.specs.Storing.{entries_in}
+use Rattle.tb_core.proofs.HistoryLemmas.{stored_here}
+use Rattle.tb_core.proofs.RenumberLemmas.{some_entry}
+use Rattle.tb_core.proofs.history.History.task.Goals as goal
+
+pub returns : goal.returns
+returns c e is =
+    let i = c.self.inside in
+    c.name_in.ensures e (stored_here (names_in i.tables.now) i.entries.now (entries_in i.tables.now i.entries.now) c.args.self.now i.count c.self.invariant.1 c.self.invariant.0 c.self.view_is c.args.at c.entry_in.result.now e c.requires c.entry_in.ensures is)
+
+pub name_in-requires : goal.name_in-requires
+name_in-requires c =
+    let i = c.self.inside in
+    let some = some_entry c.args.self.now c.args.at c.requires in
+    (some.0, stored_here (names_in i.tables.now) i.entries.now (entries_in i.tables.now i.entries.now) c.args.self.now i.count c.self.invariant.1 c.self.invariant.0 c.self.view_is c.args.at c.entry_in.result.now some.0 c.requires c.entry_in.ensures some.1)
