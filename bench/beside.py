@@ -21,6 +21,12 @@ DEEP = program('cells 0', 'body main 0', '  task t', '  taskwait', 'end', 'body 
 SPAWNED = KEPT + SPAWN_ALL
 TWICE = HALVES + b'run 100000\n' + b'rolltask 0.2\nrun 100000\n' * 2
 COMMANDS = b'step 0.1\nundo 0.1#4\nout\ndeps 0.2\n' * 5000
+# 10,000 tasks of 8 steps each, that nothing orders: 130,000 steps with those of the root
+MANY = program('cells 0', 'body main 0', '  let r0 0', '  while r0 < 10000', '    task t', '    let r0 r0 + 1', '  end', 'end',
+               'body t 0', *['  let r0 %d' % n for n in range(6)], 'end')
+WHOLE = MANY + b'run 1000000\n'
+# a task of 64 steps among 100,000 of another, a step in each 1,500
+SCATTERED = HALVES.replace(b'24998', b'1000000') + b'run 4\n' + b'step 0.2\nrun 1500\n' * 64
 KINDS = [
     ('a counting loop of 1,000,000 steps', EMPTY, LOOP + b'run 999999\n'),
     ('10,000 siblings on 64 cells', EMPTY, siblings('inout', 64) + RUN),
@@ -33,6 +39,13 @@ KINDS = [
     ('ready of 10,001 tasks, ten times', SPAWNED, SPAWNED + b'ready\n' * 10),
     ('waits of 10,001 tasks, ten times', SPAWNED, SPAWNED + b'waits\n' * 10),
     ('tasks of 10,001 tasks, ten times', SPAWNED, SPAWNED + b'tasks\n' * 10),
+    ('a step that 3 need rolled back and run again in 130,000, 2,000 times', WHOLE,
+     WHOLE + b''.join(b'roll 0.%d#5\nrun 4\n' % (n * 5 + 1) for n in range(2000))),
+    ('who of a step that 3 need in 130,000, 300 times', WHOLE, WHOLE + b''.join(b'who 0.%d#5\n' % (n * 33 + 1) for n in range(300))),
+    ('a task rolled back in 64 rows and run again, 100 times', SCATTERED, SCATTERED + (b'rolltask 0.2\n' + b'step 0.2\n' * 64) * 100),
+    ('why in the middle of 130,000 steps, 200 times', WHOLE, WHOLE + b'why 0.5000#5\n' * 200),
+    ('why of the last step of 130,000, 20 times', WHOLE, WHOLE + b'why 0.10000#8\n' * 20),
+    ('ten steps of a task behind 9,999 that are excluded', SPAWNED, SPAWNED + b'run 1\n' * 10),
     ('20,000 small commands', HALVES + b'run 10\n', HALVES + b'run 10\n' + COMMANDS),
 ]
 
