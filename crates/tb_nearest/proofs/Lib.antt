@@ -1,0 +1,8 @@
+pub mod WayLemmas
+pub mod DirectLemmas
+pub mod HolderLemmas
+pub mod BetweenLemmas
+pub mod SiblingLemmas
+pub mod GroupLemmas
+pub mod CaseLemmas
+pub mod ChainLemmas
