@@ -1,19 +1,17 @@
 -- The later event of a race, after what the order puts in front of either.
-use Rattle.std.proofs.Common.{◌≡◌, ℕ, suc, ℤ, List, [], ◌∷◌, ◌++◌, Bool, true, false, cond, ◌&&◌, ◌||◌, refl, sym, ap, ◌∙◌, subst, Option, Some, None, option_map, is_some, map}
+use Rattle.std.proofs.Common.{◌≡◌, inl, inr, ℤ, List, [], ◌∷◌, ◌++◌, Bool, true, false, cond, ◌&&◌, ◌||◌, refl, sym, ap, ◌∙◌, subst, Option, Some, None, option_map, is_some}
 use Rattle.std.specs.List.{list_any}
 use Rattle.std.specs.Option.{option_or}
 use Rattle.std.proofs.lemmas.Bool.{false≢true}
 use Rattle.tb_model.specs.declared.action.Action.{Action}
 use Rattle.tb_model.specs.declared.action.Action.TheVariants.{Start, Let, Load, Store, Print, Spawn, Wait, Open, Close, Test, End, Fault}
 use Rattle.tb_model.specs.declared.event.Event.{Event}
-use Rattle.tb_model.specs.declared.statement.Statement.{Statement}
-use Rattle.tb_model.specs.declared.statement.Statement.TheVariants.{Load as DoLoad, Store as DoStore, Task as DoSpawn, Taskwait as DoWait, Start as DoStart, Let as DoLet, Compute as DoCompute, Print as DoPrint, Taskgroup as DoOpen, EndTaskgroup as DoClose, Test as DoTest, End as DoEnd}
-use Rattle.tb_model.specs.declared.item.Item.{Item}
-use Rattle.tb_model.specs.Names.{Name, child}
+use Rattle.tb_model.specs.Names.{Name}
 use Rattle.tb_model.specs.Facts.{History, is_of, own, holds, is_end, spawns}
-use Rattle.tb_model.specs.Legal.{Cells, spawn_count, Continues, MayFollow}
+use Rattle.tb_model.specs.Legal.{Cells, Continues, MayFollow}
 use Rattle.tb_model.specs.Needs.{needs}
-use Rattle.tb_model.specs.Program.{Program, value, is_deferred, cell_at, or_fault, items_at, items_or_fault, action_of, situation, instr_at, planned, loaded, LegalFor, IsNext}
+use Rattle.tb_model.specs.State.{called_by, spawn_of}
+use Rattle.tb_model.specs.Program.{loaded}
 use Rattle.tb_model.specs.Hindrances.{number_read}
 use Rattle.tb_model.proofs.PartsLemmas.{Parts, own_same}
 use Rattle.tb_model.proofs.TestLemmas.{none_weaker}
@@ -23,60 +21,35 @@ use Rattle.tb_races.specs.declared.need_kind.NeedKind.{NeedKind}
 use Rattle.tb_races.specs.declared.need_kind.NeedKind.TheVariants.{Task, Spawn as Spawned, Conflict as Conflicts, Undeferred}
 use Rattle.tb_races.specs.Kinds.{some_if, shared, wait_kind, end_kind}
 use Rattle.tb_races.specs.Orders.{WithExclusion, counts_some, links}
-use Rattle.tb_one_run.specs.Outcomes.{passing, with_number, as_read}
-use Rattle.tb_one_run.proofs.PassingLemmas.{failing, passing_parts, none_failing, planned_stays}
+use Rattle.tb_one_run.specs.Outcomes.{passing, with_number, as_read_at}
+use Rattle.tb_one_run.specs.Behaviours.{IsNoLoad, OnlyReads, Behaviour, given, IsRunOf, IsNextOf}
+use Rattle.tb_one_run.proofs.BehaviourLemmas.{some_one, given_stays}
+use Rattle.tb_one_run.proofs.PassingLemmas.{failing, passing_parts, none_failing}
 use Rattle.tb_one_run.proofs.FrontLemmas.{end_counts}
 
 -- ---- an action with another number
 
-with_number_given : (cells : Cells) (t : Name) (n : ℕ) (regs : List ℤ) (x y : ℤ) (s : Statement) → with_number x (action_of cells t n regs y s) ≡ action_of cells t n regs x s
-with_number_given cells t n regs x y (DoLoad r a) = at (cell_at cells (value regs a))
+-- what is given with another number says that number
+given_with : (g : ℤ → Option Action) → OnlyReads g → (a : Action) (x : ℤ) → g (loaded a) ≡ Some a → g (loaded (with_number x a)) ≡ Some (with_number x a)
+given_with g (inl o) a x p = o.2 (loaded (with_number x a)) ∙ sym (o.2 (loaded a)) ∙ p ∙ ap Some (kept a (subst IsNoLoad (sym (o.2 (loaded a)) ∙ p) o.1))
   where
-    at : (o : Option ℕ) → with_number x (or_fault o (λ c. Load r c y)) ≡ or_fault o (λ c. Load r c x)
-    at None = refl
-    at (Some c) = refl
-with_number_given cells t n regs x y (DoStore a b) = at (cell_at cells (value regs a))
-  where
-    at : (o : Option ℕ) → with_number x (or_fault o (λ c. Store c (value regs b))) ≡ or_fault o (λ c. Store c (value regs b))
-    at None = refl
-    at (Some c) = refl
-with_number_given cells t n regs x y (DoSpawn line args items q) = at (items_at cells regs items)
-  where
-    at : (o : Option (List Item)) → with_number x (items_or_fault o (λ is. Spawn (record { child = child t n; body = line; args = map (value regs) args; items = is; deferred = is_deferred regs q }))) ≡ items_or_fault o (λ is. Spawn (record { child = child t n; body = line; args = map (value regs) args; items = is; deferred = is_deferred regs q }))
-    at None = refl
-    at (Some is) = refl
-with_number_given cells t n regs x y (DoWait items) = at (items_at cells regs items)
-  where
-    at : (o : Option (List Item)) → with_number x (items_or_fault o Wait) ≡ items_or_fault o Wait
-    at None = refl
-    at (Some is) = refl
-with_number_given cells t n regs x y DoStart = refl
-with_number_given cells t n regs x y (DoLet r a) = refl
-with_number_given cells t n regs x y (DoCompute r a o b) = refl
-with_number_given cells t n regs x y (DoPrint a) = refl
-with_number_given cells t n regs x y DoOpen = refl
-with_number_given cells t n regs x y DoClose = refl
-with_number_given cells t n regs x y (DoTest c) = refl
-with_number_given cells t n regs x y DoEnd = refl
-
--- an action says the number that it was given, where that matters
-says_its_own : (cells : Cells) (t : Name) (n : ℕ) (regs : List ℤ) (x : ℤ) (s : Statement) → action_of cells t n regs x s ≡ action_of cells t n regs (loaded (action_of cells t n regs x s)) s
-says_its_own cells t n regs x (DoLoad r a) = at (cell_at cells (value regs a))
-  where
-    at : (o : Option ℕ) → or_fault o (λ c. Load r c x) ≡ or_fault o (λ c. Load r c (loaded (or_fault o (λ d. Load r d x))))
-    at None = refl
-    at (Some c) = refl
-says_its_own cells t n regs x _ = refl
-
-planned_with : (P : Program) (H : History) (t : Name) (x y : ℤ) → with_number x (planned P H t y) ≡ planned P H t x
-planned_with P H t x y =
-    let c = situation P t H in
-    with_number_given P.cells t (suc (spawn_count (own t H))) c.regs x y (instr_at P c.line).statement
-
-planned_says : (P : Program) (H : History) (t : Name) (x : ℤ) → planned P H t x ≡ planned P H t (loaded (planned P H t x))
-planned_says P H t x =
-    let c = situation P t H in
-    says_its_own P.cells t (suc (spawn_count (own t H))) c.regs x (instr_at P c.line).statement
+    kept : (a : Action) → IsNoLoad (Some a) → a ≡ with_number x a
+    kept (Load r c y) n = absurd n
+    kept Start n = refl
+    kept (Let r y) n = refl
+    kept (Store c y) n = refl
+    kept (Print y) n = refl
+    kept (Spawn s) n = refl
+    kept (Wait items) n = refl
+    kept Open n = refl
+    kept Close n = refl
+    kept (Test b) n = refl
+    kept End n = refl
+    kept Fault n = refl
+given_with g (inr o) a x p =
+    let l : a ≡ Load o.0 o.1 (loaded a) = some_one (sym p ∙ o.2 (loaded a)) in
+    let m : with_number x a ≡ Load o.0 o.1 x = ap (with_number x) l in
+    o.2 (loaded (with_number x a)) ∙ ap (λ y. Some (Load o.0 o.1 y)) (ap loaded m) ∙ ap Some (sym m)
 
 -- ---- what keeps a task from no action but its own past links
 
@@ -165,7 +138,7 @@ may_go_on cells G t (Test y) b r s h m = cc
 may_go_on cells G t End b r s h m = cc
 may_go_on cells G t Fault b r s h m = cc
 
-module _ (P : Program) (p : History → Bool) (f : Event) (F : History) (b : Action) (r : Conflict) (shares : shared f.action b ≡ Some r) (l : LegalFor P (f ∷ F)) (keeps : (k : History) (u : Event) (U : History) → F ≡ k ++ u ∷ U → links WithExclusion F f u ≡ true → p (u ∷ U) ≡ true) where
+module _ (B : Behaviour) (p : History → Bool) (f : Event) (F : History) (b : Action) (r : Conflict) (shares : shared f.action b ≡ Some r) (l : IsRunOf B (f ∷ F)) (keeps : (k : History) (u : Event) (U : History) → F ≡ k ++ u ∷ U → links WithExclusion F f u ≡ true → p (u ∷ U) ≡ true) where
   abbrev G : History
   G = passing p F
 
@@ -181,23 +154,18 @@ module _ (P : Program) (p : History → Bool) (f : Event) (F : History) (b : Act
   none_spawn : list_any (spawns f.task) (failing p F) ≡ false
   none_spawn = none_weaker (spawns f.task) (needs F (quiet f.task)) (needs_spawn F f.task Open) (failing p F) none
 
-  quiet_may : MayFollow P.cells G (quiet f.task)
+  quiet_may : MayFollow B.cells G (quiet f.task)
   quiet_may =
-      follows_stays P.cells F G (failing p F) s (quiet f.task) none
-      (record { own = under_way P.cells f.task (own f.task F) f.action b r shares l.0.1.own; resumed = l.0.1.resumed; timely = tt })
-
-  given : (as_read P G f).action ≡ planned P G f.task (number_read P.cells G f.action)
-  given =
-      let x = number_read P.cells G f.action in
-      ap (with_number x) l.1.1 ∙ planned_with P F f.task x (loaded f.action) ∙ sym (planned_stays P s f.task none_own none_spawn x)
+      follows_stays B.cells F G (failing p F) s (quiet f.task) none
+      (record { own = under_way B.cells f.task (own f.task F) f.action b r shares l.0.1.own; resumed = l.0.1.resumed; timely = tt })
 
   -- so it is next, with the number that its cell has there
-  pub later_next : IsNext P G (as_read P G f)
+  pub later_next : IsNextOf B G (as_read_at B.cells G f)
   later_next = record {
     may =
-        may_go_on P.cells G f.task f.action b r shares
-        (subst (λ acts. Continues P.cells f.task acts f.action) (sym (own_same f.task s none_own)) l.0.1.own) quiet_may;
-    follows =
-        given ∙ planned_says P G f.task (number_read P.cells G f.action)
-        ∙ ap (λ a. planned P G f.task (loaded a)) (sym given);
+        may_go_on B.cells G f.task f.action b r shares
+        (subst (λ acts. Continues B.cells f.task acts f.action) (sym (own_same f.task s none_own)) l.0.1.own) quiet_may;
+    behaves =
+        let x = number_read B.cells G f.action in
+        given_with (given B G f.task) (B.reads (called_by B.root_line (spawn_of f.task G)) f.task (own f.task G)) f.action x (given_stays B s f.task none_own none_spawn (loaded f.action) ∙ l.1.1);
   }

@@ -3,6 +3,7 @@ pub mod OnceLemmas
 pub mod AgreeLemmas
 pub mod LinkLemmas
 pub mod NumberLemmas
+pub mod BehaviourLemmas
 pub mod PlaceLemmas
 pub mod WalkLemmas
 pub mod StepLemmas

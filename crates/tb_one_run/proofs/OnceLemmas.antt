@@ -1,10 +1,10 @@
 -- A task is generated once and ends once, so its one spawn and its one end stay where it was generated or has ended.
-use Rattle.std.proofs.Common.{◌≡◌, List, [], ◌∷◌, ◌++◌, Bool, true, false, ⊎_elim, refl, subst}
+use Rattle.std.proofs.Common.{◌≡◌, [], ◌∷◌, ◌++◌, Bool, true, false, ⊎_elim, refl, subst}
 use Rattle.std.specs.List.{list_any}
 use Rattle.std.proofs.lemmas.Bool.{or_cases, or_left, or_parts, both_ways, false_from_ne_true}
 use Rattle.tb_model.specs.declared.event.Event.{Event}
 use Rattle.tb_model.specs.Names.{Name}
-use Rattle.tb_model.specs.Facts.{History, is_of, own, prepend_if, ends, spawns, HasEnded}
+use Rattle.tb_model.specs.Facts.{History, is_of, own, ends, spawns, HasEnded}
 use Rattle.tb_model.specs.Legal.{Cells, IsRunning, Continues, MayFollow, Legal}
 use Rattle.tb_model.proofs.TestLemmas.{same_true}
 use Rattle.tb_model.proofs.FactsLemmas.{begun, not_started, ends_own, not_running, not_again, spawned_by}

@@ -1,20 +1,18 @@
 -- The events of a run that pass a test, where the test passes all that they directly need.
-use Rattle.std.proofs.Common.{◌≡◌, suc, ℤ, [], ◌∷◌, ◌++◌, Bool, true, false, ◌||◌, not, refl, sym, ap, ap₂, ◌∙◌, append_assoc}
+use Rattle.std.proofs.Common.{◌≡◌, [], ◌∷◌, ◌++◌, Bool, true, false, ◌||◌, not, refl, sym, ap, ap₂, ◌∙◌, append_assoc}
 use Rattle.std.specs.List.{list_any}
 use Rattle.std.proofs.lemmas.Bool.{both_ways, false_from_ne_true}
 use Rattle.tb_model.specs.declared.event.Event.{Event}
-use Rattle.tb_model.specs.Names.{Name}
 use Rattle.tb_model.specs.Facts.{History, is_of, spawns, prepend_if}
-use Rattle.tb_model.specs.State.{called_by}
-use Rattle.tb_model.specs.Legal.{spawn_count}
 use Rattle.tb_model.specs.Needs.{needs}
-use Rattle.tb_model.specs.Program.{Program, config, instr_at, action_of, planned, loaded, LegalFor, IsNext}
+use Rattle.tb_model.specs.Program.{loaded}
 use Rattle.tb_model.proofs.TestLemmas.{none_weaker}
 use Rattle.tb_model.proofs.PartsLemmas as parts
-use Rattle.tb_model.proofs.PartsLemmas.{Parts, own_same}
-use Rattle.tb_model.proofs.RecordsLemmas.{spawn_same}
+use Rattle.tb_model.proofs.PartsLemmas.{Parts}
 use Rattle.tb_model.proofs.RemovalLemmas.{needs_own, needs_spawn, follows_stays}
 use Rattle.tb_one_run.specs.Outcomes.{passing}
+use Rattle.tb_one_run.specs.Behaviours.{Behaviour, IsRunOf, IsNextOf}
+use Rattle.tb_one_run.proofs.BehaviourLemmas.{given_stays}
 use Rattle.tb_one_run.proofs.SharedLemmas.{one_more}
 
 -- those that don't
@@ -52,19 +50,13 @@ none_failing p q m (u ∷ H) X e f =
     at true h rest = rest
     at false h rest = ap₂ (λ a b. a || b) (false_from_ne_true (q u) (λ z. both_ways (p (u ∷ H)) h (f m u H e z))) rest
 
--- what the program gives doesn't change where a task's own events and its spawn stay
-pub planned_stays : (P : Program) {H K R : History} → Parts H K R → (t : Name) → list_any (is_of t) R ≡ false → list_any (spawns t) R ≡ false → (x : ℤ) → planned P K t x ≡ planned P H t x
-planned_stays P s t o n x =
-    ap₂ (λ acts k. action_of P.cells t (suc (spawn_count acts)) (config P k.line k.args acts).regs x (instr_at P (config P k.line k.args acts).line).statement)
-    (own_same t s o) (ap (called_by P.root_line) (spawn_same t s n))
-
 -- so an event that needs none of those that go is next after those that stay
-pub next_stays : (P : Program) {H K R : History} → Parts H K R → (v : Event) → list_any (needs H v) R ≡ false → IsNext P H v → IsNext P K v
-next_stays P {H} {K} {R} s v n i = record {
-  may = follows_stays P.cells H K R s v n i.may;
-  follows =
-      i.follows
-      ∙ sym (planned_stays P s v.task (none_weaker (is_of v.task) (needs H v) (needs_own H v.task v.action) R n) (none_weaker (spawns v.task) (needs H v) (needs_spawn H v.task v.action) R n) (loaded v.action));
+pub next_stays : (B : Behaviour) {H K R : History} → Parts H K R → (v : Event) → list_any (needs H v) R ≡ false → IsNextOf B H v → IsNextOf B K v
+next_stays B {H} {K} {R} s v n i = record {
+  may = follows_stays B.cells H K R s v n i.may;
+  behaves =
+      given_stays B s v.task (none_weaker (is_of v.task) (needs H v) (needs_own H v.task v.action) R n) (none_weaker (spawns v.task) (needs H v) (needs_spawn H v.task v.action) R n) (loaded v.action)
+      ∙ i.behaves;
 }
 
 -- with an event all pass that it directly needs
@@ -72,17 +64,17 @@ abbrev pub KeepsNeeds : (History → Bool) → History → Type 0
 KeepsNeeds p H =
     (b : History) (x : Event) (X : History) → H ≡ b ++ x ∷ X → p (x ∷ X) ≡ true → (m : History) (u : Event) (U : History) → X ≡ m ++ u ∷ U → needs X x u ≡ true → p (u ∷ U) ≡ true
 
-passing_below : (P : Program) (p : History → Bool) (H : History) → KeepsNeeds p H → (b F : History) → H ≡ b ++ F → LegalFor P F → LegalFor P (passing p F)
-passing_below P p H k b [] e l = (tt, tt)
-passing_below P p H k b (x ∷ X) e l =
-    at (p (x ∷ X)) refl (passing_below P p H k (b ++ x ∷ []) X (e ∙ sym (append_assoc b (x ∷ []) X)) (l.0.0, l.1.0))
+passing_below : (B : Behaviour) (p : History → Bool) (H : History) → KeepsNeeds p H → (b F : History) → H ≡ b ++ F → IsRunOf B F → IsRunOf B (passing p F)
+passing_below B p H k b [] e l = (tt, tt)
+passing_below B p H k b (x ∷ X) e l =
+    at (p (x ∷ X)) refl (passing_below B p H k (b ++ x ∷ []) X (e ∙ sym (append_assoc b (x ∷ []) X)) (l.0.0, l.1.0))
   where
-    at : (c : Bool) → p (x ∷ X) ≡ c → LegalFor P (passing p X) → LegalFor P (prepend_if c x (passing p X))
+    at : (c : Bool) → p (x ∷ X) ≡ c → IsRunOf B (passing p X) → IsRunOf B (prepend_if c x (passing p X))
     at true h rest =
-        let n = next_stays P (passing_parts p X) x (none_failing p (needs X x) [] X X refl (λ m u U f q. k b x X e h m u U f q)) (record { may = l.0.1; follows = l.1.1 }) in
-        ((rest.0, n.may), (rest.1, n.follows))
+        let n = next_stays B (passing_parts p X) x (none_failing p (needs X x) [] X X refl (λ m u U f q. k b x X e h m u U f q)) (record { may = l.0.1; behaves = l.1.1 }) in
+        ((rest.0, n.may), (rest.1, n.behaves))
     at false h rest = rest
 
 -- the run of those that pass
-pub passing_legal : (P : Program) (p : History → Bool) (H : History) → KeepsNeeds p H → LegalFor P H → LegalFor P (passing p H)
-passing_legal P p H k l = passing_below P p H k [] H refl l
+pub passing_legal : (B : Behaviour) (p : History → Bool) (H : History) → KeepsNeeds p H → IsRunOf B H → IsRunOf B (passing p H)
+passing_legal B p H k l = passing_below B p H k [] H refl l

@@ -4,22 +4,22 @@ use Rattle.std.proofs.lemmas.Bool.{or_cases, or_left, or_right, and_parts, both_
 use Rattle.tb_model.specs.declared.event.Event.{Event}
 use Rattle.tb_model.specs.Facts.{History, is_of, own, prepend_if}
 use Rattle.tb_model.specs.Needs.{needs, is_step, step_of}
-use Rattle.tb_model.specs.Program.{Program, LegalFor, IsNext}
 use Rattle.tb_model.proofs.TestLemmas.{same_true}
 use Rattle.tb_model.proofs.PartsLemmas.{own_same}
 use Rattle.tb_model.proofs.RemovalLemmas.{needs_own, needs_up, not_step, its_step}
 use Rattle.tb_model.proofs.LeastLemmas.{later_not_step}
 use Rattle.tb_model.proofs.UndoLemmas.{AreFree}
 use Rattle.tb_model.proofs.RunLemmas.{moved_run}
-use Rattle.tb_model.proofs.ForProgramLemmas.{run_for}
 use Rattle.tb_races.specs.Orders.{WithExclusion, ComesAfter, by_way}
 use Rattle.tb_one_run.specs.Outcomes.{HasRace, passing, is_in_front}
+use Rattle.tb_one_run.specs.Behaviours.{Behaviour, IsRunOf, IsNextOf}
+use Rattle.tb_one_run.proofs.BehaviourLemmas.{run_of}
 use Rattle.tb_one_run.proofs.SharedLemmas.{own_longer}
 use Rattle.tb_one_run.proofs.TwinLemmas.{one_place}
 use Rattle.tb_one_run.proofs.PassingLemmas.{late_passing, passing_parts, passing_split, none_failing, KeepsNeeds, passing_legal}
 use Rattle.tb_one_run.proofs.FrontLemmas.{need_ordered, not_itself, front_after, after_front}
 
-module _ (P : Program) (f : Event) (F : History) (e : Event) (E m : History) (at_e : F ≡ m ++ e ∷ E) (unordered : ComesAfter WithExclusion (f ∷ F) (e ∷ E) → ⊥) (l : LegalFor P F) (free : HasRace WithExclusion F → ⊥) where
+module _ (B : Behaviour) (f : Event) (F : History) (e : Event) (E m : History) (at_e : F ≡ m ++ e ∷ E) (unordered : ComesAfter WithExclusion (f ∷ F) (e ∷ E) → ⊥) (l : IsRunOf B F) (free : HasRace WithExclusion F → ⊥) where
   -- what the order with exclusion puts in front of either
   abbrev pub keep : History → Bool
   keep X = is_in_front WithExclusion (f ∷ F) X || is_in_front WithExclusion (e ∷ E) X
@@ -51,8 +51,8 @@ module _ (P : Program) (f : Event) (F : History) (e : Event) (E m : History) (at
   keeps b x X q h k u U r n = kept u U (further (x ∷ X) (u ∷ U) (comes b x X q h) (after_needs b x X q k u U r n))
 
   -- what is kept is a run
-  pub kept_run : LegalFor P (passing keep F)
-  kept_run = passing_legal P keep F keeps l
+  pub kept_run : IsRunOf B (passing keep F)
+  kept_run = passing_legal B keep F keeps l
 
   -- neither of the two is kept
   not_kept : keep (e ∷ E) ≡ false
@@ -117,9 +117,9 @@ module _ (P : Program) (f : Event) (F : History) (e : Event) (E m : History) (at
   without_e =
       ap (passing keep) at_e ∙ passing_split keep m (e ∷ E) ∙ ap (λ c. later m ++ prepend_if c e front) not_kept
 
-  run_with_e : LegalFor P (later m ++ e ∷ front)
+  run_with_e : IsRunOf B (later m ++ e ∷ front)
   run_with_e =
-      subst (LegalFor P) (ap (passing keep_e) at_e ∙ with_e m) (passing_legal P keep_e F keeps_e l)
+      subst (IsRunOf B) (ap (passing keep_e) at_e ∙ with_e m) (passing_legal B keep_e F keeps_e l)
 
   -- nothing that is kept needs it
   needs_not : (b0 b : History) (w : Event) → F ≡ b0 ++ (w ∷ (b ++ e ∷ E)) → keep (w ∷ (b ++ e ∷ E)) ≡ true → needs (later b ++ e ∷ front) w e ≡ false
@@ -139,7 +139,7 @@ module _ (P : Program) (f : Event) (F : History) (e : Event) (E m : History) (at
       at false h rest = rest
 
   -- so it can come at the end
-  pub earlier_next : IsNext P (passing keep F) e
+  pub earlier_next : IsNextOf B (passing keep F) e
   earlier_next =
-      let r = run_for P run_with_e (moved_run e front P.cells (later m) run_with_e.0 (all_free [] m at_e)) in
-      subst (λ G. IsNext P G e) (sym without_e) (record { may = r.0.1; follows = r.1.1 })
+      let r = run_of B run_with_e (moved_run e front B.cells (later m) run_with_e.0 (all_free [] m at_e)) in
+      subst (λ G. IsNextOf B G e) (sym without_e) (record { may = r.0.1; behaves = r.1.1 })

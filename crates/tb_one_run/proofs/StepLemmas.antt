@@ -6,32 +6,32 @@ use Rattle.tb_model.specs.declared.action.Action.{Action}
 use Rattle.tb_model.specs.declared.action.Action.TheVariants.{Load}
 use Rattle.tb_model.specs.declared.event.Event.{Event}
 use Rattle.tb_model.specs.Facts.{History, is_of, is_print, own, prepend_if, spawns, last}
-use Rattle.tb_model.specs.Legal.{first_number, Legal}
+use Rattle.tb_model.specs.State.{called_by, spawn_of}
+use Rattle.tb_model.specs.Legal.{first_number, IsTimely, Legal}
 use Rattle.tb_model.specs.Needs.{conflicts}
 use Rattle.tb_model.specs.Alike.{Alike}
-use Rattle.tb_model.specs.Program.{Program, zero_ℤ, planned, LegalFor, IsNext}
-use Rattle.tb_model.specs.Hindrances.{number_read, next_event}
 use Rattle.tb_model.proofs.FactsLemmas.{own_mine, not_again, spawned_by}
 use Rattle.tb_model.proofs.NeighboursLemmas.{legal_below, same_sym}
 use Rattle.tb_model.proofs.PartsLemmas.{stores_to, last_same}
 use Rattle.tb_model.proofs.SettledLemmas.{spawned_later}
-use Rattle.tb_laws.proofs.NextStepLemmas.{next_computed}
 use Rattle.tb_model.proofs.AlikeLemmas.{alike_trans, alike_cons}
 use Rattle.tb_races.specs.Orders.{Synchronised}
 use Rattle.tb_one_run.specs.Outcomes.{HasRace}
+use Rattle.tb_one_run.specs.Behaviours.{Behaviour, given, IsRunOf, IsNextOf}
+use Rattle.tb_one_run.proofs.BehaviourLemmas.{one_given}
 use Rattle.tb_one_run.proofs.LinkLemmas.{clash, tame}
 use Rattle.tb_one_run.proofs.SharedLemmas.{has, part, gone, late, part_split, part_gone, has_mine, own_longer, Changes, to_end, has_same, has_now, part_same, late_same}
-use Rattle.tb_one_run.proofs.NumberLemmas.{blind_conflicts, conflict_load, number_same, last_skip}
-use Rattle.tb_one_run.proofs.WalkLemmas.{Walked, lx, same_task, planned_same, blind_same, closed_more}
+use Rattle.tb_one_run.proofs.NumberLemmas.{conflict_load, last_skip}
+use Rattle.tb_one_run.proofs.WalkLemmas.{Walked, lx, same_task, w_given, closed_more}
 
 longer_by_one : {A : Type 0} (L : List A) (w : A) (F : List A) → length (L ++ w ∷ F) ≡ suc (length (L ++ F))
 longer_by_one [] w F = refl
 longer_by_one (x ∷ L) w F = ap suc (longer_by_one L w F)
 
-module _ (P : Program) (H K : History) (lh : LegalFor P H) (lk : LegalFor P K) (free : HasRace Synchronised H → ⊥) (s : Walked H K) (v : Event) (nk : IsNext P K v) where
+module _ (B : Behaviour) (H K : History) (lh : IsRunOf B H) (lk : IsRunOf B K) (free : HasRace Synchronised H → ⊥) (s : Walked H K) (v : Event) (nk : IsNextOf B K v) where
   module _ (b : History) (w : Event) (X : History) (split : H ≡ b ++ w ∷ X) (mine : is_of v.task w ≡ true) (number : length (own v.task X) ≡ length (own v.task K)) where
     abbrev same : w.task ≡ v.task
-    same = same_task P H K lh lk s v nk b w X split mine number
+    same = same_task B H K lh lk s v nk b w X split mine number
 
     -- the event itself isn't in K yet
     not_yet : has K (w ∷ X) ≡ false
@@ -40,8 +40,8 @@ module _ (P : Program) (H K : History) (lh : LegalFor P H) (lk : LegalFor P K) (
     now : has (v ∷ K) (w ∷ X) ≡ true
     now = has_now K v w X mine (omega (arith, number))
 
-    abbrev legal_from : (b0 c : History) → H ≡ b0 ++ (c ++ w ∷ X) → Legal P.cells (c ++ w ∷ X)
-    legal_from b0 c e = legal_below P.cells b0 (c ++ w ∷ X) (subst (Legal P.cells) e lh.0)
+    abbrev legal_from : (b0 c : History) → H ≡ b0 ++ (c ++ w ∷ X) → Legal B.cells (c ++ w ∷ X)
+    legal_from b0 c e = legal_below B.cells b0 (c ++ w ∷ X) (subst (Legal B.cells) e lh.0)
 
     -- what stands in K after it may change places with it
     changes : (b0 c : History) (x : Event) → H ≡ b0 ++ (x ∷ (c ++ w ∷ X)) → has K (x ∷ (c ++ w ∷ X)) ≡ true → Changes w x
@@ -52,7 +52,7 @@ module _ (P : Program) (H K : History) (lh : LegalFor P H) (lk : LegalFor P K) (
       spawn =
           λ u p q.
           let l = legal_from b0 (x ∷ c) e in
-          both_ways (spawns u x) (not_again P.cells (c ++ w ∷ X) l.0 x l.1 u (spawned_later u c (w ∷ X) (spawned_by u (w ∷ X) (or_left (spawns u w) _ p)))) q;
+          both_ways (spawns u x) (not_again B.cells (c ++ w ∷ X) l.0 x l.1 u (spawned_later u c (w ∷ X) (spawned_by u (w ∷ X) (or_left (spawns u w) _ p)))) q;
     }
       where
         other : is_of w.task x ≡ false
@@ -75,13 +75,13 @@ module _ (P : Program) (H K : History) (lh : LegalFor P H) (lk : LegalFor P K) (
 
     -- ---- the number that is read
 
-    module _ (r c : ℕ) (y : ℤ) (is_load : planned P K v.task zero_ℤ ≡ Load r c y) where
+    module _ (r c : ℕ) (y : ℤ) (is_load : w.action ≡ Load r c y) where
       -- of two conflicting actions the one is the event's
       like : (a : Action) → conflicts w.action a ≡ conflicts (Load r c y) a
-      like a = blind_same P H K lh lk s v nk b w X split mine number (λ z. conflicts z a) (λ k d p q. refl) zero_ℤ ∙ ap (λ z. conflicts z a) is_load
+      like a = ap (λ z. conflicts z a) is_load
 
       like_after : (a : Action) → conflicts a w.action ≡ conflicts a (Load r c y)
-      like_after a = blind_same P H K lh lk s v nk b w X split mine number (conflicts a) (blind_conflicts a) zero_ℤ ∙ ap (conflicts a) is_load
+      like_after a = ap (conflicts a) is_load
 
       none_after : (L : History) → AllByRecursion (Changes w) L → list_any (stores_to c) L ≡ false
       none_after [] h = refl
@@ -97,7 +97,7 @@ module _ (P : Program) (H K : History) (lh : LegalFor P H) (lk : LegalFor P K) (
               (omega (arith, number, ap (λ G. length (own v.task G)) e, own_longer v.task m (u ∷ F), ap length (own_mine v.task u F o)))
           at false o =
               let k : has (v ∷ K) (u ∷ F) ≡ true =
-              tame (has (v ∷ K)) H (closed_more P H K lh lk s v nk) free b w m u F (split ∙ ap (λ G. b ++ w ∷ G) e) (ap (λ G. has (v ∷ K) (w ∷ G)) (sym e) ∙ now) (subst (λ z. is_of z u ≡ false) (sym same) o)
+              tame (has (v ∷ K)) H (closed_more B H K lh lk s v nk) free b w m u F (split ∙ ap (λ G. b ++ w ∷ G) e) (ap (λ G. has (v ∷ K) (w ∷ G)) (sym e) ∙ now) (subst (λ z. is_of z u ≡ false) (sym same) o)
               (or_left (conflicts w.action u.action) _ (like u.action ∙ q))
               in sym (has_same K v u F (λ p z. both_ways (is_of v.task u) o p)) ∙ k
 
@@ -121,16 +121,20 @@ module _ (P : Program) (H K : History) (lh : LegalFor P H) (lk : LegalFor P K) (
 
     -- so the two are one event
     same_event : w ≡ v
-    same_event =
-        let l = lx P H K lh lk s v nk b w X split mine number in
-        let plan = planned_same P H K lh lk s v nk b w X split mine number in
-        let computed : w ≡ next_event P X w.task = next_computed P X w (record { may = l.0.1; follows = l.1.1 }) in
-        let numbers = number_same P.cells K X (planned P K v.task zero_ℤ) (λ r c y e. number_here r c y e (first_number P.cells c)) in
-        let action : planned P X v.task (number_read P.cells X (planned P X v.task zero_ℤ)) ≡ planned P K v.task (number_read P.cells K (planned P K v.task zero_ℤ)) =
-        plan (number_read P.cells X (planned P X v.task zero_ℤ))
-        ∙ ap (planned P K v.task) (ap (number_read P.cells X) (plan zero_ℤ) ∙ sym numbers)
-        in
-        computed ∙ ap (next_event P X) same ∙ ap (λ a. record { task = v.task; action = a }) action ∙ sym (next_computed P K v nk)
+    same_event = λ i. record { task = same i; action = action i }
+      where
+        l : IsRunOf B (w ∷ X)
+        l = lx B H K lh lk s v nk b w X split mine number
+
+        one_number : (r c : ℕ) (x y : ℤ) → w.action ≡ Load r c x → v.action ≡ Load r c y → x ≡ y
+        one_number r c x y p q =
+            let there : x ≡ last (first_number B.cells c) c X = subst (IsTimely B.cells X w.task) p l.0.1.timely in
+            let here : y ≡ last (first_number B.cells c) c K = subst (IsTimely B.cells K v.task) q nk.may.timely in
+            there ∙ sym (number_here r c x p (first_number B.cells c)) ∙ sym here
+
+        action : w.action ≡ v.action
+        action =
+            one_given (given B K v.task) (B.reads (called_by B.root_line (spawn_of v.task K)) v.task (own v.task K)) w.action v.action (w_given B H K lh lk s v nk b w X split mine number) nk.behaves one_number
 
     -- ---- the longer part
 
@@ -147,7 +151,7 @@ module _ (P : Program) (H K : History) (lh : LegalFor P H) (lk : LegalFor P K) (
     -- so the walk goes on
     pub walked_at : Walked H (v ∷ K)
     walked_at = record {
-      closed = closed_more P H K lh lk s v nk;
+      closed = closed_more B H K lh lk s v nk;
       alike =
           subst (λ G. Alike G (v ∷ K)) (sym with_it)
           (alike_trans (to_end w (late K b (w ∷ X)) (part K X) (all_change [] b split))

@@ -1,5 +1,6 @@
 -- Where a finished run has no race, no finished run of the program has one.
 use Rattle.std.proofs.Common.{◌≡◌, ◌<◌, ℕ, [], ◌∷◌, ◌++◌, length, Bool, true, false, cond, ◌⊎◌, inl, inr, ⊎_elim, refl, sym, ap, ◌∙◌, subst, arith, ℤ, append_assoc, Some, None, ◌==◌, eqb-true, eq-eqb}
+use Rattle.std.specs.Prelude.{◌↔◌}
 use Rattle.std.proofs.lemmas.Bool.{or_left, or_right, and_from, both_ways, false≢true, ltb-true}
 use Rattle.tb_model.specs.declared.action.Action.{Action}
 use Rattle.tb_model.specs.declared.action.Action.TheVariants.{Start, Let, Load, Store, Print, Spawn, Wait, Open, Close, Test, End, Fault}
@@ -7,8 +8,6 @@ use Rattle.tb_model.specs.declared.event.Event.{Event}
 use Rattle.tb_model.specs.Names.{Name}
 use Rattle.tb_model.specs.Facts.{History, is_of, is_print, own, touches, is_store_to, IsSpawned}
 use Rattle.tb_model.specs.Needs.{conflicts}
-use Rattle.tb_model.specs.WellFormed.{WellFormed}
-use Rattle.tb_model.specs.Program.{Program, LegalFor}
 use Rattle.tb_model.proofs.TestLemmas.{same_refl}
 use Rattle.tb_model.proofs.FactsLemmas.{own_mine, grown}
 use Rattle.tb_model.proofs.NeighboursLemmas.{same_sym}
@@ -18,7 +17,10 @@ use Rattle.tb_races.specs.declared.conflict.Conflict.{Conflict}
 use Rattle.tb_races.specs.Kinds.{shared, some_if}
 use Rattle.tb_races.specs.Orders.{Synchronised, counts_some, links, ComesAfter, directly, by_way}
 use Rattle.tb_races.specs.Racing.{conflict, IsRace, unordered}
-use Rattle.tb_one_run.specs.Outcomes.{IsFinished, HasRace}
+use Rattle.tb_one_run.specs.Outcomes.{HasRace}
+use Rattle.tb_one_run.specs.Behaviours.{Behaviour, IsRunOf, IsOver}
+use Rattle.tb_one_run.proofs.BehaviourLemmas.{run_below}
+use Rattle.tb_one_run.proofs.ListedLemmas.{passed_back}
 use Rattle.tb_one_run.proofs.LinkLemmas.{stands_before, clash, tame}
 use Rattle.tb_one_run.proofs.SharedLemmas.{Older, has, own_longer, older_front, older_same, has_now}
 use Rattle.tb_one_run.proofs.AgreeLemmas.{Reaches}
@@ -106,22 +108,17 @@ places [] (z ∷ b) x y F G e = inr (inl (b, cc))
 places (z ∷ a) [] x y F G e = inr (inr (a, cc))
 places (z ∷ a) (k ∷ b) x y F G e = places a b x y F G (cc)
 
--- the front of a run is a run
-pub legal_front : (P : Program) (b F : History) → LegalFor P (b ++ F) → LegalFor P F
-legal_front P [] F l = l
-legal_front P (x ∷ b) F l = legal_front P b F (l.0.0, l.1.0)
-
 -- who acts was generated
-pub acts_spawned : (P : Program) (b : History) (u : Event) (F : History) → LegalFor P (b ++ u ∷ F) → IsSpawned (b ++ u ∷ F) u.task
-acts_spawned P b u F l =
-    let m = legal_front P b (u ∷ F) l in spawned_later u.task b (u ∷ F) (grown u.task u F (may_spawned P.cells F u m.0.0 m.0.1))
+pub acts_spawned : (B : Behaviour) (b : History) (u : Event) (F : History) → IsRunOf B (b ++ u ∷ F) → IsSpawned (b ++ u ∷ F) u.task
+acts_spawned B b u F l =
+    let m = run_below B b (u ∷ F) l in spawned_later u.task b (u ∷ F) (grown u.task u F (may_spawned B.cells F u m.0.0 m.0.1))
 
-module _ (P : Program) (w : WellFormed P) (H : History) (lh : LegalFor P H) (done : IsFinished P H) (free : HasRace Synchronised H → ⊥) (K : History) (lk : LegalFor P K) (done_k : IsFinished P K) where
+module _ (B : Behaviour) (H : History) (lh : IsRunOf B H) (done : IsOver H) (free : HasRace Synchronised H → ⊥) (K : History) (lk : IsRunOf B K) (done_k : IsOver K) where
   acts : (t : Name) → own t H ≡ own t K
-  acts t = (alike_outcome P w H lh done free K lk done_k).acts t
+  acts t = (alike_outcome B H lh done free K lk done_k).acts t
 
-  legal_k : (c F : History) → K ≡ c ++ F → LegalFor P F
-  legal_k c F e = legal_front P c F (subst (LegalFor P) e lk)
+  legal_k : (c F : History) → K ≡ c ++ F → IsRunOf B F
+  legal_k c F e = run_below B c F (subst (IsRunOf B) e lk)
 
   reaches_k : (c F : History) → K ≡ c ++ F → Reaches F H
   reaches_k c F e t = subst (Older (own t F)) (sym (ap (own t) e) ∙ sym (acts t)) (older_front t c F)
@@ -145,20 +142,20 @@ module _ (P : Program) (w : WellFormed P) (H : History) (lh : LegalFor P H) (don
     -- it stands in front of y in K too
     u_stands : length (own u.task U) < length (own u.task (y ∷ Y'))
     u_stands =
-        let s = walked P w H lh done free (y ∷ Y') (legal_k c (y ∷ Y') g) in
+        let s = walked B H lh done free (y ∷ Y') (legal_k c (y ∷ Y') g) in
         ltb-true (length (own u.task U)) (length (own u.task (y ∷ Y')))
         (s.closed b y Y e (has_now Y' y y Y (same_refl y.task) (omega (arith, n))) m u U f l)
 
     kind : (k : History) (V : History) → Y' ≡ k ++ u ∷ V → links Synchronised Y' y u ≡ true
     kind k V q =
         let ly = legal_k c (y ∷ Y') g in
-        let lx = legal_front P b (y ∷ Y) (subst (LegalFor P) e lh) in
+        let lx = run_below B b (y ∷ Y) (subst (IsRunOf B) e lh) in
         let same : own y.task Y ≡ own y.task Y' = older_same (own y.task H) (reaches_h (b ++ y ∷ []) Y (e ∙ sym (append_assoc b (y ∷ []) Y)) y.task) (reaches_k (c ++ y ∷ []) Y' (g ∙ sym (append_assoc c (y ∷ []) Y')) y.task) (sym n) in
         ap (counts_some Synchronised)
-        (sym (kind_same P.cells H Y Y' lh.0 lx.0.0 ly.0.0 (reaches_h (b ++ y ∷ []) Y (e ∙ sym (append_assoc b (y ∷ []) Y))) (reaches_k (c ++ y ∷ []) Y' (g ∙ sym (append_assoc c (y ∷ []) Y'))) y u same
-        (may_spawned P.cells Y y lx.0.0 lx.0.1) (may_spawned P.cells Y' y ly.0.0 ly.0.1)
-        (subst (λ G. IsSpawned G u.task) (sym f) (acts_spawned P m u U (subst (LegalFor P) f (lx.0.0, lx.1.0))))
-        (subst (λ G. IsSpawned G u.task) (sym q) (acts_spawned P k u V (subst (LegalFor P) q (ly.0.0, ly.1.0))))))
+        (sym (kind_same B.cells H Y Y' lh.0 lx.0.0 ly.0.0 (reaches_h (b ++ y ∷ []) Y (e ∙ sym (append_assoc b (y ∷ []) Y))) (reaches_k (c ++ y ∷ []) Y' (g ∙ sym (append_assoc c (y ∷ []) Y'))) y u same
+        (may_spawned B.cells Y y lx.0.0 lx.0.1) (may_spawned B.cells Y' y ly.0.0 ly.0.1)
+        (subst (λ G. IsSpawned G u.task) (sym f) (acts_spawned B m u U (subst (IsRunOf B) f (lx.0.0, lx.1.0))))
+        (subst (λ G. IsSpawned G u.task) (sym q) (acts_spawned B k u V (subst (IsRunOf B) q (ly.0.0, ly.1.0))))))
         ∙ l
 
     linked_too : Linked y u Y' (length (own u.task U))
@@ -234,7 +231,7 @@ module _ (P : Program) (w : WellFormed P) (H : History) (lh : LegalFor P H) (don
     -- the later doesn't stand in front in H
     not_turned : (b V d U : History) → H ≡ b ++ v ∷ V → length (own v.task V) ≡ length (own v.task (between ++ u ∷ front)) → H ≡ d ++ u ∷ U → length (own u.task U) ≡ length (own u.task front) → (m : History) → U ≡ m ++ v ∷ V → ⊥
     not_turned b V d U e n f k m q =
-        let s = walked P w H lh done free (u ∷ front) (legal_k (c ++ v ∷ between) (u ∷ front) at_u) in
+        let s = walked B H lh done free (u ∷ front) (legal_k (c ++ v ∷ between) (u ∷ front) at_u) in
         let now : has (u ∷ front) (u ∷ U) ≡ true = has_now front u u U (same_refl u.task) (omega (arith, k)) in
         let there = tame (has (u ∷ front)) H s.closed free d u m v V (f ∙ ap (λ G. d ++ u ∷ G) q) (ap (λ G. has (u ∷ front) (u ∷ G)) (sym q) ∙ now) (same_sym u.task v.task parts.0) (clash_back v.action u.action shares parts.1) in
         let less = ltb-true (length (own v.task V)) (length (own v.task (u ∷ front))) there in
@@ -256,3 +253,7 @@ module _ (P : Program) (w : WellFormed P) (H : History) (lh : LegalFor P H) (don
   -- so K has no race
   pub no_race : HasRace Synchronised K → ⊥
   no_race r = not_one r.race r.newer r.split
+
+-- so both have one or neither has
+pub all_or_none : (B : Behaviour) (H K : History) → IsRunOf B H → IsOver H → IsRunOf B K → IsOver K → HasRace Synchronised H ↔ HasRace Synchronised K
+all_or_none B H K l d m e = (passed_back H K (λ f. no_race B K m e f H l d), passed_back K H (λ f. no_race B H l d f K m e))

@@ -1,16 +1,16 @@
--- A walk over any run K of a program, beside a finished run H without a race: what stands in K says of every task, cell and
+-- A walk over any run K of a behaviour, beside a finished run H without a race: what stands in K says of every task, cell and
 -- output what H says of it.
-use Rattle.std.proofs.Common.{◌≡◌, ℕ, suc, ℤ, [], ◌∷◌, ◌++◌, length, true, ◌⊎◌, inl, inr, ⊎_elim, refl, sym, ap, ap₂, ◌∙◌, subst, arith, append_assoc}
+use Rattle.std.proofs.Common.{◌≡◌, ℕ, ℤ, [], ◌∷◌, ◌++◌, length, true, ◌⊎◌, inl, inr, ⊎_elim, refl, sym, ap, ◌∙◌, subst, arith, append_assoc, Option, Some}
 use Rattle.std.specs.List.{list_any}
 use Rattle.std.proofs.lemmas.Bool.{and_from}
 use Rattle.tb_model.specs.declared.action.Action.{Action}
 use Rattle.tb_model.specs.declared.event.Event.{Event}
 use Rattle.tb_model.specs.Names.{Name}
 use Rattle.tb_model.specs.Facts.{History, is_of, is_end, own, ends, spawns, holds, HasEnded, IsSpawned}
-use Rattle.tb_model.specs.State.{called_by}
-use Rattle.tb_model.specs.Legal.{spawn_count, Legal}
+use Rattle.tb_model.specs.Legal.{Legal}
 use Rattle.tb_model.specs.Alike.{Alike}
-use Rattle.tb_model.specs.Program.{Program, config, instr_at, action_of, situation, planned, loaded, AllFollow, LegalFor, IsNext}
+use Rattle.tb_model.specs.Program.{loaded}
+use Rattle.tb_model.specs.State.{called_by, spawn_of}
 use Rattle.tb_model.proofs.TestLemmas.{same_true, same_refl}
 use Rattle.tb_model.proofs.FactsLemmas.{own_mine, grown, spawn_names}
 use Rattle.tb_model.proofs.NeighboursLemmas.{legal_below}
@@ -20,7 +20,9 @@ use Rattle.tb_races.specs.Orders.{Synchronised, links}
 use Rattle.tb_one_run.proofs.LinkLemmas.{awaits, linked, IsClosed}
 use Rattle.tb_one_run.proofs.SharedLemmas.{has, part, own_longer, has_now, has_back, has_still}
 use Rattle.tb_one_run.proofs.OnceLemmas.{end_stays, spawn_stays}
-use Rattle.tb_one_run.proofs.NumberLemmas.{IsBlind, blind_statement}
+use Rattle.tb_one_run.specs.Behaviours.{Behaviour, given, IsRunOf, IsNextOf}
+use Rattle.tb_one_run.proofs.NumberLemmas.{IsBlind}
+use Rattle.tb_one_run.proofs.BehaviourLemmas.{given_same, blind_given, run_below}
 use Rattle.tb_one_run.proofs.PlaceLemmas.{own_at, awaited, spawn_here}
 
 -- so far K is a part of H in another order: closed under the order of H, alike, and as long
@@ -29,7 +31,7 @@ pub record Walked (H K : History) : Type 0 where
   pub alike : Alike (part K H) K
   pub size : length (part K H) ≡ length K
 
-module _ (P : Program) (H K : History) (lh : LegalFor P H) (lk : LegalFor P K) (s : Walked H K) (v : Event) (nk : IsNext P K v) where
+module _ (B : Behaviour) (H K : History) (lh : IsRunOf B H) (lk : IsRunOf B K) (s : Walked H K) (v : Event) (nk : IsNextOf B K v) where
   abbrev pub t : Name
   t = v.task
 
@@ -37,42 +39,36 @@ module _ (P : Program) (H K : History) (lh : LegalFor P H) (lk : LegalFor P K) (
   n = length (own t K)
 
   abbrev spawned_k : IsSpawned K t
-  spawned_k = may_spawned P.cells K v lk.0 nk.may
+  spawned_k = may_spawned B.cells K v lk.0 nk.may
 
   -- the next event of the task in H, which stands there with X in front of it
   module _ (b : History) (w : Event) (X : History) (split : H ≡ b ++ w ∷ X) (mine : is_of t w ≡ true) (number : length (own t X) ≡ n) where
-    abbrev pub lx : LegalFor P (w ∷ X)
-    lx = (legal_below P.cells b (w ∷ X) (subst (Legal P.cells) split lh.0), follow_below b (subst (AllFollow P) split lh.1))
-      where
-        follow_below : (d : History) → AllFollow P (d ++ w ∷ X) → AllFollow P (w ∷ X)
-        follow_below [] f = f
-        follow_below (x ∷ d) f = follow_below d f.0
+    abbrev pub lx : IsRunOf B (w ∷ X)
+    lx = run_below B b (w ∷ X) (subst (IsRunOf B) split lh)
 
     abbrev pub same_task : w.task ≡ t
     same_task = same_true w.task t mine
 
     abbrev spawned_x : IsSpawned X t
-    spawned_x = subst (IsSpawned X) same_task (may_spawned P.cells X w lx.0.0 lx.0.1)
+    spawned_x = subst (IsSpawned X) same_task (may_spawned B.cells X w lx.0.0 lx.0.1)
 
-    -- the program gives the same to both
-    pub planned_same : (y : ℤ) → planned P X t y ≡ planned P K t y
-    planned_same y =
-        ap₂ (λ acts k. action_of P.cells t (suc (spawn_count acts)) (config P k.line k.args acts).regs y (instr_at P (config P k.line k.args acts).line).statement)
-        (own_at P.cells H K lh.0 lk.0 s.alike t b w X split mine number)
-        (ap (called_by P.root_line) (spawn_here P.cells H K lh.0 lk.0 s.alike t b w X split mine number spawned_x spawned_k))
+    -- the behaviour gives the same to both
+    pub same_given : (y : ℤ) → given B X t y ≡ given B K t y
+    same_given y =
+        given_same B X K t y (own_at B.cells H K lh.0 lk.0 s.alike t b w X split mine number)
+        (spawn_here B.cells H K lh.0 lk.0 s.alike t b w X split mine number spawned_x spawned_k)
 
-    w_follows : w.action ≡ planned P X t (loaded w.action)
-    w_follows = lx.1.1 ∙ ap (λ u. planned P X u (loaded w.action)) same_task
+    -- what it gives there
+    abbrev pub gives : ℤ → Option Action
+    gives = given B K t
+
+    pub w_given : gives (loaded w.action) ≡ Some w.action
+    w_given = sym (same_given (loaded w.action)) ∙ ap (λ u. given B X u (loaded w.action)) (sym same_task) ∙ lx.1.1
 
     -- so the two differ in the number that a load reads, if at all
-    pub blind_same : {A : Type 0} (f : Action → A) → IsBlind f → (y : ℤ) → f w.action ≡ f (planned P K t y)
-    blind_same f blind y =
-        let c = situation P t K in
-        ap f (w_follows ∙ planned_same (loaded w.action))
-        ∙ blind_statement f blind P.cells t (suc (spawn_count (own t K))) c.regs (loaded w.action) y (instr_at P c.line).statement
-
     same_but_number : {A : Type 0} (f : Action → A) → IsBlind f → f w.action ≡ f v.action
-    same_but_number f blind = blind_same f blind (loaded v.action) ∙ ap f (sym nk.follows)
+    same_but_number f blind =
+        blind_given f blind gives (B.reads (called_by B.root_line (spawn_of t K)) t (own t K)) w.action v.action w_given nk.behaves
 
     -- what a link leads to stands in K
     pub link_stands : (m : History) (u : Event) (F : History) → X ≡ m ++ u ∷ F → links Synchronised X w u ≡ true → has (v ∷ K) (u ∷ F) ≡ true
@@ -85,8 +81,8 @@ module _ (P : Program) (H K : History) (lh : LegalFor P H) (lk : LegalFor P K) (
         at_u : H ≡ c ++ u ∷ F
         at_u = split ∙ ap (λ G. b ++ w ∷ G) e ∙ sym (append_assoc b (w ∷ m) (u ∷ F))
 
-        lu : Legal P.cells (c ++ u ∷ F)
-        lu = subst (Legal P.cells) at_u lh.0
+        lu : Legal B.cells (c ++ u ∷ F)
+        lu = subst (Legal B.cells) at_u lh.0
 
         own_event : is_of w.task u ≡ true → has (v ∷ K) (u ∷ F) ≡ true
         own_event o =
@@ -99,30 +95,30 @@ module _ (P : Program) (H K : History) (lh : LegalFor P H) (lk : LegalFor P K) (
           where
             at : (z : Name) → IsSpawned K z → spawns z u ≡ true → has K (u ∷ F) ≡ true
             at [] sp q =
-                absurd (cc (spawn_names P.cells u.task [] (own u.task F) u.action (legal_below P.cells c (u ∷ F) lu).1.own q))
+                absurd (cc (spawn_names B.cells u.task [] (own u.task F) u.action (legal_below B.cells c (u ∷ F) lu).1.own q))
             at (k ∷ p) sp q =
-                spawn_stays P.cells K (k ∷ p) c u F lu q
+                spawn_stays B.cells K (k ∷ p) c u F lu q
                 (ap (λ G. list_any (spawns (k ∷ p)) (part K G)) (sym at_u) ∙ s.alike.any (spawns (k ∷ p)) ∙ sp)
 
         acted_u : IsSpawned X u.task
         acted_u =
-            let l = legal_below P.cells c (u ∷ F) lu in
+            let l = legal_below B.cells c (u ∷ F) lu in
             subst (λ G. IsSpawned G u.task) (sym e) (spawned_later u.task m (u ∷ F) (may_grow l))
           where
-            may_grow : Legal P.cells (u ∷ F) → IsSpawned (u ∷ F) u.task
-            may_grow l = grown u.task u F (may_spawned P.cells F u l.0 l.1)
+            may_grow : Legal B.cells (u ∷ F) → IsSpawned (u ∷ F) u.task
+            may_grow l = grown u.task u F (may_spawned B.cells F u l.0 l.1)
 
         has_ended : (holds (own w.task X) u.task ≡ true) ⊎ (awaits X w.task w.action u.task ≡ true) → HasEnded K u.task
         has_ended (inl q) =
-            nk.may.resumed u.task (ap (λ acts. holds acts u.task) (sym (own_at P.cells H K lh.0 lk.0 s.alike t b w X split mine number)) ∙ subst (λ z. holds (own z X) u.task ≡ true) same_task q)
+            nk.may.resumed u.task (ap (λ acts. holds acts u.task) (sym (own_at B.cells H K lh.0 lk.0 s.alike t b w X split mine number)) ∙ subst (λ z. holds (own z X) u.task ≡ true) same_task q)
         has_ended (inr q) =
             let q' : awaits X t w.action u.task ≡ true = subst (λ z. awaits X z w.action u.task ≡ true) same_task q in
-            awaited P.cells H K lh.0 lk.0 s.alike t b w X split mine number v.action nk.may.timely spawned_x u.task acted_u
+            awaited B.cells H K lh.0 lk.0 s.alike t b w X split mine number v.action nk.may.timely spawned_x u.task acted_u
             (sym (same_but_number (λ a. awaits X t a u.task) (λ r d x y. refl)) ∙ q')
 
         its_end : (is_end u.action ≡ true) × ((holds (own w.task X) u.task ≡ true) ⊎ (awaits X w.task w.action u.task ≡ true)) → has K (u ∷ F) ≡ true
         its_end q =
-            end_stays P.cells K u.task c u F lu (and_from (is_of u.task u) (is_end u.action) (same_refl u.task) q.0)
+            end_stays B.cells K u.task c u F lu (and_from (is_of u.task u) (is_end u.action) (same_refl u.task) q.0)
             (ap (λ G. list_any (ends u.task) (part K G)) (sym at_u) ∙ s.alike.any (ends u.task) ∙ has_ended q.1)
 
   -- with the next event K is still closed

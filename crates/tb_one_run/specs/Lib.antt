@@ -1,2 +1,3 @@
 pub mod Outcomes
+pub mod Behaviours
 pub mod Rows

@@ -5,6 +5,7 @@ use Rattle.tb_model.specs.declared.action.Action.TheVariants.{Load}
 use Rattle.tb_model.specs.declared.event.Event.{Event}
 use Rattle.tb_model.specs.Facts.{History, prepend_if}
 use Rattle.tb_model.specs.Needs.{step_of}
+use Rattle.tb_model.specs.Legal.{Cells}
 use Rattle.tb_model.specs.Program.{Program, LegalFor, IsNext}
 use Rattle.tb_model.specs.Hindrances.{number_read}
 use Rattle.tb_races.specs.Orders.{Order, comes_after}
@@ -45,8 +46,12 @@ with_number x (Load r c y) = Load r c x
 with_number x a = a
 
 -- the event, where a load reads what its cell has after H
+abbrev pub as_read_at : Cells → History → Event → Event
+as_read_at cells H v = record { task = v.task; action = with_number (number_read cells H v.action) v.action }
+
+-- so it is of a program's cells
 abbrev pub as_read : Program → History → Event → Event
-as_read P H v = record { task = v.task; action = with_number (number_read P.cells H v.action) v.action }
+as_read P H v = as_read_at P.cells H v
 
 -- H is a run of the program, after which both tasks can step next: the one to e, the other to f, but for the number that f reads
 pub record IsReal (P : Program) (H : History) (e f : Event) : Type 0 where
