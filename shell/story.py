@@ -17,10 +17,11 @@ class Story:
     went at `died` stood at the moments from the one up to the other, the other not among them.
     """
 
-    def __init__(self, session, stop=lambda: False):
+    def __init__(self, session, stop=lambda: False, progress=lambda *told: None):
         # A second program does it all again, so the one that is used stays as it is.
         self.session = Session(session.path, session.source, session.limit, session.options)
         self.facts = Facts(self.session, stop)
+        self.progress, self.total = progress, sum(len(done.again) or 1 for done in session.log)
         self.commands = []
         self.steps, self.standing, self.fresh = [], {}, []
         self.tasks, self.there, self.spawner = [], {}, {}

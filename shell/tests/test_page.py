@@ -11,6 +11,7 @@ import unittest
 
 from support import EXAMPLES, PROGRAM, TOP, Terminal, contrast, example, needs_program, write_file
 from shell.commands import Shell
+from shell.console import Console
 from shell.drawing import play_file
 from shell.facts import Facts
 from shell.graph import groups_of, waits_of
@@ -169,18 +170,18 @@ class DataTest(unittest.TestCase):
         shell.read_until("(taskback) ")
         shell.ask("run")
         path = write_file(self, "", "a.html")
-        self.assertEqual(shell.ask("page " + path), [f"written to {path}, 1 commands and 17 steps"])
-        self.assertEqual(shell.ask("page"), ["page FILE, for example: page race.html"])
+        self.assertEqual(shell.ask("page " + path), [f"written to {path}, 1 command and 17 steps"])
+        self.assertEqual(shell.ask("page"), ["page [-f] FILE, for example: page race.html"])
         self.assertEqual(shell.ask("page /no/file"), ["can't write /no/file: No such file or directory"])
 
     def test_ctrl_c_stops_each_picture(self):
         session, _ = walked(self, 1)
         out = io.StringIO()
-        shell = Shell(session, out)
+        shell = Shell(session, Console(out))
         # As the handler of Ctrl-C sets it while a command is carried out.
         shell.interrupted = True
         path = write_file(self, "as before", "a.html")
-        for act, words in ((shell.do_lanes, []), (shell.do_graph, [path]), (shell.do_page, [path])):
+        for act, words in [(shell.methods[name], words) for name, words in (("lanes", []), ("graph", ["-f", path]), ("page", ["-f", path]))]:
             act(words)
         self.assertEqual(out.getvalue(), "  stopped by Ctrl-C; nothing is drawn\n" * 3)
         with open(path, encoding="utf-8") as file:
