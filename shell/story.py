@@ -2,6 +2,7 @@
 
 from shell.facts import Facts, by_name, causes_of, label_of
 from shell.protocol import words_of
+from shell.race_advice import kinds_of
 from shell.session import CHANGES, Session, is_step
 
 # Without causes the needs of each step are asked for whole, which soon takes long.
@@ -27,6 +28,7 @@ class Story:
         self.tasks, self.there, self.spawner = [], {}, {}
         self.cells, self.shown, self.needed = {}, {}, {}
         self.out, self.printed = [], []
+        self.hints = {}
         self.has_causes = self.has_races = True
         try:
             self.note(0)
@@ -104,6 +106,10 @@ class Story:
             return
         races = self.facts.races() if self.has_races else None
         self.has_races = races is not None
+        for kind in kinds_of(self.session, races or ()):
+            key = "|".join(str(part).lower() if isinstance(part, bool) else str(part)
+                           for part in (*kind.lines, kind.example.over == "print", kind.example.apart))
+            self.hints[key] = kind.advice().replace("`", "")
         for race in races or ():
             self.steps[self.standing[race.second]]["race"] = [self.standing[race.first], race.over, race.apart]
         if self.has_causes and self.facts.causes(self.fresh[0]) is None:
@@ -164,4 +170,4 @@ class Story:
             "steps": [[step["name"], step["did"], step["line"], step["born"], step["died"], step["causes"], step["race"]] for step in self.steps],
             "tasks": [[task["name"], task["body"], task["step"], task["born"], task["died"], task["states"], task["before"], task["apart"]]
                       for task in self.tasks],
-            "cells": self.cells, "out": self.out}
+            "cells": self.cells, "out": self.out, "hints": self.hints}
