@@ -22,7 +22,7 @@ CAPABILITIES: Body = {
     "supportsConfigurationDoneRequest": True, "supportsFunctionBreakpoints": True, "supportsConditionalBreakpoints": True,
     "supportsDataBreakpoints": True, "supportsStepBack": True, "supportsRestartFrame": True, "supportsEvaluateForHovers": True,
     "supportsCompletionsRequest": True, "completionTriggerCharacters": [" "], "supportsTerminateRequest": True, "supportsRestartRequest": True,
-    "supportsGotoTargetsRequest": False, "supportsSetVariable": False,
+    "supportsExceptionInfoRequest": True, "supportsGotoTargetsRequest": False, "supportsSetVariable": False,
     "exceptionBreakpointFilters": [{"filter": name, "label": label, "default": name == "fault"} for name, label in EXCEPTIONS.items()],
 }
 # Of longer histories races aren't looked for at each stop: `races` in the console does.
@@ -161,6 +161,11 @@ class Adapter:
 
     def on_setExceptionBreakpoints(self, arguments: Body) -> Body:
         return {"breakpoints": self.breakpoints.at_kinds([str(name) for name in arguments.get("filters") or []])}
+
+    def on_exceptionInfo(self, arguments: Body) -> Body:
+        newest = self.debuggee.session.newest
+        did = self.debuggee.session.standing[newest] if newest else ""
+        return {"exceptionId": did.split(" ")[0], "description": f"{newest} {did}", "breakMode": "always"}
 
     # Looking
 

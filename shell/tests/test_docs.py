@@ -70,7 +70,7 @@ class Archive(unittest.TestCase):
         self.addCleanup(folder.cleanup)
         self.folder = folder.name
         self.top = os.path.join(self.folder, "top")
-        for part in ("README.md", "LICENSE", "run", "shell", "openmp", "docs", "examples", "tools"):
+        for part in ("README.md", "LICENSE", "run", "taskback-dap", "shell", "editors", "openmp", "docs", "examples", "tools"):
             copy = shutil.copytree if os.path.isdir(os.path.join(TOP, part)) else shutil.copy2
             os.makedirs(self.top, exist_ok=True)
             copy(os.path.join(TOP, part), os.path.join(self.top, part))
