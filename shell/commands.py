@@ -1,125 +1,126 @@
-"""The shell's prompt, its program commands, and how their replies are shown."""
+"""The shell: takes lines, finds the command of each, and carries it out. The commands stand in groups."""
+
+from __future__ import annotations
 
 import cmd
 import re
-import shutil
 import sys
+from collections.abc import Iterator, Sequence
 
-from shell import texts
+from shell import help_texts, texts
+from shell.backwards import Backwards
+from shell.breaking import Breaking
+from shell.comparing import Comparing
+from shell.completing import Completing
+from shell.console import Console, Outcome, PageEnded
 from shell.drawing import Drawing
-from shell.protocol import Cut, Ended, Program, is_digits, words_of
-from shell.session import is_step
+from shell.filing import Filing
+from shell.group import Command, Words
+from shell.helping import Helping
+from shell.past import Looking
+from shell.protocol import Cut, Ended, Program, words_of
+from shell.session import GREATEST_LIMIT, Session
+from shell.stops import Stops
+from shell.viewing import Viewing
 from shell.walking import Walking
 
 STEP = re.compile(r"(?<![\w.#])[0-9][0-9.]*#[0-9]+")
-MOST_STEPS = 1000000
-OWN = ("help", "quit", "list", "save", "restart", "limit", "source", "back", "finish", "until", "random",
-       "last", "info", "graph", "lanes", "page")
-TAKES_TASK = ("step", "finish", "task", "deps", "rolltask", "list")
-TAKES_STEP = ("undo", "roll", "why", "who", "until", "causes", "lanes")
 # What asks for much in small pieces: Ctrl-C ends it after one. Any other command's reply is cut.
-PIECEWISE = ("step", "run", "go", "finish", "until", "random", "last", "back", "source", "graph", "lanes", "page")
-VIEWS = ("tasks", "task", "cells", "out", "ready", "waits", "deps", "breaks", "hist", "why", "who", "races", "causes")
+PIECEWISE = ("step", "run", "go", "finish", "until", "random", "last", "back", "rs", "rc", "source", "graph", "lanes", "page", "compare", "flip")
+# After these the expressions of `display` are shown.
+STEPS = ("step", "run", "go", "finish", "until", "random", "last", "back", "rs", "rc", "undo", "roll", "rolltask", "rollcell", "rollprint",
+         "redo", "keep", "at", "restart")
+# What can't be done while a past state is looked at: what takes steps, takes them back, or starts anew.
+OF_THE_PRESENT = tuple(name for name in STEPS if name != "at") + ("break", "watch", "clear", "save", "source", "trim", "limit", "page", "flip", "compare")
 
 
-class Shell(Walking, Drawing, cmd.Cmd):
-    """Commands as they are typed; `plain` leaves the program's lines as they are."""
+class Shell(cmd.Cmd):
+    """Commands as they are typed. `passes` hands lines to the program as they are, but for the shell's own commands."""
 
-    def __init__(self, session, out, plain=False, colours=False, typed=True, queue=()):
-        super().__init__(stdout=out)
-        self.session = session
-        self.plain = plain
-        self.colours = colours
-        self.prompt = "(taskback) " if typed else ""
+    def __init__(self, session: Session, console: Console, passes: bool = False, queue: Sequence[str] = ()) -> None:
+        super().__init__(stdout=console.out)
+        self.present = session
+        self.past: Session | None = None
+        self.console = console
+        self.passes = passes
         self.queue = list(queue)
-        self.last_step = None
-        self.stepped = "0"
-        self.busy = False
-        self.interrupted = False
-        self.in_pieces = False
+        self.stops = Stops()
+        self.last_step: str | None = None
+        self.focus = "0"
+        self.busy = self.interrupted = self.in_pieces = False
+        self.outcome = Outcome.DONE
         self.status = 0
+        self.breaking = Breaking(self)
+        self.walking = Walking(self)
+        groups = (self.walking, Backwards(self), self.breaking, Viewing(self), Looking(self), Comparing(self), Drawing(self), Filing(self), Helping(self))
+        self.methods: dict[str, Command] = {name: method for group in groups for name, method in group.commands().items()}
+        self.completing = Completing(self)
+        self.prompt = self.prompt_now()
+
+    def prompt_now(self) -> str:
+        """The prompt: it says at which step the past is looked at."""
+        if not self.console.typed:
+            return ""
+        return "(taskback) " if self.past is None else f"(taskback @{len(self.past.standing)}) "
+
+    @property
+    def session(self) -> Session:
+        """The session that is looked at."""
+        return self.present if self.past is None else self.past
 
     # What is shown
 
-    def say(self, line):
-        """Writes one line."""
-        self.stdout.write(line + "\n")
-
-    def note(self, text):
-        """A line of the shell's own, dimmed."""
-        self.say(self.dim("  " + text))
-
-    def dim(self, text):
-        """The text, dimmed where the terminal can."""
-        return f"\x1b[2m{text}\x1b[0m" if self.colours else text
-
-    def show(self, lines):
-        """Lines of a reply, each that shows steps followed by their source lines."""
+    def show(self, lines: Sequence[str]) -> None:
+        """Lines of a reply, each that shows steps with their source lines."""
         for line in self.up_to_interrupt(lines):
-            self.say(line if self.plain else line + self.places_of(line))
-        self.stdout.flush()
+            self.show_line(line)
+        self.console.flush()
 
-    def up_to_interrupt(self, lines):
+    def show_line(self, line: str) -> None:
+        """One line of a reply."""
+        parts, first = [], None
+        for step in STEP.findall(line):
+            number = self.session.places.line_of(step)
+            first = first or number
+            if number:
+                parts.append(f"{number}: {self.session.source.line(number)}")
+        self.console.reply(line, first, "  |  ".join(parts))
+
+    def up_to_interrupt(self, lines: Sequence[str]) -> Iterator[str]:
         """The lines of a reply; Ctrl-C ends them where the reply isn't one of many."""
         for at, line in enumerate(lines):
             if self.interrupted and not self.in_pieces:
-                if not self.plain:
-                    self.note(f"stopped by Ctrl-C; {len(lines) - at} more lines")
+                self.console.note(f"stopped by Ctrl-C; {len(lines) - at} more lines")
                 return
             yield line
 
-    def places_of(self, line):
-        """The source lines of the steps that a line shows."""
-        parts = []
-        for step in STEP.findall(line):
-            number = self.session.places.line_of(step)
-            if number:
-                parts.append(f"{number}: {self.session.source.line(number)}")
-        pad = " " * max(2, 32 - len(line))
-        return self.dim(pad + "  |  ".join(parts)) if parts else ""
+    def send(self, command: str) -> list[str]:
+        """One command of the program, its reply and what it means."""
+        reply = self.session.do(command)
+        self.show(reply)
+        if reply:
+            self.explain(command, reply[-1] if reply[-1].startswith("ran ") else reply[0])
+        return reply
 
-    def explain(self, command, reply):
+    def explain(self, command: str, line: str) -> None:
         """The words beside a refusal, an error, or a full journal."""
-        if self.plain:
-            return
-        told = reply.split(" ")
+        told = line.split(" ")
         if told[0] == "error":
+            self.outcome = max(self.outcome, Outcome.ERROR)
             if told == ["error", "word"] and words_of(command)[0] in ("races", "causes"):
-                self.note("this build has no such view")
+                self.console.note("this build has no such view")
             else:
-                self.note(texts.error_words(command, told[-1], self.session.workers))
+                self.console.note(texts.error_words(command, told[-1], self.session.workers, list(self.session.source.bodies)))
         elif told[0] == "refused":
-            text = texts.refusal_words(command, reply)
+            self.outcome = max(self.outcome, Outcome.REFUSED)
+            text = texts.refusal_words(command, line, self.session)
             if told[2] in ("Waiting", "Excluded"):
                 text += self.clauses(words_of(command)[1], told[3])
-            self.note(text)
+            self.console.note(text)
         elif told[0] == "ran" and told[-1] == "full":
-            self.note("the journal is full; `limit N` gives it more room")
+            self.console.note(texts.full_words(self.session))
 
-    def do_races(self, words):
-        """The races, each with what would order the two steps."""
-        reply = self.session.do(" ".join(["races"] + words))
-        for line in self.up_to_interrupt(reply):
-            self.show([line])
-            if STEP.match(line) and not self.plain:
-                self.note(texts.race_words(line, self.session.places.spawned))
-        self.explain("races", reply[0])
-
-    def do_causes(self, words):
-        """The steps that a step needs at once, each with why."""
-        command = " ".join(["causes"] + words)
-        reply = self.session.do(command)
-        for line in self.up_to_interrupt(reply):
-            self.show([line])
-            if ": " in line and not self.plain:
-                text = texts.cause_words(line, words[0], self.session.places.line_of(words[0]))
-                kind, other = line.split("#")[0].split(": ")
-                if kind in ("before", "apart"):
-                    text += self.clauses(words[0].split("#")[0], other)
-                self.note(text)
-        self.explain(command, reply[0])
-
-    def clauses(self, task, other):
+    def clauses(self, task: str, other: str) -> str:
         """The clauses for which one task waits for another, and the lines that generated the two."""
         items = []
         for name in (task, other):
@@ -131,8 +132,8 @@ class Shell(Walking, Drawing, cmd.Cmd):
             return ""
         new, old = (f"depend {item}" for item in pair)
         text = f": {new}" if new == old else f": {new} comes after {old}"
-        lines = [self.session.places.spawned.get(name) for name in (other, task)]
-        if None in lines:
+        lines = [line for name in (other, task) if (line := self.session.places.spawned.get(name)) is not None]
+        if len(lines) < 2:
             return text
         if new == old:
             lines.sort()
@@ -140,14 +141,15 @@ class Shell(Walking, Drawing, cmd.Cmd):
 
     # One line
 
-    def onecmd(self, line):
+    def onecmd(self, line: str) -> bool:
         """Carries out one line; true ends the shell."""
         if line == "EOF":
             if self.prompt:
-                self.say("")
+                self.console.say("")
             return True
         self.busy = True
         self.interrupted = False
+        self.outcome = Outcome.DONE
         try:
             return self.carry_out(line)
         except Cut:
@@ -155,244 +157,113 @@ class Shell(Walking, Drawing, cmd.Cmd):
         except Ended as ended:
             return self.end(ended)
         finally:
-            self.stdout.flush()
+            self.console.flush()
             self.busy = False
+            self.prompt = self.prompt_now()
 
-    def end(self, ended):
+    def end(self, ended: Ended) -> bool:
         """The program ended, and so does the shell."""
-        self.say(f"the program has ended: {ended}")
+        self.console.say(f"the program has ended: {ended}")
         self.status = ended.status or 3
         return True
 
-    def interrupt(self):
+    def interrupt(self) -> None:
         """Ctrl-C while a command is under way: a single reply is cut, and so is any at the second time."""
         if self.interrupted or not self.in_pieces:
             Program.cut()
         self.interrupted = True
 
-    def resume(self):
+    def resume(self) -> bool:
         """After a cut reply the program starts anew and does what was done; true where it can't."""
+        self.console.end_progress()
         text = "stopped by Ctrl-C in a reply; the program starts anew and does the session so far again"
-        if self.plain:
+        if self.console.exact:
             print(text, file=sys.stderr)
         else:
-            self.note(text)
-        self.stdout.flush()
+            self.console.note(text)
+        self.console.flush()
         try:
             self.session.resume()
         except Ended as ended:
             return self.end(ended)
         return False
 
-    def carry_out(self, line):
-        """One line: a command of the shell's own, or one of the program."""
+    def carry_out(self, line: str) -> bool:
+        """One line that was typed or played."""
         words = words_of(line)
-        self.in_pieces = bool(words) and self.expand(words[0]) in PIECEWISE
         if not words:
-            if self.plain or not self.prompt:
+            if self.passes or not self.console.typed:
                 self.show(self.session.do(line))
                 return False
             return self.emptyline() if not line.strip() else False
-        if self.plain:
-            if words[0] in OWN:
-                return getattr(self, "do_" + words[0])(words[1:])
-            return self.pass_plain(line, words)
-        name = self.expand(words[0])
-        method = getattr(self, "do_" + name, None) if name in texts.HELP else None
+        fitting = help_texts.expanded(words[0])
+        name = fitting[0] if len(fitting) == 1 else words[0]
+        self.in_pieces = name in PIECEWISE
+        self.console.begin(line, paged=not self.in_pieces)
+        try:
+            ends = self.pass_line(line, words) if self.passes else self.command(name, line, words)
+            if not self.passes and name in STEPS:
+                self.breaking.show_displays()
+        except PageEnded:
+            ends = False
+        finally:
+            self.console.end_progress()
+            self.console.finish(self.outcome)
+        return ends
+
+    def command(self, name: str, line: str, words: Words) -> bool:
+        """A command of the shell's own, or one of the program."""
+        if self.past is not None and name in OF_THE_PRESENT:
+            self.outcome = max(self.outcome, Outcome.REFUSED)
+            self.console.say(f"a past state is looked at, after {len(self.past.standing)} steps; `at now` comes back, and then `{name}` can be done")
+            return False
+        method = self.methods.get(name)
         if method:
-            return method(words[1:])
-        self.send(" ".join([name] + words[1:]) if name != words[0] else line)
+            return bool(method(words[1:]))
+        self.send(" ".join([name, *words[1:]]) if name != words[0] else line)
         return False
 
-    def expand(self, word):
-        """The command that a word stands for: itself, an abbreviation, or a beginning that only one has."""
-        if word in texts.HELP:
-            return word
-        if word in texts.ABBREVIATIONS:
-            return texts.ABBREVIATIONS[word]
-        fitting = [name for name in texts.HELP if name.startswith(word)]
-        return fitting[0] if len(fitting) == 1 else word
-
-    def pass_plain(self, line, words):
+    def pass_line(self, line: str, words: Words) -> bool:
         """Passes a line as it is; a long run goes in pieces, with the same lines."""
+        if words[0] in self.methods and words[0] not in help_texts.OF_THE_PROGRAM:
+            return bool(self.methods[words[0]](words[1:]))
         count = words[-1] if re.fullmatch(r"[0-9]{1,7}", words[-1]) else ""
         team = len(words) == 3 and words[0] == "go" and re.fullmatch(r"[0-9]{1,7}", words[1])
-        if count and int(count) <= MOST_STEPS and (words[:-1] == ["run"] or team and 1 <= int(words[1]) <= self.session.workers):
-            self.walk(" ".join(words[:-1]), int(count))
+        if count and int(count) <= GREATEST_LIMIT and (words[:-1] == ["run"] or team and 1 <= int(words[1]) <= self.session.workers):
+            self.walking.walk(" ".join(words[:-1]), int(count), verbose=True)
         else:
-            self.show(self.session.do(line))
+            self.send(line)
         return False
 
-    def send(self, command):
-        """One command of the program, its reply and what it means."""
-        reply = self.session.do(command)
-        self.show(reply)
-        if reply:
-            self.explain(command, reply[-1] if reply[-1].startswith("ran ") else reply[0])
-        return reply
-
-    def emptyline(self):
+    def emptyline(self) -> bool:
         """Enter alone: the last step again."""
         return self.carry_out(self.last_step) if self.last_step else False
 
-    def default(self, line):
+    def default(self, line: str) -> None:
         """Unused: each line is carried out by `carry_out`."""
         self.send(line)
 
-    # Completion
+    # Completion, as the standard library asks for it
 
-    def completenames(self, text, *ignored):
+    def completenames(self, text: str, *ignored: object) -> list[str]:
         """Commands that begin so."""
-        return [name + " " for name in texts.HELP if name.startswith(text)]
+        return [name + " " for name in help_texts.HELP if name.startswith(text)]
 
-    def complete_help(self, text, *ignored):
+    def complete_help(self, *args: str) -> list[str]:
         """The commands that have a help."""
-        return [name for name in texts.HELP if name.startswith(text)]
+        return [name for name in help_texts.HELP if name.startswith(args[0])]
 
-    def completedefault(self, text, line, begidx, endidx):
-        """Tasks, steps, bodies and cells, where the command wants them."""
-        words = words_of(line[:begidx])
-        name = self.expand(words[0]) if words else ""
-        if name == "info":
-            words = words[1:]
-            name = words[0] if words else "info"
+    def completedefault(self, *ignored: object) -> list[str]:
+        """What can follow a command."""
+        text, line, begin = str(ignored[0]), str(ignored[1]), int(str(ignored[2]))
         # Ctrl-C would leave half of a reply unread.
         self.busy = True
         try:
             with Program.uncut():
-                return [word for word in self.fitting(name, words) if word.startswith(text)]
+                return self.completing.words(text, line[:begin])
         except Ended:
             return []
         finally:
             self.busy = False
 
-    def fitting(self, name, words):
-        """The words that can follow these."""
-        if name == "info":
-            return VIEWS
-        if name == "go" and len(words) == 1:
-            return [str(number) for number in range(1, self.session.workers + 1)]
-        if name == "break" and len(words) == 1:
-            return ("task", "cell", "body", "print", "fault", "line")
-        if name == "break" and words[1] == "body":
-            return sorted(self.session.source.bodies)
-        if name == "rollcell" or (name == "break" and words[1] == "cell"):
-            cells = self.session.view("cells")[0].split(" ")[1]
-            return [str(number) for number in range(min(int(cells), 100))]
-        if name in TAKES_TASK or (name == "break" and words[1] == "task"):
-            return [reply.split(" ")[0] for reply in self.session.view("tasks")[1:]]
-        if name in TAKES_STEP:
-            return [reply.split(" ")[0] for reply in self.session.view("hist")[1:]]
-        return ()
 
-    # Commands about the shell
-
-    def do_help(self, words):
-        """All commands, or one."""
-        name = self.expand(words[0]) if words else None
-        if name is None:
-            lines = texts.help_list(shutil.get_terminal_size().columns)
-        elif name in texts.HELP:
-            lines = texts.help_of(name)
-        else:
-            lines = [f"no such command: {words[0]}"]
-        for line in lines:
-            self.say(line)
-
-    def do_quit(self, words):
-        """Ends the shell."""
-        return True
-
-    def do_info(self, words):
-        """A view by its name."""
-        if not words:
-            self.say("info wants a view: " + ", ".join(VIEWS))
-            return False
-        fitting = [name for name in VIEWS if name == words[0]] or [name for name in VIEWS if name.startswith(words[0])]
-        if fitting and fitting[0] in ("races", "causes"):
-            return getattr(self, "do_" + fitting[0])(words[1:])
-        self.send(" ".join(fitting[:1] + words[1:]) if fitting else "info")
-        return False
-
-    def do_list(self, words):
-        """The source around a task or a line, with marks where tasks stand."""
-        source, places = self.session.source, self.session.places_now()
-        middle, count = None, len(source.lines)
-        if words and is_digits(words[0]) and not (words[0] == "0"):
-            middle = int(words[0])
-        elif words:
-            middle = places.position.get(words[0])
-            if middle is None:
-                self.say(f"{words[0]} stands at no line")
-                return
-        if middle is not None and not 1 <= middle <= count:
-            self.say(f"the program has {count} lines")
-            return
-        first, last = (1, count) if middle is None else (max(1, middle - 5), min(count, middle + 5))
-        at = {}
-        for task, number in places.position.items():
-            at.setdefault(number, []).append(task)
-        for number in range(first, last + 1):
-            mark = "=>" if number in at else "  "
-            tasks = "   <- " + ", ".join(at[number]) if number in at else ""
-            stop = "*" if number in self.session.line_breaks else " "
-            self.say(f"{mark}{stop}{number:4}  {source.lines[number - 1]}{self.dim(tasks)}")
-
-    def do_break(self, words):
-        """A breakpoint of the program, or one at a line."""
-        if len(words) != 2 or words[0] != "line" or not is_digits(words[1]):
-            self.send(" ".join(["break"] + words))
-            return
-        number, source = int(words[1]), self.session.source
-        if source.line(number).startswith("body "):
-            self.send("break body " + source.line(number).split(" ")[1])
-        elif source.is_step(number):
-            self.session.line_breaks.add(number)
-            self.say(f"break line {number}")
-            self.note(f"go stops after each step at {number}: {source.line(number)}")
-        else:
-            self.say(f"no step is taken at line {number}")
-
-    def do_clear(self, words):
-        """Takes a breakpoint away."""
-        if len(words) == 2 and words[0] == "line" and is_digits(words[1]):
-            known = int(words[1]) in self.session.line_breaks
-            self.session.line_breaks.discard(int(words[1]))
-            self.say(f"cleared line {words[1]}" if known else f"no breakpoint stands at line {words[1]}")
-        else:
-            self.send(" ".join(["clear"] + words))
-
-    def do_breaks(self, words):
-        """The breakpoints of the program, and those at lines."""
-        self.send(" ".join(["breaks"] + words))
-        for number in sorted(self.session.line_breaks):
-            self.say(f"line {number}" + self.dim(f"  {self.session.source.line(number)}"))
-
-    def do_save(self, words):
-        """Writes the session to a file."""
-        if len(words) != 1:
-            self.say("save wants a file: save race.session")
-            return
-        try:
-            with open(words[0], "w", encoding="utf-8", errors="surrogateescape", newline="\n") as file:
-                file.write(self.session.text())
-        except OSError as fault:
-            self.say(f"can't write {words[0]}: {fault.strerror}")
-            return
-        self.say(f"saved {words[0]}, {len(self.session.log)} commands")
-        if not self.plain and any(done.ended for done in self.session.log):
-            self.note("what several workers did is saved as the steps that they took")
-
-    def do_restart(self, words):
-        """Starts anew."""
-        count = self.session.restart()
-        self.say("started anew" + (f", with {count} breakpoints" if count else ""))
-
-    def do_limit(self, words):
-        """More room in the journal."""
-        if len(words) != 1 or not is_digits(words[0]) or not 1 <= int(words[0]) <= 1000000:
-            self.say("limit wants a number, 1 to 1000000: limit 200000")
-        elif self.session.replay(int(words[0])):
-            self.say(f"the journal has room for {int(words[0])} entries; all was done again")
-        else:
-            self.say(f"{words[0]} entries have no room for what was done; the limit stays")

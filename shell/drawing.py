@@ -1,118 +1,125 @@
 """The commands that draw: the graph of the tasks, the lanes of the history, and the page."""
 
+from __future__ import annotations
+
 import os
 import shutil
 import sys
+from collections.abc import Callable
+from typing import TypeVar
 
+from shell.console import counted
 from shell.facts import Stopped
+from shell.filing import WRITTEN, Writing, forced
 from shell.graph import graph_of, tree_of, write_graph
+from shell.group import Words
 from shell.lanes import lanes_of, text_rows
 from shell.lanes_svg import svg_of
 from shell.page import page_of
 from shell.protocol import Cut, Ended, Refused
 from shell.session import Session
-from shell.source import Source, split_session
+from shell.source import Source, read_text, split_session
 
 TOP = os.path.dirname(os.path.dirname(os.path.abspath(__file__)))
 BUILT = os.path.join(TOP, "crates", "taskback", "out", "taskback")
 UNPROVED = os.path.join(TOP, ".cache", "taskback")
+Drawn = TypeVar("Drawn")
 
 
-def program_here():
+def program_here() -> str:
     """The program that TASKBACK_PROGRAM names, else the proved one, else the unproved one that ./run has built."""
     there = [path for path in (BUILT, UNPROVED) if os.access(path, os.X_OK)]
     return os.environ.get("TASKBACK_PROGRAM") or (there or [BUILT])[0]
 
 
-def play_file(path, program=None):
+def play_file(path: str, program: str | None = None) -> Session:
     """A session whose commands have been carried out; ends with a status where it can't be."""
     program = program or program_here()
     try:
-        with open(path, encoding="utf-8", errors="surrogateescape", newline="\n") as file:
-            text, commands = split_session(file.read())
+        text, commands = split_session(read_text(path))
         session = Session(program, Source(text, path))
     except OSError as fault:
-        sys.exit(print(f"can't read {path}: {fault.strerror}", file=sys.stderr) or 2)
+        print(f"can't read {path}: {fault.strerror}", file=sys.stderr)
+        sys.exit(2)
     except (Refused, Ended) as fault:
-        sys.exit(print(fault, file=sys.stderr) or 1)
+        print(fault, file=sys.stderr)
+        sys.exit(1)
     for command in commands or ():
         session.do(command)
     return session
 
 
-class Drawing:
-    """The part of the shell that draws; Ctrl-C stops it."""
+class Drawing(Writing):
+    """Commands that draw; Ctrl-C stops them."""
 
-    def drawn(self, make, *words):
+    def drawn(self, make: Callable[..., Drawn], *words: object) -> Drawn | None:
         """What is to be drawn; None where Ctrl-C came first."""
         try:
-            return make(self.session, *words, stop=lambda: self.interrupted)
+            return make(self.session, *words, stop=lambda: self.interrupted, progress=self.console.progress)
         except (Cut, Stopped):
             if self.session.program.is_cut:
                 raise
+            self.console.end_progress()
             self.note("stopped by Ctrl-C; nothing is drawn")
             return None
 
-    def write(self, path, text):
-        """Writes a picture, and says so; returns whether it could."""
-        try:
-            with open(path, "w", encoding="utf-8", errors="surrogateescape", newline="\n") as file:
-                file.write(text)
-        except OSError as fault:
-            self.say(f"can't write {path}: {fault.strerror}")
-            return False
-        return True
-
-    def do_graph(self, words):
+    def do_graph(self, words: Words) -> None:
         """The tasks as a graph, as text or to a file."""
-        if len(words) > 1:
+        force, names = forced(words)
+        if len(names) > 1:
             self.wrong("graph")
+            return
+        if names and not self.may_write(names[0], force):
             return
         graph = self.drawn(graph_of)
         if graph is None:
             return
-        if not words:
+        if not names:
             for line in tree_of(graph):
                 self.say(line)
             return
         try:
-            self.say(write_graph(words[0], graph))
+            self.say(write_graph(names[0], graph))
+            WRITTEN.add(names[0])
         except OSError as fault:
-            self.say(f"can't write {words[0]}: {fault.strerror}")
+            self.refuse(f"can't write {names[0]}: {fault.strerror}")
 
-    def do_lanes(self, words):
+    def do_lanes(self, words: Words) -> None:
         """The history in lanes, as text or to a file."""
-        chosen = next((word for word in words if "#" in word), None)
-        files = [word for word in words if word != chosen]
+        force, names = forced(words)
+        chosen = next((word for word in names if "#" in word), None)
+        files = [word for word in names if word != chosen]
         if len(files) > 1:
             self.wrong("lanes")
-            return
-        if chosen and not self.session.view(f"who {chosen}")[0].startswith("who "):
-            self.say(f"step {chosen} doesn't stand")
-            return
+        elif chosen and chosen not in self.session.standing:
+            self.refuse(f"step {chosen} isn't in the history")
+        elif not files or self.may_write(files[0], force):
+            self.draw_lanes(chosen, files[0] if files else None)
+
+    def draw_lanes(self, chosen: str | None, path: str | None) -> None:
+        """Draws the lanes, as text where there is no file."""
         lanes = self.drawn(lanes_of, chosen)
         if lanes is None:
             return
-        if files:
-            if self.write(files[0], svg_of(lanes)):
-                self.say(f"drawn to {files[0]}, {len(lanes.steps)} steps in {len(lanes.tasks)} lanes")
-        else:
-            width = shutil.get_terminal_size((100, 24)).columns
-            for row in text_rows(lanes, width, self.shaded):
-                self.say(row)
+        if path is not None:
+            if self.write(path, svg_of(lanes)):
+                self.say(f"drawn to {path}, {counted(len(lanes.steps), 'step')} in {counted(len(lanes.tasks), 'lane')}")
+            return
+        width = shutil.get_terminal_size((100, 24)).columns
+        for row in text_rows(lanes, width, self.console.shaded):
+            self.say(row)
 
-    def shaded(self, text):
-        """A line that is shaded, where the terminal can."""
-        return f"\x1b[7m{text}\x1b[0m" if self.colours else text
-
-    def do_page(self, words):
+    def do_page(self, words: Words) -> None:
         """All that was done, as one page."""
-        if len(words) != 1:
+        force, names = forced(words)
+        if len(names) != 1:
             self.wrong("page")
+            return
+        if not self.may_write(names[0], force):
             return
         told = self.drawn(page_of)
         if told is None:
             return
         page, commands, steps = told
-        if self.write(words[0], page):
-            self.say(f"written to {words[0]}, {commands} commands and {steps} steps")
+        if self.write(names[0], page):
+            self.say(f"written to {names[0]}, {counted(commands, 'command')} and {counted(steps, 'step')}")

@@ -1,10 +1,17 @@
 """What a picture is drawn from: the program's replies at one moment, and nothing else."""
 
+from __future__ import annotations
+
+from collections.abc import Callable, Iterator, Sequence
 from dataclasses import dataclass, field
 
+from shell.session import Session
+from shell.source import Places
 from shell.texts import matching_pairs
 
 NOT_THERE = ["error word"]
+# Told how many are done, of what, and how many there are in all.
+Progress = Callable[..., None]
 
 
 @dataclass
@@ -15,14 +22,14 @@ class Task:
     body: str
     state: str
     line: int | None = None
-    before: list = field(default_factory=list)
-    apart: list = field(default_factory=list)
-    items: list = field(default_factory=list)
+    before: list[str] = field(default_factory=list)
+    apart: list[str] = field(default_factory=list)
+    items: list[str] = field(default_factory=list)
     ready: bool = False
-    waits: tuple | None = None
+    waits: tuple[str, str] | None = None
 
     @property
-    def parent(self):
+    def parent(self) -> str | None:
         """The name of the task that generated this one; None for the root."""
         return self.name.rpartition(".")[0] or None
 
@@ -36,12 +43,12 @@ class Step:
     line: int | None
 
     @property
-    def task(self):
+    def task(self) -> str:
         """The task's name."""
         return self.name.split("#")[0]
 
     @property
-    def word(self):
+    def word(self) -> str:
         """The first word of what it did."""
         return self.did.split(" ")[0]
 
@@ -56,23 +63,24 @@ class Race:
     apart: bool
 
 
-def step_of(line, places):
+def step_of(line: str, places: Places) -> Step:
     """The step of a line that shows one."""
     name, _, did = line.partition(" ")
     return Step(name, did, places.line_of(name))
 
 
-def race_of(line):
+def race_of(line: str) -> Race:
     """The race of a line of `races`."""
     first, second, *rest = line.split(" ")
     apart = rest[-1] == "apart"
     return Race(first, second, " ".join(rest[:-1] if apart else rest), apart)
 
 
-def causes_of(lines):
+Causes = list[tuple[str, str]]
+
+
+def causes_of(lines: Sequence[str]) -> Causes:
     """The lines of `causes` as pairs of kind and step."""
-    if lines is None:
-        return None
     return [(kind, did.split(" ")[0]) for kind, did in (line.split(": ", 1) for line in lines)]
 
 
@@ -83,96 +91,103 @@ class Stopped(Exception):
 class Facts:
     """Asks a session for what is drawn; what isn't asked for isn't fetched. `stop` ends it early."""
 
-    def __init__(self, session, stop=lambda: False):
+    def __init__(self, session: Session, stop: Callable[[], bool] = lambda: False) -> None:
         self.session = session
         self.stop = stop
 
-    def ask(self, command):
+    def ask(self, command: str) -> list[str] | None:
         """The lines of a view after its count; None where the program has no such view."""
         if self.stop():
             raise Stopped
         reply = self.session.view(command)
         return None if reply == NOT_THERE else reply[1:]
 
-    def steps(self):
+    def steps(self) -> list[Step]:
         """The steps that stand, from the oldest."""
-        return [step_of(line, self.session.places) for line in self.ask("hist")]
+        return [Step(name, did, self.session.places.line_of(name)) for name, did in self.session.standing.items()]
 
-    def ask_all(self, commands):
+    def ask_all(self, commands: Sequence[str]) -> Iterator[list[str] | None]:
         """The lines of many views after their counts, as `ask` has them."""
         for reply in self.session.views(commands):
             if self.stop():
                 raise Stopped
             yield None if reply == NOT_THERE else reply[1:]
 
-    def causes(self, step):
+    def causes(self, step: str) -> Causes | None:
         """The immediate needs of a step as pairs of kind and step; None where the program doesn't show them."""
-        return causes_of(self.ask(f"causes {step}"))
+        lines = self.ask(f"causes {step}")
+        return None if lines is None else causes_of(lines)
 
-    def all_causes(self, steps):
+    def all_causes(self, steps: Sequence[Step], progress: Progress = lambda *told: None) -> dict[str, Causes] | None:
         """The immediate needs of all steps that stand, by their names; None where the program doesn't show them."""
         names = [step.name for step in steps]
         if not steps or self.causes(names[0]) is None:
             return None if steps else {}
-        return dict(zip(names, map(causes_of, self.ask_all([f"causes {name}" for name in names]))))
+        found: dict[str, Causes] = {}
+        for name, lines in zip(names, self.ask_all([f"causes {name}" for name in names])):
+            found[name] = causes_of(lines or ())
+            progress(len(found), "steps", len(names))
+        return found
 
-    def needs(self, step):
+    def needs(self, step: str) -> list[str]:
         """The steps that a step needs."""
-        return [line.split(" ")[0] for line in self.ask(f"why {step}")]
+        return [line.split(" ")[0] for line in self.ask(f"why {step}") or ()]
 
-    def taken_back(self, step):
+    def taken_back(self, step: str) -> set[str] | None:
         """The steps that a rollback of this one would take, itself among them; None where it doesn't stand."""
         reply = self.session.view(f"who {step}")
         if not reply[0].startswith("who "):
             return None
         return {step} | {line.split(" ")[0] for line in reply[1:]}
 
-    def races(self):
+    def races(self) -> list[Race] | None:
         """The races; None where the program doesn't show them."""
         lines = self.ask("races")
         return None if lines is None else [race_of(line) for line in lines]
 
-    def task_states(self):
+    def task_states(self) -> dict[str, Task]:
         """The tasks by names, with what they are doing."""
-        found = {}
-        for line in self.ask("tasks"):
+        found: dict[str, Task] = {}
+        for line in self.ask("tasks") or ():
             name, body, state, *at = line.split(" ")
             found[name] = Task(name, body, state, int(at[0]) if at else None)
-        for name in self.ask("ready"):
+        for name in self.ask("ready") or ():
             found[name].ready = True
-        for line in self.ask("waits"):
+        for line in self.ask("waits") or ():
             name, why, other = line.split(" ")
             found[name].waits = (why, other)
         return found
 
-    def fill_in(self, tasks):
+    def fill_in(self, tasks: Sequence[Task]) -> None:
         """Each task's items, and the siblings on which it depends or that exclude it."""
         for task, lines in zip(tasks, self.ask_all([f"deps {task.name}" for task in tasks])):
-            for line in lines:
+            for line in lines or ():
                 other, how = line.split(" ")
                 (task.before if how == "before" else task.apart).append(other)
         for task, lines in zip(tasks, self.ask_all([f"task {task.name}" for task in tasks])):
-            at = next(place for place, line in enumerate(lines) if line.startswith("items "))
-            task.items = lines[at + 1:]
+            told = lines or []
+            at = next(place for place, line in enumerate(told) if line.startswith("items "))
+            task.items = told[at + 1:]
 
-    def tasks(self):
+    def tasks(self) -> dict[str, Task]:
         """All tasks by names, with items and order."""
         found = self.task_states()
         self.fill_in(list(found.values()))
         return found
 
 
-def by_name(name):
+def by_name(name: str) -> list[int]:
     """The order of tasks' names: number by number."""
     return [int(part) for part in name.split(".")]
 
 
-def reduced(before):
+def reduced(before: dict[str, list[str]]) -> dict[str, list[str]]:
     """The dependences that no other implies: `before` has each task's earlier ones; returns those that are drawn."""
     names = sorted(before, key=by_name)
     bit = {name: 1 << at for at, name in enumerate(names)}
     # All that come before a task, through others too; an earlier sibling is done first.
-    above, drawn = {}, {}
+    above: dict[str, int] = {}
+    drawn: dict[str, list[str]] = {}
     for name in names:
         through = 0
         for other in before[name]:
@@ -184,9 +199,9 @@ def reduced(before):
     return drawn
 
 
-def label_of(new, old, how):
+def label_of(new: Task, old: Task, how: str) -> list[str]:
     """The cells and types for which two siblings are ordered, or kept apart: `cell 0: out, in`."""
-    pairs = []
+    pairs: list[str] = []
     for one, two in matching_pairs(new.items, old.items, how):
         (kind, cell), (other, place) = one.split(" "), two.split(" ")
         text = f"cell {place if cell == 'all' else cell}" if "all" not in (cell, place) or cell != place else "all cells"

@@ -14,7 +14,9 @@ from dataclasses import dataclass
 if __name__ == "__main__":
     sys.path.insert(0, os.path.dirname(os.path.dirname(os.path.abspath(__file__))))
 
+from shell.console import counted  # noqa: E402
 from shell.facts import Facts, by_name, label_of, reduced  # noqa: E402
+from shell.files import write_bytes, write_text  # noqa: E402
 from shell.lanes import NO_CAUSES  # noqa: E402
 
 # Each state: its fill, its outline, and the style of the outline, so that it can be told without colour.
@@ -80,7 +82,7 @@ def waits_of(facts, steps):
     return found
 
 
-def graph_of(session, stop=lambda: False):
+def graph_of(session, stop=lambda: False, progress=None):
     """The graph of a session at this moment."""
     facts = Facts(session, stop)
     tasks, steps = facts.tasks(), facts.steps()
@@ -197,12 +199,14 @@ def write_graph(path, graph):
     base, kind = os.path.splitext(path)
     program = shutil.which("dot")
     if kind != ".dot" and program:
-        done = subprocess.run([program, f"-T{kind[1:] or 'svg'}", "-o", path], input=dot_of(graph), text=True, capture_output=True, check=False)
-        return f"drawn to {path}, {len(graph.tasks)} tasks" if done.returncode == 0 else f"dot: {done.stderr.strip()}"
+        done = subprocess.run([program, f"-T{kind[1:] or 'svg'}"], input=dot_of(graph).encode("utf-8", "surrogateescape"), capture_output=True, check=False)
+        if done.returncode:
+            return f"dot: {done.stderr.decode('utf-8', 'replace').strip()}"
+        write_bytes(path, done.stdout)
+        return f"drawn to {path}, {counted(len(graph.tasks), 'task')}"
     path = path if kind == ".dot" else base + ".dot"
-    with open(path, "w", encoding="utf-8") as file:
-        file.write(dot_of(graph))
-    return f"written to {path}, {len(graph.tasks)} tasks" + ("" if kind == ".dot" else "; Graphviz, which would draw it, isn't here")
+    write_text(path, dot_of(graph))
+    return f"written to {path}, {counted(len(graph.tasks), 'task')}" + ("" if kind == ".dot" else "; Graphviz, which would draw it, isn't here")
 
 
 def main(words):

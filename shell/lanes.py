@@ -39,11 +39,11 @@ class Lanes:
         return [(early, late, kind) for late, needed in (self.causes or {}).items() for kind, early in needed if kind != "task"]
 
 
-def lanes_of(session, chosen=None, stop=lambda: False):
+def lanes_of(session, chosen=None, stop=lambda: False, progress=lambda *told: None):
     """The lanes of a session at this moment; the shaded steps are those that `roll` of the chosen one would take."""
     facts = Facts(session, stop)
     steps = facts.steps()
-    causes = facts.all_causes(steps)
+    causes = facts.all_causes(steps, progress)
     shaded = facts.taken_back(chosen) if chosen else frozenset()
     tasks = sorted(facts.task_states().values(), key=lambda task: by_name(task.name))
     return None if shaded is None else Lanes(session.source.name, tasks, steps, causes, facts.races(), chosen, frozenset(shaded))
@@ -121,7 +121,7 @@ def main(words):
     lanes = lanes_of(session, chosen)
     session.close()
     if lanes is None:
-        print(f"step {chosen} doesn't stand", file=sys.stderr)
+        print(f"step {chosen} isn't in the history", file=sys.stderr)
         return 2
     if not files:
         print("\n".join(text_rows(lanes, 100)))

@@ -1,46 +1,55 @@
-"""Starts the shell on a program file or a session file."""
+"""Starts the shell on a program file or a session file, at a terminal or on a list of commands."""
 
 import argparse
 import os
 import signal
 import sys
+from collections.abc import Callable
+from types import FrameType
 
 sys.path.insert(0, os.path.dirname(os.path.dirname(os.path.abspath(__file__))))
 
-from shell import texts  # noqa: E402
+from shell import faults  # noqa: E402
 from shell.commands import Shell  # noqa: E402
+from shell.console import Console, JsonConsole, counted  # noqa: E402
 from shell.protocol import Ended, Refused, is_digits  # noqa: E402
+from shell.script import Script, lines_of  # noqa: E402
 from shell.session import Session  # noqa: E402
-from shell.source import Source, split_session  # noqa: E402
+from shell.source import Source, read_text, split_session  # noqa: E402
 
 TOP = os.path.dirname(os.path.dirname(os.path.abspath(__file__)))
 BUILT = os.path.join(TOP, "crates", "taskback", "out", "taskback")
 
 
-def read_words(words):
+def read_words(words: list[str]) -> argparse.Namespace:
     """The command line."""
     parser = argparse.ArgumentParser(prog="taskback shell", description="A shell over Taskback's session commands.")
     parser.add_argument("file", help="a program, or a session, whose commands `source` plays")
-    parser.add_argument("--program", default=os.environ.get("TASKBACK_PROGRAM", BUILT), help="the program to run")
+    parser.add_argument("--program", default=os.environ.get("TASKBACK_PROGRAM") or BUILT, help="the program to run")
     parser.add_argument("--plain", action="store_true", help="the program's own lines, and nothing beside them")
+    parser.add_argument("-x", "--script", help="plays the commands of a file (`-`: of standard input), and ends")
+    parser.add_argument("--check", action="store_true", help="a script ends at the first refusal, with status 1")
+    parser.add_argument("--json", action="store_true", help="a line of JSON for each reply (docs/replies.schema.json)")
     parser.add_argument("--limit", help="the most entries of the journal")
     parser.add_argument("--workers", help="passed to the program")
     return parser.parse_args(words)
 
 
-def set_streams():
+def set_streams() -> None:
     """Bytes that are no text pass as they are, and only a line feed ends a line."""
-    sys.stdin.reconfigure(encoding="utf-8", errors="surrogateescape", newline="\n")
-    sys.stdout.reconfigure(encoding="utf-8", errors="surrogateescape")
+    for stream, newline in ((sys.stdin, "\n"), (sys.stdout, None)):
+        reconfigure = getattr(stream, "reconfigure", None)
+        if reconfigure:
+            reconfigure(encoding="utf-8", errors="surrogateescape", **({"newline": newline} if newline else {}))
 
 
-def start_session(given):
+def start_session(given: argparse.Namespace) -> tuple[Session, list[str]]:
     """The session of the given file, and its commands; ends with a status where it can't be."""
     try:
-        with open(given.file, encoding="utf-8", errors="surrogateescape", newline="\n") as file:
-            text, commands = split_session(file.read())
+        text, commands = split_session(read_text(given.file))
     except OSError as fault:
-        sys.exit(print(f"run: can't read {given.file}: {fault.strerror}", file=sys.stderr) or 2)
+        print(f"run: can't read {given.file}: {fault.strerror}", file=sys.stderr)
+        sys.exit(2)
     options = [] if given.workers is None else ["--workers", given.workers]
     limit = int(given.limit) if given.limit and is_digits(given.limit) else None
     if given.limit is not None and limit is None:
@@ -49,7 +58,7 @@ def start_session(given):
     try:
         return Session(given.program, Source(text, given.file), limit, options), commands or []
     except Refused as refused:
-        for line in texts.fault_lines(os.path.basename(given.file), text, refused.line, refused.kind):
+        for line in faults.fault_lines(os.path.basename(given.file), text, refused.line, refused.kind):
             print(line, file=sys.stderr)
         sys.exit(1)
     except Ended as ended:
@@ -57,7 +66,7 @@ def start_session(given):
         sys.exit(ended.status or 3)
 
 
-def set_history():
+def set_history() -> Callable[[], None]:
     """History across runs, in ~/.taskback_history; returns what writes it."""
     import readline
     path = os.path.expanduser("~/.taskback_history")
@@ -68,7 +77,7 @@ def set_history():
     except OSError:
         pass
 
-    def write():
+    def write() -> None:
         try:
             readline.write_history_file(path)
         except OSError:
@@ -76,47 +85,78 @@ def set_history():
     return write
 
 
-def catch_interrupts(shell):
+def catch_interrupts(shell: Shell) -> None:
     """Ctrl-C ends the command that is under way, and else empties the line."""
-    def interrupt(number, frame):
+    def interrupt(number: int, frame: FrameType | None) -> None:
         if not shell.busy:
             raise KeyboardInterrupt
         shell.interrupt()
     signal.signal(signal.SIGINT, interrupt)
 
 
-def talk(shell):
+def talk(shell: Shell) -> None:
     """Takes lines until the end."""
     while True:
         try:
             shell.cmdloop()
             return
         except KeyboardInterrupt:
-            shell.say("")
+            shell.console.say("")
 
 
-def main(words):
-    """Runs the shell; returns its status."""
-    given = read_words(words)
-    typed = sys.stdin.isatty() and sys.stdout.isatty()
-    set_streams()
-    session, commands = start_session(given)
+def console_of(given: argparse.Namespace, typed: bool) -> Console:
+    """What is written to."""
+    if given.json:
+        return JsonConsole(sys.stdout)
+    exact = given.plain or not sys.stdout.isatty()
     colours = sys.stdout.isatty() and not os.environ.get("NO_COLOR") and os.environ.get("TERM") != "dumb"
-    shell = Shell(session, sys.stdout, given.plain, colours and not given.plain, typed, commands)
-    write_history = set_history() if typed else None
-    catch_interrupts(shell)
-    if typed and not given.plain:
-        shell.say(f"{session.source.name}: {len(session.source.lines)} lines, `list` shows them. `help` lists the commands, `quit` ends.")
-        if commands:
-            shell.note(f"{len(commands)} commands come with it: `source` plays the next, Enter goes on")
+    return Console(sys.stdout, exact, colours and not exact, typed)
+
+
+def play_script(given: argparse.Namespace, shell: Shell, commands: list[str]) -> int:
+    """Plays the commands of a session file, and then those of a script; returns the status."""
     try:
-        talk(shell)
-    except BrokenPipeError:
-        os.dup2(os.open(os.devnull, os.O_WRONLY), sys.stdout.fileno())
+        lines = lines_of(given.script)
+    except OSError as fault:
+        print(f"run: can't read {given.script}: {fault.strerror}", file=sys.stderr)
+        return 2
+    return Script(shell, given.check).play([(0, command) for command in commands] + lines, os.path.basename(given.script))
+
+
+def hold_talk(given: argparse.Namespace, shell: Shell) -> int:
+    """Takes lines from the keyboard; returns the status."""
+    write_history = set_history() if shell.console.typed else None
+    if shell.console.typed and not given.plain:
+        source = shell.session.source
+        shell.console.say(f"{source.name}: {counted(len(source.lines), 'line')}, `list` shows them. `help` lists the commands, `quit` ends.")
+        if shell.queue:
+            shell.console.note(f"{counted(len(shell.queue), 'command')} come{'s' if len(shell.queue) == 1 else ''} with it: "
+                               "`source` plays the next, Enter goes on")
+    talk(shell)
     if write_history:
         write_history()
-    session.close()
     return shell.status
+
+
+def main(words: list[str]) -> int:
+    """Runs the shell; returns its status."""
+    given = read_words(words)
+    typed = sys.stdin.isatty() and sys.stdout.isatty() and given.script is None and not given.json
+    set_streams()
+    session, commands = start_session(given)
+    scripted = given.script is not None
+    shell = Shell(session, console_of(given, typed), given.plain, () if scripted else commands)
+    catch_interrupts(shell)
+    status = 3
+    try:
+        status = play_script(given, shell, commands) if scripted else hold_talk(given, shell)
+    except OSError as fault:
+        # Nobody reads on, or nothing can be written: only the second is said.
+        if not isinstance(fault, BrokenPipeError):
+            print("taskback: write", file=sys.stderr)
+        os.dup2(os.open(os.devnull, os.O_WRONLY), sys.stdout.fileno())
+    session.close()
+    return status
 
 
 if __name__ == "__main__":

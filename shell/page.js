@@ -143,13 +143,21 @@
   function showRaces() {
     const list = find("race-list");
     list.replaceChildren();
-    for (const step of view.races.slice(0, 500)) {
-      const [early, over, apart] = step.race, button = document.createElement("button");
+    const kinds = new Map();
+    for (const step of view.races) {
+      const [early, over, apart] = step.race, key = [steps[early].line, step.line, over === "print", apart].join("|");
+      if (!kinds.has(key)) kinds.set(key, []);
+      kinds.get(key).push(step);
+    }
+    for (const [key, raced] of [...kinds].slice(0, 500)) {
+      const step = raced[0], [early, over, apart] = step.race, button = document.createElement("button");
       button.type = "button";
-      button.dataset.race = steps[early].name + " " + step.name;
-      button.textContent = "✕ " + steps[early].name + " and " + step.name + ", " + over + ": lines " + steps[early].line + " and " + step.line + (apart ? ", never at once but in either order" : "");
+      button.dataset.races = raced.map((some) => steps[some.race[0]].name + " " + some.name).join("; ");
+      button.textContent = "✕ lines " + steps[early].line + " and " + step.line + (raced.length > 1 ? ", " + raced.length + " races, as " : ": ") + steps[early].name + " and " + step.name + ", " + over + (apart ? ", never at once but in either order" : "");
       button.addEventListener("click", () => { choose(step.index, true); scrollTo(step.index); showLines([steps[early].line, step.line], "race"); });
-      item(list, "").append(button);
+      const row = item(list, "");
+      row.append(button);
+      if (data.hints[key] && !apart) row.append(Object.assign(document.createElement("p"), { className: "hint", textContent: data.hints[key] }));
     }
     if (!view.races.length) item(list, data.leftOut.some((text) => text.startsWith("races")) ? "not shown by this program" : "none so far");
   }

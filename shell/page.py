@@ -21,9 +21,9 @@ def part(name):
         return file.read()
 
 
-def page_of(session, stop=lambda: False):
+def page_of(session, stop=lambda: False, progress=lambda *told: None):
     """The page of all that a session did."""
-    story = Story(session, stop)
+    story = Story(session, stop, progress)
     data = story.data()
     # In a script only `</` could end the data, and bytes that are no text can't stand in a page.
     told = json.dumps(data, separators=(",", ":")).replace("</", "<\\/")

@@ -4,6 +4,8 @@ import contextlib
 import re
 import subprocess
 import tempfile
+from collections.abc import Iterator, Sequence
+from typing import ClassVar
 
 LONGEST_LINE = 1024
 BLANKS = re.compile(r"[ \t\r]+")
@@ -12,7 +14,7 @@ BLANKS = re.compile(r"[ \t\r]+")
 class Refused(Exception):
     """The program text was refused: its first faulty line, and the name of the fault."""
 
-    def __init__(self, line, kind):
+    def __init__(self, line: int, kind: str) -> None:
         super().__init__(f"line {line}: {kind}")
         self.line = line
         self.kind = kind
@@ -21,7 +23,7 @@ class Refused(Exception):
 class Ended(Exception):
     """The program ended, or couldn't be started: its status, and what it wrote on standard error."""
 
-    def __init__(self, status, said):
+    def __init__(self, status: int, said: str) -> None:
         super().__init__(said or f"the program ended with status {status}")
         self.status = status
         self.said = said
@@ -31,9 +33,9 @@ class Cut(Ended):
     """The program was ended by Ctrl-C while its reply was awaited."""
 
 
-def words_of(line):
+def words_of(line: str) -> list[str]:
     """The words of a line in front of its comment."""
-    words = []
+    words: list[str] = []
     for word in BLANKS.split(line):
         if word.startswith("#"):
             break
@@ -42,17 +44,17 @@ def words_of(line):
     return words
 
 
-def is_digits(word):
+def is_digits(word: str) -> bool:
     """Whether a word is digits alone, and not more than a line has place for."""
     return word.isascii() and word.isdigit() and len(word) <= LONGEST_LINE
 
 
-def has_reply(line):
+def has_reply(line: str) -> bool:
     """Whether the program answers this line: an empty one has no reply, too long a one has."""
     return bool(words_of(line)) or len(line.encode("utf-8", "surrogateescape")) > LONGEST_LINE
 
 
-def count_of(line, word):
+def count_of(line: str, word: str) -> int | None:
     """K where the line is `word K`, else None."""
     parts = line.split(" ")
     if len(parts) == 2 and parts[0] == word and parts[1].isdigit():
@@ -64,11 +66,12 @@ class Program:
     """One running program, which has accepted its text."""
 
     # The program whose reply is awaited now, and whether it may be cut.
-    awaited = None
-    may_be_cut = True
+    awaited: "ClassVar[Program | None]" = None
+    may_be_cut: ClassVar[bool] = True
 
-    def __init__(self, path, text, options=()):
+    def __init__(self, path: str, text: str, options: Sequence[str] = ()) -> None:
         self._said = tempfile.TemporaryFile()
+        self._last_words = ""
         self.is_cut = False
         try:
             # A session of its own: Ctrl-C at the terminal is for the shell alone.
@@ -90,7 +93,7 @@ class Program:
             raise
 
     @classmethod
-    def cut(cls):
+    def cut(cls) -> None:
         """Ends the program whose reply is awaited, where there is one: a signal comes while it is read."""
         if cls.awaited and cls.may_be_cut:
             cls.awaited.is_cut = True
@@ -98,7 +101,7 @@ class Program:
 
     @classmethod
     @contextlib.contextmanager
-    def uncut(cls):
+    def uncut(cls) -> Iterator[None]:
         """What is asked for within it isn't cut."""
         cls.may_be_cut = False
         try:
@@ -106,11 +109,11 @@ class Program:
         finally:
             cls.may_be_cut = True
 
-    def ask(self, command):
+    def ask(self, command: str) -> list[str]:
         """The lines of the reply to one command; none where the line is empty. Raises Cut where it was cut."""
         return self.ask_all([command])[0] if has_reply(command) else []
 
-    def ask_all(self, commands):
+    def ask_all(self, commands: Sequence[str]) -> list[list[str]]:
         """The replies to some commands, each of which has one; they are sent together, so there are few of them."""
         Program.awaited = self
         try:
@@ -124,10 +127,10 @@ class Program:
         return replies
 
     @staticmethod
-    def _is_cells(command):
+    def _is_cells(command: str) -> bool:
         return words_of(command)[:1] == ["cells"]
 
-    def _lines_of(self, command):
+    def _lines_of(self, command: str) -> list[str]:
         words = words_of(command)
         word = words[0] if words else ""
         if word == "cells":
@@ -142,14 +145,14 @@ class Program:
         elif word == "task":
             while count_of(lines[-1], "items") is None:
                 lines.append(self._read())
-            self._read_more(lines, count_of(lines[-1], "items"))
+            self._read_more(lines, count_of(lines[-1], "items") or 0)
         elif word in ("roll", "rolltask", "rollcell", "rollprint"):
             self._read_more(lines, count_of(first, "rolled") or 0)
         elif word not in ("step", "undo", "break", "clear"):
             self._read_more(lines, count_of(first, word) or 0)
         return lines
 
-    def _cells(self):
+    def _cells(self) -> list[str]:
         """The reply counts the program's cells and not its own lines: a faulty command ends it."""
         lines = [self._read()]
         while True:
@@ -158,32 +161,35 @@ class Program:
                 return lines
             lines.append(line)
 
-    def _read_more(self, lines, count):
+    def _read_more(self, lines: list[str], count: int) -> None:
         for _ in range(count):
             lines.append(self._read())
 
-    def _write(self, text):
+    def _write(self, text: str) -> None:
+        assert self._child.stdin is not None
         try:
             self._child.stdin.write(text.encode("utf-8", "surrogateescape"))
             self._child.stdin.flush()
         except (OSError, ValueError):
             raise self._ended() from None
 
-    def _read(self):
+    def _read(self) -> str:
+        assert self._child.stdout is not None
         line = self._child.stdout.readline()
         if not line.endswith(b"\n"):
             raise self._ended()
         return line[:-1].decode("utf-8", "surrogateescape")
 
-    def _ended(self):
+    def _ended(self) -> Ended:
         status = self.close()
         return (Cut if self.is_cut else Ended)(status, self._last_words)
 
-    def close(self):
+    def close(self) -> int:
         """Ends the child, and returns its status."""
         if self._said.closed:
-            return self._child.returncode
+            return int(self._child.returncode or 0)
         for stream in (self._child.stdin, self._child.stdout):
+            assert stream is not None
             try:
                 stream.close()
             except OSError:

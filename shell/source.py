@@ -1,42 +1,62 @@
 """The program's text: which line a task stands at, and at which line each step was taken."""
 
 import os
+from collections.abc import Sequence
 
 from shell.protocol import is_digits, words_of
 
+BYTE_ORDER_MARK = "\ufeff"
+# In front of a comment of a session file that is a command of the shell's own.
+SHELL_MARK = "# shell: "
 
-def split_session(text):
+
+def read_text(path: str) -> str:
+    """The text of a file, without a byte order mark; bytes that are no text pass as they are."""
+    with open(path, encoding="utf-8", errors="surrogateescape", newline="\n") as file:
+        return file.read().removeprefix(BYTE_ORDER_MARK)
+
+
+def split_session(text: str) -> tuple[str, list[str] | None]:
     """The program of a text, and the lines of its commands (None where no line `---` is there)."""
     lines = text.split("\n")
     for index, line in enumerate(lines):
         if words_of(line) == ["---"]:
             program = "".join(part + "\n" for part in lines[:index])
-            return program, [part for part in lines[index + 1:] if words_of(part)]
+            return program, [part for part in map(unmarked, lines[index + 1:]) if words_of(part)]
     return text, None
+
+
+def unmarked(line: str) -> str:
+    """A line of a session as the shell reads it: a comment may have a command of the shell's own."""
+    return line.removeprefix(SHELL_MARK)
 
 
 class Source:
     """A program text that the program has accepted, with the successor of each of its lines."""
 
-    def __init__(self, text, path):
+    def __init__(self, text: str, path: str) -> None:
         self.text = text
+        self.path = path
         self.name = os.path.basename(path)
         self.lines = text.split("\n")
         if self.lines and self.lines[-1] == "":
             self.lines.pop()
-        self.bodies = {}
-        self._opener = {}
-        self._end = {}
-        self._else = {}
+        self.bodies: dict[str, int] = {}
+        self._opener: dict[int, tuple[int, str]] = {}
+        self._end: dict[int, int] = {}
+        self._else: dict[int, int] = {}
+        self._body: list[str | None] = []
         self._read_blocks()
 
-    def _read_blocks(self):
-        stack = []
+    def _read_blocks(self) -> None:
+        stack: list[tuple[int, str]] = []
+        body = None
         for number, line in enumerate(self.lines, 1):
             words = words_of(line)
             word = words[0] if words else ""
             if word == "body" and len(words) > 1:
                 self.bodies[words[1]] = number
+                body = words[1]
                 stack = [(number, word)]
             elif word in ("if", "while", "taskgroup"):
                 stack.append((number, word))
@@ -47,25 +67,51 @@ class Source:
                 opener = stack.pop()
                 self._opener[number] = opener
                 self._end[opener[0]] = number
+            self._body.append(body)
 
-    def line(self, number):
+    @property
+    def cells(self) -> int:
+        """How many cells the program has."""
+        first: list[str] = next((words for words in map(words_of, self.lines) if words), [])
+        return int(first[1]) if len(first) == 2 and is_digits(first[1]) else 0
+
+    def line(self, number: int | None) -> str:
         """The text of a line without its indentation and comment; empty where there is none."""
         if number is None or not 1 <= number <= len(self.lines):
             return ""
         return " ".join(words_of(self.lines[number - 1]))
 
-    def is_step(self, number):
+    def comment(self, number: int | None) -> str:
+        """The comment of a line without its mark; empty where there is none."""
+        if number is None or not 1 <= number <= len(self.lines):
+            return ""
+        return self.lines[number - 1].partition("#")[2].strip()
+
+    def body_at(self, number: int) -> str | None:
+        """The body to which a line belongs."""
+        return self._body[number - 1] if 1 <= number <= len(self._body) else None
+
+    def lines_of_body(self, name: str) -> range:
+        """The lines of a body, from its first to its `end`."""
+        first = self.bodies[name]
+        return range(first, self._end.get(first, len(self.lines)) + 1)
+
+    def is_step(self, number: int) -> bool:
         """Whether a step can be taken at this line."""
         word = self.line(number).split(" ")[0]
         if word == "end":
             return self._opener.get(number, (0, ""))[1] in ("body", "taskgroup")
         return word not in ("", "cells", "cell", "else")
 
-    def _settle(self, number):
+    def is_in_loop(self, number: int) -> bool:
+        """Whether a `while` stands around a line."""
+        return any(opener < number < end and self.line(opener).startswith("while ") for opener, end in self._end.items())
+
+    def _settle(self, number: int) -> int | None:
         """The line of the next statement from here: an `end` that takes no step is passed by."""
         while number <= len(self.lines):
             word = self.line(number).split(" ")[0]
-            opener = self._opener.get(number)
+            opener = self._opener.get(number, (0, ""))
             if word == "else":
                 number = self._end[opener[0]] + 1
             elif word == "end" and opener[1] == "while":
@@ -76,11 +122,11 @@ class Source:
                 return number
         return None
 
-    def after(self, number, did):
+    def after(self, number: int | None, did: Sequence[str]) -> int | None:
         """Where a task stands after a step at this line; None after its end."""
         if number is None or did[0] in ("end", "fault"):
             return None
-        if did == ["test", "no"]:
+        if list(did) == ["test", "no"]:
             other = self._else.get(number, self._end[number])
             return self._settle(other + 1)
         return self._settle(number + 1)
@@ -89,18 +135,18 @@ class Source:
 class Places:
     """Where the tasks stand, and the lines of the steps that were taken."""
 
-    def __init__(self, source):
+    def __init__(self, source: Source) -> None:
         self.source = source
         self.forget()
 
-    def forget(self):
-        """Nothing is known, as after a start."""
-        self.position = {}
-        self.spawned = {}
-        self._taken = {}
-        self.stale = True
+    def forget(self) -> None:
+        """Only the root is there, as after a start."""
+        self.position: dict[str, int | None] = {"0": self.source.bodies.get("main")}
+        self.body: dict[str, str] = {"0": "main"}
+        self.spawned: dict[str, int | None] = {}
+        self._taken: dict[str, list[int | None]] = {}
 
-    def learn(self, tasks):
+    def learn(self, tasks: Sequence[str]) -> None:
         """Takes the positions from a reply to `tasks`."""
         self.position = {}
         for line in tasks[1:]:
@@ -109,9 +155,8 @@ class Places:
                 self.position[words[0]] = self.source.bodies.get(words[1])
             elif words[2] == "running":
                 self.position[words[0]] = int(words[3])
-        self.stale = False
 
-    def took(self, step):
+    def took(self, step: str) -> None:
         """Notes a step that was just taken."""
         name, *did = step.split(" ")
         task, number = name.split("#")
@@ -121,9 +166,18 @@ class Places:
         self.position[task] = self.source.after(line, did)
         if did[0] == "spawn":
             self.position[did[1]] = self.source.bodies.get(did[2])
+            self.body[did[1]] = did[2]
             self.spawned[did[1]] = line
 
-    def line_of(self, step):
+    def took_back(self, step: str) -> None:
+        """Notes that the newest step of its task was taken back; its line stays known, since replies show it."""
+        name, *did = step.split(" ")
+        task = name.split("#")[0]
+        self.position[task] = self.line_of(name)
+        if did[0] == "spawn":
+            self.position.pop(did[1], None)
+
+    def line_of(self, step: str) -> int | None:
         """The line at which a step was taken; None where that isn't known."""
         task, _, number = step.partition("#")
         taken = self._taken.get(task, [])

@@ -2,6 +2,7 @@
 
 from shell.facts import Facts, by_name, causes_of, label_of
 from shell.protocol import words_of
+from shell.race_advice import kinds_of
 from shell.session import CHANGES, Session, is_step
 
 # Without causes the needs of each step are asked for whole, which soon takes long.
@@ -17,15 +18,17 @@ class Story:
     went at `died` stood at the moments from the one up to the other, the other not among them.
     """
 
-    def __init__(self, session, stop=lambda: False):
+    def __init__(self, session, stop=lambda: False, progress=lambda *told: None):
         # A second program does it all again, so the one that is used stays as it is.
         self.session = Session(session.path, session.source, session.limit, session.options)
         self.facts = Facts(self.session, stop)
+        self.progress, self.total = progress, sum(len(done.again) or 1 for done in session.log)
         self.commands = []
         self.steps, self.standing, self.fresh = [], {}, []
         self.tasks, self.there, self.spawner = [], {}, {}
         self.cells, self.shown, self.needed = {}, {}, {}
         self.out, self.printed = [], []
+        self.hints = {}
         self.has_causes = self.has_races = True
         try:
             self.note(0)
@@ -103,6 +106,10 @@ class Story:
             return
         races = self.facts.races() if self.has_races else None
         self.has_races = races is not None
+        for kind in kinds_of(self.session, races or ()):
+            key = "|".join(str(part).lower() if isinstance(part, bool) else str(part)
+                           for part in (*kind.lines, kind.example.over == "print", kind.example.apart))
+            self.hints[key] = kind.advice().replace("`", "")
         for race in races or ():
             self.steps[self.standing[race.second]]["race"] = [self.standing[race.first], race.over, race.apart]
         if self.has_causes and self.facts.causes(self.fresh[0]) is None:
@@ -163,4 +170,4 @@ class Story:
             "steps": [[step["name"], step["did"], step["line"], step["born"], step["died"], step["causes"], step["race"]] for step in self.steps],
             "tasks": [[task["name"], task["body"], task["step"], task["born"], task["died"], task["states"], task["before"], task["apart"]]
                       for task in self.tasks],
-            "cells": self.cells, "out": self.out}
+            "cells": self.cells, "out": self.out, "hints": self.hints}

@@ -1,56 +1,101 @@
-"""The commands that take steps: many at once, of one task, in any order, and back."""
+"""The commands that take steps: many at once, of one task, and in any order."""
+
+from __future__ import annotations
 
 import random
+from collections import deque
+from collections.abc import Callable, Sequence
 
-from shell import texts
-from shell.protocol import is_digits, words_of
-from shell.session import is_step
-from shell.source import split_session
+from shell.console import ROWS, counted
+from shell.group import Group, Words, count_in
+from shell.protocol import is_digits
+from shell.session import GREATEST_LIMIT, Steps, is_step
 
-ALL = 1000000
-
-
-def count_in(words, place, usual):
-    """The number at this place, `usual` where it lacks, None where it is none."""
-    if len(words) <= place:
-        return usual
-    if len(words) == place + 1 and is_digits(words[place]) and int(words[place]) <= ALL:
-        return int(words[place])
-    return None
+# A run that is longer than so many screens is shown as a count, with so many lines at its end.
+SCREENS = 4
+LEAST_SHOWN = 100
+LAST_SHOWN = 12
 
 
-class Walking:
-    """The part of the shell that steps; it shows replies by the shell's `say`, `show` and `note`."""
+def task_of(line: str) -> str:
+    """The task of a step's line."""
+    return line.split("#")[0]
 
-    def walk(self, prefix, count, stop=None, piece=1000):
-        """A long run in pieces, which Ctrl-C or `stop` ends."""
-        def ends(steps):
-            return self.interrupted or (stop is not None and stop(steps))
-        taken, why, _ = self.session.run(prefix, count, self.show, ends, piece)
+
+class Shower:
+    """Shows the steps of a run as they come: the first screens of them, and then a count with the last ones."""
+
+    def __init__(self, group: Group, verbose: bool) -> None:
+        self.group = group
+        self.room: float = float("inf") if verbose or group.console.exact else max(LEAST_SHOWN, SCREENS * (group.console.rows() or ROWS))
+        self.taken = 0
+        self.hidden = 0
+        self.last: deque[str] = deque(maxlen=LAST_SHOWN)
+
+    def __call__(self, steps: Steps) -> None:
+        """Some more steps."""
+        shown = steps[:max(0, int(min(len(steps), self.room - self.taken)))]
+        self.group.shell.show(shown)
+        self.taken += len(steps)
+        self.hidden += len(steps) - len(shown)
+        self.last.extend(steps[len(shown):])
+        if self.hidden:
+            self.group.console.progress(self.taken, "steps")
+
+    def end(self) -> None:
+        """The run is over."""
+        self.group.console.end_progress()
+        if self.hidden > len(self.last):
+            self.group.say(f"... {counted(self.hidden - len(self.last), 'more step')} (`-v` shows all)")
+        self.group.shell.show(list(self.last))
+
+
+def options_of(words: Words) -> tuple[bool, list[str]]:
+    """Whether `-v` is among the words, and the others."""
+    return "-v" in words, [word for word in words if word != "-v"]
+
+
+class Walking(Group):
+    """Commands that take steps."""
+
+    def walk(self, prefix: str, count: int, stop: Callable[[Steps], bool] | None = None, piece: int = 1000, verbose: bool = False) -> bool:
+        """A long run in pieces, which Ctrl-C or `stop` ends; returns whether `stop` ended it."""
+        shower = Shower(self, verbose)
+        ended = False
+
+        def ends(steps: Steps) -> bool:
+            nonlocal ended
+            ended = stop is not None and stop(steps)
+            return ended or self.interrupted
+
+        def show(steps: Steps) -> None:
+            shower(steps)
+            if steps:
+                self.shell.focus = task_of(steps[-1])
+        taken, why, _ = self.session.run(prefix, count, show, ends, piece)
+        shower.end()
         self.say(f"ran {taken} {why}")
-        self.explain(prefix, f"ran {taken} {why}")
-        if self.interrupted and not self.plain:
+        self.shell.explain(prefix, f"ran {taken} {why}")
+        if why == "break" and not self.console.exact:
+            self.shell.breaking.tell_met(self.session.newest)
+        if self.interrupted:
             self.note("stopped by Ctrl-C; the session goes on")
+        return ended
 
-    def wrong(self, name):
-        """A command with the wrong words: how it is written."""
-        usage, _, example = texts.HELP[name]
-        self.say(f"{usage}, for example: {example}")
-
-    def one_step(self, task):
+    def one_step(self, task: str) -> bool:
         """One step of a task; returns whether it was taken."""
-        reply = self.send(f"step {task}")
+        reply = self.shell.send(f"step {task}")
         if is_step(reply[0]):
-            self.stepped = task
+            self.shell.focus = task
         return is_step(reply[0])
 
-    def ready(self):
+    def ready(self) -> list[str]:
         """The tasks that can step."""
         return self.session.view("ready")[1:]
 
-    def do_step(self, words):
+    def do_step(self, words: Words) -> None:
         """The next step, or the next few, of a task."""
-        self.last_step = " ".join(["step"] + words)
+        self.shell.last_step = " ".join(["step", *words])
         if len(words) == 1:
             self.one_step(words[0])
             return
@@ -60,48 +105,56 @@ class Walking:
             return
         ready = [] if words else self.ready()
         if not words and not ready:
-            self.say("no task can step")
+            self.refuse("no task can step")
             return
         task = words[0] if words else ready[0]
         for _ in range(count):
             if self.interrupted or not self.one_step(task):
                 return
 
-    def do_run(self, words):
+    def do_run(self, words: Words) -> None:
         """Steps of the least task."""
-        count = count_in(words, 0, ALL)
+        verbose, left = options_of(words)
+        count = count_in(left, 0, GREATEST_LIMIT)
         if count is None:
-            self.send(" ".join(["run"] + words))
+            self.shell.send(" ".join(["run", *left]))
+            return
+        self.shell.last_step = " ".join(["run", *words])
+        if self.shell.breaking.run_breaks:
+            self.stopping("go 1", count, verbose)
         else:
-            self.last_step = " ".join(["run"] + words)
-            self.walk("run", count)
+            self.walk("run", count, verbose=verbose)
 
-    def do_go(self, words):
+    def do_go(self, words: Words) -> None:
         """Steps up to a breakpoint, by one worker or by several."""
-        count = count_in(words[-1:], 0, ALL)
-        workers = count_in(words[:-1], 0, 1)
+        verbose, left = options_of(words)
+        count = count_in(left[-1:], 0, GREATEST_LIMIT)
+        workers = count_in(left[:-1], 0, 1)
         if count is None or workers is None or not 1 <= workers <= self.session.workers:
-            self.send(" ".join(["go"] + words))
+            self.shell.send(" ".join(["go", *left]))
             return
-        self.last_step = " ".join(["go"] + words)
-        lines = self.session.line_breaks
-        if not lines:
-            self.walk(f"go {workers}", count)
+        self.shell.last_step = " ".join(["go", *words])
+        self.stopping(f"go {workers}", count, verbose)
+
+    def stopping(self, prefix: str, count: int, verbose: bool) -> None:
+        """Steps up to a breakpoint of the program, or to one of the shell's own, for which each step is looked at."""
+        stops = self.shell.stops
+        if not stops.there:
+            self.walk(prefix, count, verbose=verbose)
             return
-        def at_line(steps):
-            met = [line for line in map(self.line_of, steps) if line in lines]
-            if met:
-                self.note(f"the breakpoint at line {met[0]}")
+        stops.refresh(self.session)
+        met: list[str] = []
+
+        def at_stop(steps: Steps) -> bool:
+            met[:] = [text for line in steps for text in stops.met(line, self.session)]
             return bool(met)
-        self.walk(f"go {workers}", count, at_line, 1)
+        self.walk(prefix, count, at_stop, 1, verbose)
+        for text in met:
+            self.note(f"breakpoint {text}")
 
-    def line_of(self, step):
-        """The line at which a step of a reply was taken."""
-        return self.session.places.line_of(step.split(" ")[0])
-
-    def do_finish(self, words):
+    def do_finish(self, words: Words) -> None:
         """A task up to its end."""
-        task = words[0] if words else self.stepped
+        task = words[0] if words else self.shell.focus
         if len(words) > 1:
             self.wrong("finish")
             return
@@ -109,39 +162,39 @@ class Walking:
             if self.session.places.position.get(task) is None:
                 return
 
-    def do_until(self, words):
+    def do_until(self, words: Words) -> None:
         """Runs until a step is taken."""
         task, _, number = words[0].partition("#") if len(words) == 1 else ("", "", "")
-        if not is_digits(number) or number.startswith("0"):
+        if not is_digits(number) or number.startswith("0") or self.session.view(f"task {task}")[0].startswith("error"):
             self.wrong("until")
             return
-        stand = self.session.view(f"task {task}")
-        if stand[0].startswith("error"):
-            self.wrong("until")
-        elif len(stand) > 3 and int(stand[3].split(" ")[1]) >= int(number):
-            self.say(f"{words[0]} stands already; `roll {words[0]}` takes it back")
-        else:
-            self.walk("run", ALL, lambda steps: any(step.split(" ")[0] == words[0] for step in steps), 1)
+        wanted = words[0]
+        if wanted in self.session.standing:
+            self.refuse(f"{wanted} is in the history already; `roll {wanted}` takes it back")
+            return
+        self.walk("run", GREATEST_LIMIT, lambda steps: any(line.split(" ")[0] == wanted for line in steps), 1)
+        if wanted not in self.session.standing and not self.interrupted:
+            self.refuse(f"{wanted} was never reached")
 
-    def do_random(self, words):
+    def do_random(self, words: Words) -> None:
         """Steps of any task, chosen by a seed."""
-        count = count_in(words, 1, ALL)
+        count = count_in(words, 1, GREATEST_LIMIT)
         if not words or not is_digits(words[0]) or count is None:
             self.wrong("random")
             return
         choice = random.Random(int(words[0]))
         self.choose(count, choice.choice)
 
-    def do_last(self, words):
+    def do_last(self, words: Words) -> None:
         """Steps of the task with the greatest name."""
         count = count_in(words, 0, 1)
         if count is None:
             self.wrong("last")
             return
-        self.last_step = " ".join(["last"] + words)
+        self.shell.last_step = " ".join(["last", *words])
         self.choose(count, lambda ready: ready[-1])
 
-    def choose(self, count, pick):
+    def choose(self, count: int, pick: Callable[[Sequence[str]], str]) -> None:
         """Up to `count` steps, each of a task that is picked of those that can step."""
         for _ in range(count):
             ready = self.ready()
@@ -150,50 +203,3 @@ class Walking:
                 return
             if self.interrupted or not self.one_step(pick(ready)):
                 return
-
-    def do_back(self, words):
-        """Undoes the newest steps."""
-        count = count_in(words, 0, 1)
-        if count is None:
-            self.wrong("back")
-            return
-        self.last_step = " ".join(["back"] + words)
-        for _ in range(count):
-            steps = self.session.view("hist")
-            if len(steps) == 1:
-                self.say("no step stands")
-                return
-            if self.interrupted or not self.send("undo " + steps[-1].split(" ")[0])[0].startswith("undone"):
-                return
-
-    def do_source(self, words):
-        """Plays commands from a file, or the next of the opened session."""
-        if not words:
-            if not self.queue:
-                self.say("no commands are left")
-                return False
-            ends = self.play(self.queue.pop(0))
-            # Enter plays the next one, also after a step.
-            self.last_step = "source"
-            return ends
-        try:
-            with open(words[0], encoding="utf-8", errors="surrogateescape", newline="\n") as file:
-                text = file.read()
-        except OSError as fault:
-            self.say(f"can't read {words[0]}: {fault.strerror}")
-            return False
-        commands = split_session(text)[1]
-        if commands is None:
-            commands = [line for line in text.split("\n") if words_of(line)]
-        for command in commands:
-            if self.interrupted or self.play(command):
-                return self.interrupted is False
-        return False
-
-    def play(self, command):
-        """One command of a file, shown as it would be typed."""
-        if words_of(command)[0] == "source":
-            self.say("a played file plays no other")
-            return False
-        self.say(self.dim("(taskback) ") + command)
-        return self.carry_out(command)

@@ -1,5 +1,5 @@
 #!/usr/bin/env bash
-# Installs by apt what tests want and this machine lacks: Chromium, Graphviz, groff, clang and its OpenMP runtime.
+# Installs by apt what tests want and this machine lacks: Chromium, Graphviz, groff, Emacs with dap-mode, Vim, zsh, clang and its OpenMP runtime.
 # It takes ten minutes at most. What can't be installed is told, and the tests that want it are left out.
 #   tools/install_for_tests.sh
 set -u
@@ -28,6 +28,9 @@ cd "$(dirname "${BASH_SOURCE[0]}")/.." || exit 2
 lacking=()
 command -v dot > /dev/null || lacking+=(graphviz)
 command -v groff > /dev/null || lacking+=(groff)
+command -v emacs > /dev/null || lacking+=(emacs-nox elpa-dap-mode)
+command -v vim > /dev/null || lacking+=(vim)
+command -v zsh > /dev/null || lacking+=(zsh)
 command -v clang-14 > /dev/null || command -v clang > /dev/null || lacking+=(clang-14)
 has_runtime || lacking+=(libomp-14-dev)
 # The largest comes last, so that no other waits for it.

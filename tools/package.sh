@@ -18,7 +18,7 @@ work=$(mktemp -d)
 trap 'rm -rf "$work"' EXIT
 mkdir -p "$work/$name/$(dirname "$program")"
 cp "$program" "$work/$name/$program"
-for part in README.md LICENSE run shell openmp docs examples; do
+for part in README.md LICENSE run taskback-dap shell editors completions openmp docs examples; do
     [ ! -e "$part" ] || cp -R "$part" "$work/$name/"
 done
 find "$work/$name" -name __pycache__ -prune -exec rm -rf {} +

@@ -1,5 +1,6 @@
 """What the front end's tests share: where things are, and a terminal that a shell runs in."""
 
+import io
 import os
 import pty
 import select
@@ -18,6 +19,8 @@ needs_program = unittest.skipUnless(os.access(PROGRAM, os.X_OK),
                                     f"no program at {PROGRAM}; TASKBACK_PROGRAM names another")
 
 PROMPT = "(taskback) "
+# How long what is awaited may take: long, since the machine may be busy.
+SECONDS = float(os.environ.get("TASKBACK_TEST_SECONDS", "120"))
 LOOP = "cells 1\nbody main 0\n  while 0 == 0\n    store 0 1\n  end\nend\n"
 
 
@@ -67,7 +70,7 @@ class Terminal:
         """Types this."""
         os.write(self.end, text.encode())
 
-    def read_until(self, wanted, seconds=120):
+    def read_until(self, wanted, seconds=SECONDS):
         """What is shown up to and with `wanted`; fails where it doesn't come."""
         limit = time.monotonic() + seconds
         while wanted not in self.seen:
@@ -96,10 +99,9 @@ class Terminal:
         """
         self.seen = ""
         self.send(line + "\n")
-        shown = ""
-        while not shown.endswith("\n" + PROMPT):
-            shown += self.read_until(PROMPT)
-            shown, self.seen = shown + self.seen, ""
+        shown = self.read_until("\n" + PROMPT)
+        while self.seen or select.select([self.end], [], [], 0.02)[0]:
+            shown += self.read_until("\n" + PROMPT)
         lines = shown.replace("\r\n", "\n")[:-len(PROMPT)].split("\n")
         return [text for text in lines[1:] if text]
 
@@ -145,3 +147,28 @@ class Terminal:
             os.kill(self.child, signal.SIGKILL)
             self.wait()
         os.close(self.end)
+
+
+class Typed:
+    """A shell in this process: what each line says, without a terminal."""
+
+    def __init__(self, test, text, name="race.task", limit=None, exact=False):
+        from shell.commands import Shell
+        from shell.console import Console
+        from shell.session import Session
+        from shell.source import Source
+        self.session = Session(PROGRAM, Source(text, name), limit)
+        test.addCleanup(self.session.close)
+        self.out = io.StringIO()
+        self.shell = Shell(self.session, Console(self.out, exact))
+
+    def ask(self, line):
+        """The lines that a line says."""
+        self.out.seek(0)
+        self.out.truncate()
+        self.shell.onecmd(line)
+        return self.out.getvalue().split("\n")[:-1]
+
+    def plain(self, line):
+        """The lines that a line says, without source lines and words."""
+        return [text.split("   ")[0] for text in self.ask(line) if not text.startswith("  ")]

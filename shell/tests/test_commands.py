@@ -5,7 +5,8 @@ import re
 import unittest
 
 from support import EXAMPLES, LOOP, TOP, Terminal, needs_program, write_file
-from shell import texts
+from shell import faults, help_texts, texts
+from shell.protocol import words_of
 
 # What is typed, and lines that have to be shown, each by its beginning.
 RACE = (
@@ -20,19 +21,19 @@ RACE = (
     ("step 0", ["refused 5 Children 0.1", "  0 stands at a taskwait, and its child 0.1 hasn't ended"]),
     ("step 0.7", ["refused 1 NoSuchTask", "  task 0.7 hasn't been generated"]),
     ("break cell 0", ["break 1"]),
-    ("b line 14", ["break line 14", "  go stops after each step at 14: end"]),
-    ("breaks", ["breaks 1", "1 cell 0", "line 14"]),
+    ("b line 14", ["break s1 line 14", "  go stops after each step at 14: end"]),
+    ("breaks", ["breaks 1", "1 cell 0", "s1 line 14"]),
     ("go 50", ["0.1#1 start", "0.1#2 load r1 0 0", "ran 2 break"]),
     ("c", ["0.1#3 let r1 1", "0.1#4 store 0 1", "ran 2 break"]),
-    ("c", ["0.1#5 end", "  the breakpoint at line 14", "ran 1 limit"]),
+    ("c", ["0.1#5 end", "ran 1 limit", "  breakpoint s1: line 14"]),
     ("clear 1", ["cleared 1"]),
     ("clear line 14", ["cleared line 14"]),
-    ("clear line 14", ["no breakpoint stands at line 14"]),
+    ("clear line 14", ["no breakpoint is at line 14"]),
     ("clear 9", ["refused 2 NoSuchBreak", "  no such breakpoint; `breaks` shows them"]),
     ("until 0.2#2", ["0.2#1 start", "0.2#2 load r1 0 1"]),
-    ("until 0.2#2", ["0.2#2 stands already; `roll 0.2#2` takes it back"]),
+    ("until 0.2#2", ["0.2#2 is in the history already; `roll 0.2#2` takes it back"]),
     ("list 0.2", ["=>   12    let r1 r1 + r0   <- 0.2"]),
-    ("list 0.9", ["0.9 stands at no line"]),
+    ("list 0.9", ["0.9 is at no line"]),
     ("list 99", ["the program has 14 lines"]),
     ("finish 0.2", ["0.2#3 let r1 3", "0.2#4 store 0 3", "0.2#5 end"]),
     ("step 0.2", ["refused 2 Ended", "  0.2 has ended"]),
@@ -47,9 +48,9 @@ RACE = (
     ("hist", ["hist 17", "0#1 start"]),
     ("lanes 0#7", ["  0 ", "* end"]),
     ("graph", ["0 main: ended"]),
-    ("page", ["page FILE, for example: page race.html"]),
+    ("page", ["page [-f] FILE, for example: page race.html"]),
     ("why 0.2#2", ["why 8", "0#1 start"]),
-    ("why 0#9", ["refused 1 NoSuchStep", "  step 0#9 doesn't stand"]),
+    ("why 0#9", ["refused 1 NoSuchStep", "  step 0#9 isn't in the history"]),
     ("who 0.1#4", ["who 9", "0.1#5 end", "0.2#2 load r1 0 1"]),
     ("who 0#9", ["refused 1 NoSuchStep"]),
     ("undo 0.1#4", ["refused 2 Needed 0.1#5", "  0.1#5 needs it; `roll 0.1#4` takes it back with all that need it"]),
@@ -57,17 +58,32 @@ RACE = (
     ("u 0#7", ["undone 0#7"]),
     ("back", ["undone 0#6"]),
     ("back 2", ["undone 0#5", "undone 0#4"]),
-    ("rollprint", ["refused 1 NoSuchStep", "  there is no such step"]),
+    ("redo", ["0#4 wait", "redone 2"]),
+    ("rs 0", ["undone 0#5"]),
+    ("back", ["undone 0#4"]),
+    ("print r1 of 0.2 + c[0]", ["r1 of 0.2 + c[0] = 6"]),
+    ("display c[0]", ["1: c[0] = 3"]),
+    ("undisplay 1", []),
+    ("watch c[0]", ["watch s2 c[0] = 3"]),
+    ("clear s2", ["cleared s2"]),
+    ("set", ["run-breaks off", "pager on"]),
+    ("flip 1", ["0.1#4 store 0 1", "  0.1#4 first                         0.2#2 first"]),
+    ("compare /no/file", ["can't read /no/file: No such file or directory"]),
+    ("rollprint", ["refused 1 NoSuchStep", "  nothing was printed"]),
     ("rollcell 0", ["rolled 2", "0.2#4 store 0 3", "0.2#5 end"]),
     ("rollcell 0", ["rolled 4", "0.1#4 store 0 1"]),
     ("rollcell 0", ["refused 1 NoSuchStep"]),
     ("rolltask 0.2", ["rolled 1", "0.2#1 start"]),
     ("rolltask 0.2", ["refused 1 NoSuchStep"]),
     ("roll 0#9", ["refused 1 NoSuchStep"]),
-    ("roll 0#1", ["rolled 6", "0#1 start"]),
-    ("back", ["no step stands"]),
+    ("keep 0.1#1", ["rolled 2", "kept 0.1#1 with 2 steps; 3 taken back"]),
+    ("rc", ["undone 0.1#1", "undone 0#1", "went back 3 start"]),
+    ("trim", ["started anew with 0 steps: the journal has room for 99999 more"]),
+    ("run 3", ["0#1 start"]),
+    ("roll 0#1", ["rolled 3", "0#1 start"]),
+    ("back", ["the history has no step"]),
     ("break body nobody", ["refused 3 NoSuchBody", "  no body of the program has this name"]),
-    ("break cell 9", ["refused 4 NoSuchCell", "  the program has no such cell"]),
+    ("break cell 9", ["refused 4 NoSuchCell", "  the program has no cell 9"]),
     ("break line 2", ["no step is taken at line 2"]),
     ("fly", ["error word", "  no such command; `help` lists them"]),
     ("step 0 1 2", ["step [T [N]], for example: step 0.1 3"]),
@@ -82,9 +98,9 @@ RACE = (
     ("random x", ["random SEED [N]"]),
     ("last x", ["last [N], for example: last 5"]),
     ("back x", ["back [N], for example: back"]),
-    ("lanes 0#99", ["step 0#99 doesn't stand"]),
+    ("lanes 0#99", ["step 0#99 isn't in the history"]),
     ("info", ["info wants a view: tasks, "]),
-    ("i zebra", ["error word"]),
+    ("i zebra", ["no such view: zebra; there are tasks, "]),
     ("help", ["  step [T [N]]", "  quit"]),
     ("h roll", ["roll T#K", "  takes a step back with all that need it", "  for example: roll 0.1#4"]),
     ("help zebra", ["no such command: zebra"]),
@@ -134,7 +150,7 @@ FAULTS = (
 def typed_names(rows):
     """The commands that these rows type, by their whole names."""
     words = [line.split(" ")[0] for line, _ in rows if line]
-    return {texts.ABBREVIATIONS.get(word, word) for word in words}
+    return {help_texts.ABBREVIATIONS.get(word, word) for word in words}
 
 
 @needs_program
@@ -156,8 +172,8 @@ class EachCommand(unittest.TestCase):
 
     def test_each_command_and_each_of_its_errors(self):
         self.talk(self.open(os.path.join(EXAMPLES, "race.task")), RACE)
-        # The two views are tried where they are: test_races.py.
-        self.assertEqual(set(texts.HELP) - typed_names(RACE), {"quit", "races", "causes"})
+        # The others are tried where they are: test_races.py and test_debugging.py.
+        self.assertEqual(set(help_texts.HELP) - typed_names(RACE), {"quit", "races", "causes", "at"})
 
     def test_a_full_journal(self):
         self.talk(self.open("--limit", "4", os.path.join(EXAMPLES, "race.task")), FULL)
@@ -171,7 +187,7 @@ class EachCommand(unittest.TestCase):
         shell = self.open(os.path.join(EXAMPLES, "first.task"))
         text = "".join("break print\n" for _ in range(65))
         shown = shell.ask("source " + write_file(self, text, "many"))
-        self.assertEqual(shown[-2:], ["refused 1 TooMany", "  64 breakpoints stand already"])
+        self.assertEqual(shown[-2:], ["refused 1 TooMany", "  64 breakpoints are there already"])
 
     def test_every_refusal_and_error_is_tried(self):
         rows = [row for group in (RACE, FULL, *WAITING.values()) for row in group]
@@ -190,12 +206,12 @@ class EachCommand(unittest.TestCase):
         self.assertTrue(shown[-1].startswith("0.2#1 start"))
 
     def test_each_fault_of_a_program(self):
-        self.assertEqual({kind for kind, _, _ in FAULTS}, set(texts.FAULTS))
+        self.assertEqual({kind for kind, _, _ in FAULTS}, set(faults.FAULTS))
         for kind, text, line in FAULTS:
             shell = Terminal(self, [write_file(self, text, "bad.task")], NO_COLOR="1")
             shown = shell.read_until(f"({kind})").replace("\r\n", "\n")
             self.assertTrue(shown.startswith(f"bad.task:{line}: "), shown)
-            self.assertIn(texts.FAULTS[kind], shown)
+            self.assertIn(faults.meaning_of(kind, text.split("\n"), line, words_of((text.split("\n") + [""])[line - 1])), shown)
             self.assertEqual(shell.wait(), 1)
 
 
@@ -205,7 +221,7 @@ class Interrupts(unittest.TestCase):
         shell = Terminal(self, ["--limit", "1000000", write_file(self, LOOP)], NO_COLOR="1")
         shell.read_until("(taskback) ")
         shell.ask("b line 6")
-        for typed in ("run 1000000", "go 1000000", "random 1", "last 1000000", "finish 0", "step 0 1000000", "until 0#999999"):
+        for typed in ("run -v 1000000", "go -v 1000000", "random 1", "last 1000000", "finish 0", "step 0 1000000", "until 0#999999"):
             taken = int(shell.ask("task 0")[3].split(" ")[1])
             shell.send(typed + "\n")
             shell.read_until(f"0#{taken + 20} ")
@@ -223,7 +239,7 @@ class Interrupts(unittest.TestCase):
     def test_a_million_steps_late(self):
         shell = Terminal(self, ["--limit", "1000000", write_file(self, LOOP)], NO_COLOR="1")
         shell.read_until("(taskback) ")
-        shell.send("run 1000000\n")
+        shell.send("run -v 1000000\n")
         shell.read_until("0#20000 ", 120)
         shell.send("\x03")
         shell.read_until("stopped by Ctrl-C; the session goes on")

@@ -9,6 +9,7 @@ import time
 import unittest
 
 from support import EXAMPLES, PROGRAM, PROMPT, TOP, Terminal, needs_program
+from shell import help_texts
 
 PAGES = ["README.md"] + [os.path.join("docs", name) for name in sorted(os.listdir(os.path.join(TOP, "docs"))) if name.endswith(".md")]
 BARE = {"PATH": "/usr/bin:/bin"}
@@ -54,6 +55,21 @@ class Pages(unittest.TestCase):
         self.assertGreater(len(wanted), 20)
         self.assertEqual([word for word in wanted if word not in there], [])
 
+    def test_each_command_of_the_shell_is_in_the_man_page_as_it_is_written(self):
+        page = text_of("docs/taskback.1").replace("\\-", "-")
+        for name, entry in help_texts.HELP.items():
+            if name not in help_texts.OF_THE_PROGRAM:
+                self.assertIn(f".TP\n.B {entry.usage}\n", page, name)
+        self.assertIn("man docs/taskback.1", text_of("README.md"))
+        for option in ("--check", "--json", "-x"):
+            self.assertIn(option, page)
+
+    def test_each_command_of_the_shell_is_in_its_page(self):
+        there = text_of("docs/SHELL.md")
+        for name in help_texts.HELP:
+            if name not in help_texts.OF_THE_PROGRAM:
+                self.assertRegex(there, rf"`{name}\b", name)
+
     @unittest.skipUnless(shutil.which("groff"), "left out: no groff is here")
     def test_the_man_page_is_well_formed(self):
         done = subprocess.run(["groff", "-man", "-Tutf8", "-ww", os.path.join(TOP, "docs", "taskback.1")],
@@ -70,7 +86,7 @@ class Archive(unittest.TestCase):
         self.addCleanup(folder.cleanup)
         self.folder = folder.name
         self.top = os.path.join(self.folder, "top")
-        for part in ("README.md", "LICENSE", "run", "shell", "openmp", "docs", "examples", "tools"):
+        for part in ("README.md", "LICENSE", "run", "taskback-dap", "shell", "editors", "completions", "openmp", "docs", "examples", "tools"):
             copy = shutil.copytree if os.path.isdir(os.path.join(TOP, part)) else shutil.copy2
             os.makedirs(self.top, exist_ok=True)
             copy(os.path.join(TOP, part), os.path.join(self.top, part))

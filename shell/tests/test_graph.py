@@ -125,7 +125,7 @@ class GraphTest(unittest.TestCase):
         self.assertEqual(shown[2:4], ["  0.2 add: pending, depends on 0.1", "      after 0.1, cell 0: inout, inout"])
         path = write_file(self, "", "a.dot")
         self.assertEqual(shell.ask("graph " + path), [f"written to {path}, 3 tasks"])
-        self.assertEqual(shell.ask("graph a b"), ["graph [FILE], for example: graph tasks.svg"])
+        self.assertEqual(shell.ask("graph a b"), ["graph [-f] [FILE], for example: graph tasks.svg"])
         self.assertEqual(shell.ask("graph /no/file.dot"), ["can't write /no/file.dot: No such file or directory"])
 
     def test_without_graphviz_the_text_is_written(self):

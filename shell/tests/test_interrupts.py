@@ -98,7 +98,7 @@ class InterruptTest(Stalling):
         program, told = self.stalling("run 1000", 3)
         shell = self.open(program, "--limit", "1000000", write_file(self, LOOP))
         shell.type("step 0")
-        shell.send("run 1000000\n")
+        shell.send("run -v 1000000\n")
         shell.read_until("0#2001 ")
         self.cut_by_the_second(shell, told)
         self.assertEqual(shell.ask("step 0")[0].split(" ")[0], "0#2002")

@@ -101,8 +101,8 @@ class LanesTest(unittest.TestCase):
         self.assertEqual(shell.ask(f"lanes 0.1#4 {path}"), [f"drawn to {path}, 17 steps in 3 lanes"])
         with open(path, encoding="utf-8") as file:
             self.assertEqual(len(drawn(file.read(), "shade", "step")), 10)
-        self.assertEqual(shell.ask("lanes 0#99"), ["step 0#99 doesn't stand"])
-        self.assertEqual(shell.ask("lanes a b"), ["lanes [T#K] [FILE], for example: lanes 0.1#4"])
+        self.assertEqual(shell.ask("lanes 0#99"), ["step 0#99 isn't in the history"])
+        self.assertEqual(shell.ask("lanes a b"), ["lanes [-f] [T#K] [FILE], for example: lanes 0.1#4"])
         self.assertEqual(shell.ask("lanes /no/file"), ["can't write /no/file: No such file or directory"])
 
     def test_names_are_escaped(self):

@@ -11,6 +11,7 @@ import unittest
 
 from support import EXAMPLES, PROGRAM, TOP, Terminal, contrast, example, needs_program, write_file
 from shell.commands import Shell
+from shell.console import Console
 from shell.drawing import play_file
 from shell.facts import Facts
 from shell.graph import groups_of, waits_of
@@ -65,7 +66,7 @@ return [...Array(Number(find("at").max) + 1).keys()].map((at) => {
     waits: [...document.querySelectorAll("#graph [data-wait]")].map((wait) => wait.dataset.wait),
     waited: [...document.querySelectorAll("#graph .edge.wait")].map((edge) => [edge.dataset.from, edge.dataset.to]),
     arrows: [...document.querySelectorAll("#drawn .arrow:not(.racing)")].map((arrow) => [arrow.dataset.from, arrow.dataset.to, arrow.dataset.kind]),
-    races: [...document.querySelectorAll("#race-list button")].map((button) => button.dataset.race), lit: {} };
+    races: [...document.querySelectorAll("#race-list button")].flatMap((button) => button.dataset.races.split("; ")), lit: {} };
   for (const name of shown.steps) { point(name); shown.lit[name] = [names(".step.needs"), names(".step.needers")]; }
   return shown;
 });"""
@@ -169,18 +170,18 @@ class DataTest(unittest.TestCase):
         shell.read_until("(taskback) ")
         shell.ask("run")
         path = write_file(self, "", "a.html")
-        self.assertEqual(shell.ask("page " + path), [f"written to {path}, 1 commands and 17 steps"])
-        self.assertEqual(shell.ask("page"), ["page FILE, for example: page race.html"])
+        self.assertEqual(shell.ask("page " + path), [f"written to {path}, 1 command and 17 steps"])
+        self.assertEqual(shell.ask("page"), ["page [-f] FILE, for example: page race.html"])
         self.assertEqual(shell.ask("page /no/file"), ["can't write /no/file: No such file or directory"])
 
     def test_ctrl_c_stops_each_picture(self):
         session, _ = walked(self, 1)
         out = io.StringIO()
-        shell = Shell(session, out)
+        shell = Shell(session, Console(out))
         # As the handler of Ctrl-C sets it while a command is carried out.
         shell.interrupted = True
         path = write_file(self, "as before", "a.html")
-        for act, words in ((shell.do_lanes, []), (shell.do_graph, [path]), (shell.do_page, [path])):
+        for act, words in [(shell.methods[name], words) for name, words in (("lanes", []), ("graph", ["-f", path]), ("page", ["-f", path]))]:
             act(words)
         self.assertEqual(out.getvalue(), "  stopped by Ctrl-C; nothing is drawn\n" * 3)
         with open(path, encoding="utf-8") as file:
@@ -221,7 +222,7 @@ class BrowserTest(unittest.TestCase):
                 self.assertEqual(shown["where"], f"{at} of {len(session.log)}: {session.log[at - 1][0]}")
             wanted = views_of(again)
             for key in ("steps", "boxes", "races"):
-                self.assertEqual(shown[key], wanted[key], (at, key))
+                self.assertEqual(sorted(shown[key]) if key == "races" else shown[key], sorted(wanted[key]) if key == "races" else wanted[key], (at, key))
             self.assertEqual({name: [sorted(pair[0]), sorted(pair[1])] for name, pair in shown["lit"].items()},
                              {name: [sorted(pair[0]), sorted(pair[1])] for name, pair in wanted["lit"].items()})
             numbers = [text.split("  (")[0] for text in shown["cells"] if not text.endswith(": 0  (just changed)")]

@@ -38,7 +38,7 @@ class PicturesTest(unittest.TestCase):
             self.assertEqual(self.run_script(name, "/no/file", path), ("", "can't read /no/file: No such file or directory\n", 2))
         self.assertTrue(self.run_script("graph.py", session)[0].startswith("digraph tasks {"))
         self.assertTrue(self.run_script("lanes.py", session)[0].startswith("  0 "))
-        self.assertEqual(self.run_script("lanes.py", session, "0#99")[1:], ("step 0#99 doesn't stand\n", 2))
+        self.assertEqual(self.run_script("lanes.py", session, "0#99")[1:], ("step 0#99 isn't in the history\n", 2))
         self.assertEqual(self.run_script("lanes.py", session, "0.1#4", path), ("", "", 0))
         self.assertEqual(tree.parse(path).getroot().get("role"), "img")
         self.assertEqual(self.run_script("page.py", session, path)[0], f"written to {path}, 12 commands and 27 steps\n")

@@ -8,8 +8,10 @@ import unittest
 
 from programs import random_program
 from support import EXAMPLES, PROGRAM, Terminal, example, needs_program, write_file
-from shell import texts
+from shell import race_advice
 from shell.commands import Shell
+from shell.console import Console
+from shell.facts import race_of
 from shell.session import Session
 from shell.source import Source
 
@@ -32,6 +34,26 @@ def has_views(test):
     return True
 
 
+# A program's root and its bodies after two lines, and what is said of one kind of its races.
+ADVISED = {
+    "a parameter, by the register of the task line": (
+        "  while r3 < 3\n    task fill r3\n    task read r3\n    let r3 r3 + 1\n  end\nend\nbody fill 1\n  store r0 7\nend\nbody read 1\n  load r1 r0\nend\n",
+        "race 1, one of 3 of these two lines: `depend out r3` on line 4 and `depend in r3` on line 5 would order them, or a `taskwait` between"),
+    "one that has a clause of the wrong type": (
+        "  task fill depend in 0\n  task read depend in 0\nend\nbody fill 0\n  store 0 7\nend\nbody read 0\n  load r1 0\nend\n",
+        "race 1: `depend inout 0` in place of `depend in 0` on line 3 would order them, or a `taskwait` between"),
+    "types that keep no order among themselves": (
+        "  task fill depend inoutset 0\n  task fill depend inoutset 0\nend\nbody fill 0\n  store 0 7\nend\n",
+        "race 1: `depend inout 0` in place of `depend inoutset 0` on line 4 would order them, or a `taskwait` between"),
+    "a computed address, by a register that has it": (
+        "  while r3 < 2\n    task fill r3\n    task fill r3\n    let r3 r3 + 1\n  end\nend\nbody fill 1\n  let r1 r0 + 0\n  store r1 7\nend\n",
+        "race 1, one of 2 of these two lines: `depend out r3` on lines 4 and 5 would order them, or a `taskwait` between"),
+    "what a child of the later one does": (
+        "  task fill\n  task outer\nend\nbody fill 0\n  store 0 7\nend\nbody outer 0\n  task read\nend\nbody read 0\n  load r1 0\nend\n",
+        "race 1: `depend out 0` on line 3 and `depend in 0` on line 4 would order them, or a `taskwait` between"),
+}
+
+
 def texts_tried(count):
     """Random programs, and some of the examples."""
     return [random_program(seed) for seed in range(count)] + [
@@ -48,25 +70,39 @@ def told_races(session):
     return found
 
 
-def mended(text, words):
-    """The program with what the words advise, and the new numbers of its lines."""
+def mended(text, kind):
+    """The program with the first thing that is advised, and the new numbers of its lines."""
     lines = text.split("\n")[:-1]
     moved = {number: number for number in range(1, len(lines) + 1)}
-    given = [int(number) for number in re.findall(r"\d+", words.split(" would ")[0].rsplit(" line", 1)[1])]
-    if words.startswith("`depend inout"):
-        cell = re.match(r"`depend inout (\d+)`", words)
-        for number in given:
-            before, _, condition = lines[number - 1].partition(" if ")
-            lines[number - 1] = f"{before} depend inout {cell[1] if cell else 0}" + (f" if {condition}" if condition else "")
+    if kind.clauses:
+        for clause in kind.clauses:
+            before, _, condition = lines[clause.line - 1].partition(" if ")
+            place = clause.place or "0"
+            if clause.instead:
+                before = before.replace(f"depend {clause.instead} {place}", "", 1)
+            lines[clause.line - 1] = f"{before} depend {clause.type} {place}" + (f" if {condition}" if condition else "")
     else:
-        at = given[0]
-        if words.startswith("a `taskwait`"):
+        word, at = re.fullmatch(r"a `(\w+)` .* line (\d+)", kind.others[0]).groups()
+        at = int(at)
+        if word == "taskwait":
             lines.insert(at, "taskwait")
             moved = {number: number + (number > at) for number in moved}
         else:
             lines[at - 1:at] = ["taskgroup", lines[at - 1], "end"]
             moved = {number: number + (number >= at) + (number > at) for number in moved}
     return "".join(line + "\n" for line in lines), moved
+
+
+def advised(session, line):
+    """What is advised for one race."""
+    return race_advice.kinds_of(session, [race_of(line)])[0]
+
+
+def run_to_end(test, text):
+    """A session of this program, run to its end."""
+    session = open_session(test, text)
+    test.assertEqual(session.do("run 900")[-1].split(" ")[2], "done")
+    return session
 
 
 @needs_program
@@ -79,18 +115,42 @@ class RaceWords(unittest.TestCase):
             session = open_session(self, text)
             session.do("run 400")
             for places, line in list(told_races(session).items())[:4]:
-                words = texts.race_words(line, session.places.spawned)
+                kind = advised(session, line)
                 if line.endswith(" apart"):
+                    self.assertEqual(kind.advice(), race_advice.APART)
                     tried.add("apart")
                     continue
-                better, moved = mended(text, words)
-                tried.add(re.match(r"(a )?`(\w+)", words)[2])
-                again = open_session(self, better)
-                self.assertEqual(again.do("run 900")[-1].split(" ")[2], "done")
+                better, moved = mended(text, kind)
+                tried.add("depend" if kind.clauses else re.match(r"a `(\w+)`", kind.others[0])[1])
+                again = run_to_end(self, better)
                 wanted = tuple((task, moved[number]) for task, number in places)
                 pairs = [set(pair) for pair in told_races(again)]
-                self.assertNotIn(set(wanted), pairs, (seed, line, words))
+                self.assertNotIn(set(wanted), pairs, (seed, line, kind.advice()))
+                self.no_clause_twice(session, kind, seed)
         self.assertEqual(tried, {"depend", "taskwait", "taskgroup", "apart"})
+
+    def no_clause_twice(self, session, kind, seed):
+        """What is advised isn't there already."""
+        for clause in kind.clauses:
+            if clause.place:
+                self.assertNotRegex(session.source.line(clause.line) + " ", f"depend {clause.type} {clause.place} ", seed)
+
+    def test_clauses_in_terms_of_the_task_line(self):
+        for name, (body, wanted) in ADVISED.items():
+            with self.subTest(name=name):
+                session = run_to_end(self, "cells 4\nbody main 0\n" + body)
+                races = [race_of(line) for line in session.view("races")[1:]]
+                told = [kind.told() for kind in race_advice.kinds_of(session, races)]
+                self.assertIn(wanted, told)
+                better, _ = mended(session.source.text, race_advice.kinds_of(session, races)[0])
+                left = [race_of(line) for line in run_to_end(self, better).view("races")[1:]]
+                self.assertLess(len(left), len(races))
+
+    def test_the_missing_clause_alone_is_named(self):
+        session = run_to_end(self, example("luck.task"))
+        races = [race_of(line) for line in session.view("races")[1:]]
+        self.assertEqual([kind.told() for kind in race_advice.kinds_of(session, races)],
+                         ["race 1: `depend in 1` on line 6 would order them, or a `taskwait` between"])
 
     def test_the_right_sum(self):
         if not has_views(self):
@@ -101,9 +161,22 @@ class RaceWords(unittest.TestCase):
         self.assertEqual(shell.ask("races"), [
             "races 2",
             "0.1#4 0.2#2 cell 0              13: store 0 r1  |  11: load r1 0",
-            "  `depend inout 0` on lines 4 and 5 would order them, or a `taskwait` between",
+            "  race 1: `depend inout 0` on lines 4 and 5 would order them, or a `taskwait` between",
             "0.1#4 0.2#4 cell 0              13: store 0 r1  |  13: store 0 r1",
-            "  `depend inout 0` on lines 4 and 5 would order them, or a `taskwait` between"])
+            "  race 2: `depend inout 0` on lines 4 and 5 would order them, or a `taskwait` between"])
+
+    def test_many_races_are_told_by_pairs_of_lines(self):
+        text = "cells 1\nbody main 0\n  while r1 < 30\n    task add\n    let r1 r1 + 1\n  end\nend\nbody add 0\n  load r1 0\n  store 0 r1\nend\n"
+        session = run_to_end(self, text)
+        out = io.StringIO()
+        Shell(session, Console(out)).onecmd("races")
+        lines = out.getvalue().split("\n")
+        self.assertEqual(lines[0], "races 58")
+        self.assertEqual(lines[2], "  race 1, one of 29 of these two lines: `depend inout 0` on line 4 would order them, or a `taskwait` between")
+        self.assertEqual(lines[5:], ["  58 races of 2 pairs of lines; `flip N` shows both outcomes of race N", ""])
+        exact = io.StringIO()
+        Shell(session, Console(exact, exact=True)).onecmd("races")
+        self.assertEqual(exact.getvalue().split("\n")[:-1], session.view("races"))
 
 
 @needs_program
@@ -116,7 +189,7 @@ class CauseWords(unittest.TestCase):
             session = open_session(self, text)
             session.do("run 200")
             out = io.StringIO()
-            shell = Shell(session, out, typed=True)
+            shell = Shell(session, Console(out))
             for step in [line.split(" ")[0] for line in session.view("hist")[1:]][::3]:
                 out.seek(0)
                 out.truncate()
@@ -137,7 +210,7 @@ class CauseWords(unittest.TestCase):
             return
         shell = Terminal(self, [write_file(self, example("race.task"), "race.task")], NO_COLOR="1")
         shell.read_until("(taskback) ")
-        self.assertEqual(shell.ask("causes 0#9"), ["refused 1 NoSuchStep", "  step 0#9 doesn't stand"])
+        self.assertEqual(shell.ask("causes 0#9"), ["refused 1 NoSuchStep", "  step 0#9 isn't in the history"])
         self.assertEqual(shell.ask("races x")[0], "error count")
         self.assertEqual(shell.ask("causes")[0], "error count")
 
@@ -148,8 +221,7 @@ class WithoutTheViews(unittest.TestCase):
         session = open_session(self, example("race.task"))
         session.program.ask = lambda command: ["error word"]
         out = io.StringIO()
-        shell = Shell(session, out, typed=True)
-        session.places.stale = False
+        shell = Shell(session, Console(out))
         for typed in ("races", "causes 0#1"):
             shell.onecmd(typed)
         self.assertEqual(out.getvalue(), "error word\n  this build has no such view\n" * 2)

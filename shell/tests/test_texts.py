@@ -3,12 +3,12 @@
 import unittest
 
 import support
-from shell import texts
+from shell import faults, help_texts, texts
 
 
 class FaultTest(unittest.TestCase):
     def show(self, line, kind):
-        return texts.fault_lines("a.task", f"cells 1\n  {line}\n", 2, kind)
+        return faults.fault_lines("a.task", f"cells 1\n  {line}\n", 2, kind)
 
     def test_mark_and_form(self):
         shown = self.show("let r1 = r0 + 1", "BadNumber")
@@ -23,50 +23,38 @@ class FaultTest(unittest.TestCase):
                                  ("task t x depend in 0", "BadNumber", "x"), ("task t depend in y", "BadNumber", "y"),
                                  ("if r0 = 1", "UnknownWord", "="), ("load 3 r1", "Register", "3"), ("else", "Nesting", "else")):
             words = line.split(" ")
-            place = texts.word_at_fault(words, kind)
+            place = faults.word_at_fault(words, kind)
             self.assertEqual(None if place is None else words[place], word, line)
-        self.assertIsNone(texts.word_at_fault(["print"], "Arity"))
+        self.assertIsNone(faults.word_at_fault(["print"], "Arity"))
 
     def test_forms(self):
-        self.assertEqual(texts.should_be(["stroe", "0", "1"]), "store ADDR VAL")
+        self.assertEqual(faults.should_be(["stroe", "0", "1"]), "store ADDR VAL")
         self.assertIn("print VAL", self.show("print", "Arity")[-1])
         for line, kind, wanted in (("if r0 = 1", "UnknownWord", "if r0 == 1"), ("while r0 >= r1", "UnknownWord", "while r1 <= r0"),
                                    ("if r0 => 1", "UnknownWord", "if A CMP B, where CMP is == != < <="), ("r1 = r2 + 3", "UnknownWord", "let r1 r2 + 3"),
                                    ("let r1 r0 / 2", "UnknownWord", "let rK A   or   let rK A OP B, where OP is + - *")):
             self.assertEqual(self.show(line, kind)[-1], "  it should look like: " + wanted)
         text = "cells 1\nbody main 0\n  task ad 1\nend\nbody add 1\nend\n"
-        self.assertEqual(texts.fault_lines("a.task", text, 3, "UnknownBody")[-1], "  it should look like: task add 1")
-        self.assertEqual(texts.fault_lines("a.task", text.replace("ad 1", "nobody"), 3, "UnknownBody")[-1], "  no body has this name (UnknownBody)")
-        self.assertEqual(texts.fault_lines("a.task", "cells 1\n", 2, "NoMain"), ["a.task:2: no body is named main (NoMain)"])
+        self.assertEqual(faults.fault_lines("a.task", text, 3, "UnknownBody")[-1], "  it should look like: task add 1")
+        self.assertEqual(faults.fault_lines("a.task", text.replace("ad 1", "nobody"), 3, "UnknownBody")[-1], "  no body has this name (UnknownBody)")
+        self.assertEqual(faults.fault_lines("a.task", "cells 1\n", 2, "NoMain"), ["a.task:2: no body is named main (NoMain)"])
 
 
 class WordsTest(unittest.TestCase):
-    def test_every_refusal_has_words(self):
-        for reply, wanted in (("refused 3 Waiting 0.1", "0.3 waits for 0.1"), ("refused 2 Ended", "0.3 has ended"),
-                              ("refused 5 Children 0.3.1", "its child 0.3.1"), ("refused 2 Needed 0.1#4", "0.1#4 needs it")):
-            self.assertIn(wanted, texts.refusal_words("step 0.3", reply))
-
     def test_items(self):
         for new, old, wanted in (("in 0", "in 0", None), ("in 0", "out 0", "after"), ("in 0", "out 1", None),
                                  ("inout all", "in 5", "after"), ("mutexinoutset 0", "mutexinoutset 0", "apart"),
                                  ("inoutset 0", "inoutset 0", None), ("in 0", "inoutset 0", "after")):
             self.assertEqual(texts.needs_order(new, old), wanted, (new, old))
 
-    def test_races(self):
-        spawned = {"0.1": 4, "0.2": 5, "0.1.1": 9}
-        for line, wanted in (("0.1#2 0.2#4 cell 0", "`depend inout 0` on lines 4 and 5"), ("0.1#4 0#4 cell 0", "`taskwait` after line 4"),
-                             ("0.1.1#2 0.2#2 cell 0", "`taskgroup` around line 4"), ("0.1#2 0.2#4 cell 0 apart", "exclude"),
-                             ("0.1#2 0.2#4 print", "`depend inout` of one cell on lines 4 and 5")):
-            self.assertIn(wanted, texts.race_words(line, spawned))
-
     def test_the_list_of_commands_keeps_to_the_screen(self):
         for columns in (80, 100, 200):
-            self.assertLessEqual(max(map(len, texts.help_list(columns))), columns)
-        self.assertEqual(" ".join(" ".join(texts.help_list(80)).split()), " ".join(" ".join(texts.help_list(200)).split()))
+            self.assertLessEqual(max(map(len, help_texts.help_list(columns))), columns)
+        self.assertEqual(" ".join(" ".join(help_texts.help_list(80)).split()), " ".join(" ".join(help_texts.help_list(200)).split()))
 
     def test_every_command_has_help(self):
-        for name in texts.HELP:
-            self.assertIn("for example: ", texts.help_of(name)[2])
+        for name in help_texts.HELP:
+            self.assertIn("for example: ", help_texts.help_of(name)[2])
 
 
 if __name__ == "__main__":

@@ -132,13 +132,13 @@ class Typed(Stalling):
         shell = self.shell(ADDS)
         shell.ask("b line 10")
         shown = shell.ask("go 4 100")
-        self.assertEqual(shown[-2], "  the breakpoint at line 10")
+        self.assertEqual(shown[-1], "  breakpoint s1: line 10")
         self.assertEqual([line.split(" ")[1] for line in shown if "#" in line].count("print"), 1)
-        self.assertRegex(shown[-1], "^ran 28 limit$")
+        self.assertRegex(shown[-2], "^ran 28 limit$")
 
     def test_ctrl_c_keeps_the_session(self):
         shell = self.shell(LOOPS, "--limit", "1000000")
-        taken = shell.stopped("go 4 1000000", "#100 ")
+        taken = shell.stopped("go -v 4 1000000", "#100 ")
         self.assertTrue(0 < taken < 1000000 and taken % 1000 == 0, taken)
         self.assertEqual(shell.ask("hist")[0], f"hist {taken}")
         path = write_file(self, "", "saved.session")
@@ -150,7 +150,7 @@ class Typed(Stalling):
     def test_the_second_ctrl_c_keeps_what_was_taken(self):
         program, told = self.stalling("go 4 1000", 3)
         shell = self.open(program, "--limit", "1000000", write_file(self, LOOP))
-        shell.send("go 4 1000000\n")
+        shell.send("go -v 4 1000000\n")
         shell.read_until("0#2000 ")
         self.cut_by_the_second(shell, told)
         self.assertEqual(shell.ask("hist")[0], "hist 2000")

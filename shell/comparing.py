@@ -1,0 +1,178 @@
+"""The commands that set two runs side by side: another session's, or the other outcome of a race."""
+
+from __future__ import annotations
+
+from collections.abc import Sequence
+from itertools import zip_longest
+from typing import NamedTuple
+
+from shell.console import counted
+from shell.facts import Race, race_of
+from shell.group import Group, Words, count_in
+from shell.protocol import Ended, Refused
+from shell.retaking import copy_of
+from shell.session import GREATEST_LIMIT, Session, is_step
+from shell.source import Source, read_text, split_session
+
+COLUMN = 36
+MOST_STEPS = 200000
+SHOWN = 40
+
+
+class Found(NamedTuple):
+    """The first difference of two runs: a step of the one, with what it needs, and what the other has in its place."""
+
+    step: str
+    here: str
+    there: str
+
+
+def played(path: str, session: Session) -> Session:
+    """The session of a file, with all its commands carried out; raises OSError, Refused or Ended."""
+    text, commands = split_session(read_text(path))
+    other = Session(session.path, Source(text, path), GREATEST_LIMIT, session.options)
+    for command in commands or ():
+        other.do(command)
+    return other
+
+
+def needs_of(session: Session, names: Sequence[str]) -> list[list[str]]:
+    """The immediate needs of each step, as the lines of `causes`."""
+    return [reply[1:] for reply in session.views([f"causes {name}" for name in names])]
+
+
+def first_difference(one: Session, two: Session) -> Found | None:
+    """The first step of the one that the other hasn't, or has with other needs; None where both did the same.
+
+    Runs with the same steps and the same immediate needs differ in the order of independent steps alone.
+    """
+    names = [name for name in one.standing if name in two.standing and two.standing[name] == one.standing[name]]
+    differing = {name for name, here, there in zip(names, needs_of(one, names), needs_of(two, names)) if sorted(here) != sorted(there)}
+    same = set(names)
+    for name in one.standing:
+        if name not in same:
+            return Found(name, one.standing[name], two.standing.get(name, "not taken"))
+        if name in differing:
+            return Found(name, one.standing[name], two.standing[name])
+    extra = next((name for name in two.standing if name not in one.standing), None)
+    return None if extra is None else Found(extra, "not taken", two.standing[extra])
+
+
+def flipped(session: Session, race: Race) -> tuple[Session, str | None]:
+    """A second session in which the later step of a race came first, and why it couldn't, if so.
+
+    The earlier step is taken back with all that needs it; where its task excludes the other's, its whole task is.
+    Then its task takes no step until the later one was taken.
+    """
+    other = copy_of(session)
+    early, late = race.first.split("#")[0], race.second.split("#")[0]
+    other.do(f"rolltask {early}" if race.apart else f"roll {race.first}")
+    for _ in range(MOST_STEPS):
+        if race.second in other.standing:
+            return other, None
+        ready = [task for task in other.view("ready")[1:] if task != early]
+        if not ready:
+            return other, f"{race.second} can't come in front of {race.first}: it waits for {early}"
+        other.do(f"step {late if late in ready else ready[0]}")
+    return other, f"{race.second} wasn't reached"
+
+
+def to_the_end(session: Session) -> bool:
+    """Runs to the end; returns whether it came."""
+    return session.do(f"run {MOST_STEPS}")[-1].endswith(" done")
+
+
+def side_by_side(left: Sequence[str], right: Sequence[str]) -> list[str]:
+    """Two lists as two columns."""
+    return [f"  {one:<{COLUMN}}{two}".rstrip() for one, two in zip_longest(left, right, fillvalue="")]
+
+
+class Comparing(Group):
+    """Commands that set two runs side by side."""
+
+    def do_compare(self, words: Words) -> None:
+        """Whether another session did the same."""
+        if len(words) != 1:
+            self.wrong("compare")
+            return
+        try:
+            other = played(words[0], self.session)
+        except OSError as fault:
+            self.refuse(f"can't read {words[0]}: {fault.strerror}")
+            return
+        except (Refused, Ended) as fault:
+            self.refuse(f"{words[0]}: {fault}")
+            return
+        try:
+            self.tell(words[0], other)
+        finally:
+            other.close()
+
+    def tell(self, path: str, other: Session) -> None:
+        """What differs from another session."""
+        if other.source.text != self.session.source.text:
+            self.say(f"{path} has another program")
+        found = first_difference(self.session, other)
+        count = len(self.session.standing)
+        if found is None:
+            same = list(self.session.standing) == list(other.standing)
+            self.say(f"equal: {counted(count, 'step')}" + ("" if same else ", but for the order of independent steps"))
+            return
+        self.say(f"different at {found.step}")
+        self.say(f"  here:  {found.here}")
+        self.say(f"  there: {found.there}")
+        for name, session in (("here", self.session), ("there", other)):
+            if found.step in session.standing:
+                needs = [line for line in needs_of(session, [found.step])[0] if not line.startswith("task: ")]
+                self.note(f"{name} it needs " + ("; ".join(needs) if needs else "no step of another task"))
+
+    def do_flip(self, words: Words) -> None:
+        """Both outcomes of a race."""
+        number = count_in(words, 0, 1)
+        races = [race_of(line) for line in self.session.view("races")[1:] if is_step(line)]
+        if number is None:
+            self.wrong("flip")
+        elif not races:
+            self.refuse("the run has no race so far")
+        elif not 1 <= number <= len(races):
+            self.refuse(f"the run has {counted(len(races), 'race')}: `flip 1`" + (f" to `flip {len(races)}`" if len(races) > 1 else ""))
+        else:
+            self.show_both(races[number - 1])
+
+    def show_both(self, race: Race) -> None:
+        """Runs both orders to their ends in programs beside, and shows what differs."""
+        first = copy_of(self.session)
+        second = None
+        try:
+            second, why = flipped(self.session, race)
+            if why is not None:
+                self.refuse(why)
+                return
+            ends = [to_the_end(first), to_the_end(second)]
+            for name in (race.first, race.second):
+                self.shell.show_line(self.session.line_of(name))
+            heads = [f"{race.first} first", f"{race.second} first"]
+            self.say(side_by_side([heads[0]], [heads[1]])[0])
+            for row in self.rows(first, second):
+                self.say(row)
+            if not all(ends):
+                self.note(f"a run that hadn't ended after {MOST_STEPS:,} steps was left there")
+        finally:
+            first.close()
+            if second is not None:
+                second.close()
+
+    def rows(self, first: Session, second: Session) -> list[str]:
+        """The cells and the output that differ, side by side."""
+        cells = [dict(line.split(" ") for line in session.view("cells")[1:]) for session in (first, second)]
+        differing = sorted((cell for cell in cells[0].keys() | cells[1].keys() if cells[0].get(cell, "0") != cells[1].get(cell, "0")), key=int)
+        outs = [session.view("out")[1:] for session in (first, second)]
+        columns = [[f"cell {cell}: {there.get(cell, '0')}" for cell in differing] for there in cells]
+        if outs[0] != outs[1]:
+            for column, out in zip(columns, outs):
+                column.append("out: " + (" ".join(out[:SHOWN]) if out else "nothing"))
+        lengths = [len(session.standing) for session in (first, second)]
+        if lengths[0] != lengths[1]:
+            for column, length in zip(columns, lengths):
+                column.append(counted(length, "step"))
+        return side_by_side(*columns) if columns[0] else ["  both leave the same cells and output"]

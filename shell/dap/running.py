@@ -1,0 +1,185 @@
+"""Steps, forwards and backwards, as jobs that stop at breakpoints and may be paused between any two steps."""
+
+from __future__ import annotations
+
+from collections.abc import Callable, Iterator
+from dataclasses import dataclass, field
+
+from shell.dap.breakpoints import Breakpoints
+from shell.dap.debuggee import Debuggee, Failed
+from shell.session import Session, is_step
+from shell.texts import refusal_words
+
+# So many steps are taken between two looks for a request.
+PIECE = 50
+
+
+@dataclass
+class Stopped:
+    """Why all threads are stopped, and at which of them the client looks."""
+
+    reason: str
+    task: str
+    text: str = ""
+    hit: list[int] = field(default_factory=list)
+
+
+# A job yields between pieces of its work, and returns how it ended.
+Job = Iterator[None]
+
+
+class Runner:
+    """Carries out one job at a time; `stopped` is called with how it ended."""
+
+    def __init__(self, debuggee: Debuggee, breakpoints: Breakpoints, stopped: Callable[[Stopped], None]) -> None:
+        self.debuggee = debuggee
+        self.breakpoints = breakpoints
+        self.stopped = stopped
+        self.job: Job | None = None
+        self.pausing = False
+
+    @property
+    def session(self) -> Session:
+        """The session that is stepped."""
+        return self.debuggee.session
+
+    def begin(self, job: Job) -> None:
+        """Begins a job; there is none so far, and no past state is looked at."""
+        if self.job is not None:
+            raise Failed("the tasks are running; pause them first")
+        if self.debuggee.shell.past is not None:
+            raise Failed("a past state is looked at; `at now` in the console comes back")
+        self.pausing = False
+        self.debuggee.shell.stops.refresh(self.session)
+        self.job = job
+
+    def work(self) -> None:
+        """A piece of the job."""
+        if self.job is not None:
+            try:
+                next(self.job)
+            except StopIteration:
+                self.job = None
+
+    # What ends a job
+
+    def met(self, said: list[str], task: str) -> Stopped | None:
+        """How breakpoints end a job, from what is said of those that are met."""
+        if not said:
+            return None
+        hit = [int(text.split(":")[0][1:]) for text in said]
+        reason = self.breakpoints.reasons.get(hit[0], "breakpoint")
+        return Stopped(reason, task, "; ".join(text.split(": ", 1)[1] for text in said), hit)
+
+    def over(self, task: str) -> Stopped:
+        """How a job ends where no task can step."""
+        return Stopped("end", task, f"the run is over: no task can step, {len(self.session.standing)} steps are taken")
+
+    def pause(self) -> None:
+        """Ends the job that is under way between two steps."""
+        self.pausing = True
+
+    # Forwards
+
+    def forwards(self, ends: Callable[[str], bool], skipped: frozenset[str] = frozenset(), reason: str = "step") -> Job:
+        """Steps in the recorded order, or of the least task, up to one that `ends` says, or a breakpoint."""
+        count = 0
+        while True:
+            line = self.debuggee.go_on(skipped)
+            if line is None:
+                self.stopped(self.over(self.debuggee.shell.focus))
+                return
+            task = line.split("#")[0]
+            stop = self.met(self.debuggee.shell.stops.met(line, self.session), task)
+            if stop or ends(line):
+                self.stopped(stop or Stopped(reason, task))
+                return
+            count += 1
+            if self.pausing:
+                self.stopped(Stopped("pause", task))
+                return
+            if count % PIECE == 0:
+                yield
+
+    def go(self) -> Job:
+        """Steps up to a breakpoint."""
+        return self.forwards(lambda line: False)
+
+    def next(self, task: str) -> Job:
+        """The task's next step; where it has to wait, others run until it can."""
+        while True:
+            line = self.debuggee.step(task)
+            if is_step(line):
+                stop = self.met(self.debuggee.shell.stops.met(line, self.session), task)
+                self.stopped(stop or Stopped("step", task))
+                return
+            if line.split(" ")[2] == "Ended" or not (other := self.debuggee.go_on((task,))):
+                self.stopped(self.over(task))
+                return
+            stop = self.met(self.debuggee.shell.stops.met(other, self.session), other.split("#")[0])
+            if stop or self.pausing:
+                self.stopped(stop or Stopped("pause", task))
+                return
+            yield
+
+    def into(self, task: str) -> Job:
+        """The task's next step alone; where it generates a task, the client looks at that one."""
+        line = self.debuggee.step(task)
+        if not is_step(line):
+            raise Failed(refusal_words(f"step {task}", line, self.session))
+        did = line.split(" ")
+        where = did[2] if did[1] == "spawn" else task
+        stop = self.met(self.debuggee.shell.stops.met(line, self.session), task)
+        self.stopped(stop or Stopped("step", where))
+        yield from ()
+
+    def out(self, task: str) -> Job:
+        """Up to the task's end."""
+        if self.session.places.position.get(task) is None:
+            raise Failed(f"{task} has ended")
+        return self.forwards(lambda line: self.session.places.position.get(task) is None)
+
+    # Backwards
+
+    def back(self, task: str) -> Job:
+        """The task's newest step back, with all that need it."""
+        newest = next((name for name in reversed(self.session.standing) if name.split("#")[0] == task), None)
+        if newest is None:
+            raise Failed(f"{task} has taken no step")
+        self.roll(f"roll {newest}", task)
+        yield from ()
+
+    def roll(self, command: str, task: str) -> None:
+        """A rollback, and what it took."""
+        reply = self.session.do(command)
+        if not reply[0].startswith("rolled "):
+            raise Failed(refusal_words(command, reply[0], self.session))
+        self.debuggee.took_back()
+        gone = [line.split(" ")[0] for line in reply[1:]]
+        there = task if task in self.session.places.position else "0"
+        self.debuggee.shell.focus = there
+        others = f", and {len(gone) - 1} that need it" if len(gone) > 1 else ""
+        self.stopped(Stopped("step", there, f"taken back: {gone[0]}{others}"))
+
+    def backwards(self) -> Job:
+        """The newest steps back, up to a breakpoint before."""
+        count, shell = 0, self.debuggee.shell
+        while (newest := self.session.newest) is not None:
+            line = self.session.line_of(newest)
+            if not self.session.do(f"undo {newest}")[0].startswith("undone"):
+                raise Failed("the journal is full")
+            self.debuggee.took_back()
+            count += 1
+            now = self.session.newest
+            task = (now or line).split("#")[0]
+            shell.focus = task
+            said = shell.stops.changed(line, self.session) + (shell.stops.at_step(self.session.line_of(now), self.session) if now else [])
+            stop = self.met(said, task)
+            if stop or self.pausing:
+                self.session.merge_taken_back(count)
+                self.stopped(stop or Stopped("pause", task))
+                return
+            if count % PIECE == 0:
+                yield
+        self.session.merge_taken_back(count)
+        self.stopped(Stopped("entry", "0", "the run is at its beginning"))

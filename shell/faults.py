@@ -1,0 +1,288 @@
+"""What is said of a refused program: the line, a mark below the word at fault, why, and what the line should look like."""
+
+import difflib
+import re
+from collections.abc import Callable, Iterable, Sequence
+
+from shell.console import counted
+from shell.protocol import words_of
+
+FORMS = {
+    "cells": "cells N", "cell": "cell C V", "body": "body NAME PARAMETERS", "let": "let rK A   or   let rK A OP B, where OP is + - *",
+    "load": "load rK ADDR", "store": "store ADDR VAL", "print": "print VAL", "taskwait": "taskwait   or   taskwait depend TYPE ADDR",
+    "task": "task NAME ARG.. depend TYPE ADDR", "taskgroup": "taskgroup",
+    "if": "if A CMP B, where CMP is == != < <=", "while": "while A CMP B, where CMP is == != < <=",
+    "else": "else", "end": "end",
+}
+
+FAULTS = {
+    "NoCells": "the program begins with a line `cells N`", "BadNumber": "a number or a register is expected",
+    "CellRange": "the program has no such cell", "UnknownWord": "no such word here",
+    "UnknownBody": "no body has this name", "Arity": "too few words, or too many",
+    "Nesting": "this line can't stand here, or a block is still open", "NoMain": "no body is named main",
+    "Duplicate": "this is given twice", "Register": "the registers are r0 to r15",
+    "TooLarge": "more than the program allows", "NotText": "a byte that is no text",
+    "DependType": "the types are in, out, inout, mutexinoutset and inoutset",
+}
+
+TYPES = ("in", "out", "inout", "mutexinoutset", "inoutset")
+# How many words follow each word, where it is one number.
+WANTED = {"cells": 1, "cell": 2, "body": 2, "load": 2, "store": 2, "print": 1, "taskgroup": 0, "if": 3, "while": 3, "else": 0, "end": 0}
+OPENERS = ("body", "if", "while", "taskgroup")
+# What stands for comparisons that the notation hasn't, of a line's words.
+COMPARED = {"=": "{0} {1} == {3}", ">": "{0} {3} < {1}", ">=": "{0} {3} <= {1}"}
+# Words of C and of other languages, and what the notation has in their place.
+FOREIGN = {
+    "for": "while A CMP B .. end, with a `let` in front and one at its end", "do": "while A CMP B .. end", "int": "let rK A",
+    "long": "let rK A", "unsigned": "let rK A", "auto": "let rK A", "const": "let rK A", "int64_t": "let rK A", "var": "let rK A",
+    "void": "body NAME PARAMETERS", "def": "body NAME PARAMETERS", "func": "body NAME PARAMETERS", "function": "body NAME PARAMETERS",
+    "return": "end", "}": "end", "};": "end", "{": "nothing: a block begins with its line and ends with `end`", "endif": "end", "done": "end",
+    "printf": "print VAL", "puts": "print VAL", "cout": "print VAL", "echo": "print VAL", "write": "store ADDR VAL", "read": "load rK ADDR",
+    "spawn": "task NAME ARG..", "async": "task NAME ARG..", "call": "task NAME ARG..", "wait": "taskwait", "join": "taskwait", "sync": "taskwait",
+    "barrier": "taskwait", "group": "taskgroup", "begin": "body NAME PARAMETERS", "proc": "body NAME PARAMETERS", "elif": "else, and an `if` in it",
+    "global": "cells N", "single": "nothing: the root is one task", "parallel": "nothing: the root is one task",
+}
+REGISTER = re.compile(r"r([0-9]|1[0-5])")
+CLAUSE = re.compile(r"depend\s*\(\s*(\w+)\s*:\s*([^)]*)\)")
+
+
+def is_number(word: str) -> bool:
+    """Whether a word is a number."""
+    return re.fullmatch(r"-?[0-9]+", word) is not None
+
+
+def is_operand(word: str) -> bool:
+    """Whether a word is a number, or spelled as a register."""
+    return is_number(word) or re.fullmatch(r"r[0-9]+", word) is not None
+
+
+# Which word is at fault
+
+def first_where(words: Sequence[str], places: Iterable[int], wrong: Callable[[str], bool]) -> int | None:
+    """The first of these places whose word is wrong."""
+    return next((place for place in places if place < len(words) and wrong(words[place])), None)
+
+
+def number_at_fault(words: Sequence[str]) -> int | None:
+    """Which word stands in a number's place and is none."""
+    word = words[0]
+    if word in ("cells", "cell", "body"):
+        places = (2,) if word == "body" else (1, 2)
+        return first_where(words, places, lambda given: not is_number(given) or (word != "cell" and given.startswith("-")))
+    of_word: dict[str, tuple[int, ...]] = {"let": (2, 4), "load": (2,), "store": (1, 2), "print": (1,), "if": (1, 3), "while": (1, 3)}
+    if word == "task":
+        stop = next((at for at, given in enumerate(words) if given in ("depend", "if")), len(words))
+        found = first_where(words, range(2, stop), lambda given: not is_operand(given))
+        return found if found is not None else item_at_fault(words)
+    if word == "taskwait":
+        return item_at_fault(words)
+    return first_where(words, of_word.get(word, ()), lambda given: not is_operand(given))
+
+
+def items_at(words: Sequence[str]) -> list[int]:
+    """The places of `depend`."""
+    return [at for at, given in enumerate(words) if given == "depend"]
+
+
+def item_at_fault(words: Sequence[str]) -> int | None:
+    """Which word stands in an address's place of a clause, and is none."""
+    return first_where(words, [at + 2 for at in items_at(words)], lambda given: not is_operand(given) and given != "all")
+
+
+def type_at_fault(words: Sequence[str]) -> int | None:
+    """Which word stands in a type's place and can't."""
+    types = types_of(words[0])
+    found = first_where(words, [at + 1 for at in items_at(words)], lambda given: given not in types)
+    if found is not None:
+        return found
+    return next((at + 2 for at in items_at(words) if words[at + 2:at + 3] == ["all"] and words[at + 1] not in ("out", "inout")), None)
+
+
+def types_of(word: str) -> tuple[str, ...]:
+    """The types that a clause of this line may have."""
+    return tuple(kind for kind in TYPES if word != "taskwait" or kind != "mutexinoutset")
+
+
+def unknown_at_fault(words: Sequence[str]) -> int | None:
+    """Which word is unknown."""
+    if words[0] not in FORMS:
+        return 0
+    place = {"let": 3, "if": 2, "while": 2, "body": 1}.get(words[0])
+    return place if place is not None and place < len(words) else None
+
+
+def register_at_fault(words: Sequence[str]) -> int | None:
+    """Which word should be a register."""
+    bad = first_where(words, range(1, len(words)), lambda given: bool(re.fullmatch(r"r[0-9]+", given)) and not REGISTER.fullmatch(given))
+    return bad if bad is not None else (1 if len(words) > 1 else None)
+
+
+def word_at_fault(words: Sequence[str], kind: str) -> int | None:
+    """The place of the word at fault; None where that can't be told."""
+    if not words:
+        return None
+    by_kind = {"BadNumber": number_at_fault, "UnknownWord": unknown_at_fault, "Register": register_at_fault, "DependType": type_at_fault}
+    if kind in by_kind:
+        return by_kind[kind](words)
+    if kind in ("UnknownBody", "CellRange", "Duplicate"):
+        return 1 if len(words) > 1 and words[0] != "cells" else 0
+    return 0 if kind in ("Nesting", "NoCells") else None
+
+
+# Why
+
+def open_blocks(lines: Sequence[str], number: int) -> list[tuple[int, str]]:
+    """The blocks that are open in front of a line, each with its own line and its first words, from the outermost."""
+    stack: list[tuple[int, str]] = []
+    for at, line in enumerate(lines[:number - 1], 1):
+        words = words_of(line)
+        if words and words[0] in OPENERS:
+            stack.append((at, " ".join(words[:2]) if words[0] == "body" else words[0]))
+        elif words[:1] == ["end"] and stack:
+            stack.pop()
+    return stack
+
+
+def nesting_words(lines: Sequence[str], number: int, words: Sequence[str]) -> str:
+    """Why a line can't stand where it is, or what is open at the end of the text."""
+    opened = open_blocks(lines, number)
+    innermost = f"`{opened[-1][1]}` of line {opened[-1][0]}" if opened else ""
+    if not words:
+        return f"an `end` is missing: the {innermost} is still open" if opened else FAULTS["Nesting"]
+    if words[0] == "body" and opened:
+        return f"an `end` is missing in front of this line: the {innermost} is still open"
+    if words[0] == "end" and not opened:
+        return "no block is open here for this `end`"
+    if words[0] == "else":
+        return f"this `else` has no `if`: the innermost block is the {innermost}" if opened else "this `else` has no `if`"
+    if words[0] in ("cells", "cell"):
+        return "cells stand in front of the first body"
+    return FAULTS["Nesting"] if opened else "a statement stands in a body: `body NAME PARAMETERS` comes first"
+
+
+def parameters_of(lines: Sequence[str], name: str) -> int | None:
+    """How many parameters a body has; None where that can't be told."""
+    for words in map(words_of, lines):
+        if words[:2] == ["body", name] and len(words) == 3 and is_number(words[2]):
+            return int(words[2])
+    return None
+
+
+def arity_words(lines: Sequence[str], words: Sequence[str]) -> str:
+    """How many words a line should have, and how many it has."""
+    word, given = words[0], len(words) - 1
+    if words[:2] == ["body", "main"] and given == 2:
+        return "main takes no parameters: `body main 0`"
+    if word == "task" and given:
+        stop = next((at for at, part in enumerate(words) if part in ("depend", "if")), len(words))
+        wanted = parameters_of(lines, words[1])
+        if wanted is not None and wanted != stop - 2:
+            return f"body {words[1]} takes {counted(wanted, 'argument')}, and {stop - 2} {'is' if stop == 3 else 'are'} given"
+    if word == "let":
+        return f"let wants 2 words after it, or 4, and {given} {'is' if given == 1 else 'are'} there"
+    if word in WANTED:
+        return f"{word} wants {counted(WANTED[word], 'word')} after it, and {given} {'is' if given == 1 else 'are'} there"
+    return FAULTS["Arity"]
+
+
+def meaning_of(kind: str, lines: Sequence[str], number: int, words: Sequence[str]) -> str:
+    """Why the line is refused."""
+    if kind == "Nesting":
+        return nesting_words(lines, number, words)
+    if kind == "Arity" and words:
+        return arity_words(lines, words)
+    if kind == "DependType" and words:
+        if type_at_fault(words) is not None and words[type_at_fault(words) or 0] == "all":
+            return "`all` has the type out or inout"
+        types = types_of(words[0])
+        return f"the types{' of a taskwait' if words[0] == 'taskwait' else ''} are {', '.join(types[:-1])} and {types[-1]}"
+    if kind == "NoMain":
+        near = next((told[1] for told in map(words_of, lines) if told[:1] == ["body"] and len(told) > 1 and told[1].lower() == "main"), None)
+        return FAULTS[kind] + (f"; the name is written `main`, and not `{near}`" if near else "")
+    return FAULTS.get(kind, kind)
+
+
+# What the line should look like
+
+def from_clauses(line: str) -> str | None:
+    """The line with clauses as the notation has them, where it has them as C does."""
+    def spelled(found: re.Match[str]) -> str:
+        return " ".join(f"depend {found[1]} {place.strip() or 'ADDR'}" for place in found[2].split(","))
+    mended = CLAUSE.sub(spelled, line)
+    return " ".join(mended.replace(";", " ").split()) if mended != line else None
+
+
+def from_other_languages(words: Sequence[str], line: str) -> str | None:
+    """What stands in the notation for words of C and of other languages."""
+    clauses = from_clauses(line)
+    if clauses:
+        return clauses
+    changed = re.fullmatch(r"(r[0-9]+)\s*(\+\+|--|[+*-]=)\s*(\w*);?", line)
+    if changed:
+        operand = changed[3] or "1"
+        return f"let {changed[1]} {changed[1]} {changed[2][0]} {operand}"
+    word = re.split(r"[(:;]", words[0])[0] or words[0]
+    if word in FOREIGN:
+        return FOREIGN[word]
+    lower = word.lower()
+    if word != lower and lower in FORMS:
+        return " ".join([lower, *words[1:]])
+    return None
+
+
+def should_be(words: Sequence[str], line: str | None = None) -> str | None:
+    """What a faulty line should look like."""
+    if not words:
+        return None
+    line = " ".join(words) if line is None else line
+    if words[0] == "let" and "=" in words:
+        return " ".join(word for word in words if word != "=")
+    if list(words[1:2]) == ["="] and re.fullmatch(r"r[0-9]+", words[0]):
+        return " ".join(["let", words[0], *words[2:]])
+    if words[0] in ("if", "while") and len(words) == 4 and words[2] in COMPARED:
+        return COMPARED[words[2]].format(*words)
+    foreign = from_other_languages(words, line)
+    if foreign:
+        return foreign
+    if words[0] not in FORMS:
+        near = difflib.get_close_matches(words[0], FORMS, 1)
+        return FORMS[near[0]] if near else None
+    return FORMS[words[0]]
+
+
+def nearest_body(lines: Sequence[str], words: Sequence[str]) -> str | None:
+    """The line with the body that it may mean, where the one that it names isn't there."""
+    bodies = [told[1] for told in map(words_of, lines) if told[:1] == ["body"] and len(told) > 1]
+    near = difflib.get_close_matches(words[1], bodies, 1) if len(words) > 1 else []
+    return " ".join([words[0], near[0], *words[2:]]) if near else None
+
+
+def form_of(kind: str, lines: Sequence[str], words: Sequence[str], line: str) -> str | None:
+    """What the line should look like; None where nothing can be said."""
+    if kind == "UnknownBody":
+        return nearest_body(lines, words)
+    if kind == "NoCells":
+        return "cells N, in front of the first body"
+    if kind in ("BadNumber", "UnknownWord", "Arity", "Register", "DependType"):
+        return should_be(words, line)
+    return None
+
+
+def fault_lines(name: str, text: str, number: int, kind: str) -> list[str]:
+    """A refused program: its line, a mark below the word at fault, and what it should look like."""
+    lines = text.split("\n")
+    there = 1 <= number <= len(lines)
+    words = words_of(lines[number - 1]) if there else []
+    meaning = meaning_of(kind, lines, number, words)
+    if not words:
+        return [f"{name}:{number}: {meaning} ({kind})"]
+    line = lines[number - 1].replace("\t", " ").strip()
+    head = f"{name}:{number}: "
+    shown = [head + line]
+    place = word_at_fault(words, kind)
+    if place is not None:
+        starts = [found.start() for found in re.finditer(r"[^ \r]+", line)]
+        shown.append(" " * (len(head) + starts[place]) + "^" * len(words[place]))
+    shown.append(f"  {meaning} ({kind})")
+    form = form_of(kind, lines, words, line)
+    return shown + ([f"  it should look like: {form}"] if form else [])

@@ -1,0 +1,148 @@
+"""The commands of the shell: how each is written, what it does, and what an unknown word may have meant."""
+
+import difflib
+import re
+import textwrap
+from collections.abc import Sequence
+from typing import NamedTuple
+
+
+class Help(NamedTuple):
+    """How a command is written, what it does, and an example."""
+
+    usage: str
+    text: str
+    example: str
+
+
+HELP = {
+    "step": Help("step [T [N]]", "the next step of task T, or N of them; alone: of the least task that can step", "step 0.1 3"),
+    "run": Help("run [-v] [N]", "up to N steps, each of the least task that can step; Ctrl-C stops it; -v shows all lines", "run 20"),
+    "go": Help("go [-v] [[W] N]", "as run, but stops at breakpoints; W worker threads take the steps, one where W isn't given", "go 4 100"),
+    "finish": Help("finish [T]", "steps task T until it ends or has to wait", "finish 0.1"),
+    "until": Help("until T#K", "runs until step T#K is taken", "until 0.2#4"),
+    "random": Help("random SEED [N]", "up to N steps, each of any task that can step; a seed gives the same steps again", "random 7 20"),
+    "last": Help("last [N]", "up to N steps, each of the task with the greatest name", "last 5"),
+    "back": Help("back [N]", "undoes the newest step, or the N newest", "back"),
+    "rs": Help("rs [-f] T", "takes back the newest step of task T; asks where others need it, -f doesn't ask", "rs 0.1"),
+    "rc": Help("rc", "takes the newest steps back, up to the breakpoint before", "rc"),
+    "undo": Help("undo T#K", "takes a step back, where nothing needs it", "undo 0.1#4"),
+    "roll": Help("roll T#K", "takes a step back with all that need it", "roll 0.1#4"),
+    "rolltask": Help("rolltask T", "takes back the start of task T with all that need it", "rolltask 0.1"),
+    "rollcell": Help("rollcell C", "takes back the last store to cell C with all that need it", "rollcell 0"),
+    "rollprint": Help("rollprint", "takes back the last print with all that need it", "rollprint"),
+    "redo": Help("redo [T#K]", "takes the steps again that the newest undo or roll took back; or T#K of them with what it needs", "redo"),
+    "keep": Help("keep T#K", "takes back all that step T#K doesn't need", "keep 0.1#4"),
+    "at": Help("at T#K | at N | at now", "looks at the state after step T#K, or after N steps, without taking anything back", "at 0.1#4"),
+    "break": Help("break task T | cell C | body NAME | print | fault | line L  [if EXPR]", "where go stops, after the step", "break line 12 if r0 > 3"),
+    "watch": Help("watch EXPR", "go and rc stop where the number of EXPR changes", "watch r2 of 0.1"),
+    "clear": Help("clear N | clear sN | clear line L", "takes a breakpoint away", "clear 1"),
+    "breaks": Help("breaks", "the breakpoints", "breaks"),
+    "print": Help("print EXPR", "a number of registers, cells, arguments and counts of steps", "print r0 + c[3]"),
+    "display": Help("display [EXPR]", "shows EXPR after each command that steps; alone: shows all of them", "display c[0]"),
+    "undisplay": Help("undisplay N", "shows the Nth expression no more", "undisplay 1"),
+    "list": Help("list [T|LINE]", "the source, with marks where tasks are", "list 0.1"),
+    "tasks": Help("tasks", "all tasks, and at what line they are", "tasks"),
+    "task": Help("task T", "a task's registers, groups and items", "task 0.1"),
+    "cells": Help("cells", "the cells that aren't 0", "cells"),
+    "out": Help("out", "what was printed", "out"),
+    "ready": Help("ready", "the tasks that can step", "ready"),
+    "waits": Help("waits", "the tasks that can't step, and for whom they wait", "waits"),
+    "deps": Help("deps T", "the siblings that task T depends on, or excludes", "deps 0.2"),
+    "hist": Help("hist", "the steps of the history, from the oldest", "hist"),
+    "why": Help("why T#K", "the steps that a step needs", "why 0#4"),
+    "who": Help("who T#K", "the steps that need a step", "who 0.1#4"),
+    "races": Help("races", "steps that luck alone ordered, by pairs of lines, with the clause that is missing", "races"),
+    "causes": Help("causes T#K", "the steps that a step needs at once, and for what", "causes 0#6"),
+    "flip": Help("flip [N]", "both outcomes of race N: as it came, and the other way round, to their ends", "flip 1"),
+    "compare": Help("compare FILE", "whether the session of FILE did the same, but for the order of independent steps", "compare other.session"),
+    "graph": Help("graph [-f] [FILE]", "the tasks as a tree with their order; to FILE as Graphviz draws it (.svg, .png), or .dot", "graph tasks.svg"),
+    "lanes": Help("lanes [-f] [T#K] [FILE]", "the history, a lane a task; what roll T#K would take is shaded; to FILE as SVG", "lanes 0.1#4"),
+    "page": Help("page [-f] FILE", "all that was done, as one page for a browser: program, history, tasks, races", "page race.html"),
+    "info": Help("info VIEW", "a view by any beginning of its name, as `i ta` for `tasks`", "i tasks"),
+    "save": Help("save [-f] FILE", "writes the session so far, which gives the same replies; -f replaces a file without asking", "save race.session"),
+    "source": Help("source [FILE]", "plays the commands of FILE; alone: the next command of the session file that was opened", "source more.session"),
+    "set": Help("set [NAME on|off]", "run-breaks: run stops at breakpoints too; pager: long replies stop at each full screen", "set run-breaks on"),
+    "restart": Help("restart", "starts anew; breakpoints are kept", "restart"),
+    "trim": Help("trim [N]", "starts anew with the steps of the history alone, without the N newest: the journal has room again", "trim"),
+    "limit": Help("limit N", "gives the journal room for N entries: starts anew and does the same again", "limit 200000"),
+    "help": Help("help [COMMAND]", "this list, or one command with an example", "help step"),
+    "quit": Help("quit", "ends the shell, as Ctrl-D does", "quit"),
+}
+
+ABBREVIATIONS = {"s": "step", "r": "run", "b": "break", "u": "undo", "i": "info", "l": "list", "c": "go", "p": "print",
+                 "continue": "go", "q": "quit", "exit": "quit", "h": "help", "f": "finish"}
+
+# The commands that the program has too, and answers itself.
+OF_THE_PROGRAM = ("step", "run", "go", "undo", "roll", "rolltask", "rollcell", "rollprint", "break", "clear", "breaks", "tasks", "task", "cells",
+                  "out", "ready", "waits", "deps", "hist", "why", "who", "races", "causes")
+
+# What other debuggers call it.
+ELSEWHERE = {"next": "step", "n": "step", "delete": "clear N", "bt": "task T", "backtrace": "task T", "where": "tasks",
+             "reverse-continue": "rc", "reverse-step": "rs T", "reverse-next": "rs T", "reverse-stepi": "rs T", "threads": "tasks",
+             "locals": "task T", "x": "print c[0]", "until-line": "break line L", "tbreak": "break line L", "advance": "until T#K",
+             "start": "step 0", "kill": "restart", "frame": "list T", "set-var": "roll T#K", "load": "source FILE", "open": "source FILE"}
+KINDS = ("task", "cell", "body", "print", "fault", "line")
+
+
+def expanded(word: str) -> list[str]:
+    """The commands that a word may stand for: one by its name or abbreviation, or all that begin so."""
+    if word in HELP:
+        return [word]
+    if word in ABBREVIATIONS:
+        return [ABBREVIATIONS[word]]
+    return [name for name in HELP if name.startswith(word)]
+
+
+def break_meant(words: Sequence[str], bodies: Sequence[str]) -> str | None:
+    """What a `break` without a kind may have meant."""
+    if len(words) < 2:
+        return None
+    rest, word = " ".join(words[1:]), words[1]
+    if re.fullmatch(r"[0-9]+(:[0-9]+)?", word):
+        return f"break line {rest}"
+    if re.fullmatch(r"[0-9]+(\.[0-9]+)+", word):
+        return f"break task {rest}"
+    if word in bodies:
+        return f"break body {rest}"
+    cell = re.fullmatch(r"c\[([0-9]+)\]", word)
+    if cell:
+        return " ".join(["break cell", cell[1], *words[2:]])
+    near = difflib.get_close_matches(word, KINDS, 1)
+    return " ".join(["break", near[0], *words[2:]]) if near else None
+
+
+def meant(words: Sequence[str], bodies: Sequence[str]) -> str:
+    """What is said of an unknown command."""
+    word = words[0]
+    fitting = expanded(word)
+    if len(fitting) > 1:
+        return "ambiguous: " + ", ".join(fitting)
+    if fitting == ["break"]:
+        found = break_meant(words, bodies)
+    elif word in ELSEWHERE:
+        found = " ".join([ELSEWHERE[word], *words[1:]]) if " " not in ELSEWHERE[word] else ELSEWHERE[word]
+    else:
+        near = difflib.get_close_matches(word, HELP, 1)
+        found = " ".join([near[0], *words[1:]]) if near else None
+        if near == ["break"]:
+            found = break_meant(["break", *words[1:]], bodies) or found
+    return f"did you mean `{found}`?" if found else "no such command; `help` lists them"
+
+
+def help_list(columns: int) -> list[str]:
+    """All commands, each with what it does beside it, in so many columns."""
+    width = max(len(entry.usage) for name, entry in HELP.items() if name != "break")
+    lines = []
+    for entry in HELP.values():
+        shown = entry.usage if len(entry.usage) <= width else entry.usage.split(" ")[0] + " ..."
+        lines += textwrap.wrap(entry.text, max(columns, width + 24), initial_indent=f"  {shown:<{width}}  ", subsequent_indent=" " * (width + 4))
+    return lines + ["Enter repeats the last step. `help COMMAND` gives an example."]
+
+
+def help_of(name: str) -> list[str]:
+    """One command, with an example."""
+    entry = HELP[name]
+    short = [key for key, value in ABBREVIATIONS.items() if value == name]
+    lines = [entry.usage, f"  {entry.text}", f"  for example: {entry.example}"]
+    return lines + ([f"  short: {', '.join(short)}"] if short else [])

@@ -1,0 +1,156 @@
+"""Scripts: piped commands, `-x`, `--check` with its statuses, and `--json` by its schema."""
+
+import json
+import os
+import subprocess
+import unittest
+
+from support import EXAMPLES, TOP, example, needs_program, write_file
+
+RUN = os.path.join(TOP, "run")
+RACE = os.path.join(EXAMPLES, "race.task")
+TYPES = {"integer": int, "string": str, "array": list, "object": dict, "null": type(None)}
+
+
+def ran(*words, typed=None):
+    """What ./run writes, and its status; `typed` is piped in."""
+    given = {"input": typed} if typed is not None else {"stdin": subprocess.DEVNULL}
+    done = subprocess.run([RUN, *words], capture_output=True, text=True, timeout=120, check=False, **given)
+    return done.stdout, done.stderr, done.returncode
+
+
+def fits(value, schema):
+    """Whether a value is as a schema says, by the words that ours uses."""
+    kinds = schema.get("type", [])
+    kinds = [kinds] if isinstance(kinds, str) else kinds
+    if not any(isinstance(value, TYPES[kind]) and not isinstance(value, bool) for kind in kinds):
+        return False
+    if "enum" in schema and value not in schema["enum"]:
+        return False
+    if isinstance(value, list):
+        return all(fits(part, schema["items"]) for part in value)
+    if isinstance(value, dict):
+        known = schema["properties"]
+        return set(schema["required"]) <= set(value) <= set(known) and all(fits(part, known[name]) for name, part in value.items())
+    return True
+
+
+@needs_program
+class Piped(unittest.TestCase):
+    def test_commands_are_played_with_the_shells_own(self):
+        out, told, status = ran(RACE, typed="r 3\nbreak line 13\nfinish 0.1\n\n# a comment\nstep 0\n")
+        self.assertEqual((told, status), ("", 0))
+        self.assertEqual(out.split("\n")[3:], ["ran 3 limit", "break s1 line 13", "0.1#1 start", "0.1#2 load r1 0 0", "0.1#3 let r1 1",
+                                               "0.1#4 store 0 1", "0.1#5 end", "refused 5 Children 0.2", ""])
+
+    def test_a_session_is_played_as_it_is(self):
+        path = os.path.join(EXAMPLES, "race.session")
+        self.assertEqual(ran(path, typed="tasks\n"), (example("race.out"), "", 0))
+
+    def test_a_program_without_anything_piped_says_nothing(self):
+        self.assertEqual(ran(RACE), ("", "", 0))
+
+    def test_a_file_may_be_read_in_its_place(self):
+        path = write_file(self, "step 0\n", "script")
+        with open(path, encoding="utf-8") as file:
+            done = subprocess.run([RUN, RACE], stdin=file, capture_output=True, text=True, timeout=120, check=False)
+        self.assertEqual((done.stdout, done.returncode), ("0#1 start\n", 0))
+
+    def test_a_byte_order_mark_is_passed_over(self):
+        text = "\ufeff" + example("race.task")
+        path = write_file(self, text, "marked.task")
+        self.assertEqual(ran(path, typed="step 0\n"), ("0#1 start\n", "", 0))
+        session = write_file(self, text + "---\nstep 0\n", "marked.session")
+        self.assertEqual(ran(session), ("0#1 start\n", "", 0))
+        self.assertEqual(ran("-i", path, typed="step 0\n"), ("0#1 start\n", "", 0))
+        self.assertEqual(ran("-x", write_file(self, "\ufeffstep 0\n", "script"), path), ("0#1 start\n", "", 0))
+
+
+@needs_program
+class Checked(unittest.TestCase):
+    def script(self, text):
+        return write_file(self, text, "a.script")
+
+    def test_all_taken_is_0(self):
+        out, told, status = ran("--check", "-x", self.script("run 99\nraces\n"), RACE)
+        self.assertEqual((out.split("\n")[-4:], told, status), (["races 2", "0.1#4 0.2#2 cell 0", "0.1#4 0.2#4 cell 0", ""], "", 0))
+
+    def test_a_refused_step_is_1_with_its_line_and_reason(self):
+        out, told, status = ran("--check", "-x", self.script("# first\nrun 3\nstep 0\nrun 99\n"), RACE)
+        self.assertEqual((out.split("\n")[4:], told, status), (
+            ["refused 5 Children 0.1", "a.script:3: step 0: 0 stands at a taskwait, and its child 0.1 hasn't ended", ""][-len(out.split("\n")[4:]):], "", 1))
+
+    def test_what_the_shell_refuses_is_1_and_no_command_is_2(self):
+        for line, status, reason in (("until 0.9#1", 1, "0.9#1 was never reached"), ("fly", 2, "no such command; `help` lists them"),
+                                     ("finish 0 0", 2, "finish [T], for example: finish 0.1"), ("redo", 1, "nothing was taken back")):
+            out, _, found = ran("--check", "-x", self.script(line + "\nstep 0\n"), RACE)
+            self.assertEqual(found, status, line)
+            self.assertTrue(out.split("\n")[-2].startswith(f"a.script:1: {line}: {reason}"), out)
+
+    def test_without_check_it_goes_on(self):
+        out, _, status = ran("-x", self.script("step 0.7\nstep 0\n"), RACE)
+        self.assertEqual((out, status), ("refused 1 NoSuchTask\n0#1 start\n", 0))
+
+    def test_a_session_plays_its_commands_first(self):
+        out, _, status = ran("--check", "-x", self.script("hist\n"), os.path.join(EXAMPLES, "right_sum.session"))
+        self.assertEqual(status, 0)
+        self.assertTrue(out.startswith(example("right_sum.out")))
+        self.assertRegex(out, r"\nhist \d+\n")
+
+    def test_a_saved_session_is_a_script(self):
+        self.assertEqual(ran("-x", os.path.join(EXAMPLES, "race.session"), RACE)[0], example("race.out"))
+
+    def test_usage_and_files(self):
+        for words in (["-x"], ["-x", "/no/script", RACE], ["-x", self.script("step 0\n")], ["-x", self.script(""), "/no/file"]):
+            out, told, status = ran(*words)
+            self.assertEqual((out, told.count("\n"), status), ("", 1, 2), words)
+        bad = write_file(self, "cells 1\nbody main 1\nend\n", "bad.task")
+        out, told, status = ran("--check", "-x", self.script("step 0\n"), bad)
+        self.assertEqual((out, status), ("", 1))
+        self.assertIn("main takes no parameters", told)
+
+    def test_a_full_disk_is_no_crash(self):
+        with open("/dev/full", "wb") as full:
+            done = subprocess.run([RUN, "-x", self.script("run 99\n"), RACE], stdin=subprocess.DEVNULL, stdout=full, stderr=subprocess.PIPE,
+                                  text=True, timeout=120, check=False)
+        self.assertEqual((done.stderr, done.returncode), ("taskback: write\n", 3))
+
+
+@needs_program
+class Json(unittest.TestCase):
+    def test_each_reply_is_a_line_by_the_schema(self):
+        with open(os.path.join(TOP, "docs", "replies.schema.json"), encoding="utf-8") as file:
+            schema = json.load(file)
+        commands = "run 3\nstep 0\nfly\nraces\ncells\nprint r0\nsource /no/file\nback\n"
+        out, told, status = ran("--json", RACE, typed=commands)
+        self.assertEqual((told, status), ("", 0))
+        records = [json.loads(line) for line in out.split("\n")[:-1]]
+        for record in records:
+            self.assertTrue(fits(record, schema), record)
+        self.assertEqual([record["command"] for record in records], commands.split("\n")[:-1])
+        self.assertEqual([record["number"] for record in records], list(range(1, 9)))
+        self.assertEqual([record["outcome"] for record in records], ["done", "refused", "error", "done", "done", "done", "refused", "done"])
+        self.assertEqual(records[0]["steps"][1], {"step": "0#2", "task": "0", "number": 2, "did": "spawn 0.1 add 1", "line": 4})
+        self.assertEqual(records[1]["refusal"], {"number": 5, "name": "Children", "by": "0.1"})
+        self.assertEqual(records[5]["lines"], ["r0 of 0 = 0"])
+        self.assertFalse(fits({**records[0], "version": 2}, schema))
+
+    def test_the_lines_are_the_exact_ones(self):
+        path = os.path.join(EXAMPLES, "race.session")
+        out = ran("--json", "-x", path, RACE)[0]
+        self.assertEqual("".join(text + "\n" for line in out.split("\n")[:-1] for text in json.loads(line)["lines"]), example("race.out"))
+
+    def test_a_played_file_has_a_record_for_each_command(self):
+        path = write_file(self, "run 2\nstep 0.7\n", "played")
+        records = [json.loads(line) for line in ran("--json", RACE, typed=f"source {path}\n")[0].split("\n")[:-1]]
+        self.assertEqual([(record["command"], record["outcome"]) for record in records],
+                         [("run 2", "done"), ("step 0.7", "refused"), (f"source {path}", "refused")])
+
+    def test_a_check_ends_with_a_record(self):
+        out, _, status = ran("--json", "--check", RACE, typed="step 0.7\nstep 0\n")
+        records = [json.loads(line) for line in out.split("\n")[:-1]]
+        self.assertEqual((status, len(records), records[1]["lines"]), (1, 2, ["-:1: step 0.7: task 0.7 hasn't been generated"]))
+
+
+if __name__ == "__main__":
+    unittest.main()

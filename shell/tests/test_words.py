@@ -1,0 +1,227 @@
+"""Unknown and ambiguous words, refusals in words, faults of programs, full journals, and files that are there already."""
+
+import os
+import stat
+import tempfile
+import unittest
+import unittest.mock
+
+from support import Terminal, Typed, example, needs_program, write_file
+from shell import faults, files, texts
+from shell.console import counted
+
+LOOP = "cells 1\nbody main 0\n  while 0 == 0\n    store 0 1\n  end\nend\n"
+# What is typed, and what is said of it.
+MEANT = (
+    ("roll", "error count"), ("ro 0#1", "ambiguous: roll, rolltask, rollcell, rollprint"), ("break 5", "did you mean `break line 5`?"),
+    ("b 5", "did you mean `break line 5`?"), ("brek 5", "did you mean `break line 5`?"), ("break add", "did you mean `break body add`?"),
+    ("break 0.1", "did you mean `break task 0.1`?"), ("break c[0]", "did you mean `break cell 0`?"), ("break lin 5", "did you mean `break line 5`?"),
+    ("taks", "did you mean `tasks`?"), ("delete 1", "did you mean `clear N`?"), ("next 0.1", "did you mean `step 0.1`?"),
+    ("rverse", "no such command"), ("reverse-continue", "did you mean `rc`?"), ("xyzzy", "no such command; `help` lists them"),
+    ("rollcell 9", "the program has no cell 9: its cells are 0 to 0"), ("rollcell 0", "nothing was stored to cell 0"),
+    ("rolltask 0.7", "task 0.7 hasn't been generated"), ("rolltask 0.2", "task 0.2 hasn't started"), ("rollprint", "nothing was printed"),
+    ("undo 0.7#1", "task 0.7 hasn't been generated"), ("undo 0.1#9", "step 0.1#9 isn't in the history"), ("break cell 7", "the program has no cell 7"),
+    ("until 0.1#99", "0.1#99 was never reached"), ("help ro", "ambiguous: roll, rolltask, rollcell, rollprint"),
+)
+
+# A program, and what is said of its fault.
+FAULTY = (
+    ("cells 1\nbody main 1\nend\n", 2, "Arity", "main takes no parameters: `body main 0`"),
+    ("cells 1\nbody main 0\n  while 0 == 1\n    print 1\nend\n", 6, "Nesting", "an `end` is missing: the `body main` of line 2 is still open"),
+    ("cells 1\nbody main 0\n  if 1 == 1\nbody f 0\nend\n", 4, "Nesting", "an `end` is missing in front of this line: the `if` of line 3 is still open"),
+    ("cells 1\nbody main 0\nend\nend\n", 4, "Nesting", "no block is open here for this `end`"),
+    ("cells 1\nbody main 0\n  else\nend\n", 3, "Nesting", "this `else` has no `if`: the innermost block is the `body main` of line 2"),
+    ("cells 1\nprint 1\n", 2, "Nesting", "a statement stands in a body: `body NAME PARAMETERS` comes first"),
+    ("cells 1\nbody main 0\n  task f 1\nend\nbody f 2\nend\n", 3, "Arity", "body f takes 2 arguments, and 1 is given"),
+    ("cells 1\nbody main 0\n  task f\nend\nbody f 1\nend\n", 3, "Arity", "body f takes 1 argument, and 0 are given"),
+    ("cells 1\nbody main 0\n  store 1\nend\n", 3, "Arity", "store wants 2 words after it, and 1 is there"),
+    ("cells 1\nbody main 0\n  let r1\nend\n", 3, "Arity", "let wants 2 words after it, or 4, and 1 is there"),
+    ("cells 1\nbody main 0\n  taskwait depend mutexinoutset 0\nend\n", 3, "DependType", "the types of a taskwait are in, out, inout and inoutset"),
+    ("cells 1\nbody main 0\n  taskwait depend in all\nend\n", 3, "DependType", "`all` has the type out or inout"),
+    ("cells 1\nbody Main 0\nend\n", 4, "NoMain", "no body is named main; the name is written `main`, and not `Main`"),
+)
+
+# A line as other languages have it, and the notation's.
+FOREIGN = (
+    ("for (int i = 0; i < 3; i++)", "while A CMP B .. end, with a `let` in front and one at its end"), ("int x", "let rK A"),
+    ("task f depend(in: 0)", "task f depend in 0"), ("task f depend(in: 0, r1) depend(out: 2)", "task f depend in 0 depend in r1 depend out 2"),
+    ("r1 += 2", "let r1 r1 + 2"), ("r2++", "let r2 r2 + 1"), ("printf(\"%d\", r0);", "print VAL"), ("return r0;", "end"), ("}", "end"),
+    ("Task f 0", "task f 0"), ("r1 = r2 + 3", "let r1 r2 + 3"), ("barrier", "taskwait"), ("stroe 0 1", "store ADDR VAL"),
+)
+
+
+@needs_program
+class Meant(unittest.TestCase):
+    def test_each(self):
+        shell = Typed(self, example("race.task"))
+        shell.ask("run 3")
+        for typed, wanted in MEANT:
+            if typed.startswith("until"):
+                shell.ask("run")
+            self.assertIn(wanted, "\n".join(shell.ask(typed)), typed)
+
+    def test_nothing_is_made_of_what_was_meant(self):
+        shell = Typed(self, example("race.task"))
+        self.assertEqual(shell.plain("break 5"), ["error word"])
+        self.assertEqual(shell.plain("breaks"), ["breaks 0"])
+
+    def test_info_has_breakpoints_at_lines_too(self):
+        shell = Typed(self, example("race.task"))
+        shell.ask("break line 13")
+        self.assertEqual(shell.plain("info breaks"), ["breaks 0", "s1 line 13"])
+
+    def test_a_stop_says_which_it_met(self):
+        shell = Typed(self, example("race.task"))
+        shell.ask("break body add")
+        shell.ask("break cell 0")
+        self.assertEqual(shell.ask("go")[-1], "  breakpoint 1: body add")
+        self.assertEqual(shell.ask("go")[-1], "  breakpoint 2: cell 0")
+
+    def test_counts(self):
+        self.assertEqual([counted(1, "task"), counted(2, "task"), counted(0, "branch"), counted(12345, "step")],
+                         ["1 task", "2 tasks", "0 branches", "12,345 steps"])
+
+
+class Faulty(unittest.TestCase):
+    def test_each_is_told(self):
+        for text, line, kind, wanted in FAULTY:
+            self.assertIn(f"{wanted} ({kind})", "\n".join(faults.fault_lines("a.task", text, line, kind)), text)
+
+    @needs_program
+    def test_the_program_finds_them_there(self):
+        from shell.protocol import Program, Refused
+        from support import PROGRAM
+        for text, line, kind, _ in FAULTY:
+            with self.assertRaises(Refused) as caught:
+                Program(PROGRAM, text)
+            self.assertEqual((caught.exception.line, caught.exception.kind), (line, kind), text)
+
+    def test_words_of_other_languages(self):
+        for line, wanted in FOREIGN:
+            self.assertEqual(faults.should_be(line.split(" "), line), wanted)
+
+
+@needs_program
+class FullJournal(unittest.TestCase):
+    def test_the_greatest_limit(self):
+        # As if no journal could have more entries than this one.
+        with unittest.mock.patch.object(texts, "GREATEST_LIMIT", 500):
+            shell = Typed(self, LOOP, limit=500)
+            self.assertIn("the journal is full at the greatest limit: `save FILE` keeps the session, and `trim` starts anew", shell.ask("run")[-1])
+            self.assertEqual(shell.plain("back"), ["refused 3 Full"])
+            self.assertIn("`trim` starts anew", shell.ask("back")[-1])
+            self.assertEqual(shell.ask("trim 9"), ["started anew with 490 steps: the journal has room for 9 more"])
+            self.assertEqual(shell.plain("back"), ["undone 0#490"])
+
+    def test_trim_leaves_out_what_was_taken_back(self):
+        shell = Typed(self, example("race.task"), limit=20)
+        shell.ask("break cell 0")
+        for line in ("run 9", "roll 0.1#1", "run 5"):
+            shell.ask(line)
+        wanted = shell.session.view("hist")
+        self.assertEqual(shell.session.room, 20 - 1 - 9 - 1 - 5)
+        shell.ask("trim")
+        self.assertEqual((shell.session.view("hist"), shell.session.room), (wanted, 20 - 1 - len(wanted) + 1))
+        self.assertEqual(shell.session.view("breaks")[1:], ["1 cell 0"])
+        self.assertIn("trim [N]", shell.ask("trim 99")[0])
+
+
+@needs_program
+class Files(unittest.TestCase):
+    def folder(self):
+        folder = tempfile.TemporaryDirectory()
+        self.addCleanup(folder.cleanup)
+        return folder.name
+
+    def test_print_makes_no_file(self):
+        folder = self.folder()
+        before = os.getcwd()
+        self.addCleanup(os.chdir, before)
+        os.chdir(folder)
+        shell = Typed(self, example("race.task"))
+        self.assertEqual(shell.ask("p r0"), ["r0 of 0 = 0"])
+        self.assertEqual(os.listdir(folder), [])
+
+    def test_a_file_that_was_not_written_is_kept(self):
+        shell = Typed(self, example("race.task"))
+        shell.ask("run")
+        for command in ("save", "page", "lanes", "graph"):
+            path = os.path.join(self.folder(), "mine.dot")
+            with open(path, "w", encoding="ascii") as file:
+                file.write("mine")
+            self.assertEqual(shell.ask(f"{command} {path}"), [f"{path} was not written: it is there already, and `-f` replaces it"])
+            with open(path, encoding="ascii") as file:
+                self.assertEqual(file.read(), "mine", command)
+            self.assertNotIn("not written", shell.ask(f"{command} -f {path}")[0])
+            self.assertNotIn("not written", shell.ask(f"{command} {path}")[0])
+            self.assertEqual(os.listdir(os.path.dirname(path)), ["mine.dot"])
+
+    def test_at_a_terminal_it_is_asked(self):
+        path = write_file(self, "mine", "mine.session")
+        shell = Terminal(self, [write_file(self, example("race.task"))], NO_COLOR="1")
+        shell.read_until("(taskback) ")
+        for answer, wanted in (("n", "was not written"), ("y", "saved ")):
+            shell.send(f"save {path}\n")
+            shell.read_until("is there already: replace it? (y or n) ")
+            shell.send(answer + "\n")
+            shell.read_until(wanted)
+            shell.read_until("(taskback) ")
+
+    def test_what_the_shell_drew_is_known_again(self):
+        folder = self.folder()
+        shell = Typed(self, example("race.task"))
+        for name, command in (("a.html", "page"), ("a.svg", "lanes"), ("a.dot", "graph")):
+            path = os.path.join(folder, name)
+            shell.ask(f"{command} {path}")
+            self.assertFalse(files.is_foreign(path), name)
+        shell.ask(f"save {folder}/a.session")
+        self.assertTrue(files.is_foreign(os.path.join(folder, "a.session")))
+
+    def test_a_file_is_replaced_whole_or_not_at_all(self):
+        path = os.path.join(self.folder(), "a")
+        files.write_text(path, "one")
+        os.chmod(path, 0o640)
+        link = os.path.join(os.path.dirname(path), "link")
+        os.symlink(path, link)
+        files.write_text(link, "two")
+        self.assertTrue(os.path.islink(link))
+        self.assertEqual(stat.S_IMODE(os.stat(path).st_mode), 0o640)
+
+        def fail(there):
+            with open(there, "w", encoding="ascii") as file:
+                file.write("half")
+            raise OSError(28, "No space left on device")
+        with self.assertRaises(OSError):
+            files.replace_by(path, fail)
+        with open(path, encoding="ascii") as file:
+            self.assertEqual(file.read(), "two")
+        self.assertEqual(sorted(os.listdir(os.path.dirname(path))), ["a", "link"])
+        files.write_text("/dev/null", "to nobody")
+
+    def test_breakpoints_at_lines_are_saved(self):
+        path = os.path.join(self.folder(), "a.session")
+        shell = Typed(self, example("race.task"))
+        for line in ("b line 13", "b line 12 if r1 > 0", "b cell 0", "watch c[0]", "go"):
+            shell.ask(line)
+        self.assertEqual(shell.ask(f"save {path}"), [f"saved {path}, 2 commands and 3 breakpoints"])
+        again = Terminal(self, [path], NO_COLOR="1")
+        again.read_until("5 commands come with it")
+        again.read_until("(taskback) ")
+        for _ in range(5):
+            again.ask("source")
+        self.assertEqual([line.split("   ")[0] for line in again.ask("breaks")],
+                         ["breaks 1", "1 cell 0", "s1 line 13", "s2 line 12 if r1 > 0", "s3 watch c[0]"])
+
+    def test_names_of_files_complete(self):
+        folder = self.folder()
+        for name in ("first.session", "second.session", ".hidden"):
+            files.write_text(os.path.join(folder, name), "")
+        os.mkdir(os.path.join(folder, "firm"))
+        completing = Typed(self, example("race.task")).shell.completing
+        self.assertEqual(completing.words(folder + "/fir", "save "), [folder + "/firm/", folder + "/first.session"])
+        self.assertEqual(completing.words(folder + "/", "source "), [f"{folder}/{name}" for name in ("firm/", "first.session", "second.session")])
+        self.assertEqual(completing.words(folder + "/s", "step "), [])
+
+
+if __name__ == "__main__":
+    unittest.main()
