@@ -96,6 +96,44 @@ def nothing(command):
     return session
 
 
+def each(command):
+    """A command on each of n siblings in turn, among all that are over; what it took back is taken again."""
+    def session(n):
+        text = siblings(n, 'task t', ['let r0 1'])
+        return text + b'run 1000000\n' + b''.join(command.replace(b'N', b'%d' % k) for k in range(1, n + 1))
+    return session
+
+
+def after_each(command):
+    """A command after each of n stores to one cell; a store that it took back is taken again."""
+    def session(n):
+        text = program('cells 1', 'body main 0', *loop(10 * n, 'store 0 r0'), 'end')
+        return text + b'run 3\n' + b''.join(b'run 3\n' + command.replace(b'N', b'%d' % (3 + 3 * k)) for k in range(1, n + 1))
+    return session
+
+
+def last_unended(n):
+    """n refusals of one wait with an item, of which the last of n children alone keeps it."""
+    text = program('cells 1', 'body main 0', *loop(n, 'task t depend in 0'), 'taskwait depend inout 0', 'end', 'body t 0', 'end')
+    ends = b''.join(b'step 0.%d\nstep 0.%d\n' % (k, k) for k in range(1, n))
+    return text + b'run %d\n' % (3 * n + 3) + ends + b'step 0\n' * n
+
+
+def nested_groups(n):
+    """What the last step needs of n groups, each in the one before it."""
+    return deep('task t r1', 'taskgroup')(n) + b'why 0#3\n'
+
+
+def many_items(n):
+    """n siblings with 64 items each, all at one cell."""
+    return siblings(n, 'task t' + ' depend in 0' * 64, ['let r0 1']) + b'run 1000000\n'
+
+
+def workers(session):
+    """The session with four workers in place of the first run."""
+    return lambda n: session(n).replace(b'run 1000000\n', b'go 4 1000000\n')
+
+
 ROWS = [
     ('undo among siblings that are over', lambda n: over(n) + b'undo 0.%d#1\n' % n),
     ('rolltask among siblings that are over', lambda n: over(n) + b'rolltask 0.%d\n' % n),
@@ -118,6 +156,19 @@ ROWS = [
     ('undo that finds nothing', nothing(b'undo 0#999999\n')),
     ('rollcell that finds nothing', nothing(b'rollcell 1\n')),
     ('rollprint that finds nothing', nothing(b'rollprint\n')),
+    ('undo of each end in turn', each(b'undo 0.N#3\nstep 0.N\n')),
+    ('roll in the middle of each task in turn', each(b'roll 0.N#2\nrun 2\n')),
+    ('rolltask of each task in turn', each(b'rolltask 0.N\nrun 3\n')),
+    ('deps of each sibling in turn', each(b'deps 0.N\n')),
+    ('rollcell of the last store, after each store', after_each(b'rollcell 0\nrun 1\n')),
+    ('who of the last step, after each store', after_each(b'who 0#N\n')),
+    ('refusals of a wait that the last child keeps', last_unended),
+    ('why across groups that are nested', nested_groups),
+    ('siblings with 64 items at one cell', many_items),
+    ('four workers on siblings that exclude each other', workers(lambda n: siblings(n, 'task t depend mutexinoutset 0', ['let r0 1']) + b'run 1000000\n')),
+    ('four workers on siblings that wait for one', workers(lambda n: siblings(n, 'task t depend in 0', ['let r0 1']).replace(b'let r0 0', b'task t depend out 0\nlet r0 0', 1) + b'run 1000000\n')),
+    ('four workers on a chain', workers(lambda n: siblings(n, 'task t depend inout 0', ['let r0 1']) + b'run 1000000\n')),
+    ('four workers on a recursion', workers(deep('task t r1'))),
     ('a counting loop', lambda n: program('cells 0', 'body main 0', *loop(16 * n), 'end') + b'run %d\n' % min(999999, 16 * n)),
 ]
 
@@ -156,7 +207,7 @@ def main():
                 if found[0] > given.seconds:
                     break
                 n *= 2
-            print('%-42s %s%s' % (name, '; '.join(said), growth), flush=True)
+            print('%-50s %s%s' % (name, '; '.join(said), growth), flush=True)
 
 
 if __name__ == '__main__':

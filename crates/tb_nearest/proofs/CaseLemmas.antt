@@ -21,7 +21,8 @@ use Rattle.tb_nearest.proofs.SiblingLemmas.{by_order, by_exclusion}
 use Rattle.tb_nearest.proofs.GroupLemmas.{by_close}
 
 -- a `taskwait` of another set of items waits for the task too
-waits_by : (H E : History) (t m : Name) (a : Action) → ((items : List Item) → covers H t items m ≡ true → covers E t items m ≡ true) → covers_by H t a m ≡ true → waits_for E t a m ≡ true
+waits_by : (H E : History) (t m : Name) (a : Action) → ((items : List Item) → covers H t items m ≡ true → covers E t items m ≡ true)
+    → covers_by H t a m ≡ true → waits_for E t a m ≡ true
 waits_by H E t m (Wait items) f h = f items h
 waits_by H E t m Start f h = absurd (false≢true h)
 waits_by H E t m (Let r x) f h = absurd (false≢true h)
@@ -72,7 +73,8 @@ module _ (cells : Cells) (v u : Event) (between front : History) (l : Legal cell
     by_wait items a c =
         none_or_way v u between front (λ w. is_of v.task w && covers_by H v.task w.action u.task) (λ n. wait items e a c n) some
       where
-        some : (f : Found (λ w. is_of v.task w && covers_by H v.task w.action u.task) between) → (needs H v f.who ≡ true) × (needs (f.earlier ++ u ∷ front) f.who u ≡ true)
+        some : (f : Found (λ w. is_of v.task w && covers_by H v.task w.action u.task) between)
+            → (needs H v f.who ≡ true) × (needs (f.earlier ++ u ∷ front) f.who u ≡ true)
         some f =
             let w = f.who in
             let o = and_parts (is_of v.task w) (covers_by H v.task w.action u.task) f.passes in

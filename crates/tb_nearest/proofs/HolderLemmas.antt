@@ -77,7 +77,8 @@ items_meet p q m i j a b =
     let y = and_parts (is_exclusive j.kind) (is_place q j.place) b in
     and_from (same_place i.place j.place) _ (subst (λ r. same_place r j.place ≡ true) (is_one p i.place x.1) (subst (λ r. same_place p r ≡ true) (is_one q j.place y.1) m)) (both_exclusive i.kind j.kind x.0 y.0)
 
-takers_meet : (H : History) (p q : Place) (t u : Name) → same_place p q ≡ true → takes H p t ≡ true → takes H q u ≡ true → some_meet is_apart (items_of t H) (items_of u H) ≡ true
+takers_meet : (H : History) (p q : Place) (t u : Name) → same_place p q ≡ true → takes H p t ≡ true → takes H q u ≡ true
+    → some_meet is_apart (items_of t H) (items_of u H) ≡ true
 takers_meet H p q t u m a b =
     let f = takes_found H p t a in
     let g = takes_found H q u b in
@@ -85,7 +86,8 @@ takers_meet H p q t u m a b =
     (any_found (is_exclusive_at q) (meets is_apart f.who) (items_of u H) g (items_meet p q m f.who g.who f.passes g.passes))
 
 -- siblings that do exclude each other
-pub takers_apart : (H : History) (p q : Place) (t u : Name) → (is_elder u t ≡ true) ⊎ (is_elder t u ≡ true) → same_place p q ≡ true → takes H p t ≡ true → takes H q u ≡ true → apart H u t ≡ true
+pub takers_apart : (H : History) (p q : Place) (t u : Name) → (is_elder u t ≡ true) ⊎ (is_elder t u ≡ true) → same_place p q ≡ true
+    → takes H p t ≡ true → takes H q u ≡ true → apart H u t ≡ true
 takers_apart H p q t u kin m a b =
     ⊎_elim (λ e. or_left' (and_from (is_elder u t) _ e (takers_meet H p q t u m a b)))
     (λ e. or_right' (and_from (is_elder t u) _ e (takers_meet H q p u t (meets_back p q m) b a))) kin
@@ -107,7 +109,8 @@ pub record Takes (H : History) (t u : Name) : Type 0 where
   pub mine : takes H upper t ≡ true
   pub others : takes H lower u ≡ true
 
-meeting : (H : History) (t u : Name) → some_meet is_apart (items_of t H) (items_of u H) ≡ true → (p : Place) × (q : Place) × (same_place p q ≡ true) × (takes H p t ≡ true) × (takes H q u ≡ true)
+meeting : (H : History) (t u : Name) → some_meet is_apart (items_of t H) (items_of u H) ≡ true
+    → (p : Place) × (q : Place) × (same_place p q ≡ true) × (takes H p t ≡ true) × (takes H q u ≡ true)
 meeting H t u h =
     let f = found (λ i. list_any (meets is_apart i) (items_of u H)) (items_of t H) h in
     let g = found (meets is_apart f.who) (items_of u H) f.passes in

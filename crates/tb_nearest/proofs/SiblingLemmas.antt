@@ -52,7 +52,8 @@ module _ (cells : Cells) (v u : Event) (between front : History) (l : Legal cell
   may = subst (IsTimely cells H v.task) a l.1.timely
 
   -- w starts in between, and ends before v
-  by_sibling : (w : Event) (later earlier : History) → between ≡ later ++ w ∷ earlier → w.action ≡ Start → HasEnded H w.task → waits_for H v.task Start w.task ≡ true → waits_for (earlier ++ u ∷ front) w.task Start u.task ≡ true → Way v u between front
+  by_sibling : (w : Event) (later earlier : History) → between ≡ later ++ w ∷ earlier → w.action ≡ Start → HasEnded H w.task
+      → waits_for H v.task Start w.task ≡ true → waits_for (earlier ++ u ∷ front) w.task Start u.task ≡ true → Way v u between front
   by_sibling w later earlier split st ended upper lower =
       let E = earlier ++ u ∷ front in
       let lw = legal_below cells later (w ∷ E) (subst (Legal cells) (whole u w between front later earlier split) l.0) in
@@ -96,7 +97,8 @@ module _ (cells : Cells) (v u : Event) (between front : History) (l : Legal cell
       (λ none. inl (start e a b (λ w c d. no_middle none w c d)))
       (below (λ m. before H u.task (m ∷ p) && before H (m ∷ p) (k ∷ p)) k)
     where
-      no_middle : ((m : ℕ) → m < k → (before H u.task (m ∷ p) && before H (m ∷ p) (k ∷ p)) ≡ false) → (w : Name) → before H u.task w ≡ true → before H w v.task ≡ true → ⊥
+      no_middle : ((m : ℕ) → m < k → (before H u.task (m ∷ p) && before H (m ∷ p) (k ∷ p)) ≡ false) → (w : Name) → before H u.task w ≡ true
+          → before H w v.task ≡ true → ⊥
       no_middle none [] c d = false≢true d
       no_middle none (m ∷ q) c d =
           let d' : before H (m ∷ q) (k ∷ p) ≡ true = subst (λ t. before H (m ∷ q) t ≡ true) n d in
@@ -119,7 +121,8 @@ module _ (cells : Cells) (v u : Event) (between front : History) (l : Legal cell
   -- ---- exclusion
 
   -- of two siblings of one task that differ, one is the elder
-  kin : (t x y : Name) → (is_elder t x || is_elder x t) ≡ true → (is_elder y t ≡ true) ⊎ (is_elder t y ≡ true) → (x ≡ y → ⊥) → (is_elder y x ≡ true) ⊎ (is_elder x y ≡ true)
+  kin : (t x y : Name) → (is_elder t x || is_elder x t) ≡ true → (is_elder y t ≡ true) ⊎ (is_elder t y ≡ true) → (x ≡ y → ⊥)
+      → (is_elder y x ≡ true) ⊎ (is_elder x y ≡ true)
   kin [] x y h k d = absurd (nobody x h)
     where
       nobody : (x : Name) → (is_elder [] x || is_elder x []) ≡ true → ⊥
@@ -140,7 +143,8 @@ module _ (cells : Cells) (v u : Event) (between front : History) (l : Legal cell
       equal p q = cc
 
   -- the next one that takes the exclusion starts in between
-  by_taker : (p q : Place) → (is_elder u.task v.task ≡ true) ⊎ (is_elder v.task u.task ≡ true) → same_place p q ≡ true → takes H p v.task ≡ true → takes H q u.task ≡ true
+  by_taker : (p q : Place) → (is_elder u.task v.task ≡ true) ⊎ (is_elder v.task u.task ≡ true) → same_place p q ≡ true → takes H p v.task ≡ true
+      → takes H q u.task ≡ true
       → (f : Found (starts_holder H p v.task) between) → Way v u between front
   by_taker p q k meet mine others f =
       let w = f.who in

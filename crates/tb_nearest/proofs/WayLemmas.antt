@@ -74,7 +74,8 @@ pub record Way (v u : Event) (between front : History) : Type 0 where
 pub whole : (u w : Event) (between front later earlier : History) → between ≡ later ++ w ∷ earlier → between ++ u ∷ front ≡ later ++ w ∷ (earlier ++ u ∷ front)
 whole u w between front later earlier e = ap (λ b. b ++ u ∷ front) e ∙ append_assoc later (w ∷ earlier) (u ∷ front)
 
-pub way_by : (v u w : Event) (between front later earlier : History) → between ≡ later ++ w ∷ earlier → needs (between ++ u ∷ front) v w ≡ true → needs (earlier ++ u ∷ front) w u ≡ true → Way v u between front
+pub way_by : (v u w : Event) (between front later earlier : History) → between ≡ later ++ w ∷ earlier → needs (between ++ u ∷ front) v w ≡ true
+    → needs (earlier ++ u ∷ front) w u ≡ true → Way v u between front
 way_by v u w between front later earlier e up down = record {
   who = w;
   later = later;
@@ -85,7 +86,8 @@ way_by v u w between front later earlier e up down = record {
 }
 
 -- in between stands an event of a task that ends behind it, and for whose end v waits
-pub by_ended : (v u w : Event) (between front later earlier : History) → between ≡ later ++ w ∷ earlier → HasEnded (between ++ u ∷ front) w.task → (ends w.task w ≡ true → ⊥) → (HasEnded (earlier ++ u ∷ front) w.task → ⊥)
+pub by_ended : (v u w : Event) (between front later earlier : History) → between ≡ later ++ w ∷ earlier → HasEnded (between ++ u ∷ front) w.task
+    → (ends w.task w ≡ true → ⊥) → (HasEnded (earlier ++ u ∷ front) w.task → ⊥)
     → needs_end_of (between ++ u ∷ front) v.task v.action w.task ≡ true → needs (earlier ++ u ∷ front) w u ≡ true → Way v u between front
 by_ended v u w between front later earlier split ended not_here not_before up down =
     let H = between ++ u ∷ front in

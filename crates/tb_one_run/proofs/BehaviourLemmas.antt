@@ -33,7 +33,8 @@ use Rattle.tb_one_run.proofs.NumberLemmas.{IsBlind}
 pub given_same : (B : Behaviour) (G H : History) (t : Name) (x : ℤ) → own t G ≡ own t H → spawn_of t G ≡ spawn_of t H → given B G t x ≡ given B H t x
 given_same B G H t x o s = ap₂ (λ acts k. B.gives k t acts x) o (ap (called_by B.root_line) s)
 
-pub given_stays : (B : Behaviour) {H K R : History} → Parts H K R → (t : Name) → list_any (is_of t) R ≡ false → list_any (spawns t) R ≡ false → (x : ℤ) → given B K t x ≡ given B H t x
+pub given_stays : (B : Behaviour) {H K R : History} → Parts H K R → (t : Name) → list_any (is_of t) R ≡ false → list_any (spawns t) R ≡ false
+    → (x : ℤ) → given B K t x ≡ given B H t x
 given_stays B {H} {K} s t o n x = given_same B K H t x (own_same t s o) (spawn_same t s n)
 
 given_alike : (B : Behaviour) {G H : History} → Alike G H → (t : Name) (x : ℤ) → given B G t x ≡ given B H t x
@@ -48,7 +49,8 @@ pub some_one : {A : Type 0} {a b : A} → Some a ≡ Some b → a ≡ b
 some_one e = cc
 
 -- they differ in the number that a load reads, if at all
-pub blind_given : {A : Type 0} (f : Action → A) → IsBlind f → (g : ℤ → Option Action) → OnlyReads g → (a b : Action) → g (loaded a) ≡ Some a → g (loaded b) ≡ Some b → f a ≡ f b
+pub blind_given : {A : Type 0} (f : Action → A) → IsBlind f → (g : ℤ → Option Action) → OnlyReads g → (a b : Action) → g (loaded a) ≡ Some a
+    → g (loaded b) ≡ Some b → f a ≡ f b
 blind_given f blind g (inl o) a b p q = ap f (some_one (sym p ∙ o.2 (loaded a) ∙ sym (o.2 (loaded b)) ∙ q))
 blind_given f blind g (inr o) a b p q =
     let l : Load o.0 o.1 (loaded a) ≡ a = some_one (sym (o.2 (loaded a)) ∙ p) in
