@@ -26,12 +26,12 @@ from shell.walking import Walking
 
 STEP = re.compile(r"(?<![\w.#])[0-9][0-9.]*#[0-9]+")
 # What asks for much in small pieces: Ctrl-C ends it after one. Any other command's reply is cut.
-PIECEWISE = ("step", "run", "go", "finish", "until", "random", "last", "back", "rs", "rc", "source", "graph", "lanes", "page", "compare", "flip")
+PIECEWISE = ("step", "run", "go", "finish", "until", "random", "last", "back", "rs", "rc", "source", "graph", "lanes", "page", "serve", "compare", "flip")
 # After these the expressions of `display` are shown.
 STEPS = ("step", "run", "go", "finish", "until", "random", "last", "back", "rs", "rc", "undo", "roll", "rolltask", "rollcell", "rollprint",
          "redo", "keep", "at", "restart")
 # What can't be done while a past state is looked at: what takes steps, takes them back, or starts anew.
-OF_THE_PRESENT = tuple(name for name in STEPS if name != "at") + ("break", "watch", "clear", "save", "source", "trim", "limit", "page", "flip", "compare")
+OF_THE_PRESENT = tuple(name for name in STEPS if name != "at") + ("break", "watch", "clear", "save", "source", "trim", "limit", "page", "serve", "flip", "compare")
 
 
 class Shell(cmd.Cmd):

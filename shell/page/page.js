@@ -2,6 +2,7 @@
 const page = {
   taskClicked: (task) => { find("wished-tasks").value = wish.tasks === task.name ? "" : task.name; setWish({ tasks: find("wished-tasks").value }); },
   chosen: null,
+  shown: null,
 };
 let playing = null;
 
@@ -20,6 +21,7 @@ function showAll() {
   showWishes();
   sizeLanes();
   choose(view.chosen, view.pinned);
+  if (page.shown) page.shown();
 }
 
 // What led to a moment: a step, or what was taken back.
@@ -45,7 +47,7 @@ function goToCommand(by) {
 function play(on) {
   clearInterval(playing);
   playing = on ? setInterval(() => { goTo(view.at + 1); if (view.at === data.moments) play(false); }, Number(find("speed").value)) : null;
-  find("play").textContent = on ? "❚❚" : "▶▶";
+  find("play").textContent = on ? "pause" : "play";
   find("play").setAttribute("aria-label", on ? "pause" : "play");
 }
 
