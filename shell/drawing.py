@@ -14,7 +14,7 @@ from shell.filing import WRITTEN, Writing, forced
 from shell.graph import graph_of, tree_of, write_graph
 from shell.group import Words, count_in
 from shell.lanes import lanes_of, text_rows
-from shell.lanes_svg import svg_of
+from shell.lanes_pages import write_lanes
 from shell.page import page_of
 from shell.protocol import Cut, Ended, Refused
 from shell.session import Session
@@ -102,8 +102,11 @@ class Drawing(Writing):
         if lanes is None:
             return
         if path is not None:
-            if self.write(path, svg_of(lanes)):
-                self.say(f"drawn to {path}, {counted(len(lanes.steps), 'step')} in {counted(len(lanes.tasks), 'lane')}")
+            try:
+                self.say(write_lanes(path, lanes))
+                WRITTEN.add(path)
+            except OSError as fault:
+                self.refuse(f"can't write {path}: {fault.strerror}")
             return
         width = shutil.get_terminal_size((100, 24)).columns
         for row in text_rows(lanes, width, self.console.shaded):
