@@ -153,7 +153,7 @@ class Shell(cmd.Cmd):
         try:
             return self.carry_out(line)
         except Cut:
-            return self.resume()
+            return self.resume() if self.session.program.is_cut else self.stopped_beside()
         except Ended as ended:
             return self.end(ended)
         finally:
@@ -172,6 +172,12 @@ class Shell(cmd.Cmd):
         if self.interrupted or not self.in_pieces:
             Program.cut()
         self.interrupted = True
+
+    def stopped_beside(self) -> bool:
+        """After a reply of a second program was cut the session is as it was."""
+        self.console.end_progress()
+        self.console.note("stopped by Ctrl-C; the session is as it was")
+        return False
 
     def resume(self) -> bool:
         """After a cut reply the program starts anew and does what was done; true where it can't."""

@@ -2,6 +2,7 @@
 
 from __future__ import annotations
 
+import math
 from collections import defaultdict
 from collections.abc import Iterable, Iterator, Sequence
 from dataclasses import dataclass
@@ -11,7 +12,7 @@ Point = tuple[float, float]
 # The size of the squares by which what is near is found, and of letters.
 SQUARE = 48
 WIDE, HIGH = 6.8, 13.0
-SAMPLES = 24
+LEAST_SAMPLES, STEP = 24, 8
 PLACES = (0.5, 0.4, 0.6, 0.3, 0.7, 0.2, 0.8, 0.9)
 
 
@@ -52,6 +53,11 @@ class Curve:
         first, *others = (f"{x:g} {y:.0f}" for x, y in self.points)
         return f"M{first} C{' '.join(others)}"
 
+    def samples(self) -> int:
+        """So many points of it that no label fits between two of them."""
+        (x, y), (to_x, to_y) = self.points[0], self.points[3]
+        return max(LEAST_SAMPLES, math.ceil(1.5 * math.hypot(to_x - x, to_y - y) / STEP))
+
     def at(self, part: float) -> Point:
         """The point at a part of the way."""
         left = 1 - part
@@ -67,8 +73,9 @@ class Labels:
         self._points: dict[tuple[int, int], list[Point]] = defaultdict(list)
         self._taken: dict[tuple[int, int], list[Rect]] = defaultdict(list)
         for curve in curves:
-            for at in range(SAMPLES + 1):
-                point = curve.at(at / SAMPLES)
+            samples = curve.samples()
+            for at in range(samples + 1):
+                point = curve.at(at / samples)
                 self._points[int(point[0] // SQUARE), int(point[1] // SQUARE)].append(point)
         for rect in taken:
             self.take(rect)

@@ -1,7 +1,8 @@
 // The history in lanes: only what is in sight is drawn.
-const TOP = 58, LEFT = 22, MOST_SPANS = 400, MOST_LABELS = 60;
+const TOP = 58, LEFT = 22, MOST_SPANS = 400, MOST_LABELS = 60, MOST_ARROWS = 24;
 const SHAPES = { start: "M-5 -6 L7 0 L-5 6 Z", end: "M-6 -6 H6 V6 H-6 Z", fault: "M-6 -6 L6 6 M6 -6 L-6 6" };
 const ROUND = "M-5 0 A5 5 0 1 0 5 0 A5 5 0 1 0 -5 0 Z";
+const LIT = [undefined, "needs", "needers", "chosen"];
 const FULL = ["start", "end", "store", "print"];
 // Of a row, a lane and a letter, at the zoom that is chosen.
 const size = { row: 26, lane: 168, letter: 8 };
@@ -57,7 +58,13 @@ function drawArrows(seen, first, last, parts) {
     for (const [kind, early] of step.causes) if (steps[early].task !== step.task) note(kind, early, step.index);
     if (!few) for (const [kind, late] of view.later.get(step.index) || []) if (!inSight(late)) note(kind, step.index, late);
   }
-  const curves = [...drawn.values()].map(([kind, early, late]) => ({ kind, early, late, name: "arrow " + kind.split(" ")[0], ...curveOf(early, late, 0, false) }));
+  const wide = tooMany([...drawn.values()], inSight);
+  for (const [late, kind, count] of wide) {
+    const [x, y] = placeOf(late);
+    parts.push(element("text", { class: "kind", x: x + 12, y: y - 9 }, kind + ": " + counted(count, "step")));
+  }
+  const shown = [...drawn.values()].filter(([kind, early, late]) => !wide.some(([some, word]) => some === late && word === kind) || inSight(early) && inSight(late) && Math.abs(placeOf(early)[0] - placeOf(late)[0]) < 3 * size.lane);
+  const curves = shown.map(([kind, early, late]) => ({ kind, early, late, name: "arrow " + kind.split(" ")[0], ...curveOf(early, late, 0, false) }));
   for (const step of seen) {
     if (step.race && view.row.has(step.race[0])) {
       const [early, over, apart] = step.race;
@@ -71,6 +78,13 @@ function drawArrows(seen, first, last, parts) {
     parts.push(path);
   }
   placeLabels(curves.filter((curve) => inSight(curve.early) || inSight(curve.late)), seen, parts);
+}
+
+// The steps in sight to which more arrows of a kind lead than can be told from each other: of these the nearest are drawn.
+function tooMany(arrows, inSight) {
+  const counts = new Map();
+  for (const [kind, , late] of arrows) if (inSight(late)) counts.set(late + "|" + kind, (counts.get(late + "|" + kind) || 0) + 1);
+  return [...counts].filter(([, count]) => count > MOST_ARROWS).map(([key, count]) => { const [late, kind] = key.split("|"); return [Number(late), kind, count]; });
 }
 
 // Where an arrow goes: labels stand to the right of the marks, so it goes off below them, and comes in from the right above them.
@@ -87,13 +101,16 @@ function pointOn([a, b, c, d], part) {
   return [mix(0), mix(1)];
 }
 
+// So many points of an arrow that no label fits between two of them.
+const pointsOf = ([[x, y], , , [toX, toY]]) => Math.max(24, Math.ceil(1.5 * Math.hypot(toX - x, toY - y) / 8));
+
 const meet = (one, two) => one.x < two.x + two.wide && two.x < one.x + one.wide && one.y < two.y + two.high && two.y < one.y + one.high;
 
 // Labels of arrows: each at the first place beside its arrow where it lies on no arrow, no step's words and no other label.
 function placeLabels(curves, seen, parts) {
   if (curves.length > MOST_LABELS) return;
   const taken = seen.map((step) => { const [x, y] = placeOf(step.index); return { x: x - 8, y: y - 9, wide: 22 + size.letter * Math.min(labelOf(step).length, letters()), high: 18 }; });
-  const onArrows = curves.flatMap((curve) => [...Array(25).keys()].map((at) => pointOn(curve.points, at / 24)));
+  const onArrows = curves.flatMap((curve) => { const count = pointsOf(curve.points); return [...Array(count + 1).keys()].map((at) => pointOn(curve.points, at / count)); });
   for (const curve of curves) {
     if (curve.kind === "spawn") continue;
     const text = (curve.race ? "✕ " : "") + curve.kind, wide = 6.8 * text.length, high = 13;
@@ -133,13 +150,14 @@ function stepOf(step) {
 function choose(index, pinned) {
   view.chosen = index;
   view.pinned = pinned;
-  view.lit = new Map();
+  const lit = new Uint8Array(steps.length);
+  view.lit = { get: (at) => LIT[lit[at]] };
   if (index !== null) {
     const needs = needsOf(index), needers = needersOf(index), step = steps[index];
-    for (const early of needs) view.lit.set(early, "needs");
-    for (const later of needers) view.lit.set(later, "needers");
-    view.lit.set(index, "chosen");
-    const needed = needsKnown() ? "it needs " + needs.size + " steps; roll " + step.name + " takes " + (needers.size + 1) : "what it needs is left out";
+    for (const early of needs) lit[early] = 1;
+    for (const later of needers) lit[later] = 2;
+    lit[index] = 3;
+    const needed = needsKnown() ? "it needs " + counted(needs.length, "step") + "; roll " + step.name + " takes " + (needers.length + 1) : "what it needs is left out";
     find("told").textContent = step.name + " " + step.did + (step.line ? ", line " + step.line : "") + ": " + needed + (pinned ? " (chosen)" : "");
     showLines([step.line], "here");
   } else {

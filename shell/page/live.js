@@ -30,10 +30,10 @@ function showChosen(step) {
   const box = find("live-chosen");
   box.replaceChildren();
   if (!step || !view.pinned || view.at !== data.moments) return;
-  const gone = [...needersOf(step.index)].map((index) => steps[index].name);
+  const gone = needersOf(step.index).map((index) => steps[index].name);
   if (!gone.length) { box.append(button("undo " + step.name, () => ask("undo " + step.name))); return; }
   const told = document.createElement("p");
-  told.textContent = "roll " + step.name + " takes " + (gone.length + 1) + " steps: " + [step.name, ...gone].slice(0, 12).join(", ") + (gone.length > 11 ? " and " + (gone.length - 11) + " more" : "");
+  told.textContent = "roll " + step.name + " takes " + counted(gone.length + 1, "step") + ": " + [step.name, ...gone].slice(0, 12).join(", ") + (gone.length > 11 ? " and " + (gone.length - 11) + " more" : "");
   box.append(told, button("roll back", () => ask("roll " + step.name)));
 }
 

@@ -29,7 +29,7 @@ function whatHappened(at) {
   const came = steps.find((step) => step.born === at);
   if (came) return came.name + " " + came.did;
   const gone = steps.filter((step) => step.died === at);
-  return gone.length ? gone[0].name + (gone.length > 1 ? " and " + (gone.length - 1) + " more steps" : "") + " taken back" : "";
+  return gone.length ? gone[0].name + (gone.length > 1 ? " and " + counted(gone.length - 1, "more step") : "") + " taken back" : "";
 }
 
 // The moment, with the newest step of the history in sight.

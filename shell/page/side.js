@@ -107,7 +107,7 @@ function showWishes() {
   chips.replaceChildren();
   if (wish.line !== null) chips.append(button("line " + wish.line + " ×", () => setWish({ line: null }), "chip"));
   if (wish.tasks) chips.append(button("tasks " + wish.tasks + " ×", () => { find("wished-tasks").value = ""; setWish({ tasks: "" }); }, "chip"));
-  find("hidden-rows").textContent = hidden ? hidden + " of " + view.steps.length + " steps are folded away" : "";
+  find("hidden-rows").textContent = hidden ? hidden + " of " + counted(view.steps.length, "step") + " folded away" : "";
 }
 
 function listBodies() {

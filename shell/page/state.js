@@ -3,7 +3,7 @@
 const find = (id) => document.getElementById(id);
 let data, steps, tasks;
 // What there is at the moment that is shown. `rows` are the steps that are shown in the history, by the filter.
-const view = { at: 0, steps: [], rows: [], row: new Map(), tasks: [], lanes: [], lane: new Map(), lives: new Map(), races: [], chosen: null, pinned: false, lit: null };
+const view = { at: 0, steps: [], rows: [], row: null, tasks: [], lanes: [], lane: new Map(), lives: new Map(), races: [], chosen: null, pinned: false, lit: null };
 // What the user chose: a line of the program, tasks by their names, words and bodies that are folded away, and the zoom.
 const wish = { line: null, tasks: "", folded: new Set(), bodies: new Set(), spawns: true, zoom: 1, opened: new Set() };
 
@@ -30,6 +30,9 @@ function button(text, act, name) {
   made.addEventListener("click", act);
   return made;
 }
+
+// A number of things: `1 step`, `2 steps`.
+const counted = (count, word) => count + " " + word + (count === 1 ? "" : "s");
 
 function byName(one, two) {
   const left = one.name.split(".").map(Number), right = two.name.split(".").map(Number);
@@ -77,21 +80,26 @@ function commandAt(at) {
 
 // What a step needs, itself left out.
 function needsOf(index) {
-  const found = new Set(), left = [index];
-  while (left.length) for (const [, early] of steps[left.pop()].causes) if (!found.has(early)) { found.add(early); left.push(early); }
+  const seen = new Uint8Array(steps.length), left = [index], found = [];
+  while (left.length) for (const [, early] of steps[left.pop()].causes) if (!seen[early]) { seen[early] = 1; found.push(early); left.push(early); }
   return found;
 }
 
 // What needs a step: those that came after it and need one that was found.
 function needersOf(index) {
-  const found = new Set([index]);
-  let after = false;
+  const seen = new Uint8Array(steps.length), found = [];
+  seen[index] = 1;
   for (const step of view.steps) {
-    if (after && step.causes.some(([, early]) => found.has(early))) found.add(step.index);
-    after = after || step.index === index;
+    if (step.index > index && step.causes.some(([, early]) => seen[early])) { seen[step.index] = 1; found.push(step.index); }
   }
-  found.delete(index);
   return found;
+}
+
+// The rows of the steps that are shown, by their places among all steps.
+function rowsOf(shown) {
+  const rows = new Int32Array(steps.length).fill(-1);
+  shown.forEach((step, row) => { rows[step.index] = row; });
+  return { get: (index) => rows[index] < 0 ? undefined : rows[index], has: (index) => rows[index] >= 0 };
 }
 
 // Whether a task is among those that the user chose: by its name, `0.1.*` for all below it, or its body.
@@ -120,7 +128,7 @@ function choosePart() {
   view.lanes = view.tasks.filter((task) => !wish.bodies.has(task.body) && isWished(task));
   const wished = new Set(view.lanes.map((task) => task.name));
   view.rows = view.steps.filter((step) => isShown(step, wished));
-  view.row = new Map(view.rows.map((step, row) => [step.index, row]));
+  view.row = rowsOf(view.rows);
   view.lane = new Map(view.lanes.map((task, lane) => [task.name, lane]));
   view.lives = new Map();
   const spawned = new Map(view.lanes.map((task) => [task.step, task.name]));

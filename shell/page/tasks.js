@@ -62,7 +62,7 @@ function raceEdges(boxOfStep, place, parts) {
   }
   for (const [key, raced] of counts) {
     const [one, two] = key.split("|"), first = raced[0];
-    const made = edgeOf(place, one, two, "racing" + (raced.every((step) => step.race[2]) ? " apart" : ""), raced.length + " races, as " + steps[first.race[0]].name + " and " + first.name + ", " + first.race[1], raced.length > 1 ? "✕ " + raced.length : "✕", parts);
+    const made = edgeOf(place, one, two, "racing" + (raced.every((step) => step.race[2]) ? " apart" : ""), counted(raced.length, "race") + ", as " + steps[first.race[0]].name + " and " + first.name + ", " + first.race[1], raced.length > 1 ? "✕ " + raced.length : "✕", parts);
     if (made) made.addEventListener("click", () => showRace(first));
   }
 }
@@ -154,7 +154,7 @@ function clusterBox(cluster, [x, y], parts) {
     element("text", { x: x + 10, y: y + 17, "font-weight": "bold" }, (cluster.tasks.length + " × " + cluster.body).slice(0, 16)),
     element("text", { x: x + 10, y: y + 34 }, cluster.line ? "of line " + cluster.line : "the root"),
     element("text", { x: x + 10, y: y + 50 }, inside || [...cluster.states].map(([state, number]) => number + " " + state).join(", ").slice(0, 17)),
-    element("title", {}, cluster.tasks.length + " tasks of " + cluster.body + ": " + [...cluster.states].map(([state, number]) => number + " " + state).join(", ") + "; a click opens it"));
+    element("title", {}, counted(cluster.tasks.length, "task") + " of " + cluster.body + ": " + [...cluster.states].map(([state, number]) => number + " " + state).join(", ") + "; a click opens it"));
   const act = () => { if (!wish.opened.delete(cluster.key)) wish.opened.add(cluster.key); showGraph(); };
   group.addEventListener("click", act);
   group.addEventListener("keydown", (event) => { if (event.key === "Enter" || event.key === " ") { act(); event.preventDefault(); } });

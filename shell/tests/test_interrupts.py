@@ -103,6 +103,16 @@ class InterruptTest(Stalling):
         self.press(shell, TOLD)
         self.assertEqual(shell.ask("hist")[0], "hist 17")
 
+    def test_a_second_program_that_is_cut_leaves_the_session(self):
+        # `flip` runs both orders to their ends in programs beside.
+        program, told = self.stalling("run 200000")
+        shell = self.open(program, RACE)
+        shell.ask("run 99")
+        shell.send("flip 1\n")
+        self.wait_for(told)
+        self.press(shell, "stopped by Ctrl-C; the session is as it was")
+        self.assertEqual(shell.ask("hist")[0], "hist 17")
+
     def test_the_second_cuts_a_run(self):
         program, told = self.stalling("run 1000", 3)
         shell = self.open(program, "--limit", "1000000", write_file(self, LOOP))

@@ -8,7 +8,7 @@ import xml.etree.ElementTree as tree
 from programs import random_program
 from support import EXAMPLES, PROGRAM, Terminal, contrast, example, needs_program, write_file
 from shell import lanes_svg
-from shell.labels import Labels
+from shell.labels import Labels, Rect
 from shell.lanes import NO_CAUSES, NO_RACES, lanes_of, text_rows
 from shell.lanes_pages import parts_of, write_lanes
 from shell.lanes_svg import svg_of
@@ -116,10 +116,11 @@ class LanesTest(unittest.TestCase):
             words = [drawing.words_at(step) for step in drawing.lanes.steps]
             labels = Labels(curves, words)
             found = [rect for curve in curves if (rect := labels.place(curve))]
-            points = [curve.at(at / 24) for curve in curves for at in range(25)]
+            points = [curve.at(at / 300) for curve in curves for at in range(301)]
             for at, rect in enumerate(found):
                 self.assertFalse(any(rect.meets(other) for other in words + found[:at]))
-                self.assertFalse(any(rect.holds(point) for point in points))
+                inner = Rect(rect.x + 1, rect.y + 1, rect.wide - 2, rect.high - 2)
+                self.assertFalse(any(inner.holds(point) for point in points))
             placed += len(found)
         self.assertGreater(placed, 40)
 

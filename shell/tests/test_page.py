@@ -8,8 +8,10 @@ import shutil
 import subprocess
 import tempfile
 import unittest
+import unittest.mock
 
 from support import EXAMPLES, PROGRAM, TOP, Terminal, contrast, example, needs_program, write_file
+from shell import story
 from shell.commands import Shell
 from shell.console import Console
 from shell.drawing import play_file
@@ -164,6 +166,34 @@ class DataTest(unittest.TestCase):
         before = session.view("hist"), list(session.log)
         page_of(session)
         self.assertEqual((session.view("hist"), session.log), before)
+
+    def test_needs_from_the_lines_are_those_of_the_program(self):
+        with unittest.mock.patch.multiple(story, MOST_ASKED=0, MOST_LOOKS=0):
+            for seed in range(12):
+                session, _ = walked(self, seed)
+                told = self.data(session)["steps"]
+                there = {step[0]: at for at, step in enumerate(told) if step[4] is None}
+                self.assertEqual(list(there), list(session.standing))
+                for name, at in there.items():
+                    found, left = set(), [at]
+                    while left:
+                        fresh = [early for _, early in told[left.pop()][5] if early not in found]
+                        found.update(fresh)
+                        left += fresh
+                    self.assertEqual({told[early][0] for early in found}, {line.split(" ")[0] for line in session.view(f"why {name}")[1:]}, (seed, name))
+
+    def test_thirty_thousand_steps(self):
+        text = "cells 8\nbody main 0\n  while r1 < 300\n    task writer r2 depend inout r2\n    let r1 r1 + 1\n    let r2 r2 + 1\n    if r2 == 8\n      let r2 0\n" \
+               "    end\n  end\n  taskwait\nend\nbody writer 1\n  while r3 < 19\n    load r1 r0\n    let r1 r1 + 1\n    store r0 r1\n    let r3 r3 + 1\n  end\nend\n"
+        session = Session(PROGRAM, Source(text, "big.task"))
+        self.addCleanup(session.close)
+        session.do("run 1000000")
+        self.assertGreater(len(session.standing), 30000)
+        before, told = sum(os.times()[:4]), []
+        page_of(session, progress=lambda done, what, total: told.append((done, total)))
+        # Of the processor; 100,000 steps in 20 seconds allow 6 for these.
+        self.assertLess(sum(os.times()[:4]) - before, 6)
+        self.assertEqual(told[-1], (len(session.standing), len(session.standing)))
 
     def test_command(self):
         shell = Terminal(self, [os.path.join(EXAMPLES, "race.task")], NO_COLOR="1")

@@ -96,7 +96,7 @@ class Ways(unittest.TestCase):
           const high = find("lanes").firstElementChild.offsetHeight; find("zoom-in").click(); told.push(find("lanes").firstElementChild.offsetHeight > high); find("zoom-out").click();
           told.push(new Set([...document.querySelectorAll(".step .shape")].map((shape) => getComputedStyle(shape).stroke)).size);
           return told;""")
-        self.assertEqual(told[:5], [["0.1#4", "0.2#4"], ["line 13 ×"], True, ["0.2#1", "0.2#2", "0.2#3", "0.2#4", "0.2#5"], "12 of 17 steps are folded away"])
+        self.assertEqual(told[:5], [["0.1#4", "0.2#4"], ["line 13 ×"], True, ["0.2#1", "0.2#2", "0.2#3", "0.2#4", "0.2#5"], "12 of 17 steps folded away"])
         self.assertEqual(told[5:12], [1, 0, 15, 0, 2, ["0"], True])
         self.assertEqual(told[12], ["0.1", "0.2"])
         self.assertEqual(told[13:17], [["0.1#4", "false"], ["0.2#4", "false"], ["0#4", "false"], ["0#4", "true"]])
@@ -108,7 +108,7 @@ class Ways(unittest.TestCase):
               const boxOf = (text) => { const box = text.getBBox(); return [box.x + 1, box.y + 2, box.x + box.width - 1, box.y + box.height - 3]; };
               const labels = [...document.querySelectorAll("#drawn .kind")].map(boxOf), words = [...document.querySelectorAll(".step .label")].map(boxOf);
               const lap = (one, two) => one[0] < two[2] && two[0] < one[2] && one[1] < two[3] && two[1] < one[3];
-              const points = [...document.querySelectorAll("#drawn .arrow")].flatMap((path) => [...Array(41).keys()].map((at) => path.getPointAtLength(path.getTotalLength() * at / 40)));
+              const points = [...document.querySelectorAll("#drawn .arrow")].flatMap((path) => [...Array(401).keys()].map((at) => path.getPointAtLength(path.getTotalLength() * at / 400)));
               const clash = labels.filter((box, at) => words.some((other) => lap(box, other)) || labels.some((other, place) => place !== at && lap(box, other)) ||
                 points.some((point) => point.x > box[0] && point.x < box[2] && point.y > box[1] && point.y < box[3]));
               return [labels.length, clash.length];""", "1400,2400")
@@ -128,7 +128,7 @@ class Ways(unittest.TestCase):
           document.querySelector('[data-cluster="large|5"]').dispatchEvent(new KeyboardEvent("keydown", { key: "Enter" }));
           told.push(document.querySelectorAll("#graph [data-task]").length);
           return told;""")
-        self.assertEqual([text.split("of")[0].strip() for text in told[0]], ["1 × mainthe root1 ended1 tasks", "110 × small", "110 × large", "110 × small", "110 × small"])
+        self.assertEqual([text.split("of")[0].strip() for text in told[0]], ["1 × mainthe root1 ended1 task", "110 × small", "110 × large", "110 × small", "110 × small"])
         self.assertIn(["spawn", "110 generated"], told[1])
         self.assertIn("109 ordered", told[0][2])
         self.assertEqual(told[2:], [0, False, 110, True, 0])
