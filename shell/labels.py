@@ -12,7 +12,7 @@ Point = tuple[float, float]
 # The size of the squares by which what is near is found, and of letters.
 SQUARE = 48
 WIDE, HIGH = 6.8, 13.0
-LEAST_SAMPLES, STEP = 24, 8
+LEAST_SAMPLES, STEP = 24, 4
 PLACES = (0.5, 0.4, 0.6, 0.3, 0.7, 0.2, 0.8, 0.9)
 
 
@@ -55,8 +55,8 @@ class Curve:
 
     def samples(self) -> int:
         """So many points of it that no label fits between two of them."""
-        (x, y), (to_x, to_y) = self.points[0], self.points[3]
-        return max(LEAST_SAMPLES, math.ceil(1.5 * math.hypot(to_x - x, to_y - y) / STEP))
+        length = sum(math.dist(one, two) for one, two in zip(self.points, self.points[1:]))
+        return max(LEAST_SAMPLES, math.ceil(length / STEP))
 
     def at(self, part: float) -> Point:
         """The point at a part of the way."""

@@ -102,7 +102,7 @@ function pointOn([a, b, c, d], part) {
 }
 
 // So many points of an arrow that no label fits between two of them.
-const pointsOf = ([[x, y], , , [toX, toY]]) => Math.max(24, Math.ceil(1.5 * Math.hypot(toX - x, toY - y) / 8));
+const pointsOf = (points) => Math.max(24, Math.ceil(points.slice(1).reduce((sum, [x, y], at) => sum + Math.hypot(x - points[at][0], y - points[at][1]), 0) / 4));
 
 const meet = (one, two) => one.x < two.x + two.wide && two.x < one.x + one.wide && one.y < two.y + two.high && two.y < one.y + one.high;
 
