@@ -27,7 +27,7 @@ _taskback_run() {
         -x) mapfile -t COMPREPLY < <(compgen -f -- "$word") ;;
         *)
             if [[ $word == -* ]]; then
-                _taskback_words "$word" "--prove --limit --workers --plain --check --json --help --version -i -x"
+                _taskback_words "$word" "--prove --serve --limit --workers --plain --check --json --help --version -i -x"
             else
                 _taskback_files "$word" task session
             fi

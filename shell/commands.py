@@ -26,12 +26,12 @@ from shell.walking import Walking
 
 STEP = re.compile(r"(?<![\w.#])[0-9][0-9.]*#[0-9]+")
 # What asks for much in small pieces: Ctrl-C ends it after one. Any other command's reply is cut.
-PIECEWISE = ("step", "run", "go", "finish", "until", "random", "last", "back", "rs", "rc", "source", "graph", "lanes", "page", "compare", "flip")
+PIECEWISE = ("step", "run", "go", "finish", "until", "random", "last", "back", "rs", "rc", "source", "graph", "lanes", "page", "serve", "compare", "flip")
 # After these the expressions of `display` are shown.
 STEPS = ("step", "run", "go", "finish", "until", "random", "last", "back", "rs", "rc", "undo", "roll", "rolltask", "rollcell", "rollprint",
          "redo", "keep", "at", "restart")
 # What can't be done while a past state is looked at: what takes steps, takes them back, or starts anew.
-OF_THE_PRESENT = tuple(name for name in STEPS if name != "at") + ("break", "watch", "clear", "save", "source", "trim", "limit", "page", "flip", "compare")
+OF_THE_PRESENT = tuple(name for name in STEPS if name != "at") + ("break", "watch", "clear", "save", "source", "trim", "limit", "page", "serve", "flip", "compare")
 
 
 class Shell(cmd.Cmd):
@@ -153,7 +153,7 @@ class Shell(cmd.Cmd):
         try:
             return self.carry_out(line)
         except Cut:
-            return self.resume()
+            return self.resume() if self.session.program.is_cut else self.stopped_beside()
         except Ended as ended:
             return self.end(ended)
         finally:
@@ -172,6 +172,12 @@ class Shell(cmd.Cmd):
         if self.interrupted or not self.in_pieces:
             Program.cut()
         self.interrupted = True
+
+    def stopped_beside(self) -> bool:
+        """After a reply of a second program was cut the session is as it was."""
+        self.console.end_progress()
+        self.console.note("stopped by Ctrl-C; the session is as it was")
+        return False
 
     def resume(self) -> bool:
         """After a cut reply the program starts anew and does what was done; true where it can't."""

@@ -2,7 +2,7 @@
 
 from __future__ import annotations
 
-from collections.abc import Sequence
+from collections.abc import Callable, Sequence
 from itertools import zip_longest
 from typing import NamedTuple
 
@@ -58,23 +58,24 @@ def first_difference(one: Session, two: Session) -> Found | None:
     return None if extra is None else Found(extra, "not taken", two.standing[extra])
 
 
-def flipped(session: Session, race: Race) -> tuple[Session, str | None]:
-    """A second session in which the later step of a race came first, and why it couldn't, if so.
+def flip(other: Session, race: Race, stop: Callable[[], bool]) -> str | None:
+    """Brings the later step of a race to the front in a session, and returns why it couldn't, if so.
 
     The earlier step is taken back with all that needs it; where its task excludes the other's, its whole task is.
     Then its task takes no step until the later one was taken.
     """
-    other = copy_of(session)
     early, late = race.first.split("#")[0], race.second.split("#")[0]
     other.do(f"rolltask {early}" if race.apart else f"roll {race.first}")
     for _ in range(MOST_STEPS):
         if race.second in other.standing:
-            return other, None
+            return None
+        if stop():
+            return "stopped by Ctrl-C; the session is as it was"
         ready = [task for task in other.view("ready")[1:] if task != early]
         if not ready:
-            return other, f"{race.second} can't come in front of {race.first}: it waits for {early}"
+            return f"{race.second} can't come in front of {race.first}: it waits for {early}"
         other.do(f"step {late if late in ready else ready[0]}")
-    return other, f"{race.second} wasn't reached"
+    return f"{race.second} wasn't reached"
 
 
 def to_the_end(session: Session) -> bool:
@@ -141,10 +142,9 @@ class Comparing(Group):
 
     def show_both(self, race: Race) -> None:
         """Runs both orders to their ends in programs beside, and shows what differs."""
-        first = copy_of(self.session)
-        second = None
+        first, second = copy_of(self.session), copy_of(self.session)
         try:
-            second, why = flipped(self.session, race)
+            why = flip(second, race, lambda: self.interrupted)
             if why is not None:
                 self.refuse(why)
                 return
@@ -159,8 +159,7 @@ class Comparing(Group):
                 self.note(f"a run that hadn't ended after {MOST_STEPS:,} steps was left there")
         finally:
             first.close()
-            if second is not None:
-                second.close()
+            second.close()
 
     def rows(self, first: Session, second: Session) -> list[str]:
         """The cells and the output that differ, side by side."""

@@ -1,9 +1,12 @@
 """What commands write to: lines of replies, words beside them, progress, and questions; as text or as JSON."""
 
+import contextlib
 import json
 import os
 import re
+import threading
 import time
+from collections.abc import Iterator
 from dataclasses import dataclass, field
 from enum import IntEnum
 from typing import TextIO
@@ -129,6 +132,28 @@ class Console:
         of = f" of {total:,}" if total is not None else ""
         self.out.write(f"\r\x1b[K  {done:,}{of} {what}, {int(done / (now - self._began)):,} a second\r")
         self.out.flush()
+
+    @contextlib.contextmanager
+    def waiting(self, what: str) -> Iterator[None]:
+        """Shows how long a single reply has been awaited; on a terminal alone."""
+        if not self.typed or self.exact or not self.out.isatty():
+            yield
+            return
+        ended = threading.Event()
+
+        def tell() -> None:
+            while not ended.wait(PROGRESS):
+                self._told = time.monotonic()
+                self.out.write(f"\r\x1b[K  {what}: {int(self._told - self._began)} s; Ctrl-C ends it\r")
+                self.out.flush()
+        teller = threading.Thread(target=tell, daemon=True)
+        teller.start()
+        try:
+            yield
+        finally:
+            ended.set()
+            teller.join()
+            self.end_progress()
 
     def end_progress(self) -> None:
         """Takes the line of progress away."""

@@ -12,9 +12,9 @@ from shell.console import counted
 from shell.facts import Stopped
 from shell.filing import WRITTEN, Writing, forced
 from shell.graph import graph_of, tree_of, write_graph
-from shell.group import Words
+from shell.group import Words, count_in
 from shell.lanes import lanes_of, text_rows
-from shell.lanes_svg import svg_of
+from shell.lanes_pages import write_lanes
 from shell.page import page_of
 from shell.protocol import Cut, Ended, Refused
 from shell.session import Session
@@ -102,12 +102,32 @@ class Drawing(Writing):
         if lanes is None:
             return
         if path is not None:
-            if self.write(path, svg_of(lanes)):
-                self.say(f"drawn to {path}, {counted(len(lanes.steps), 'step')} in {counted(len(lanes.tasks), 'lane')}")
+            try:
+                self.say(write_lanes(path, lanes))
+                WRITTEN.add(path)
+            except OSError as fault:
+                self.refuse(f"can't write {path}: {fault.strerror}")
             return
         width = shutil.get_terminal_size((100, 24)).columns
         for row in text_rows(lanes, width, self.console.shaded):
             self.say(row)
+
+    def do_serve(self, words: Words) -> None:
+        """All that was done, as a live page, until Ctrl-C."""
+        from shell.serving import Live, LiveServer
+        port = count_in(words, 0, 0)
+        if port is None or port > 65535:
+            self.wrong("serve")
+            return
+        try:
+            server = LiveServer(Live(self.session), port)
+        except OSError as fault:
+            self.refuse(f"can't serve on port {port}: {fault.strerror}")
+            return
+        with server:
+            self.say(f"the page is at {server.address} ; Ctrl-C ends it")
+            self.console.flush()
+            server.serve_until(lambda: self.interrupted)
 
     def do_page(self, words: Words) -> None:
         """All that was done, as one page."""

@@ -102,6 +102,10 @@ class Facts:
         reply = self.session.view(command)
         return None if reply == NOT_THERE else reply[1:]
 
+    def lines(self, command: str) -> list[str]:
+        """The lines of a view that each program has."""
+        return self.ask(command) or []
+
     def steps(self) -> list[Step]:
         """The steps that stand, from the oldest."""
         return [Step(name, did, self.session.places.line_of(name)) for name, did in self.session.standing.items()]

@@ -5,19 +5,24 @@
                                       as FILE's ending says; without FILE, the dot language on standard output
 """
 
+from __future__ import annotations
+
 import os
 import shutil
 import subprocess
 import sys
+from collections.abc import Callable, Sequence
 from dataclasses import dataclass
 
 if __name__ == "__main__":
     sys.path.insert(0, os.path.dirname(os.path.dirname(os.path.abspath(__file__))))
 
 from shell.console import counted  # noqa: E402
-from shell.facts import Facts, by_name, label_of, reduced  # noqa: E402
+from shell.clusters import MOST_TASKS, clusters_in_dot  # noqa: E402
+from shell.facts import Facts, Progress, Race, Step, Task, by_name, label_of, reduced  # noqa: E402
 from shell.files import write_bytes, write_text  # noqa: E402
-from shell.lanes import NO_CAUSES  # noqa: E402
+from shell.lanes import NO_CAUSES, NO_RACES  # noqa: E402
+from shell.session import Session  # noqa: E402
 
 # Each state: its fill, its outline, and the style of the outline, so that it can be told without colour.
 STATES = {
@@ -27,6 +32,7 @@ STATES = {
     "faulted": ("#ffd6d6", "#b00020", "diagonals"),
 }
 READY = "#11693d"
+RACE = "#b00020"
 
 
 @dataclass
@@ -35,7 +41,7 @@ class Wait:
 
     step: str
     line: int | None
-    children: list
+    children: list[str]
 
 
 @dataclass
@@ -43,19 +49,29 @@ class Graph:
     """What is drawn."""
 
     title: str
-    tasks: dict
-    drawn: dict
-    inside: dict
-    outer: dict
-    spawned: dict
-    undeferred: set
-    waits: list
-    left_out: list
+    tasks: dict[str, Task]
+    drawn: dict[str, list[str]]
+    inside: dict[str, str | None]
+    outer: dict[str, str | None]
+    spawned: dict[str, int | None]
+    undeferred: set[str]
+    waits: list[Wait]
+    races: list[Race]
+    left_out: list[str]
+
+    def pairs_of_races(self) -> dict[tuple[str, str], list[Race]]:
+        """The races by the tasks of their steps."""
+        found: dict[tuple[str, str], list[Race]] = {}
+        for race in self.races:
+            found.setdefault((race.first.split("#")[0], race.second.split("#")[0]), []).append(race)
+        return found
 
 
-def groups_of(steps):
+def groups_of(steps: Sequence[Step]) -> tuple[dict[str, str | None], dict[str, str | None]]:
     """The innermost group of each task, named by the step that opened it, and of each group the one around it."""
-    opened, inside, outer = {}, {"0": None}, {}
+    opened: dict[str, list[str]] = {}
+    inside: dict[str, str | None] = {"0": None}
+    outer: dict[str, str | None] = {}
     for step in steps:
         stack = opened.setdefault(step.task, [])
         # What a task generates outside of its own groups is where the task itself is.
@@ -70,7 +86,7 @@ def groups_of(steps):
     return inside, outer
 
 
-def waits_of(facts, steps):
+def waits_of(facts: Facts, steps: Sequence[Step]) -> list[Wait] | None:
     """The waits that are over, by the causes of each; None where the program doesn't show them."""
     found = []
     for step in steps:
@@ -82,25 +98,25 @@ def waits_of(facts, steps):
     return found
 
 
-def graph_of(session, stop=lambda: False, progress=None):
+def graph_of(session: Session, stop: Callable[[], bool] = lambda: False, progress: Progress = lambda *told: None) -> Graph:
     """The graph of a session at this moment."""
     facts = Facts(session, stop)
     tasks, steps = facts.tasks(), facts.steps()
     spawns = [step for step in steps if step.word == "spawn"]
-    waits = waits_of(facts, steps)
+    waits, races = waits_of(facts, steps), facts.races()
     inside, outer = groups_of(steps)
     return Graph(session.source.name, tasks, reduced({name: task.before for name, task in tasks.items()}), inside, outer,
                  {step.did.split(" ")[1]: step.line for step in spawns},
                  {step.did.split(" ")[1] for step in spawns if step.did.endswith(" undeferred")},
-                 waits or [], [NO_CAUSES] if waits is None else [])
+                 waits or [], races or [], [NO_CAUSES] * (waits is None) + [NO_RACES] * (races is None))
 
 
-def quoted(text):
+def quoted(text: str) -> str:
     """A text as a word of the dot language."""
     return '"' + text.replace("\\", "\\\\").replace('"', '\\"').replace("\n", "\\n") + '"'
 
 
-def note_of(task):
+def note_of(task: Task) -> str:
     """What a task does or waits for."""
     if task.ready:
         return "can step"
@@ -110,12 +126,12 @@ def note_of(task):
     return task.state
 
 
-def state_of(task):
+def state_of(task: Task) -> str:
     """The task's state with its line: `running at line 5`."""
     return task.state + (f" at line {task.line}" if task.line else "")
 
 
-def node(task):
+def node(task: Task) -> str:
     """A task's box."""
     fill, outline, style = STATES[task.state]
     rows = [f"{task.name}  {task.body}", state_of(task)] + ([note_of(task)] if note_of(task) != task.state else [])
@@ -124,9 +140,10 @@ def node(task):
             f"color={quoted(READY if task.ready else outline)}, penwidth={wide}]")
 
 
-def boxes(graph):
+def boxes(graph: Graph) -> dict[str | None, list[str]]:
     """The groups in each group, where a task is in them."""
-    inner, seen = {}, set()
+    inner: dict[str | None, list[str]] = {}
+    seen: set[str] = set()
     for group in graph.inside.values():
         while group and group not in seen:
             seen.add(group)
@@ -135,7 +152,7 @@ def boxes(graph):
     return inner
 
 
-def cluster(graph, group, inner, members, pad):
+def cluster(graph: Graph, group: str | None, inner: dict[str | None, list[str]], members: dict[str | None, list[str]], pad: str) -> list[str]:
     """The tasks of a group, and the groups in it, each in a box."""
     lines = [pad + node(graph.tasks[name]) for name in members.get(group, ())]
     for child in inner.get(group, ()):
@@ -145,7 +162,7 @@ def cluster(graph, group, inner, members, pad):
     return lines
 
 
-def arrows(graph):
+def arrows(graph: Graph) -> list[str]:
     """The arrows: who generated whom, who comes before whom, who excludes whom, who was waited for."""
     lines = []
     for name, task in graph.tasks.items():
@@ -165,25 +182,32 @@ def arrows(graph):
         lines.append(f'{quoted(wait.step)} [shape=diamond, fontsize=9, margin="0.02", label={quoted(place)}]')
         lines.append(f'{quoted(wait.step.split("#")[0])} -> {quoted(wait.step)} [class=at, color="#8c8c8c", arrowhead=none]')
         lines += [f'{quoted(child)} -> {quoted(wait.step)} [class=wait, color="#11693d", style=dotted]' for child in wait.children]
+    for (first, second), races in graph.pairs_of_races().items():
+        label = races[0].over if len(races) == 1 else f"{len(races)} races"
+        style = "dashed" if all(race.apart for race in races) else "bold"
+        lines.append(f'{quoted(first)} -> {quoted(second)} [class=race, dir=none, style={style}, color="{RACE}", fontcolor="{RACE}", '
+                     f"constraint=false, label={quoted(label)}]")
     return lines
 
 
-def dot_of(graph):
-    """The graph in the dot language."""
-    members = {}
+def dot_of(graph: Graph) -> str:
+    """The graph in the dot language; many tasks as clusters."""
+    members: dict[str | None, list[str]] = {}
     for name in graph.tasks:
         members.setdefault(graph.inside.get(name), []).append(name)
     title = "\n".join([f"The tasks of {graph.title}", *graph.left_out])
     lines = ["digraph tasks {", f'  graph [fontname="monospace", bgcolor=white, labelloc=t, label={quoted(title)}]',
              '  node [shape=box, fontname="monospace", fontsize=11, fontcolor="#1b1b1b"]',
              '  edge [fontname="monospace", fontsize=9, fontcolor="#1b1b1b", color="#1b1b1b"]',
-             *cluster(graph, None, boxes(graph), members, "  "), *("  " + line for line in arrows(graph)), "}"]
+             *(clusters_in_dot(graph) if len(graph.tasks) > MOST_TASKS else
+               [*cluster(graph, None, boxes(graph), members, "  "), *("  " + line for line in arrows(graph))]), "}"]
     return "\n".join(lines) + "\n"
 
 
-def tree_of(graph):
+def tree_of(graph: Graph) -> list[str]:
     """The graph as text, a task a line, each below the one that generated it."""
     lines = []
+    raced = graph.pairs_of_races()
     for name, task in graph.tasks.items():
         parts = [state_of(task)] + ([note_of(task)] if note_of(task) != task.state else [])
         parts += ["undeferred"] if name in graph.undeferred else []
@@ -191,10 +215,11 @@ def tree_of(graph):
         lines.append(f"{pad}{name} {task.body}: {', '.join(parts)}")
         for word, others, how in (("after", graph.drawn[name], "after"), ("apart from", task.apart, "apart")):
             lines += [f"{pad}    {word} {other}, {', '.join(label_of(task, graph.tasks[other], how)[:3])}" for other in others]
+        lines += [f"{pad}    races with {other}, {', '.join(dict.fromkeys(race.over for race in races))}" for (other, late), races in raced.items() if late == name]
     return lines + graph.left_out
 
 
-def write_graph(path, graph):
+def write_graph(path: str, graph: Graph) -> str:
     """Writes the picture, by Graphviz where the file isn't a `.dot`; returns what to say of it."""
     base, kind = os.path.splitext(path)
     program = shutil.which("dot")
@@ -209,7 +234,7 @@ def write_graph(path, graph):
     return f"written to {path}, {counted(len(graph.tasks), 'task')}" + ("" if kind == ".dot" else "; Graphviz, which would draw it, isn't here")
 
 
-def main(words):
+def main(words: list[str]) -> int:
     """Draws a session's tasks; returns the status."""
     from shell.drawing import play_file
     if not 1 <= len(words) <= 2:

@@ -59,6 +59,7 @@ HELP = {
     "graph": Help("graph [-f] [FILE]", "the tasks as a tree with their order; to FILE as Graphviz draws it (.svg, .png), or .dot", "graph tasks.svg"),
     "lanes": Help("lanes [-f] [T#K] [FILE]", "the history, a lane a task; what roll T#K would take is shaded; to FILE as SVG", "lanes 0.1#4"),
     "page": Help("page [-f] FILE", "all that was done, as one page for a browser: program, history, tasks, races", "page race.html"),
+    "serve": Help("serve [PORT]", "the page live for a browser on this machine: a click steps, undoes, rolls back; Ctrl-C ends it", "serve"),
     "info": Help("info VIEW", "a view by any beginning of its name, as `i ta` for `tasks`", "i tasks"),
     "save": Help("save [-f] FILE", "writes the session so far, which gives the same replies; -f replaces a file without asking", "save race.session"),
     "source": Help("source [FILE]", "plays the commands of FILE; alone: the next command of the session file that was opened", "source more.session"),

@@ -5,14 +5,18 @@
                                             what `roll T#K` would take is shaded
 """
 
+from __future__ import annotations
+
 import os
 import sys
+from collections.abc import Callable, Iterable, Sequence
 from dataclasses import dataclass
 
 if __name__ == "__main__":
     sys.path.insert(0, os.path.dirname(os.path.dirname(os.path.abspath(__file__))))
 
-from shell.facts import Facts, by_name  # noqa: E402
+from shell.facts import Causes, Facts, Progress, Race, Step, Task, by_name  # noqa: E402
+from shell.session import Session  # noqa: E402
 
 NO_CAUSES = "this program shows no causes: their arrows are left out"
 NO_RACES = "this program shows no races: they are left out"
@@ -23,33 +27,34 @@ class Lanes:
     """What is drawn."""
 
     title: str
-    tasks: list
-    steps: list
-    causes: dict | None
-    races: list | None
+    tasks: list[Task]
+    steps: list[Step]
+    causes: dict[str, Causes] | None
+    races: list[Race] | None
     chosen: str | None = None
-    shaded: frozenset = frozenset()
+    shaded: frozenset[str] = frozenset()
 
-    def remarks(self):
+    def remarks(self) -> list[str]:
         """What isn't drawn, since the program has no such view."""
         return [text for view, text in ((self.causes, NO_CAUSES), (self.races, NO_RACES)) if view is None]
 
-    def arrows(self):
+    def arrows(self) -> list[tuple[str, str, str]]:
         """Each immediate need of another task's step: the earlier step, the later one, and the kind."""
         return [(early, late, kind) for late, needed in (self.causes or {}).items() for kind, early in needed if kind != "task"]
 
 
-def lanes_of(session, chosen=None, stop=lambda: False, progress=lambda *told: None):
+def lanes_of(session: Session, chosen: str | None = None, stop: Callable[[], bool] = lambda: False,
+             progress: Progress = lambda *told: None) -> Lanes | None:
     """The lanes of a session at this moment; the shaded steps are those that `roll` of the chosen one would take."""
     facts = Facts(session, stop)
     steps = facts.steps()
     causes = facts.all_causes(steps, progress)
-    shaded = facts.taken_back(chosen) if chosen else frozenset()
+    shaded: set[str] | None = facts.taken_back(chosen) if chosen else set()
     tasks = sorted(facts.task_states().values(), key=lambda task: by_name(task.name))
     return None if shaded is None else Lanes(session.source.name, tasks, steps, causes, facts.races(), chosen, frozenset(shaded))
 
 
-def note_of(lanes, step, races):
+def note_of(lanes: Lanes, step: Step, races: dict[str, list[Race]]) -> str:
     """What stands beside a step: the causes in other lanes, and its race."""
     needed = [(kind, early) for kind, early in (lanes.causes or {}).get(step.name, ()) if kind != "task"]
     parts = [f"{kind}: {early}" for kind, early in needed]
@@ -58,17 +63,18 @@ def note_of(lanes, step, races):
     return "<- " + ", ".join(parts) if parts else ""
 
 
-def by_later(races):
+def by_later(races: Iterable[Race] | None) -> dict[str, list[Race]]:
     """The races by their later steps."""
-    found = {}
+    found: dict[str, list[Race]] = {}
     for race in races or ():
         found.setdefault(race.second, []).append(race)
     return found
 
 
-def lives(steps, names):
+def lives(steps: Sequence[Step], names: Iterable[str]) -> dict[str, tuple[int, int]]:
     """From which step to which each task is there: the step that generated it, and the one that ended it."""
-    first, last = {"0": 0}, {}
+    first: dict[str, int] = {"0": 0}
+    last: dict[str, int] = {}
     for at, step in enumerate(steps):
         if step.word == "spawn":
             first[step.did.split(" ")[1]] = at
@@ -77,12 +83,12 @@ def lives(steps, names):
     return {name: (first.get(name, 0), last.get(name, len(steps))) for name in names}
 
 
-def cut(text, width):
+def cut(text: str, width: int) -> str:
     """The text in this many places."""
     return text if len(text) <= width else text[:max(0, width - 1)] + "~"
 
 
-def text_rows(lanes, width, shade=lambda text: text):
+def text_rows(lanes: Lanes, width: int, shade: Callable[[str], str] = lambda text: text) -> list[str]:
     """The lines of the picture at a terminal of this width; `shade` marks a line beside its `*`."""
     names = [task.name for task in lanes.tasks]
     room = min([len(step.did) for step in lanes.steps] + [16])
@@ -109,7 +115,7 @@ def text_rows(lanes, width, shade=lambda text: text):
     return rows + [cut("  " + text, width) for text in lanes.remarks()]
 
 
-def main(words):
+def main(words: list[str]) -> int:
     """Draws a session's lanes; returns the status."""
     from shell.drawing import play_file
     chosen = next((word for word in words[1:] if "#" in word), None)
@@ -126,9 +132,8 @@ def main(words):
     if not files:
         print("\n".join(text_rows(lanes, 100)))
         return 0
-    from shell.lanes_svg import svg_of
-    with open(files[0], "w", encoding="utf-8") as file:
-        file.write(svg_of(lanes))
+    from shell.lanes_pages import write_lanes
+    print(write_lanes(files[0], lanes))
     return 0
 
 

@@ -1,8 +1,12 @@
-"""Lanes as SVG: shapes and dashes beside colours, which all have enough contrast on white."""
+"""Lanes as SVG: shapes, dashes and words beside colours, which all have enough contrast on white."""
+
+from __future__ import annotations
 
 from xml.sax.saxutils import escape, quoteattr
 
-from shell.lanes import lives
+from shell.facts import Race, Step, Task
+from shell.labels import Curve, Labels, Rect
+from shell.lanes import Lanes, lives
 
 ROW = 28
 TOP = 76
@@ -21,6 +25,8 @@ KINDS = {
     "group": ("#11693d", "7 4", "is waited for by a taskgroup"),
     "undeferred": ("#5c5c5c", "2 4", "undeferred child of"),
 }
+# The bodies' colours, in the order in which they come; the page has these too.
+BODIES = ("#0b5cad", "#a03a00", "#11693d", "#7a2ea0", "#8a5a00", "#00697a", "#a0226b", "#4d4d9e")
 SHAPES = {"start": "M-5 -6 L7 0 L-5 6 Z", "end": "M-6 -6 H6 V6 H-6 Z", "fault": "M-6 -6 L6 6 M6 -6 L-6 6"}
 ROUND = "M-5 0 A5 5 0 1 0 5 0 A5 5 0 1 0 -5 0 Z"
 STYLE = ("text{font:12px ui-monospace,Menlo,Consolas,'DejaVu Sans Mono',monospace;fill:#1b1b1b}"
@@ -28,7 +34,7 @@ STYLE = ("text{font:12px ui-monospace,Menlo,Consolas,'DejaVu Sans Mono',monospac
          "path{fill:none}")
 
 
-def cut(text):
+def cut(text: str) -> str:
     """A label that isn't too long."""
     return text if len(text) <= LONGEST else text[:LONGEST - 1] + "…"
 
@@ -36,12 +42,14 @@ def cut(text):
 class Drawing:
     """Where the steps of some lanes stand, and what is drawn there."""
 
-    def __init__(self, lanes):
+    def __init__(self, lanes: Lanes) -> None:
         self.lanes = lanes
         self.row = {step.name: at for at, step in enumerate(lanes.steps)}
-        self.x = {}
+        self.x: dict[str, int] = {}
+        bodies = list(dict.fromkeys(task.body for task in lanes.tasks))
+        self.colour = {task.name: BODIES[bodies.index(task.body) % len(BODIES)] for task in lanes.tasks}
         at = LEFT
-        labels = {}
+        labels: dict[str, list[str]] = {}
         for step in lanes.steps:
             labels.setdefault(step.task, []).append(step.did)
         for task in lanes.tasks:
@@ -51,70 +59,86 @@ class Drawing:
         self.width = max(at + 8, 420)
         self.bottom = TOP + ROW * len(lanes.steps)
 
-    def place(self, name):
-        """Where a step stands."""
+    def place(self, name: str) -> tuple[int, int]:
+        """Where a step is."""
         return self.x[name.split("#")[0]], TOP + ROW * self.row[name]
 
-    def lane(self, task, there):
+    def lane(self, task: Task, there: tuple[int, int]) -> list[str]:
         """A task's name, and its line from its generation to its end."""
-        x = self.x[task.name]
+        x, colour = self.x[task.name], self.colour[task.name]
         top, end = (TOP + ROW * at for at in there)
         return [f'<text class="name" x="{x - 8}" y="24">{escape(task.name)}</text>',
                 f'<text x="{x - 8}" y="42">{escape(task.body)}</text>',
-                f'<path stroke="#8c8c8c" stroke-width="1.5" d="M{x} {top} V{min(end, self.bottom)}"/>']
+                f'<path stroke="{colour}" stroke-width="3" d="M{x - 8} 49 h60"/>',
+                f'<path stroke="{colour}" stroke-width="1.5" stroke-opacity="0.6" d="M{x} {top} V{min(end, self.bottom)}"/>']
 
-    def shade(self, step):
+    def shade(self, step: Step) -> str:
         """The shade of a step that a rollback would take."""
         x, y = self.place(step.name)
         wide = int(30 + LETTER * len(cut(step.did)))
         return (f'<rect class="shade" data-step={quoteattr(step.name)} x="{x - 12}" y="{y - 12}" width="{wide}" height="24" rx="5" '
                 'fill="#ffe7a3" stroke="#8a4b00" stroke-dasharray="3 2"/>')
 
-    def step(self, step):
+    def step(self, step: Step) -> str:
         """A step's mark and label."""
         x, y = self.place(step.name)
         line = f", line {step.line}" if step.line else ""
         halo = "on shaded" if step.name in self.lanes.shaded else "on"
-        fill = INK if step.word in ("store", "print", "start", "end") else "#fff"
+        colour = self.colour[step.task]
+        fill = colour if step.word in ("store", "print", "start", "end") else "#fff"
         return (f'<g class="step" data-step={quoteattr(step.name)}><title>{escape(step.name + " " + step.did + line)}</title>'
-                f'<path transform="translate({x} {y})" style="fill:{fill}" stroke="{INK}" stroke-width="1.6" '
+                f'<path transform="translate({x} {y})" style="fill:{fill}" stroke="{colour}" stroke-width="1.6" '
                 f'd="{SHAPES.get(step.word, ROUND)}"/>'
                 f'<text class="{halo}" x="{x + 13}" y="{y + 4}">{escape(cut(step.did))}</text></g>')
 
-    def curve(self, early, late, bow):
-        """A path from one step to another, and its middle."""
+    def words_at(self, step: Step) -> Rect:
+        """Where a step's mark and words are."""
+        x, y = self.place(step.name)
+        return Rect(x - 8, y - 9, 22 + LETTER * len(cut(step.did)), 18)
+
+    def curve(self, early: str, late: str, bow: int, text: str) -> Curve:
+        """An arrow from one step to another."""
         (x, y), (to_x, to_y) = self.place(early), self.place(late)
         side = 1 if to_x > x else -1
         x, to_x = x + side * 7, to_x - side * 9
         lift = bow + (to_y - y) * 0.25
-        path = f"M{x} {y} C{x + side * 30} {y + lift:.0f} {to_x - side * 40} {to_y - lift * 0.3:.0f} {to_x} {to_y}"
-        return path, (x + to_x) / 2 + side * -3, (y + to_y) / 2 + bow * 0.4
+        return Curve(((x, y), (x + side * 30, y + lift), (to_x - side * 40, to_y - lift * 0.3), (to_x, to_y)), text)
 
-    def arrow(self, early, late, kind):
+    def arrows(self) -> list[str]:
+        """The arrows for immediate needs, those of races, and the labels of both where these lie on nothing."""
+        needs = [(early, late, kind, self.curve(early, late, 0, kind)) for early, late, kind in self.lanes.arrows()]
+        raced = [(race, self.curve(race.first, race.second, -26, ("apart: " if race.apart else "race: ") + race.over)) for race in self.lanes.races or ()]
+        labels = Labels([curve for *_, curve in needs] + [curve for _, curve in raced], map(self.words_at, self.lanes.steps))
+        parts = [self.arrow(early, late, kind, curve) for early, late, kind, curve in needs] + [self.race(race, curve) for race, curve in raced]
+        for race, curve in raced:
+            parts += self.label(labels.place(curve), curve.text, RED, " font-weight:bold;")
+        for _, _, kind, curve in needs:
+            if kind != "spawn":
+                parts += self.label(labels.place(curve), kind, KINDS[kind.split(" ")[0]][0], "")
+        return parts
+
+    @staticmethod
+    def label(rect: Rect | None, text: str, colour: str, more: str) -> list[str]:
+        """A label at its place, if there is one."""
+        return [] if rect is None else [f'<text class="on" x="{rect.x:.0f}" y="{rect.y + rect.high - 3:.0f}" style="fill:{colour};font-size:11px;{more}">{escape(text)}</text>']
+
+    @staticmethod
+    def arrow(early: str, late: str, kind: str, curve: Curve) -> str:
         """An arrow for an immediate need."""
-        colour, dashes, _ = KINDS[kind.split(" ")[0]]
-        path, x, y = self.curve(early, late, 0)
-        dashed = f' stroke-dasharray="{dashes}"' if dashes else ""
         word = kind.split(" ")[0]
-        label = "" if word == "spawn" else (f'<text class="on" x="{x:.0f}" y="{y:.0f}" text-anchor="middle" '
-                                            f'style="fill:{colour};font-size:11px">{escape(kind)}</text>')
+        colour, dashes, _ = KINDS[word]
+        dashed = f' stroke-dasharray="{dashes}"' if dashes else ""
         return (f'<path class="cause" data-from={quoteattr(early)} data-to={quoteattr(late)} data-kind={quoteattr(kind)} '
-                f'stroke="{colour}" stroke-width="1.8"{dashed} marker-end="url(#{word})" d="{path}"/>' + label)
+                f'stroke="{colour}" stroke-width="1.8"{dashed} marker-end="url(#{word})" d="{curve.path}"/>')
 
-    def race(self, race):
-        """A race, in red and thick, with a word beside its later step."""
-        path, _, _ = self.curve(race.first, race.second, -26)
-        (x, _), (to_x, y) = self.place(race.first), self.place(race.second)
-        word = ("apart: " if race.apart else "race: ") + race.over
-        did = self.lanes.steps[self.row[race.second]].did
-        at, anchor = (to_x - 12, "end") if to_x > x else (to_x + 24 + LETTER * len(cut(did)), "start")
+    @staticmethod
+    def race(race: Race, curve: Curve) -> str:
+        """A race, in red and thick."""
         dashes = ' stroke-dasharray="9 5"' if race.apart else ""
         return (f'<path class="race" data-from={quoteattr(race.first)} data-to={quoteattr(race.second)} stroke="{RED}" '
-                f'stroke-width="3"{dashes} d="{path}"/>'
-                f'<text class="on" x="{at:.0f}" y="{y - 7}" text-anchor="{anchor}" style="fill:{RED};font-weight:bold">'
-                f'{escape(word)}</text>')
+                f'stroke-width="3"{dashes} d="{curve.path}"/>')
 
-    def legend(self):
+    def legend(self) -> tuple[list[str], int]:
         """What the arrows and the shade mean, a line each."""
         words = {kind.split(" ")[0] for _, _, kind in self.lanes.arrows()}
         rows, y = [], self.bottom + 18
@@ -139,22 +163,21 @@ class Drawing:
         return rows, y
 
 
-def heads():
+def heads() -> str:
     """The arrowheads, one a kind."""
     return "".join(f'<marker id="{kind}" viewBox="0 0 8 8" refX="7" refY="4" markerWidth="6" markerHeight="6" orient="auto">'
                    f'<path d="M0 0 L8 4 L0 8 Z" style="fill:{colour}"/></marker>' for kind, (colour, _, _) in KINDS.items())
 
 
-def svg_of(lanes):
+def svg_of(lanes: Lanes) -> str:
     """The whole picture."""
     drawing = Drawing(lanes)
     there = lives(lanes.steps, drawing.x)
     legend, height = drawing.legend()
     parts = [part for task in lanes.tasks for part in drawing.lane(task, there[task.name])]
     parts += [drawing.shade(step) for step in lanes.steps if step.name in lanes.shaded]
-    parts += [drawing.arrow(*arrow) for arrow in lanes.arrows()]
+    parts += drawing.arrows()
     parts += [drawing.step(step) for step in lanes.steps]
-    parts += [drawing.race(race) for race in lanes.races or ()]
     title = f"The steps of {lanes.title} by tasks, and what they need"
     return (f'<svg xmlns="http://www.w3.org/2000/svg" role="img" width="{drawing.width}" height="{height}" '
             f'viewBox="0 0 {drawing.width} {height}">\n<title>{escape(title)}</title>\n<style>{STYLE}</style>\n'

@@ -4,48 +4,66 @@
     shell/page.py SESSION FILE     plays the session, and writes its page to FILE
 """
 
+from __future__ import annotations
+
 import json
 import os
 import sys
+from collections.abc import Callable
 
 HERE = os.path.dirname(os.path.abspath(__file__))
 if __name__ == "__main__":
     sys.path.insert(0, os.path.dirname(HERE))
 
+from shell.facts import Progress  # noqa: E402
+from shell.session import Session  # noqa: E402
 from shell.story import Story  # noqa: E402
 
+PARTS = os.path.join(HERE, "page")
+# The scripts of the page, in their order; they are one script.
+SCRIPTS = ("state.js", "layout.js", "lanes.js", "tasks.js", "side.js", "page.js")
 
-def part(name):
+
+def part(name: str) -> str:
     """A part of the page."""
-    with open(os.path.join(HERE, name), encoding="utf-8") as file:
+    with open(os.path.join(PARTS, name), encoding="utf-8") as file:
         return file.read()
 
 
-def page_of(session, stop=lambda: False, progress=lambda *told: None):
-    """The page of all that a session did."""
-    story = Story(session, stop, progress)
-    data = story.data()
-    # In a script only `</` could end the data, and bytes that are no text can't stand in a page.
-    told = json.dumps(data, separators=(",", ":")).replace("</", "<\\/")
-    title = data["title"].replace("&", "&amp;").replace("<", "&lt;").encode("utf-8", "replace").decode("utf-8")
+def as_json(data: object) -> str:
+    """Data as a script may have it: only `</` could end it."""
+    return json.dumps(data, separators=(",", ":")).replace("</", "<\\/")
+
+
+def filled(data: dict[str, object], live: str = "", connect: str = "", scripts: tuple[str, ...] = ("start.js",)) -> str:
+    """The page of some data; `live` is what a page has more that is served, `connect` what it may ask, `scripts` how it starts."""
+    # Bytes that are no text can't stand in a page.
+    title = str(data["title"]).replace("&", "&amp;").replace("<", "&lt;").encode("utf-8", "replace").decode("utf-8")
     page = part("page.html").replace("@title@", title)
-    for mark, text in (("@style@", part("page.css")), ("@data@", told), ("@script@", part("page_graph.js") + part("page.js"))):
-        before, after = page.split(mark)
+    script = "".join(part(name) for name in SCRIPTS + scripts)
+    for mark, text in (("@connect@", connect), ("@style@", part("page.css")), ("@live@", live), ("@data@", as_json(data)), ("@script@", script)):
+        before, after = page.split(mark, 1)
         page = before + text + after
-    return page, len(story.commands), len(story.steps)
+    return page
 
 
-def main(words):
+def page_of(session: Session, stop: Callable[[], bool] = lambda: False, progress: Progress = lambda *told: None) -> tuple[str, int, int]:
+    """The page of all that a session did, and how many commands and steps these were."""
+    story = Story(session, stop, progress)
+    return filled(story.data()), len(story.commands), len(story.steps)
+
+
+def main(words: list[str]) -> int:
     """Writes a session's page; returns the status."""
     from shell.drawing import play_file
+    from shell.files import write_text
     if len(words) != 2:
         print(__doc__, file=sys.stderr)
         return 2
     session = play_file(words[0])
     page, commands, steps = page_of(session)
     session.close()
-    with open(words[1], "w", encoding="utf-8") as file:
-        file.write(page)
+    write_text(words[1], page)
     print(f"written to {words[1]}, {commands} commands and {steps} steps")
     return 0
 

@@ -1,173 +1,312 @@
-"""A session told command by command, for the page: what stood after each command, by the program's own views."""
+"""A session told step by step, for the page: what the history, the tasks, the cells and the output were at each moment.
 
-from shell.facts import Facts, by_name, causes_of, label_of
+The moment 0 is in front of the first step. Each step that was taken, and each undo and rollback, leads to the next one.
+What came at a moment `born` and went at `died` was there at the moments from the one up to the other, the other not
+among them.
+"""
+
+from __future__ import annotations
+
+from collections.abc import Callable, Iterator
+from dataclasses import dataclass, field
+from typing import Any
+
+from shell.facts import Facts, Progress, Race, Task, by_name, causes_of, label_of
+from shell.needs import Needs, items_of
+from shell.ordering import Order, Ordering
 from shell.protocol import words_of
 from shell.race_advice import kinds_of
-from shell.session import CHANGES, Session, is_step
+from shell.session import TAKES_BACK, Done, Session, is_step
+from shell.source import Source
 
-# Without causes the needs of each step are asked for whole, which soon takes long.
-MOST_WHOLE = 500
-TAKES_BACK = ("undo", "roll", "rolltask", "rollcell", "rollprint")
+# Of longer sessions the needs of each step are worked out from the lines of the history, since `causes` takes one reply each.
+MOST_ASKED = 2000
+# Of sessions with more tasks the page has no races: `races` takes time with the square of them.
+MOST_RACING = 4000
+# Who can step, and who waits for whom, is asked at each moment of a session with so few, and else at the end of it.
+MOST_LOOKS = 2000
 SHOWN_LINES = 60
 
 
+@dataclass
+class ToldStep:
+    """A step, when it was in the history, what it needed, and its race: the earlier step, over what, and whether apart."""
+
+    name: str
+    did: str
+    line: int | None
+    born: int
+    died: int | None = None
+    causes: list[tuple[str, int]] | None = None
+    race: tuple[int, str, bool] | None = None
+
+    def row(self) -> list[object]:
+        """As the page takes it."""
+        return [self.name, self.did, self.line, self.born, self.died, self.causes, self.race]
+
+
+@dataclass
+class ToldTask:
+    """A task: by which step it was generated, when it was there, and what it did from which moment on."""
+
+    task: Task
+    index: int
+    step: int | None
+    born: int
+    died: int | None = None
+    states: list[list[Any]] = field(default_factory=list)
+    before: list[Any] = field(default_factory=list)
+    apart: list[Any] = field(default_factory=list)
+
+    def row(self) -> list[object]:
+        """As the page takes it."""
+        return [self.task.name, self.task.body, self.step, self.born, self.died, self.states, self.before, self.apart]
+
+
+class Cells:
+    """What the cells held at each moment, by the stores of the history."""
+
+    def __init__(self, source: Source) -> None:
+        self.first = {words[1]: words[2] for words in map(words_of, source.lines) if words[:1] == ["cell"] and len(words) == 3}
+        self.first = {str(int(cell)): str(int(number)) for cell, number in self.first.items()}
+        self.stores: dict[str, dict[str, str]] = {}
+        self.told: dict[str, list[list[Any]]] = {cell: [[0, number]] for cell, number in self.first.items() if number != "0"}
+
+    def note(self, cell: str, moment: int) -> None:
+        """A cell may have changed."""
+        stores = self.stores.get(cell)
+        number = stores[next(reversed(stores))] if stores else self.first.get(cell, "0")
+        told = self.told.setdefault(cell, [])
+        if (told[-1][1] if told else "0") != number:
+            told.append([moment, number])
+
+    def took(self, name: str, words: list[str], moment: int) -> None:
+        """A store that was taken."""
+        self.stores.setdefault(words[1], {})[name] = words[2]
+        self.note(words[1], moment)
+
+    def lost(self, name: str, words: list[str]) -> str:
+        """A store that was taken back; its cell."""
+        del self.stores[words[1]][name]
+        return words[1]
+
+
 class Story:
-    """Plays commands again, and notes when each step, task, number and line of output came and went.
+    """Plays commands again, and notes when each step, task, number and line of output came and went."""
 
-    The moment 0 is in front of the first command, and the moment K after the Kth. What came at a moment `born` and
-    went at `died` stood at the moments from the one up to the other, the other not among them.
-    """
-
-    def __init__(self, session, stop=lambda: False, progress=lambda *told: None):
+    def __init__(self, session: Session, stop: Callable[[], bool] = lambda: False, progress: Progress = lambda *told: None) -> None:
         # A second program does it all again, so the one that is used stays as it is.
         self.session = Session(session.path, session.source, session.limit, session.options)
         self.facts = Facts(self.session, stop)
-        self.progress, self.total = progress, sum(len(done.again) or 1 for done in session.log)
-        self.commands = []
-        self.steps, self.standing, self.fresh = [], {}, []
-        self.tasks, self.there, self.spawner = [], {}, {}
-        self.cells, self.shown, self.needed = {}, {}, {}
-        self.out, self.printed = [], []
-        self.hints = {}
-        self.has_causes = self.has_races = True
+        self.progress = progress
+        self.moment = 0
+        self.total = max(0, session.entries - 1)
+        self.looks = self.total <= MOST_LOOKS
+        self.commands: list[list[Any]] = []
+        self.steps: list[ToldStep] = []
+        self.standing: dict[str, int] = {}
+        self.tasks: list[ToldTask] = []
+        self.there: dict[str, ToldTask] = {}
+        self.cells = Cells(session.source)
+        self.prints: dict[str, str] = {}
+        self.out: list[list[Any]] = []
+        self.hints: dict[str, str] = {}
+        self.fresh: list[str] = []
+        self.ordering = Ordering()
+        self.shows_causes = self.shows_races = True
         try:
-            self.note(0)
-            for at, done in enumerate(session.log, 1):
-                self.play(at, done)
-            self.explain_steps()
+            self.begin_task("0", "main", None, [])
+            self.look()
+            for done in session.log:
+                self.play(done)
+            self.explain()
+            self.look(True)
         finally:
             self.session.close()
 
-    def play(self, at, done):
-        """One command, and what changed by it."""
-        command = done.command
-        word = (words_of(command) or [""])[0]
-        if word in TAKES_BACK:
-            self.explain_steps()
-        reply = self.session.repeat(done)
-        self.commands.append([command, reply[:SHOWN_LINES] + ([f"... {len(reply) - SHOWN_LINES} more lines"] if len(reply) > SHOWN_LINES else [])])
-        if word in ("step", "run", "go"):
-            for line in filter(is_step, reply):
-                self.took(at, line)
-        elif reply[0].split(" ")[0] == CHANGES.get(word) and word in TAKES_BACK:
-            gone = reply[0].split(" ")[1:] if word == "undo" else [line.split(" ")[0] for line in reply[1:]]
-            for name in gone:
-                self.steps[self.standing.pop(name)]["died"] = at
-        else:
-            return
-        self.note(at)
+    # The commands
 
-    def took(self, at, line):
+    def play(self, done: Done) -> None:
+        """One command, step by step."""
+        word = (words_of(done.command) or [""])[0]
+        if word in TAKES_BACK:
+            self.explain()
+        reply: list[str] = []
+        for lines in self.pieces(done):
+            reply += lines[:max(0, SHOWN_LINES + 1 - len(reply))]
+            if word in TAKES_BACK and lines[0].split(" ")[0] == TAKES_BACK[word]:
+                self.lost(self.session.taken_back[-1])
+            elif word in ("step", "run", "go"):
+                for line in filter(is_step, lines):
+                    self.took(line)
+        shown = reply[:SHOWN_LINES] + (["... more lines"] if len(reply) > SHOWN_LINES else [])
+        self.commands.append([done.command, shown, self.moment])
+
+    def pieces(self, done: Done) -> Iterator[list[str]]:
+        """The reply to a command; that of a run in pieces of a step, where each moment is looked at."""
+        words = words_of(done.command)
+        if self.looks and done.ended is None and words[:1] in (["run"], ["go"]) and done.again:
+            count, prefix = int(done.again[0].split(" ")[-1]), " ".join(words[:-1])
+            ended = ""
+            for _ in range(count):
+                line, ended = self.session.do(f"{prefix} 1")
+                yield [line]
+            if not ended.endswith(" break"):
+                # With what is left of its steps it ends as the whole did.
+                ended = self.session.do(f"{prefix} {int(words[-1]) - count}")[-1]
+            yield [f"ran {count} {ended.split(' ')[2]}"]
+        elif self.looks and done.ended is not None:
+            for command in done.again:
+                yield self.session.do(command)
+            yield [done.ended]
+        else:
+            yield self.session.repeat(done)
+
+    def took(self, line: str) -> None:
         """A step that was taken."""
         name, _, did = line.partition(" ")
+        words, task = did.split(" "), name.split("#")[0]
+        self.moment += 1
+        self.progress(self.moment, "steps", self.total)
         self.standing[name] = len(self.steps)
         self.fresh.append(name)
-        if did.startswith("spawn "):
-            self.spawner[did.split(" ")[1]] = len(self.steps)
-        self.steps.append({"name": name, "did": did, "line": self.session.places.line_of(name), "born": at, "died": None,
-                           "causes": None, "race": None})
+        self.steps.append(ToldStep(name, did, self.session.places.line_of(name), self.moment))
+        if words[0] == "store":
+            self.cells.took(name, words, self.moment)
+        elif words[0] == "print":
+            self.out.append([self.moment, len(self.prints), words[1:]])
+            self.prints[name] = words[1]
+        elif words[0] == "spawn":
+            self.begin_task(words[1], words[2], len(self.steps) - 1, items_of(words))
+        self.note_state(task, {"end": "ended", "fault": "faulted"}.get(words[0], "running"))
+        self.look()
 
-    def note(self, at):
-        """What the views show now, where it has changed."""
-        self.note_tasks(at)
-        cells = dict(line.split(" ") for line in self.facts.ask("cells"))
-        for cell in cells.keys() | self.shown.keys():
-            if cells.get(cell, "0") != self.shown.get(cell, "0"):
-                self.cells.setdefault(cell, []).append([at, cells.get(cell, "0")])
-        self.shown = cells
-        printed = self.facts.ask("out")
-        same = next((place for place, pair in enumerate(zip(printed, self.printed)) if pair[0] != pair[1]),
-                    min(len(printed), len(self.printed)))
-        if (same, same) != (len(printed), len(self.printed)):
-            self.out.append([at, same, printed[same:]])
-        self.printed = printed
+    def lost(self, lines: list[str]) -> None:
+        """Steps that were taken back together."""
+        self.moment += 1
+        changed: set[str] = set()
+        printed = list(self.prints)
+        for line in reversed(lines):
+            name, _, did = line.partition(" ")
+            words, (task, _, number) = did.split(" "), name.partition("#")
+            self.steps[self.standing.pop(name)].died = self.moment
+            if words[0] == "store":
+                changed.add(self.cells.lost(name, words))
+            elif words[0] == "print":
+                del self.prints[name]
+            elif words[0] == "spawn":
+                self.there.pop(words[1]).died = self.moment
+                self.ordering.remove(task, words[1])
+            if task in self.there:
+                self.note_state(task, "running" if number != "1" else "pending")
+        for cell in changed:
+            self.cells.note(cell, self.moment)
+        if len(printed) != len(self.prints):
+            same = next((at for at, pair in enumerate(zip(printed, self.prints)) if pair[0] != pair[1]), len(self.prints))
+            self.out.append([self.moment, same, list(self.prints.values())[same:]])
+        self.look()
 
-    def note_tasks(self, at):
-        """Tasks that came and went, and what each does."""
-        now = self.facts.task_states()
-        for name in [name for name in self.there if name not in now]:
-            self.there.pop(name)["died"] = at
-        come = [task for name, task in now.items() if name not in self.there]
-        # Its order doesn't change while a task is there.
-        self.facts.fill_in(come)
-        for task in come:
-            self.there[task.name] = {"name": task.name, "body": task.body, "born": at, "died": None, "states": [], "task": task,
-                                     "step": self.spawner.get(task.name), "index": len(self.tasks)}
-            self.tasks.append(self.there[task.name])
-        for name in now:
-            task, state = now[name], self.there[name]["states"]
-            told = [task.state, task.line, "can step" if task.ready else " ".join(task.waits) if task.waits else ""]
-            if not state or state[-1][1:] != told:
-                state.append([at, *told])
+    # The tasks
 
-    def explain_steps(self):
-        """The causes and races of the steps that stand; they don't change while a step stands."""
+    def begin_task(self, name: str, body: str, step: int | None, items: list[str]) -> None:
+        """A task that was generated; its order doesn't change while it is there."""
+        parent = name.rpartition(".")[0]
+        order = self.ordering.add(parent, name, items) if parent else Order()
+        told = ToldTask(Task(name, body, "pending", None, order.before, order.apart, items), len(self.tasks), step, self.moment)
+        told.states.append([self.moment, "pending", None, ""])
+        self.there[name] = told
+        self.tasks.append(told)
+
+    def note_state(self, name: str, state: str) -> None:
+        """What a task does now."""
+        line = self.session.places.position.get(name) if state == "running" else None
+        told = [self.moment, state, line, ""]
+        states = self.there[name].states
+        if states[-1][0] == self.moment:
+            states[-1] = told
+        elif states[-1][1:3] != told[1:3]:
+            states.append(told)
+
+    def look(self, last: bool = False) -> None:
+        """Who can step, and who waits for whom."""
+        if not (self.looks or last):
+            return
+        why = {name: "can step" for name in self.facts.lines("ready")}
+        why.update((name, f"{word} {other}") for name, word, other in (line.split(" ") for line in self.facts.lines("waits")))
+        for name, told in self.there.items():
+            newest = told.states[-1]
+            if newest[3] != why.get(name, ""):
+                if newest[0] != self.moment:
+                    newest = [self.moment, *newest[1:]]
+                    told.states.append(newest)
+                newest[3] = why.get(name, "")
+
+    def orders(self) -> None:
+        """For each task the dependences that no other implies, and its exclusions, with their clauses."""
+        named: dict[str, list[ToldTask]] = {}
+        reach: list[int] = []
+        for told in self.tasks:
+            def meets(name: str, at: int = told.born) -> ToldTask:
+                """The task of this name that is there at the same time."""
+                return next(other for other in reversed(named[name]) if other.born <= at and (other.died is None or other.died > at))
+            named.setdefault(told.task.name, []).append(told)
+            near = [meets(name) for name in told.task.before]
+            # All that come before through others, as bits; earlier siblings are done first.
+            through = 0
+            for other in near:
+                through |= reach[other.index]
+            told.before = [[other.index, label_of(told.task, other.task, "after")] for other in near if not through >> other.index & 1]
+            told.apart = [[meets(name).index, label_of(told.task, meets(name).task, "apart")]
+                          for name in told.task.apart if by_name(name) < by_name(told.task.name)]
+            reach.append(through | sum(1 << other.index for other in near))
+
+    # Why
+
+    def explain(self) -> None:
+        """The needs and races of the steps that are new; they don't change while a step is in the history."""
         if not self.fresh:
             return
-        races = self.facts.races() if self.has_races else None
-        self.has_races = races is not None
+        if self.shows_races and len(self.there) <= MOST_RACING:
+            self.note_races(self.facts.races())
+        if self.shows_causes and self.facts.causes(self.fresh[0]) is None:
+            self.shows_causes = False
+        if self.shows_causes and self.total <= MOST_ASKED:
+            asked = self.facts.ask_all([f"causes {name}" for name in self.fresh])
+            for name, lines in zip(self.fresh, asked):
+                self.steps[self.standing[name]].causes = [(kind, self.standing[early]) for kind, early in causes_of(lines or ())]
+        else:
+            self.work_out_needs()
+        self.fresh = []
+
+    def work_out_needs(self) -> None:
+        """The needs of the new steps from the lines of the history, without the program's help."""
+        places, fresh, needs = list(self.standing.values()), set(self.fresh), Needs()
+        for name, at in self.standing.items():
+            found = needs.direct(name, self.steps[at].did)
+            if name in fresh:
+                self.steps[at].causes = [(kind, places[place]) for kind, place in found]
+
+    def note_races(self, races: list[Race] | None) -> None:
+        """The races of the history, and what would order them."""
+        self.shows_races = races is not None
         for kind in kinds_of(self.session, races or ()):
             key = "|".join(str(part).lower() if isinstance(part, bool) else str(part)
                            for part in (*kind.lines, kind.example.over == "print", kind.example.apart))
             self.hints[key] = kind.advice().replace("`", "")
         for race in races or ():
-            self.steps[self.standing[race.second]]["race"] = [self.standing[race.first], race.over, race.apart]
-        if self.has_causes and self.facts.causes(self.fresh[0]) is None:
-            self.has_causes = False
-        if not self.has_causes:
-            found = {name: self.whole_needs(name) for name in self.fresh}
-        else:
-            asked = self.facts.ask_all([f"causes {name}" for name in self.fresh])
-            found = {name: [[kind, self.standing[early]] for kind, early in causes_of(lines)] for name, lines in zip(self.fresh, asked)}
-        for name in self.fresh:
-            self.steps[self.standing[name]]["causes"] = found[name]
-        self.fresh = []
+            self.steps[self.standing[race.second]].race = (self.standing[race.first], race.over, race.apart)
 
-    def whole_needs(self, name):
-        """The immediate needs of a step by `why`, for a program without `causes`: pairs of no kind and a place."""
-        if len(self.steps) > MOST_WHOLE:
-            return None
-        # Newest first: what a need needs is no immediate need. Sets of steps are bits of numbers.
-        found, covered, needed = [], 0, 0
-        for early in sorted((self.standing[early] for early in self.facts.needs(name)), reverse=True):
-            needed |= 1 << early
-            if not covered >> early & 1:
-                found.append(["", early])
-                covered |= self.needed[early]
-        self.needed[self.standing[name]] = needed
-        return found[::-1]
-
-    def orders(self):
-        """For each task the dependences that no other implies, and its exclusions, with their clauses."""
-        named, reach = {}, []
-        for told in self.tasks:
-            def meets(name, at=told["born"]):
-                """The task of this name that is there at the same time."""
-                return next(other for other in named[name] if other["born"] <= at and (other["died"] is None or other["died"] > at))
-            named.setdefault(told["name"], []).append(told)
-            near = [meets(name) for name in told["task"].before]
-            # All that come before through others, as bits; earlier siblings are done first.
-            through = 0
-            for other in near:
-                through |= reach[other["index"]]
-            told["before"] = [[other["index"], label_of(told["task"], other["task"], "after")]
-                              for other in near if not through >> other["index"] & 1]
-            told["apart"] = [[meets(name)["index"], label_of(told["task"], meets(name)["task"], "apart")]
-                             for name in told["task"].apart if by_name(name) < by_name(told["name"])]
-            reach.append(through | sum(1 << other["index"] for other in near))
-
-    def data(self):
+    def data(self) -> dict[str, object]:
         """All of it, as the page takes it."""
         self.orders()
-        left_out = [text for there, text in (
-            (self.has_causes, "causes: the program shows none, so needs have no kinds"),
-            (self.has_races, "races: the program shows none")) if not there]
-        if any(step["causes"] is None for step in self.steps):
-            left_out.append(f"needs: without causes only sessions up to {MOST_WHOLE} steps have them")
+        left_out = [] if self.shows_races else ["races: the program shows none"]
+        if len(self.there) > MOST_RACING:
+            left_out.append(f"races: there are more than {MOST_RACING} tasks; `races` in the shell shows them")
+        if not self.shows_causes or self.total > MOST_ASKED:
+            left_out.append("kinds: needs that others imply are drawn too")
+        if not self.looks:
+            left_out.append("who can step, and who waits for whom, but at the end")
         source = self.session.source
-        return {
-            "title": source.name, "source": source.lines, "commands": self.commands, "leftOut": left_out,
-            "steps": [[step["name"], step["did"], step["line"], step["born"], step["died"], step["causes"], step["race"]] for step in self.steps],
-            "tasks": [[task["name"], task["body"], task["step"], task["born"], task["died"], task["states"], task["before"], task["apart"]]
-                      for task in self.tasks],
-            "cells": self.cells, "out": self.out, "hints": self.hints}
+        return {"title": source.name, "source": source.lines, "commands": self.commands, "moments": self.moment, "leftOut": left_out,
+                "steps": [step.row() for step in self.steps], "tasks": [task.row() for task in self.tasks],
+                "cells": self.cells.told, "out": self.out, "hints": self.hints}

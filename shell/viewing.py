@@ -18,7 +18,8 @@ class Viewing(Group):
 
     def do_races(self, words: Words) -> None:
         """The races by pairs of lines, each with what would order the two steps."""
-        reply = self.session.do(" ".join(["races", *words]))
+        with self.console.waiting(f"races of {counted(len(self.session.standing), 'step')}"):
+            reply = self.session.do(" ".join(["races", *words]))
         if self.console.exact or not reply[0].startswith("races "):
             self.shell.show(reply)
             self.shell.explain("races", reply[0])

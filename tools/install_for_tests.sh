@@ -1,5 +1,5 @@
 #!/usr/bin/env bash
-# Installs by apt what tests want and this machine lacks: Chromium, Graphviz, groff, Emacs with dap-mode, Vim, zsh, clang and its OpenMP runtime.
+# Installs by apt what tests want and this machine lacks: Chromium, Graphviz, groff, Emacs with dap-mode, the schema of the debug protocol, Vim, zsh, clang and its OpenMP runtime.
 # It takes ten minutes at most. What can't be installed is told, and the tests that want it are left out.
 #   tools/install_for_tests.sh
 set -u
@@ -29,6 +29,7 @@ lacking=()
 command -v dot > /dev/null || lacking+=(graphviz)
 command -v groff > /dev/null || lacking+=(groff)
 command -v emacs > /dev/null || lacking+=(emacs-nox elpa-dap-mode)
+[ -d /usr/lib/python3/dist-packages/_pydevd_bundle ] || lacking+=(python3-pydevd)
 command -v vim > /dev/null || lacking+=(vim)
 command -v zsh > /dev/null || lacking+=(zsh)
 command -v clang-14 > /dev/null || command -v clang > /dev/null || lacking+=(clang-14)

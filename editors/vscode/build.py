@@ -60,8 +60,8 @@ def build(folder: str) -> str:
         add("extension.vsixmanifest", manifest_of(package).encode())
         add("[Content_Types].xml", TYPES.encode())
         for name, source in [(f"extension/{name}", os.path.join(HERE, name)) for name in FILES] + [("extension/LICENSE.txt", os.path.join(TOP, "LICENSE"))]:
-            with open(source, "rb") as file:
-                add(name, file.read())
+            with open(source, "rb") as part:
+                add(name, part.read())
     return path
 
 

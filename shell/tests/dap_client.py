@@ -16,6 +16,7 @@ class Client:
     def __init__(self, test, streams=None):
         self.test = test
         self.events = []
+        self.messages = []
         self.sequence = 0
         self.child = None
         self.said = ""
@@ -51,6 +52,7 @@ class Client:
         message = json.loads(self.source.read(length))
         self.test.assertEqual(message["seq"], self.sequence_of_server() + 1)
         self._seen = message["seq"]
+        self.messages.append(message)
         return message
 
     def sequence_of_server(self):

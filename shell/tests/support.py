@@ -41,12 +41,13 @@ def write_file(test, text, name="loop.task"):
 
 
 def contrast(dark, light):
-    """How much lighter one colour is than the other, as the web's accessibility guidelines count it."""
+    """How much lighter one of two colours is than the other, as the web's accessibility guidelines count it."""
     def luminance(colour):
         parts = [int(colour[at:at + 2], 16) / 255 for at in (1, 3, 5)]
         red, green, blue = (part / 12.92 if part <= 0.03928 else ((part + 0.055) / 1.055) ** 2.4 for part in parts)
         return 0.2126 * red + 0.7152 * green + 0.0722 * blue
-    return (luminance(light) + 0.05) / (luminance(dark) + 0.05)
+    low, high = sorted((luminance(dark), luminance(light)))
+    return (high + 0.05) / (low + 0.05)
 
 
 class Terminal:

@@ -10,7 +10,7 @@ import xml.etree.ElementTree as tree
 
 from support import EXAMPLES, PROGRAM, TOP, Terminal, needs_program, write_file
 from shell.drawing import play_file
-from shell.graph import dot_of, graph_of, tree_of
+from shell.graph import dot_of, graph_of, tree_of, write_graph
 from shell.lanes import NO_CAUSES
 from test_lanes import walked
 from test_races import has_views
@@ -104,6 +104,45 @@ class GraphTest(unittest.TestCase):
         session = play_file(os.path.join(EXAMPLES, "exclusion.session"), PROGRAM)
         self.addCleanup(session.close)
         self.assertIn("not together\\ncell 0: mutexinoutset, mutexinoutset", dot_of(graph_of(session)))
+
+    def test_races_are_red(self):
+        session = play_file(os.path.join(EXAMPLES, "luck.session"), PROGRAM)
+        self.addCleanup(session.close)
+        session.do("run 99")
+        graph = graph_of(session)
+        wanted = {tuple(step.split("#")[0] for step in line.split(" ")[:2]) for line in session.view("races")[1:]}
+        self.assertTrue(wanted)
+        self.assertEqual(edges(dot_of(graph), "race"), wanted)
+        self.assertIn('class=race, dir=none, style=bold, color="#b00020"', dot_of(graph))
+        for first, _ in wanted:
+            self.assertTrue(any(line.strip().startswith(f"races with {first}, ") for line in tree_of(graph)))
+
+    def many(self, count):
+        """A run of so many tasks, each after one of eight."""
+        text = (f"cells 8\nbody main 0\n  while r1 < {count}\n    task writer r2 depend inout r2\n    let r1 r1 + 1\n    let r2 r2 + 1\n    if r2 == 8\n      let r2 0\n"
+                "    end\n  end\n  task reader\n  taskwait\nend\nbody writer 1\n  load r1 r0\n  store r0 r1\nend\nbody reader 0\n  load r0 0\nend\n---\nrun 1000000\n")
+        session = play_file(write_file(self, text, "many.session"), PROGRAM)
+        self.addCleanup(session.close)
+        return session
+
+    @needs_dot
+    def test_a_thousand_tasks_are_clusters(self):
+        session = self.many(1000)
+        path = write_file(self, "", "many.svg")
+        before = os.times()
+        told = write_graph(path, graph_of(session))
+        taken = sum(os.times()[:4]) - sum(before[:4])
+        self.assertEqual(told, f"drawn to {path}, 1,002 tasks")
+        self.assertLess(taken, 5)
+        dot = dot_of(graph_of(session))
+        self.assertIn("1000 x writer\\nof line 4\\n1000 ended\\n992 ordered among them", dot)
+        told = re.findall(r'^  (c\d) -> (c\d) \[class=(\w+).*label="(\d+)"\]', dot, re.M)
+        self.assertEqual(sorted(told), [("c0", "c1", "spawn", "1000"), ("c0", "c2", "spawn", "1"), ("c1", "c2", "race", "1")])
+
+    def test_few_tasks_are_drawn_one_by_one(self):
+        dot = dot_of(graph_of(self.many(50)))
+        self.assertEqual(len(boxes(dot)), 52)
+        self.assertNotIn("among them", dot)
 
     @needs_dot
     def test_graphviz_draws_it(self):

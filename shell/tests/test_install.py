@@ -22,7 +22,7 @@ def completed(words, folder=TOP):
 
 class Bash(unittest.TestCase):
     def test_options(self):
-        self.assertEqual(completed(["./run", "--"]), ["--check", "--help", "--json", "--limit", "--plain", "--prove", "--version", "--workers"])
+        self.assertEqual(completed(["./run", "--"]), ["--check", "--help", "--json", "--limit", "--plain", "--prove", "--serve", "--version", "--workers"])
         self.assertEqual(completed(["./run", "--limit", "1"]), ["1000", "100000", "1000000"])
         self.assertEqual(completed(["./run", "--workers", "6"]), ["64"])
         self.assertEqual(completed(["taskback", "--v"]), ["--version"])

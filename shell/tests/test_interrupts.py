@@ -94,6 +94,25 @@ class InterruptTest(Stalling):
             self.assertEqual(shell.ask(command)[0].split(" ")[0],
                              {"roll": "rolled", "finish": "0.1#2"}.get(command.split(" ")[0], command.split(" ")[0]))
 
+    def test_a_single_reply_is_timed_and_ends_by_ctrl_c(self):
+        program, told = self.stalling("races")
+        shell = self.open(program, RACE)
+        shell.ask("run 99")
+        shell.send("races\n")
+        self.assertRegex(shell.read_until(" s; Ctrl-C ends it"), r"races of 17 steps: \d+ s")
+        self.press(shell, TOLD)
+        self.assertEqual(shell.ask("hist")[0], "hist 17")
+
+    def test_a_second_program_that_is_cut_leaves_the_session(self):
+        # `flip` runs both orders to their ends in programs beside.
+        program, told = self.stalling("run 200000")
+        shell = self.open(program, RACE)
+        shell.ask("run 99")
+        shell.send("flip 1\n")
+        self.wait_for(told)
+        self.press(shell, "stopped by Ctrl-C; the session is as it was")
+        self.assertEqual(shell.ask("hist")[0], "hist 17")
+
     def test_the_second_cuts_a_run(self):
         program, told = self.stalling("run 1000", 3)
         shell = self.open(program, "--limit", "1000000", write_file(self, LOOP))

@@ -8,7 +8,9 @@ import xml.etree.ElementTree as tree
 from programs import random_program
 from support import EXAMPLES, PROGRAM, Terminal, contrast, example, needs_program, write_file
 from shell import lanes_svg
+from shell.labels import Labels, Rect
 from shell.lanes import NO_CAUSES, NO_RACES, lanes_of, text_rows
+from shell.lanes_pages import parts_of, write_lanes
 from shell.lanes_svg import svg_of
 from shell.session import Session
 from shell.source import Source
@@ -104,6 +106,51 @@ class LanesTest(unittest.TestCase):
         self.assertEqual(shell.ask("lanes 0#99"), ["step 0#99 isn't in the history"])
         self.assertEqual(shell.ask("lanes a b"), ["lanes [-f] [T#K] [FILE], for example: lanes 0.1#4"])
         self.assertEqual(shell.ask("lanes /no/file"), ["can't write /no/file: No such file or directory"])
+
+    def test_labels_lie_on_nothing(self):
+        placed = 0
+        for seed in range(25):
+            session, _ = walked(self, seed)
+            drawing = lanes_svg.Drawing(lanes_of(session))
+            curves = [drawing.curve(early, late, 0, kind) for early, late, kind in drawing.lanes.arrows()]
+            words = [drawing.words_at(step) for step in drawing.lanes.steps]
+            labels = Labels(curves, words)
+            found = [rect for curve in curves if (rect := labels.place(curve))]
+            points = [curve.at(at / 300) for curve in curves for at in range(301)]
+            for at, rect in enumerate(found):
+                self.assertFalse(any(rect.meets(other) for other in words + found[:at]))
+                inner = Rect(rect.x + 3, rect.y + 2, rect.wide - 6, rect.high - 4)
+                self.assertFalse(any(inner.holds(point) for point in points))
+            placed += len(found)
+        self.assertGreater(placed, 30)
+
+    def test_many_tasks_are_pages_with_an_overview(self):
+        text = "cells 1\nbody main 0\n  while r0 < 299\n    task t depend inout 0\n    let r0 r0 + 1\n  end\nend\nbody t 0\n  load r1 0\n  store 0 r1\nend\n"
+        session = Session(PROGRAM, Source(text, "many.task"))
+        self.addCleanup(session.close)
+        session.do("run 9999")
+        path = write_file(self, "", "many.svg")
+        lanes = lanes_of(session)
+        self.assertTrue(write_lanes(path, lanes).endswith("2,096 steps in 300 lanes: an overview of " + path.replace(".svg", "-1.svg") + " to many-6.svg, which have 50 lanes each"))
+        folder = os.path.dirname(path)
+        self.assertEqual(sorted(os.listdir(folder)), [f"many-{number}.svg" for number in range(1, 7)] + ["many.svg"])
+        root = tree.parse(path).getroot()
+        self.assertEqual([link.get("href") for link in root.iter(SVG + "a")], [f"many-{number}.svg" for number in range(1, 7)])
+        self.assertEqual(len(drawn(tree.tostring(root, encoding="unicode"), "lane", "task")), 300)
+        seen = []
+        for number in range(1, 7):
+            with open(os.path.join(folder, f"many-{number}.svg"), encoding="utf-8") as file:
+                seen += [name for name, in drawn(file.read(), "step", "step")]
+        self.assertEqual(sorted(seen), sorted(step.name for step in lanes.steps))
+        # A slide has fifty lanes on one page.
+        self.assertEqual(len(parts_of(lanes)[0].tasks), 50)
+
+    def test_bodies_have_colours(self):
+        session, _ = walked(self, 1)
+        lanes = lanes_of(session)
+        self.assertEqual(len(set(lanes_svg.Drawing(lanes).colour.values())), len({task.body for task in lanes.tasks}))
+        for colour in lanes_svg.BODIES:
+            self.assertGreaterEqual(contrast(colour, "#ffffff"), 4.5)
 
     def test_names_are_escaped(self):
         session = Session(PROGRAM, Source(example("race.task"), "<a&b>.task"))

@@ -8,8 +8,10 @@ import shutil
 import subprocess
 import tempfile
 import unittest
+import unittest.mock
 
 from support import EXAMPLES, PROGRAM, TOP, Terminal, contrast, example, needs_program, write_file
+from shell import story
 from shell.commands import Shell
 from shell.console import Console
 from shell.drawing import play_file
@@ -24,11 +26,11 @@ from test_races import has_views
 BROWSER = shutil.which("chromium") or shutil.which("chromium-browser") or shutil.which("google-chrome")
 
 
-def shown_by_browser(address, size="1400,4000"):
+def shown_by_browser(address, size="1400,4000", *more):
     """The document of a page once the browser has shown it and run its scripts."""
     with tempfile.TemporaryDirectory() as home:
         return subprocess.run([BROWSER, "--headless", "--no-sandbox", "--disable-gpu", "--disable-dev-shm-usage", f"--user-data-dir={home}",
-                               f"--window-size={size}", "--dump-dom", address], capture_output=True, text=True, timeout=600, check=True).stdout
+                               f"--window-size={size}", *more, "--dump-dom", address], capture_output=True, text=True, timeout=600, check=True).stdout
 
 
 def why_no_browser():
@@ -55,7 +57,7 @@ const meets = (one, two) => [["x", "width"], ["y", "height"]].every(([from, size
 const press = (key) => find("lanes").dispatchEvent(new KeyboardEvent("keydown", { key, bubbles: true }));
 """
 EACH_MOMENT = """
-return [...Array(Number(find("at").max) + 1).keys()].map((at) => {
+return data.commands.map((command) => command[2]).map((at) => {
   move(at);
   const shown = { where: find("where").textContent, steps: names(".step"), cells: texts("#cells li"), out: texts("#out li"),
     stand: texts("#program li").map((text) => (text.split("◀ ")[1] || "")), boxes: [...document.querySelectorAll("#graph [data-task]")].map((box) => box.dataset.task),
@@ -106,7 +108,7 @@ def page_file(test, session):
     return write_file(test, page_of(session)[0], "page.html")
 
 
-def in_browser(path, script, size="1400,4000"):
+def in_browser(path, script, size="1400,4000", *more):
     """What a script that is added to the page returns, and the errors that came up."""
     with open(path, encoding="utf-8") as file:
         page = file.read()
@@ -115,7 +117,7 @@ def in_browser(path, script, size="1400,4000"):
     head, tail = page.split("<head>")
     with open(path + ".tried.html", "w", encoding="utf-8") as file:
         file.write(head + "<head>" + WATCH + tail.replace("</body>", told))
-    text = re.search(r"<body>(.*)</body>", shown_by_browser("file://" + path + ".tried.html", size), re.S)[1]
+    text = re.search(r"<body>(.*)</body>", shown_by_browser("file://" + path + ".tried.html", size, *more), re.S)[1]
     for mark, sign in (("&lt;", "<"), ("&gt;", ">"), ("&amp;", "&")):
         text = text.replace(mark, sign)
     return json.loads(text)
@@ -165,6 +167,34 @@ class DataTest(unittest.TestCase):
         page_of(session)
         self.assertEqual((session.view("hist"), session.log), before)
 
+    def test_needs_from_the_lines_are_those_of_the_program(self):
+        with unittest.mock.patch.multiple(story, MOST_ASKED=0, MOST_LOOKS=0):
+            for seed in range(12):
+                session, _ = walked(self, seed)
+                told = self.data(session)["steps"]
+                there = {step[0]: at for at, step in enumerate(told) if step[4] is None}
+                self.assertEqual(list(there), list(session.standing))
+                for name, at in there.items():
+                    found, left = set(), [at]
+                    while left:
+                        fresh = [early for _, early in told[left.pop()][5] if early not in found]
+                        found.update(fresh)
+                        left += fresh
+                    self.assertEqual({told[early][0] for early in found}, {line.split(" ")[0] for line in session.view(f"why {name}")[1:]}, (seed, name))
+
+    def test_thirty_thousand_steps(self):
+        text = "cells 8\nbody main 0\n  while r1 < 300\n    task writer r2 depend inout r2\n    let r1 r1 + 1\n    let r2 r2 + 1\n    if r2 == 8\n      let r2 0\n" \
+               "    end\n  end\n  taskwait\nend\nbody writer 1\n  while r3 < 19\n    load r1 r0\n    let r1 r1 + 1\n    store r0 r1\n    let r3 r3 + 1\n  end\nend\n"
+        session = Session(PROGRAM, Source(text, "big.task"))
+        self.addCleanup(session.close)
+        session.do("run 1000000")
+        self.assertGreater(len(session.standing), 30000)
+        before, told = sum(os.times()[:4]), []
+        page_of(session, progress=lambda done, what, total: told.append((done, total)))
+        # Of the processor; 100,000 steps in 20 seconds allow 6 for these.
+        self.assertLess(sum(os.times()[:4]) - before, 6)
+        self.assertEqual(told[-1], (len(session.standing), len(session.standing)))
+
     def test_command(self):
         shell = Terminal(self, [os.path.join(EXAMPLES, "race.task")], NO_COLOR="1")
         shell.read_until("(taskback) ")
@@ -189,21 +219,27 @@ class DataTest(unittest.TestCase):
 
 
 class ContrastTest(unittest.TestCase):
-    def test_words_can_be_read_on_each_ground(self):
-        with open(os.path.join(TOP, "shell", "page.css"), encoding="utf-8") as file:
-            style = file.read()
-        colour = dict(re.findall(r"--(\w+): (#\w+);", style))
-        for ground in ("paper", "pale", "chosen", "needs", "needers"):
-            self.assertGreaterEqual(contrast(colour["ink"], colour[ground]), 4.5)
-        for ground in ("#e4e4e4", "#ffd6d6"):
-            self.assertGreaterEqual(contrast(colour["ink"], ground), 4.5)
-        for word in ("race", "blue", "green", "faint"):
+    def check(self, style, colour):
+        """Words can be read on each ground, and lines that carry a meaning can be seen."""
+        for ground in ("paper", "pale", "chosen", "needs", "needers", "ended", "faulted"):
+            self.assertGreaterEqual(contrast(colour["ink"], colour[ground]), 4.5, ground)
+        for word in ("race", "blue", "green", "faint", "brown", "violet", *(f"body{number}" for number in range(8))):
             self.assertGreaterEqual(contrast(colour[word], colour["paper"]), 4.5, word)
-        # Lines that carry a meaning, and frames, need less.
+        # Lines and frames need less.
         for stroke in re.findall(r"stroke: (#\w+|var\(--\w+\))", style):
             if stroke != "var(--paper)":
                 self.assertGreaterEqual(contrast(colour.get(stroke[6:-1], stroke), colour["paper"]), 3, stroke)
         self.assertGreaterEqual(contrast(colour["line"], colour["paper"]), 3)
+
+    def test_light_and_dark(self):
+        with open(os.path.join(TOP, "shell", "page", "page.css"), encoding="utf-8") as file:
+            style = file.read()
+        light, dark = (dict(re.findall(r"--(\w+): (#\w+);", line)) for line in style.split("\n")[:2])
+        self.assertEqual(light.keys(), dark.keys())
+        rules = "\n".join(style.split("\n")[2:])
+        self.check(rules, light)
+        self.check(rules, dark)
+        self.assertNotRegex(rules, "#[0-9a-f]{6}")
 
 
 @needs_program
@@ -215,11 +251,9 @@ class BrowserTest(unittest.TestCase):
         self.assertEqual(faults, [])
         again = Session(PROGRAM, session.source)
         self.addCleanup(again.close)
-        self.assertEqual(len(moments), len(session.log) + 1)
+        self.assertEqual(len(moments), len(session.log))
         for at, shown in enumerate(moments):
-            if at:
-                again.do(session.log[at - 1][0])
-                self.assertEqual(shown["where"], f"{at} of {len(session.log)}: {session.log[at - 1][0]}")
+            again.do(session.log[at][0])
             wanted = views_of(again)
             for key in ("steps", "boxes", "races"):
                 self.assertEqual(sorted(shown[key]) if key == "races" else shown[key], sorted(wanted[key]) if key == "races" else wanted[key], (at, key))
@@ -291,15 +325,14 @@ class BrowserTest(unittest.TestCase):
         faults, told = in_browser(page_file(self, session), """
           const told = [];
           for (const key of ["ArrowDown", "ArrowDown", "End", "ArrowUp", "Home", "Escape"]) { press(key); told.push(names(".step.chosen")[0] || null); }
-          find("back").click(); told.push(find("where").textContent.split(":")[0]);
-          find("on").click(); find("on").click(); told.push(find("where").textContent.split(":")[0]);
+          find("back").click(); told.push(find("where").textContent.split("  |")[0]);
+          find("on").click(); find("on").click(); told.push(find("where").textContent.split("  |")[0]);
           const button = document.querySelector("#race-list button");
           if (button) button.click();
           told.push(texts("#program li.race").map((text) => text.trim()), names(".step.chosen"));
           return told;""")
         self.assertEqual(faults, [])
-        last = len(session.log)
-        self.assertEqual(told[:8], ["0#1", "0#2", "0#7", "0#6", "0#1", None, f"{last - 1} of {last}", f"{last} of {last}"])
+        self.assertEqual(told[:8], ["0#1", "0#2", "0#7", "0#6", "0#1", None, "27 of 28: 0#6 print 3", "28 of 28: 0#7 end"])
         if has_views(self):
             self.assertEqual(told[8:], [["load r1 0", "store 0 r1"], ["0.2#2"]])
 
@@ -310,7 +343,7 @@ class BrowserTest(unittest.TestCase):
         faults, told = in_browser(page_file(self, session), """
           const scrolls = [...document.querySelectorAll("body *")].filter((part) => getComputedStyle(part).overflowY === "auto");
           const unreached = scrolls.filter((part) => part.tabIndex < 0 && !part.querySelector("button")).map((part) => part.id || part.className);
-          const named = (part) => part.ariaLabel || part.textContent.trim() || part.getAttribute("aria-labelledby");
+          const named = (part) => part.ariaLabel || part.textContent.trim() || part.getAttribute("aria-labelledby") || (part.closest("label") && part.closest("label").textContent.trim());
           const unnamed = [...document.querySelectorAll("button, input, [tabindex]")].filter((part) => !named(part)).map((part) => part.id);
           press("ArrowDown");
           const active = document.getElementById(find("lanes").getAttribute("aria-activedescendant"));

@@ -39,7 +39,7 @@ class PicturesTest(unittest.TestCase):
         self.assertTrue(self.run_script("graph.py", session)[0].startswith("digraph tasks {"))
         self.assertTrue(self.run_script("lanes.py", session)[0].startswith("  0 "))
         self.assertEqual(self.run_script("lanes.py", session, "0#99")[1:], ("step 0#99 isn't in the history\n", 2))
-        self.assertEqual(self.run_script("lanes.py", session, "0.1#4", path), ("", "", 0))
+        self.assertEqual(self.run_script("lanes.py", session, "0.1#4", path), (f"drawn to {path}, 17 steps in 3 lanes\n", "", 0))
         self.assertEqual(tree.parse(path).getroot().get("role"), "img")
         self.assertEqual(self.run_script("page.py", session, path)[0], f"written to {path}, 12 commands and 27 steps\n")
 

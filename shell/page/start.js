@@ -1,0 +1,2 @@
+listen();
+load(JSON.parse(find("data").textContent));
