@@ -1,5 +1,5 @@
 /* C++: tasks add to one vector.
-   expect: race all this memory */
+   expect: race all */
 #include <cstdio>
 #include <vector>
 

@@ -1,5 +1,5 @@
 /* C++: a function's static pointer is made by hand.
-   expect: race numbers memory table this _M_start _M_finish __first */
+   expect: race numbers memory table __first */
 #include <cstdio>
 #include <vector>
 

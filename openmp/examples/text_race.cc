@@ -1,5 +1,5 @@
 /* C++: two tasks append to one string.
-   expect: race text memory __c1 _M_string_length */
+   expect: race text */
 #include <cstdio>
 #include <string>
 

@@ -21,6 +21,7 @@ public:
     // No more is added; then `leads` answers.
     void finish();
     bool leads(u32 from, u32 to);
+    u32 parent(u32 node) const { return parents_[node]; }
 
 private:
     struct Label {

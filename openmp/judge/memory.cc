@@ -122,40 +122,42 @@ bool Memory::compare(const Now &now, Bucket &bucket) {
                   && run_.locks.are_in(now.locks, bucket.locks);
     if (!conflicts && (bucket.is_write || now.is_write))
         (bucket.is_atomic && now.is_atomic ? by_atomics : by_locks)++;
-    if (conflicts && !is_alike && bucket.passed != NONE && run_.is_before(bucket.passed, now.segment))
+    if (conflicts && !is_alike && bucket.passed != NONE && run_.is_node_before(bucket.passed, now.segment))
         return false;
     u32 seen = 0;
     bool is_passed = conflicts;
     for (u32 *link = &bucket.head; *link != NONE;) {
-        Touch &touch = touches_[*link];
+        u32 here = *link;
+        Touch touch = touches_[here];
         if (touch.segment == now.segment && is_alike && (touch.mask & now.mask) == now.mask)
             return true;
-        bool is_dropped = false;
         if (!conflicts && ++seen > FEW)
             return false;
-        if (touch.mask & now.mask && (conflicts || covers)) {
-            if (run_.is_before(touch.segment, now.segment)) {
-                is_dropped = covers && (touch.mask & ~now.mask) == 0;
-            } else {
-                is_passed = false;
-                if (conflicts)
-                    race(now, touch);
-            }
-        } else {
-            is_passed = false;
-        }
-        u32 here = *link;
-        if (is_dropped) {
-            *link = touches_[here].next;
+        bool meets = touch.mask & now.mask && (conflicts || covers);
+        bool is_ordered = meets && (run_.is_before(touch.segment, now.segment) || is_own(now, touch));
+        if (meets && !is_ordered && conflicts)
+            add_race(now, touch.at, touch.segment, run_.are_apart(touch.segment, now.segment), false);
+        is_passed = is_passed && is_ordered;
+        if (is_ordered && covers && (touch.mask & ~now.mask) == 0) {
+            *link = touch.next;
             touches_[here].next = free_touch_;
             free_touch_ = here;
         } else {
             link = &touches_[here].next;
         }
     }
-    if (is_passed)
-        bucket.passed = now.segment;
+    if (is_passed && bucket.head != NONE)
+        pass(now, bucket);
     return false;
+}
+
+// All of the bucket's touches come before this one: who comes after the same node needn't look at each again.
+void Memory::pass(const Now &now, Bucket &bucket) {
+    u32 node = run_.in_front_of(now.segment);
+    for (u32 at = bucket.head; at != NONE && node != NONE; at = touches_[at].next)
+        if (!run_.is_before_node(touches_[at].segment, node))
+            node = NONE;
+    bucket.passed = node != NONE ? node : run_.begin_of(now.segment);
 }
 
 void Memory::keep(const Now &now, u32 &place) {
@@ -257,11 +259,6 @@ bool Memory::is_own(const Now &now, const Touch &earlier) {
     if (is_one_thread && asked)
         by_thread_number++;
     return is_one_thread && asked;
-}
-
-void Memory::race(const Now &now, const Touch &earlier) {
-    if (!is_own(now, earlier))
-        add_race(now, earlier.at, earlier.segment, run_.are_apart(earlier.segment, now.segment), false);
 }
 
 // In a team of one thread: what all threads of a larger one would do, to memory that they share, each would do at once.

@@ -52,7 +52,7 @@ private:
     // The touches of a place of eight bytes that are alike: loads or stores, under the same locks, atomic or not.
     struct Bucket {
         u32 next, head;
-        u32 passed;      // a segment that all of these come before
+        u32 passed;      // a node that all of these come before
         u32 locks;
         bool is_write, is_atomic;
     };
@@ -73,7 +73,7 @@ private:
     void keep(const Now &now, u32 &place);
     void is_new(std::size_t at, const event &e);
     void clear(u64 address, u64 size);
-    void race(const Now &now, const Touch &earlier);
+    void pass(const Now &now, Bucket &bucket);
     bool is_own(const Now &now, const Touch &earlier);
     bool is_private(u32 part, u64 address) const;
     void look_for_copies(const Now &now);

@@ -61,6 +61,19 @@ void Report::write_fault(std::ostream &out) {
         << ", \"stamp\": " << fault.stamp << "},\n";
 }
 
+// Where the function was called that made the access, and where its caller.
+void Report::write_callers(std::ostream &out, u32 at) const {
+    out << "[";
+    if (run_.chain_of[at] != NONE) {
+        const event &e = run_.trace[run_.chain_of[at]];
+        const u64 places[CALLERS] = {static_cast<u32>(e.place), e.address & 0xffffffff, e.address >> 32,
+                                     e.value & 0xffffffff, e.value >> 32};
+        for (int i = 0; i < CALLERS && places[i] != 0; i++)
+            out << (i ? ", " : "") << places[i];
+    }
+    out << "]";
+}
+
 void Report::write_side(std::ostream &out, u32 at, u32 segment) {
     const event &e = run_.trace[at];
     u32 actor = run_.segments[segment].actor;
@@ -68,7 +81,10 @@ void Report::write_side(std::ostream &out, u32 at, u32 segment) {
     const char *done = e.kind == GROUP_CLOSE ? "writes" : e.mark & FREED ? "frees" : e.kind == WRITE ? "writes" : "reads";
     out << "{\"done\": \"" << done << "\", \"place\": " << e.place << ", \"actor\": " << actor << ", \"address\": " << e.address
         << ", \"unit\": " << (run_.segments[segment].flags & Segment::IS_UNIT ? "true" : "false")
-        << ", \"frame\": " << (e.mark & FRAME && e.kind == WRITE ? "true" : "false") << ", \"library\": " << (e.mark & LIBRARY && e.kind != GROUP_CLOSE ? "true" : "false") << "}";
+        << ", \"frame\": " << (e.mark & FRAME && e.kind == WRITE ? "true" : "false") << ", \"library\": " << (e.mark & LIBRARY && e.kind != GROUP_CLOSE ? "true" : "false")
+        << ", \"callers\": ";
+    write_callers(out, at);
+    out << "}";
 }
 
 void Report::write_races(std::ostream &out) {

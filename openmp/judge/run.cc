@@ -6,6 +6,7 @@ namespace judge {
 Run::Run(const Trace &of) : trace(of) {
     segment_of.assign(trace.size(), NONE);
     locks_of.assign(trace.size(), 0);
+    chain_of.assign(trace.size(), NONE);
     actors.emplace_back();
     actors[0].is_started = true;
     number_of_.push_back(0);
@@ -62,6 +63,10 @@ void Run::take(std::size_t at) {
     const event &e = trace[at];
     if (e.kind == READ || e.kind == WRITE)
         return access(at, e);
+    if (e.kind == CHAIN) {
+        state_of(e).callers = static_cast<u32>(at);
+        return;
+    }
     if (e.kind != START && e.kind != END && e.kind != ITEM && e.kind != IMPLICIT_BEGIN && e.kind != NOTE) {
         State &s = state_of(e);
         if (s.pending != NONE && e.kind != MEMORY && e.kind != COPY)
@@ -76,6 +81,7 @@ void Run::access(std::size_t at, const event &e) {
         return refuse("Undeferred", e.kind == READ ? "reads" : "writes", s, s.pending, e);
     segment_of[at] = s.segment;
     locks_of[at] = s.locks;
+    chain_of[at] = s.callers;
 }
 
 void Run::take_sync(std::size_t at, const event &e) {
@@ -175,16 +181,29 @@ void Run::finish() {
     graph_.finish();
 }
 
+u32 Run::begin_of(u32 segment) const {
+    const Segment &at = segments[segment];
+    return at.flags & Segment::IS_LIGHT ? phases[at.node].open : at.node;
+}
+
+u32 Run::in_front_of(u32 segment) const {
+    const Segment &at = segments[segment];
+    return at.flags & Segment::IS_LIGHT ? phases[at.node].open : graph_.parent(at.node);
+}
+
+bool Run::is_before_node(u32 segment, u32 node) {
+    const Segment &at = segments[segment];
+    u32 end = at.flags & Segment::IS_LIGHT ? phases[at.node].close : at.node;
+    return end != NONE && graph_.leads(end, node);
+}
+
 bool Run::is_before(u32 one, u32 other) {
     const Segment &a = segments[one], &b = segments[other];
     if (one == other)
         return true;
-    bool is_a_light = a.flags & Segment::IS_LIGHT, is_b_light = b.flags & Segment::IS_LIGHT;
-    if (is_a_light && is_b_light && a.node == b.node)
+    if (a.flags & b.flags & Segment::IS_LIGHT && a.node == b.node)
         return false;
-    u32 from = is_a_light ? phases[a.node].close : a.node;
-    u32 to = is_b_light ? phases[b.node].open : b.node;
-    return from != NONE && to != NONE && graph_.leads(from, to);
+    return is_before_node(one, begin_of(other));
 }
 
 u32 Run::home(u32 actor) const {

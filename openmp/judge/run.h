@@ -107,6 +107,7 @@ struct State {
     u32 chain = NONE;       // a thread's own segment while it is in a unit
     u32 locks = 0;
     u32 phase = NONE;
+    u32 callers = NONE;     // the last event that named callers
     u32 pending = NONE;     // an undeferred child that is under way
     u32 shared_count = 0;   // how many worksharing constructs the thread has met
     u32 group = NONE;       // the innermost one
@@ -128,6 +129,12 @@ public:
     explicit Run(const Trace &trace);
 
     bool is_before(u32 one, u32 other);
+    // The node at which a segment begins, and that in front of it (NONE: there is none).
+    u32 begin_of(u32 segment) const;
+    u32 in_front_of(u32 segment) const;
+    // Whether all of the segment comes in front of the node, or the node in front of the segment.
+    bool is_before_node(u32 segment, u32 node);
+    bool is_node_before(u32 node, u32 segment) { return graph_.leads(node, begin_of(segment)); }
     // Whether two tasks that exclude each other keep these segments apart.
     bool are_apart(u32 one, u32 other);
     // The actor, or what met the region of which it is a share.
@@ -143,6 +150,7 @@ public:
     std::vector<Region> regions;
     std::vector<Group> groups;
     std::vector<u32> segment_of, locks_of;    // of each event that is an access
+    std::vector<u32> chain_of;                // the event that names its callers
     LockSets locks;
     Counts counts;
     Fault fault;

@@ -40,6 +40,40 @@ static int is_left_out(struct own *own, uint64_t address) {
            || (own->muted && own->muted == own->task) || address - own->tls_low < own->tls_size;
 }
 
+/* A function's frame as frames that keep their pointers have it. */
+struct frame {
+    struct frame *outer;
+    uint64_t back;
+};
+
+static struct frame *outer_of(const struct own *own, const struct frame *frame) {
+    uint64_t outer = (uint64_t)frame->outer;
+    int is_frame = outer > (uint64_t)frame && outer < own->stack_high - sizeof(struct frame) && outer % 8 == 0;
+    return is_frame ? frame->outer : 0;
+}
+
+/* Writes down who called the function that makes the access, where that isn't known from the access before. */
+static void note_callers(struct own *own, uint64_t place, struct frame *frame) {
+    while (frame && frame->back != place)
+        frame = outer_of(own, frame);
+    frame = frame ? outer_of(own, frame) : 0;
+    if (!frame || (own->chain_frame == (uint64_t)frame && own->chain_caller == frame->back
+                   && own->chain_outer == (uint64_t)frame->outer && own->chain_task == own->task))
+        return;
+    own->chain_frame = (uint64_t)frame;
+    own->chain_caller = frame->back;
+    own->chain_outer = (uint64_t)frame->outer;
+    own->chain_task = own->task;
+    uint64_t places[CALLERS] = {0}, callers = 0;
+    uint64_t base = own->depth > 0 && own->depth <= RUNNING_MOST ? own->running[own->depth - 1].base : 0;
+    while (callers < CALLERS && frame && (uint64_t)frame + sizeof *frame != base) {
+        places[callers++] = (uint32_t)taskback_offset(frame->back);
+        frame = outer_of(own, frame);
+    }
+    struct event *event = taskback_note(own, CHAIN, own->task, places[1] | places[2] << 32, places[3] | places[4] << 32, 0);
+    event->place = (int32_t)places[0];
+}
+
 void taskback_access(enum kind kind, uint64_t address, uint64_t size, uint64_t place, int mark) {
     struct own *own = own_state();
     taskback_settle(own);
@@ -54,6 +88,8 @@ void taskback_access(enum kind kind, uint64_t address, uint64_t size, uint64_t p
             own->unread = event;
         return;
     }
+    if (own->stack_high)
+        note_callers(own, place, __builtin_frame_address(0));
     event = own->last = taskback_note(own, kind, own->task, address, 0, place);
     set_size(event, size);
     event->mark = (uint8_t)mark;

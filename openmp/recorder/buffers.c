@@ -26,15 +26,16 @@ static int is_over;
 /* `record cc` links a list of the program's object files that have none of the instrumentation's calls. */
 __attribute__((weak)) extern const char taskback_unseen_objects[];
 
-static uint64_t lowest_of_stack(void) {
+static void find_stack(struct own *own) {
     pthread_attr_t attributes;
     void *low = 0;
     size_t size = 0;
     if (pthread_getattr_np(pthread_self(), &attributes) != 0)
-        return 0;
+        return;
     pthread_attr_getstack(&attributes, &low, &size);
     pthread_attr_destroy(&attributes);
-    return (uint64_t)low;
+    own->stack_low = (uint64_t)low;
+    own->stack_high = (uint64_t)low + size;
 }
 
 static void *fresh_memory(size_t size) {
@@ -104,11 +105,16 @@ struct own *taskback_adopt(void) {
         own->next = own->end;
         turn_page(own);
     }
-    own->stack_low = lowest_of_stack();
+    find_stack(own);
     own->link = __atomic_load_n(&all_threads, __ATOMIC_ACQUIRE);
     while (!__atomic_compare_exchange_n(&all_threads, &own->link, own, 0, __ATOMIC_ACQ_REL, __ATOMIC_ACQUIRE))
         ;
     return own;
+}
+
+int32_t taskback_offset(uint64_t place) {
+    int64_t offset = (int64_t)(place - program_base);
+    return offset > 0 && offset <= INT32_MAX ? (int32_t)offset : 0;
 }
 
 struct event *taskback_note(struct own *own, enum kind kind, uint32_t task, uint64_t address, uint64_t value,
@@ -116,12 +122,11 @@ struct event *taskback_note(struct own *own, enum kind kind, uint32_t task, uint
     if (own->next == own->end)
         turn_page(own);
     struct event *event = own->next++;
-    int64_t offset = (int64_t)(place - program_base);
     event->address = address;
     event->value = value;
     event->stamp = __atomic_add_fetch(&counter, 1, __ATOMIC_ACQ_REL);
     event->task = task;
-    event->place = offset > 0 && offset <= INT32_MAX ? (int32_t)offset : 0;
+    event->place = taskback_offset(place);
     event->size = 0;
     event->mark = 0;
     event->kind = (uint8_t)kind;

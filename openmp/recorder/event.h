@@ -44,7 +44,9 @@ enum kind {
                        DOWN where it counts down */
     ACQUIRE,        /* task; address; mark: UP where it counts up */
     FULFIL,         /* task; address: the task whose event it fulfils */
-    RESUME          /* task: it goes on on this thread, where it hasn't been */
+    RESUME,         /* task: it goes on on this thread, where it hasn't been */
+    CHAIN           /* task: its next loads and stores are in a function that was called at place, its caller at the low
+                       half of address, and so on: the high half, and the halves of value */
 };
 
 /* What the notation has no word for, and what else is told of a run. */
@@ -74,5 +76,5 @@ struct event {
     uint8_t mark;
 };
 
-enum { LARGE = 0xffff, LONGEST_NUMBER = 16 };
+enum { LARGE = 0xffff, LONGEST_NUMBER = 16, CALLERS = 5 };
 #endif

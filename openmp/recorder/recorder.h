@@ -47,6 +47,9 @@ struct own {
     struct event *next, *end;
     struct event *events;      /* a piece of the file, or of memory where nothing is kept */
     struct own *link;
+    uint64_t stack_high;
+    uint64_t chain_frame, chain_caller, chain_outer; /* the function whose callers were written down last */
+    uint32_t chain_task;
     uint64_t quiet_span;       /* from stack_low on: memory that no other task can know of */
     uint64_t stack_low;
     struct event *unread;      /* a write whose number is read at the thread's next call */
@@ -105,6 +108,9 @@ static inline void begin_loud_part(struct own *own) {
     if (used < own->quiet_span)
         own->quiet_span = used;
 }
+
+/* A place, counted from where the program is loaded; 0: it isn't in it. */
+int32_t taskback_offset(uint64_t place);
 
 /* An access of `size` bytes by the thread's task. */
 void taskback_access(enum kind kind, uint64_t address, uint64_t size, uint64_t place, int mark);

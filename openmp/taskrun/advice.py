@@ -80,8 +80,10 @@ def depend_words(finding, race):
                     f"{places[other]} (so the one at {places[one]} names that place)")
     if known[0] and known[1]:
         return type_words(places, known)
-    names = [name_of(finding, side) for side in sides]
+    names = [finding.name_of(side) for side in sides]
     name = names[0] if names[0] != "memory" else names[1]
+    if name == "memory":
+        return None
     if places[0] == places[1]:
         return f"add depend(inout: {name})"
     if kinds[0] == kinds[1]:
@@ -93,15 +95,6 @@ def type_words(places, known):
     """Both name the place: the one that writes has to say so."""
     where = places[0] if places[0] == places[1] else f"{places[0]} and {places[1]}"
     return f"say depend(inout: {known[0]}) where it is written, at {where}"
-
-
-def name_of(finding, side):
-    """The step's expression."""
-    if side.is_frame:
-        return "memory"
-    if side.is_library:
-        return finding.sources.argument(side.place, side.done != "reads")
-    return finding.sources.expression(side.place)
 
 
 def item_name(finding, side, address):

@@ -77,32 +77,28 @@ def writes_of(race):
 
 
 def gather(finding, races):
-    """The reports, in the order in which their first races came."""
-    reports = {}
+    """The reports, in the order in which their first races came: one for each pair of lines, and of these one for what
+    the same advice mends."""
+    by_lines, by_advice = {}, {}
     for race in races:
         key = frozenset((finding.line_of(race.earlier), finding.line_of(race.later)))
-        if key in reports:
-            reports[key].add(race)
+        if key in by_lines:
+            by_lines[key].add(race)
         else:
-            reports[key] = Report(race)
-    return list(reports.values())
-
-
-def name_of(finding, side):
-    """What the side reads or writes, in the source's words."""
-    if side.is_frame:
-        return "memory"
-    if side.is_library:
-        return finding.sources.argument(side.place, side.done != "reads")
-    return finding.sources.expression(side.place)
+            by_lines[key] = Report(race)
+    for report in by_lines.values():
+        first = by_advice.setdefault((who_words(finding, report.race), remedy(finding, report.race)), report)
+        if first is not report:
+            first.count += report.count
+    return list(by_advice.values())
 
 
 def step_words(finding, race, side):
     """`sum.c:9 writes total`; of memory without a name, where it was taken."""
-    name = name_of(finding, side)
+    name = finding.name_of(side)
     if side.is_frame:
         return f"{finding.line_of(side)} frees memory of the function that ends there"
-    words = f"{finding.line_of(side)} {side.done} {name}"
+    words = f"{finding.line_of(side)} {side.done} {name}{finding.chain_of(side)}"
     if name == "memory" and race.block and finding.sources.is_own(race.block["place"]):
         words += f" (byte {race.block['offset']} of the block taken at {finding.line(race.block['place'])})"
     return words
@@ -208,6 +204,7 @@ def as_json(finding, status, lines):
 
 def side_json(finding, race, side):
     """One step of a race."""
-    place = finding.sources.place(side.place)
-    return {"file": place.file, "line": place.line, "column": place.column, "does": side.done,
-            "name": name_of(finding, side), "task": side.actor.name, "directive": finding.line(side.actor.place)}
+    place = finding.sources.place(side.own)
+    return {"file": place.file, "line": place.line, "column": place.column,
+            "chain": [finding.line(place) for place in (side.place, *side.callers)], "does": side.done,
+            "name": finding.name_of(side), "task": side.actor.name, "directive": finding.line(side.actor.place)}

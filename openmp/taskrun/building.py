@@ -136,7 +136,8 @@ def recorder_objects(compiler, names):
         made = os.path.join(folder, name[:-2] + ".o")
         objects.append(made)
         if not is_newer(made, source, *headers):
-            compile_whole([compiler, "-O2", "-fPIE", "-fno-builtin", "-Wall", "-Wextra", "-Wno-frame-address", "-c", source], made)
+            compile_whole([compiler, "-O2", "-fPIE", "-fno-builtin", "-fno-omit-frame-pointer",
+                            "-Wall", "-Wextra", "-Wno-frame-address", "-c", source], made)
     return objects
 
 

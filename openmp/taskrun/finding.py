@@ -1,6 +1,7 @@
 """What the judge found in a trace, with the source lines of its places."""
 
 import json
+import re
 import subprocess
 
 from .building import CannotBuild, judge
@@ -53,6 +54,8 @@ class Side:
         self.is_unit = told["unit"]
         self.is_frame = told["frame"]       # the function ends that the memory is of
         self.is_library = told["library"]
+        self.callers = told["callers"]      # where the function was called that did it, and its caller, and so on
+        self.own = self.place               # of these the first that the program's own sources have
 
 
 class Race:
@@ -81,11 +84,19 @@ class Finding:
                 self.actors[int(number)].parent = self.actors[actor["parent"]]
         self.races = [Race(race, self.actors) for race in told["races"]]
         self.sources = Sources(told["program"], self._places())
+        for race in self.races:
+            self._find_own(race.earlier)
+            self._find_own(race.later)
+
+    def _find_own(self, side):
+        own = [place for place in (side.place, *side.callers) if self.sources.is_own(place)]
+        side.own = own[0] if own else side.place
 
     def _places(self):
         places = {actor.place for actor in self.actors.values()}
         for race in self.races:
-            places |= {race.earlier.place, race.later.place}
+            for side in (race.earlier, race.later):
+                places |= {side.place, *side.callers}
             if race.block:
                 places.add(race.block["place"])
         if self.fault:
@@ -97,8 +108,29 @@ class Finding:
         return str(self.sources.place(place))
 
     def line_of(self, side):
-        """Of a side; of code that the compiler made, the line of its directive."""
-        return self.line(side.place if self.sources.place(side.place).line else side.actor.place)
+        """Of a side, in the program's own sources; of code that the compiler made, the line of its directive."""
+        return self.line(side.own if self.sources.place(side.own).line else side.actor.place)
+
+    def name_of(self, side):
+        """What the side reads or writes, in the words of the program's own sources."""
+        if side.is_frame:
+            return "memory"
+        if side.is_library and side.own == side.place:
+            return self.sources.argument(side.place, side.done != "reads")
+        name = self.sources.expression(side.own)
+        return name if side.own == side.place else without_call(name, self.sources, side.own)
+
+    def chain_of(self, side):
+        """` (stl_vector.h:1283)`: where it is done, if that isn't in the program's own sources."""
+        return "" if side.own == side.place or not self.sources.place(side.place).line else f" ({self.line(side.place)})"
+
+
+def without_call(name, sources, place):
+    """`all` of `all.push_back`: whose function is called there."""
+    whose, sign, _ = re.match(r"(.*?)(->|\.)?(\w*)$", name).groups()
+    if sign and whose and sources.is_call(place):
+        return whose
+    return name if not sources.is_call(place) else "memory"
 
 
 def judge_trace(path):

@@ -84,6 +84,13 @@ class Sources:
         place = self.place(address)
         return bool(place.line) and not place.file.startswith(SYSTEM)
 
+    def is_call(self, address):
+        """Whether a function's name stands there, in front of its arguments."""
+        place = self.place(address)
+        lines = self._lines(place.file) if place.line else []
+        line = lines[place.line - 1] if 0 < place.line <= len(lines) else ""
+        return bool(re.match(r"[\w.>:<,-]*[\w>]\s*\(", line[max(place.column - 1, 0):]))
+
     def argument(self, address, is_written):
         """What the library's function that is called there writes, its first argument, or reads: the last one that is
         no literal and no format."""
@@ -172,6 +179,8 @@ def expression_at(line, column):
         if before:
             return before
         at += len(assigned[0])
+    if re.match(r"\w+::", line[at:]):
+        return ""
     if line[at:at + 1] in ("*", "&") or line[at:at + 1] == "(":
         return prefixed(line, at)
     return postfixed(line, at)

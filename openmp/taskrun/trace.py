@@ -7,7 +7,7 @@ from typing import NamedTuple
 (CREATE, ITEM, START, END, WAIT, WAIT_ITEM, WAIT_ITEMS, GROUP_OPEN, GROUP_CLOSE, REGION_BEGIN, REGION_END,
  IMPLICIT_BEGIN, BARRIER_BEGIN, BARRIER_END, READ, WRITE, MEMORY, LOCK, UNLOCK, NOTE, COPY, CHUNK, ENDED, LOOP_BEGIN,
  ITERATION, LOOP_END, SINGLE_BEGIN, SINGLE_END, MASKED_BEGIN, MASKED_END, ORDERED_BEGIN, ORDERED_END, POST, AWAIT,
- RELEASE, ACQUIRE, FULFIL, RESUME) = range(1, 39)
+ RELEASE, ACQUIRE, FULFIL, RESUME, CHAIN) = range(1, 40)
 NOTES = ("", "reductions", "detach clauses", "priority clauses", "cancellations", "tasks too deep to follow",
          "calls that ask for the thread's number", "teams of one thread by the program", "runs without OMPT",
          "pieces without room", "processes that were forked")

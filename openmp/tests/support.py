@@ -2,6 +2,7 @@
 
 import concurrent.futures
 import functools
+import json
 import os
 import re
 import subprocess
@@ -142,7 +143,8 @@ def write_trace(path, program, events):
             file.write(FORMAT.pack(*event))
 
 
-STEP = r"\S+ (?:reads|writes|frees) ([^\s,:]+)[^,:]*(?:[\w.]+:\d+\)?[^,:]*)?"
+# `file.c:9 writes x`, with what may stand in brackets behind it.
+STEP = r"\S+ (?:reads|writes|frees) (\S+)(?: \([^()]*\))*(?: of the function that ends there)?"
 
 
 def names_told(lines):
