@@ -1,4 +1,5 @@
-/* The calls that clang's thread instrumentation makes: loads and stores, and the entry of functions. */
+/* The calls that the instrumentation makes: loads and stores, by clang's coverage, and the entry and end of functions,
+   by its thread instrumentation. */
 #include "recorder.h"
 
 /* Unaligned numbers; no call of memcpy, which would be recorded too. */
@@ -33,20 +34,63 @@ static struct event *seen_before(struct own *own, enum kind kind, uint64_t addre
     return 0;
 }
 
+/* What the creator fills of a task's record, what the runtime does for a task, and a thread's own variables. */
+static int is_left_out(struct own *own, uint64_t address) {
+    return (address - own->record < own->record_size && own->record_creator == own->task)
+           || (own->muted && own->muted == own->task) || address - own->tls_low < own->tls_size;
+}
+
+/* A function's frame as frames that keep their pointers have it. */
+struct frame {
+    struct frame *outer;
+    uint64_t back;
+};
+
+static struct frame *outer_of(const struct own *own, const struct frame *frame) {
+    uint64_t outer = (uint64_t)frame->outer;
+    int is_frame = outer > (uint64_t)frame && outer < own->stack_high - sizeof(struct frame) && outer % 8 == 0;
+    return is_frame ? frame->outer : 0;
+}
+
+/* Writes down who called the function that makes the access, where that isn't known from the access before. */
+static void note_callers(struct own *own, uint64_t place, struct frame *frame) {
+    while (frame && frame->back != place)
+        frame = outer_of(own, frame);
+    frame = frame ? outer_of(own, frame) : 0;
+    if (!frame || (own->chain_frame == (uint64_t)frame && own->chain_caller == frame->back
+                   && own->chain_outer == (uint64_t)frame->outer && own->chain_task == own->task))
+        return;
+    own->chain_frame = (uint64_t)frame;
+    own->chain_caller = frame->back;
+    own->chain_outer = (uint64_t)frame->outer;
+    own->chain_task = own->task;
+    uint64_t places[CALLERS] = {0}, callers = 0;
+    uint64_t base = own->depth > 0 && own->depth <= RUNNING_MOST ? own->running[own->depth - 1].base : 0;
+    while (callers < CALLERS && frame && (uint64_t)frame + sizeof *frame != base) {
+        places[callers++] = (uint32_t)taskback_offset(frame->back);
+        frame = outer_of(own, frame);
+    }
+    struct event *event = taskback_note(own, CHAIN, own->task, places[1] | places[2] << 32, places[3] | places[4] << 32, 0);
+    event->place = (int32_t)places[0];
+}
+
 void taskback_access(enum kind kind, uint64_t address, uint64_t size, uint64_t place, int mark) {
     struct own *own = own_state();
     taskback_settle(own);
-    if (address - own->record < own->record_size && own->record_creator == own->task)
+    if (is_left_out(own, address))
         return;
     struct seen *seen;
     struct event *event = seen_before(own, kind, address, place, &seen);
     int is_number = size <= LONGEST_NUMBER && !(mark & FREED);
     if (event && (is_number ? event->size == size : event->size == LARGE && event->value == size)) {
+        own->last = event;
         if (kind == WRITE && is_number)
             own->unread = event;
         return;
     }
-    event = taskback_note(own, kind, own->task, address, 0, place);
+    if (own->stack_high)
+        note_callers(own, place, __builtin_frame_address(0));
+    event = own->last = taskback_note(own, kind, own->task, address, 0, place);
     set_size(event, size);
     event->mark = (uint8_t)mark;
     *seen = (struct seen){address, place, own->epoch, kind, event};
@@ -58,53 +102,89 @@ void taskback_access(enum kind kind, uint64_t address, uint64_t size, uint64_t p
         own->unread = event;
 }
 
+/* A store in a worksharing loop: where it is the loop's number that is stored, an iteration begins. The first store
+   after the runtime has set the bounds, and that isn't one of these, sets the number to the lowest; then it counts up. */
+static void stored_in_loop(struct own *own, uint64_t address, uint32_t size) {
+    struct loop *loop = &own->loop;
+    if (loop->task != own->task || size != loop->size)
+        return;
+    if (address == loop->bounds[0])
+        loop->is_new = 1;
+    for (int i = 0; i < 4; i++)
+        if (loop->bounds[i] == address)
+            return;
+    if (!loop->number)
+        loop->number = address;
+    if (address != loop->number)
+        return;
+    loop->value = loop->is_new ? number_at(loop->bounds[0], size) : loop->value + 1;
+    loop->is_new = 0;
+    begin_part(own);
+    taskback_note(own, ITERATION, own->task, address, loop->value, 0);
+}
+
 void __tsan_init(void) {}
-void __tsan_func_exit(void) {}
 void __tsan_ignore_thread_begin(void) {}
 void __tsan_ignore_thread_end(void) {}
 
-/* The first function that a task enters shows where its part of the stack begins; all below is new to it. */
+/* The first function that a task enters shows where its part of the stack begins; all below is new to it. What a
+   function has on the stack no other task knows of until the function meets the runtime. */
 void __tsan_func_entry(void *caller) {
     (void)caller;
     struct own *own = own_state();
+    uint64_t top = (uint64_t)__builtin_frame_address(1) + 16;
+    if (top - own->stack_low > own->quiet_span)
+        own->quiet_span = own->stack_low ? top - own->stack_low : 0;
     if (own->depth == 0 || own->depth > RUNNING_MOST)
         return;
-    struct running *top = &own->running[own->depth - 1];
-    if (top->base)
+    struct running *running = &own->running[own->depth - 1];
+    if (running->base)
         return;
-    top->base = (uint64_t)__builtin_frame_address(1) + 16;
-    taskback_new_memory(own, own->stack_low, top->base - own->stack_low);
+    running->base = top;
+    taskback_new_memory(own, own->stack_low, top - own->stack_low, 0)->mark = STACK;
 }
 
-#define ACCESS(name, kind, size) \
-    void __tsan_##name(void *address) { taskback_access(kind, (uint64_t)address, size, PLACE, 0); }
-#define ACCESSES(size)                                                                                        \
-    ACCESS(read##size, READ, size) ACCESS(write##size, WRITE, size) ACCESS(unaligned_read##size, READ, size)  \
-    ACCESS(unaligned_write##size, WRITE, size) ACCESS(volatile_read##size, READ, size)                        \
-    ACCESS(volatile_write##size, WRITE, size)                                                                 \
-    void __tsan_read_write##size(void *address) {                                                             \
-        taskback_access(READ, (uint64_t)address, size, PLACE, 0);                                             \
-        taskback_access(WRITE, (uint64_t)address, size, PLACE, 0);                                            \
-    }                                                                                                         \
-    void __tsan_unaligned_read_write##size(void *address) {                                                   \
-        taskback_access(READ, (uint64_t)address, size, PLACE, 0);                                             \
-        taskback_access(WRITE, (uint64_t)address, size, PLACE, 0);                                            \
+/* What a function has on the stack ends with it, as a block that is given back; of an untied task's first function the
+   runtime doesn't say that it leaves the thread. */
+void __tsan_func_exit(void) {
+    struct own *own = own_state();
+    uint64_t top = (uint64_t)__builtin_frame_address(1) + 16, low = (uint64_t)__builtin_frame_address(0) + 16;
+    int is_followed = own->depth > 0 && own->depth <= RUNNING_MOST;
+    struct running *running = &own->running[is_followed ? own->depth - 1 : 0];
+    int is_outermost = is_followed && running->base == top;
+    if (top - own->stack_low > own->quiet_span && top > low)
+        taskback_access(WRITE, low, top - low, PLACE, FREED | FRAME | (is_outermost ? OUTERMOST : 0));
+    if (!is_outermost || !running->is_untied)
+        return;
+    own->task = running->prior;
+    taskback_pop_task(own, running->task);
+}
+
+static inline int is_quiet(const struct own *own, const void *address) {
+    return (uint64_t)address - own->stack_low < own->quiet_span;
+}
+
+#define LOAD(bytes)                                                           \
+    void __sanitizer_cov_load##bytes(void *address) {                         \
+        struct own *own = own_state();                                        \
+        if (!is_quiet(own, address))                                          \
+            taskback_access(READ, (uint64_t)address, bytes, PLACE, 0);        \
     }
-ACCESSES(1)
-ACCESSES(2)
-ACCESSES(4)
-ACCESSES(8)
-ACCESSES(16)
+#define STORE(bytes)                                                          \
+    void __sanitizer_cov_store##bytes(void *address) {                        \
+        struct own *own = own_state();                                        \
+        if (__builtin_expect(own->in_loop, 0))                                \
+            stored_in_loop(own, (uint64_t)address, bytes);                    \
+        if (!is_quiet(own, address))                                          \
+            taskback_access(WRITE, (uint64_t)address, bytes, PLACE, 0);       \
+    }
+#define BOTH(bytes) LOAD(bytes) STORE(bytes)
+BOTH(1)
+BOTH(2)
+BOTH(4)
+BOTH(8)
+BOTH(16)
 
-void __tsan_vptr_update(void **address, void *value) {
-    (void)value;
-    taskback_access(WRITE, (uint64_t)address, 8, PLACE, 0);
-}
-void __tsan_vptr_read(void **address) { taskback_access(READ, (uint64_t)address, 8, PLACE, 0); }
-
-void __tsan_read_range(void *address, size_t size) {
-    taskback_access(READ, (uint64_t)address, size, PLACE, 0);
-}
-void __tsan_write_range(void *address, size_t size) {
-    taskback_access(WRITE, (uint64_t)address, size, PLACE, 0);
-}
+/* The thread instrumentation tells virtual tables' pointers apart; coverage has their loads and stores already. */
+void __tsan_vptr_update(void **address, void *value) { (void)address, (void)value; }
+void __tsan_vptr_read(void **address) { (void)address; }

@@ -1,143 +1,195 @@
-/* Each thread writes into a buffer of its own, and a full one goes to the file at once. */
+/* Each thread writes into a piece of the file of its own, which is mapped: what is written down is kept however the
+   program ends. The first page is text; then the pieces follow, each begun by an event that names its thread. */
 #define _GNU_SOURCE
 #include <fcntl.h>
 #include <link.h>
 #include <pthread.h>
-#include <sched.h>
 #include <stdlib.h>
 #include <sys/mman.h>
+#include <sys/single_threaded.h>
 #include <unistd.h>
 
 #include "recorder.h"
 
-enum { WAITS = 1000 };
+enum { HEADER = 4096, PIECE = BUFFER * sizeof(struct event) };
 
 __thread struct own *taskback_own;
+int taskback_is_recording;
 static struct own *all_threads;
 static uint32_t counter;
-static uint64_t program_base;
+static uint32_t thread_count;
+static uint64_t file_end = HEADER;
+static uint64_t program_base, thread_local_size;
 static int file = -1;
 static int is_over;
 
-static uint64_t lowest_of_stack(void) {
+/* `record cc` links a list of the program's object files that have none of the instrumentation's calls. */
+__attribute__((weak)) extern const char taskback_unseen_objects[];
+
+static void find_stack(struct own *own) {
     pthread_attr_t attributes;
     void *low = 0;
     size_t size = 0;
     if (pthread_getattr_np(pthread_self(), &attributes) != 0)
-        return 0;
+        return;
     pthread_attr_getstack(&attributes, &low, &size);
     pthread_attr_destroy(&attributes);
-    return (uint64_t)low;
+    own->stack_low = (uint64_t)low;
+    own->stack_high = (uint64_t)low + size;
+}
+
+static void *fresh_memory(size_t size) {
+    void *memory = mmap(0, size, PROT_READ | PROT_WRITE, MAP_PRIVATE | MAP_ANONYMOUS, -1, 0);
+    if (memory == MAP_FAILED)
+        abort();
+    return memory;
+}
+
+static void use_piece(struct own *own, struct event *piece) {
+    own->events = own->next = piece;
+    own->end = piece + BUFFER;
+}
+
+/* The next piece of the file, or nothing where there is no room for it. */
+static struct event *next_piece(void) {
+    uint64_t at = __atomic_fetch_add(&file_end, PIECE, __ATOMIC_ACQ_REL);
+    if (posix_fallocate(file, (off_t)at, PIECE) != 0)
+        return 0;
+    void *piece = mmap(0, PIECE, PROT_READ | PROT_WRITE, MAP_SHARED | MAP_POPULATE, file, (off_t)at);
+    return piece == MAP_FAILED ? 0 : piece;
+}
+
+static void stop_recording(void) { __atomic_store_n(&taskback_is_recording, 0, __ATOMIC_RELEASE); }
+
+/* Makes room: the accesses in the piece are no longer there to be compared with. Where there is none the rest is left
+   out, and the trace's numbers show that some are missing. */
+static void turn_page(struct own *own) {
+    begin_part(own);
+    if (__atomic_load_n(&taskback_is_recording, __ATOMIC_ACQUIRE)) {
+        struct event *piece = next_piece();
+        if (piece) {
+            munmap(own->events, PIECE);
+            use_piece(own, piece);
+            own->next++->address = own->index;
+            own->events->kind = CHUNK;
+            return;
+        }
+        stop_recording();
+        __atomic_add_fetch(&counter, 1, __ATOMIC_ACQ_REL);
+        munmap(own->events, PIECE);
+        use_piece(own, fresh_memory(PIECE));
+    }
+    own->next = own->events;
+}
+
+static int find_own(struct dl_phdr_info *info, size_t size, void *data) {
+    (void)size, (void)data;
+    program_base = info->dlpi_addr;
+    for (int i = 0; i < info->dlpi_phnum; i++)
+        if (info->dlpi_phdr[i].p_type == PT_TLS) {
+            uint64_t align = info->dlpi_phdr[i].p_align ? info->dlpi_phdr[i].p_align : 1;
+            thread_local_size = (info->dlpi_phdr[i].p_memsz + align - 1) / align * align;
+        }
+    return 1; /* the first one is the program */
 }
 
 struct own *taskback_adopt(void) {
-    int way = MAP_PRIVATE | MAP_ANONYMOUS | MAP_POPULATE;
-    struct own *own = mmap(0, sizeof *own, PROT_READ | PROT_WRITE, way, -1, 0);
-    if (own == MAP_FAILED)
-        abort();
+    struct own *own = fresh_memory(sizeof *own);
     taskback_own = own;
     own->epoch = 1;
-    own->next = own->events;
-    own->stack_low = lowest_of_stack();
+    own->index = __atomic_fetch_add(&thread_count, 1, __ATOMIC_RELAXED);
+    own->tls_size = thread_local_size;
+    own->tls_low = (uint64_t)__builtin_thread_pointer() - thread_local_size;
+    use_piece(own, fresh_memory(PIECE));
+    if (taskback_is_recording) {
+        own->next = own->end;
+        turn_page(own);
+    }
+    find_stack(own);
     own->link = __atomic_load_n(&all_threads, __ATOMIC_ACQUIRE);
     while (!__atomic_compare_exchange_n(&all_threads, &own->link, own, 0, __ATOMIC_ACQ_REL, __ATOMIC_ACQUIRE))
         ;
     return own;
 }
 
-/* Where a write fails, the rest is left out: the trace's numbers show that some are missing. */
-static void put(const void *bytes, size_t size) {
-    const char *from = bytes;
-    while (size > 0 && file >= 0) {
-        ssize_t put = write(file, from, size);
-        if (put <= 0)
-            return;
-        from += put;
-        size -= (size_t)put;
-    }
-}
-
-/* Makes room: the accesses in the buffer are no longer there to be compared with. */
-static void put_buffer(struct own *own) {
-    begin_part(own);
-    if (!__atomic_load_n(&is_over, __ATOMIC_ACQUIRE))
-        put(own->events, (size_t)((char *)own->next - (char *)own->events));
-    own->next = own->events;
+int32_t taskback_offset(uint64_t place) {
+    int64_t offset = (int64_t)(place - program_base);
+    return offset > 0 && offset <= INT32_MAX ? (int32_t)offset : 0;
 }
 
 struct event *taskback_note(struct own *own, enum kind kind, uint32_t task, uint64_t address, uint64_t value,
                             uint64_t place) {
-    if (own->next == own->events + BUFFER)
-        put_buffer(own);
-    struct event *event = own->next;
-    int64_t offset = (int64_t)(place - program_base);
+    if (own->next == own->end)
+        turn_page(own);
+    struct event *event = own->next++;
     event->address = address;
     event->value = value;
     event->stamp = __atomic_add_fetch(&counter, 1, __ATOMIC_ACQ_REL);
     event->task = task;
-    event->place = offset > 0 && offset <= INT32_MAX ? (int32_t)offset : 0;
+    event->place = taskback_offset(place);
     event->size = 0;
-    event->kind = (uint8_t)kind;
     event->mark = 0;
-    __atomic_store_n(&own->noted, own->noted + 1, __ATOMIC_RELEASE);
-    own->next++;
+    event->kind = (uint8_t)kind;
     return event;
 }
 
-static int base_of(struct dl_phdr_info *info, size_t size, void *base) {
-    (void)size;
-    *(uint64_t *)base = info->dlpi_addr;
-    return 1; /* the first one is the program */
-}
-
-static int add(char *line, int at, const char *words) {
-    while (*words)
+static int add(char *line, int at, int most, const char *words) {
+    while (*words && at < most)
         line[at++] = *words++;
     return at;
 }
 
-/* The first line names the program; the events follow as they are, in pieces of one thread. */
-static void put_header(void) {
-    char path[4096], line[4300];
+/* The first page names the program, and on a second line the objects that it was linked from and that aren't seen. */
+static int put_header(void) {
+    char path[3072], page[HEADER];
     ssize_t length = readlink("/proc/self/exe", path, sizeof path - 1);
     path[length > 0 ? length : 0] = 0;
-    int count = add(line, 0, "taskback trace 1 ");
-    count = add(line, count, path);
-    line[count++] = '\n';
-    put(line, (size_t)count);
+    for (int i = 0; i < HEADER; i++)
+        page[i] = '\n';
+    int at = add(page, 0, HEADER - 2, "taskback trace 2 ");
+    at = add(page, at, HEADER - 2, path) + 1;
+    if (&taskback_unseen_objects != 0)
+        add(page, at, HEADER - 2, taskback_unseen_objects);
+    return pwrite(file, page, sizeof page, 0) == sizeof page;
 }
 
-__attribute__((constructor)) static void at_the_beginning(void) {
-    const char *name = getenv("TASKBACK_TRACE");
-    dl_iterate_phdr(base_of, &program_base);
-    if (!name)
-        return;
-    file = open(name, O_WRONLY | O_CREAT | O_TRUNC | O_APPEND | O_CLOEXEC, 0666);
-    put_header();
-}
-
-/* Another thread may have taken a number whose event isn't whole yet. */
-static void wait_for_threads(void) {
-    for (int i = 0; i < WAITS; i++) {
-        uint32_t noted = 0;
-        for (struct own *own = __atomic_load_n(&all_threads, __ATOMIC_ACQUIRE); own; own = own->link)
-            noted += __atomic_load_n(&own->noted, __ATOMIC_ACQUIRE);
-        if (noted == __atomic_load_n(&counter, __ATOMIC_ACQUIRE))
-            return;
-        sched_yield();
+/* A child of `fork` goes on without the recorder: the file is its parent's. */
+static void leave_to_the_parent(void) {
+    stop_recording();
+    for (struct own *own = all_threads; own; own = own->link)
+        if (own != taskback_own)
+            own->next = own->end = own->events;
+    if (taskback_own) {
+        taskback_own->unread = 0;
+        use_piece(taskback_own, fresh_memory(PIECE));
+        taskback_own->epoch++;
     }
 }
 
-void taskback_write_trace(void) {
-    static int begun;
-    if (__atomic_exchange_n(&begun, 1, __ATOMIC_ACQ_REL))
-        return;
+static void note_fork(void) {
     if (taskback_own)
-        taskback_settle(taskback_own);
-    wait_for_threads();
-    for (struct own *own = __atomic_load_n(&all_threads, __ATOMIC_ACQUIRE); own; own = own->link)
-        put(own->events, (size_t)((char *)own->next - (char *)own->events));
-    __atomic_store_n(&is_over, 1, __ATOMIC_RELEASE);
+        taskback_note(taskback_own, NOTE, taskback_own->task, 0, NOTE_FORK, 0);
 }
 
-__attribute__((destructor)) static void at_the_end(void) { taskback_write_trace(); }
+__attribute__((constructor(101))) static void at_the_beginning(void) {
+    const char *name = getenv("TASKBACK_TRACE"), *tools = getenv("OMP_TOOL");
+    dl_iterate_phdr(find_own, 0);
+    __libc_single_threaded = 0; /* or a lone thread's counts of shared pointers aren't atomic */
+    if (!name)
+        return;
+    file = open(name, O_RDWR | O_CREAT | O_TRUNC | O_CLOEXEC, 0666);
+    taskback_is_recording = file >= 0 && put_header();
+    pthread_atfork(note_fork, 0, leave_to_the_parent);
+    if (tools && tools[0] == 'd')
+        taskback_note(own_state(), NOTE, 0, 0, NOTE_NO_TOOL, 0);
+}
+
+void taskback_end_trace(void) {
+    if (__atomic_exchange_n(&is_over, 1, __ATOMIC_ACQ_REL) || !taskback_is_recording)
+        return;
+    struct own *own = own_state();
+    taskback_settle(own);
+    taskback_note(own, ENDED, own->task, 0, 0, 0);
+}
+
+__attribute__((destructor(101))) static void at_the_end(void) { taskback_end_trace(); }

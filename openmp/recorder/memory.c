@@ -10,14 +10,18 @@ void *__real_calloc(size_t, size_t);
 void *__real_realloc(void *, size_t);
 void *__real_aligned_alloc(size_t, size_t);
 int __real_posix_memalign(void **, size_t, size_t);
+void *__real_memalign(size_t, size_t);
+void *__real_valloc(size_t);
+void *__real_reallocarray(void *, size_t, size_t);
 void __real_free(void *);
 void *__real_memcpy(void *, const void *, size_t);
 void *__real_memmove(void *, const void *, size_t);
 void *__real_memset(void *, int, size_t);
 
-void *taskback_taken(void *block, size_t size) {
+/* What the program has asked for may be less than what it is given. */
+void *taskback_taken(void *block, uint64_t place) {
     if (block)
-        taskback_new_memory(own_state(), (uint64_t)block, size);
+        taskback_new_memory(own_state(), (uint64_t)block, malloc_usable_size(block), place);
     return block;
 }
 
@@ -27,20 +31,28 @@ void taskback_given_back(void *block, uint64_t place) {
         taskback_access(WRITE, (uint64_t)block, malloc_usable_size(block), place, FREED);
 }
 
-void *__wrap_malloc(size_t size) { return taskback_taken(__real_malloc(size), size); }
-void *__wrap_calloc(size_t count, size_t size) { return taskback_taken(__real_calloc(count, size), count * size); }
-void *__wrap_aligned_alloc(size_t align, size_t size) { return taskback_taken(__real_aligned_alloc(align, size), size); }
+void *__wrap_malloc(size_t size) { return taskback_taken(__real_malloc(size), PLACE); }
+void *__wrap_calloc(size_t count, size_t size) { return taskback_taken(__real_calloc(count, size), PLACE); }
+void *__wrap_aligned_alloc(size_t align, size_t size) { return taskback_taken(__real_aligned_alloc(align, size), PLACE); }
 
 int __wrap_posix_memalign(void **block, size_t align, size_t size) {
     int status = __real_posix_memalign(block, align, size);
     if (status == 0)
-        taskback_taken(*block, size);
+        taskback_taken(*block, PLACE);
     return status;
+}
+
+void *__wrap_memalign(size_t align, size_t size) { return taskback_taken(__real_memalign(align, size), PLACE); }
+void *__wrap_valloc(size_t size) { return taskback_taken(__real_valloc(size), PLACE); }
+
+void *__wrap_reallocarray(void *block, size_t count, size_t size) {
+    taskback_given_back(block, PLACE);
+    return taskback_taken(__real_reallocarray(block, count, size), PLACE);
 }
 
 void *__wrap_realloc(void *block, size_t size) {
     taskback_given_back(block, PLACE);
-    return taskback_taken(__real_realloc(block, size), size);
+    return taskback_taken(__real_realloc(block, size), PLACE);
 }
 
 void __wrap_free(void *block) {

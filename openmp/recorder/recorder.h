@@ -6,50 +6,7 @@
 #include <stddef.h>
 #include <stdint.h>
 
-/* The kinds of events; openmp/taskrun/trace.py has the same numbers. */
-enum kind {
-    CREATE = 1,     /* task: the creator; address: the child; value: its flags; place: the directive */
-    ITEM,           /* task: the child; address; value: the length; mark: the type's bits */
-    START,          /* task */
-    END,            /* task */
-    WAIT,           /* task: it has passed a taskwait */
-    WAIT_ITEM,      /* task; the rest as of ITEM; in front of its WAIT_ITEMS */
-    WAIT_ITEMS,     /* task: it has passed a taskwait with items */
-    GROUP_OPEN,     /* task */
-    GROUP_CLOSE,    /* task */
-    REGION_BEGIN,   /* task: who met the parallel region; address: the region */
-    REGION_END,     /* the same */
-    IMPLICIT_BEGIN, /* task: the implicit task; address: its region, 0 for the initial task; value: its index */
-    BARRIER_BEGIN,  /* task: an implicit task; address: its region */
-    BARRIER_END,    /* the same */
-    READ,           /* task; address; value: the number read; size; place */
-    WRITE,          /* task; address; value: the number written; size; place */
-    MEMORY,         /* address, value: from here on this many bytes are new */
-    LOCK,           /* task; address: the lock; value: 1 where it is a reduction's */
-    UNLOCK,         /* task; address: the lock */
-    NOTE,           /* task; value: one of enum note; place */
-    COPY            /* address: a thread's copy of a reduced variable; value: the variable; with a size, its own */
-};
-
-/* What the notation has no word for. */
-enum note { NOTE_REDUCTION = 1, NOTE_DETACH, NOTE_PRIORITY, NOTE_CANCEL, NOTE_DEEP };
-
-/* Marks of a READ or WRITE. */
-enum mark { ATOMIC = 1, FREED = 2 };
-
-/* 32 bytes: what is written is most of what recording costs. */
-struct event {
-    uint64_t address;
-    uint64_t value;
-    uint32_t stamp;
-    uint32_t task;
-    int32_t place;  /* from where the program is loaded; 0: not in it */
-    uint16_t size;  /* LARGE: the size is the value */
-    uint8_t kind;
-    uint8_t mark;
-};
-
-enum { LARGE = 0xffff, LONGEST_NUMBER = 16 };
+#include "event.h"
 
 static inline void set_size(struct event *event, uint64_t size) {
     event->size = size <= LONGEST_NUMBER ? (uint16_t)size : LARGE;
@@ -57,11 +14,13 @@ static inline void set_size(struct event *event, uint64_t size) {
         event->value = size;
 }
 
-enum { RUNNING_MOST = 1024, SEEN = 4096, BUFFER = 2048 };
+enum { RUNNING_MOST = 1024, SEEN = 4096, BUFFER = 2048, FENCED = 4 };
 
 /* A task that runs on this thread, and where its part of the stack begins (0: not yet known). */
 struct running {
     uint32_t task;
+    uint32_t prior;            /* what ran on the thread before */
+    uint32_t is_untied;
     uint64_t base;
 };
 
@@ -74,15 +33,34 @@ struct seen {
     struct event *event;
 };
 
+/* A worksharing loop that the thread is in: how its number is found, which unoptimised code keeps in memory. */
+struct loop {
+    uint64_t number;           /* the number's address, once it is known */
+    uint64_t bounds[4];        /* what the runtime's call sets, the lowest first: none of these is the number */
+    uint64_t value;            /* the number */
+    uint32_t size;
+    uint32_t task;
+    int is_new;                /* the number's next value is the lowest one */
+};
+
 struct own {
-    struct event *next;
+    struct event *next, *end;
+    struct event *events;      /* a piece of the file, or of memory where nothing is kept */
     struct own *link;
-    uint32_t noted;            /* how many events it has written down */
+    uint64_t stack_high;
+    uint64_t chain_frame, chain_caller, chain_outer; /* the function whose callers were written down last */
+    uint32_t chain_task;
+    uint64_t quiet_span;       /* from stack_low on: memory that no other task can know of */
+    uint64_t stack_low;
     struct event *unread;      /* a write whose number is read at the thread's next call */
+    struct event *last;        /* the last load or store, which may turn out to be an atomic operation's */
+    int in_loop;
+    uint32_t index;            /* the thread's number */
     uint32_t task;             /* the task that runs */
+    uint32_t muted;            /* a task whose accesses are the runtime's */
     uint32_t epoch;            /* rises at each call that isn't an access */
     uint32_t depth;
-    uint64_t stack_low;
+    uint64_t tls_low, tls_size;
     uint64_t record, record_size; /* a task's record that is being filled, before its task is created */
     uint32_t record_creator;
     int undeferred;            /* the children are that `caller` creates */
@@ -92,9 +70,12 @@ struct own {
     const void *items;
     int more_count;
     const void *more_items;
+    uint32_t fenced;           /* the task that has passed a fence last */
+    uint32_t loads;            /* how many relaxed atomic loads there were; the addresses of the last ones */
+    uint64_t loaded[FENCED];
+    struct loop loop;
     struct running running[RUNNING_MOST];
     struct seen seen[SEEN];
-    struct event events[BUFFER];
 };
 
 extern __thread struct own *taskback_own;
@@ -110,12 +91,26 @@ static inline struct own *own_state(void) {
 struct event *taskback_note(struct own *own, enum kind kind, uint32_t task, uint64_t address, uint64_t value,
                             uint64_t place);
 
-/* Reads the number of the last write, and begins a new part: the same access counts again. */
+/* Reads the number of the last write. */
 void taskback_settle(struct own *own);
+
+/* From here on the same access counts again. */
 static inline void begin_part(struct own *own) {
     taskback_settle(own);
+    own->last = 0;
     own->epoch++;
 }
+
+/* The task meets the runtime: another task may now know of what is on its stack. */
+static inline void begin_loud_part(struct own *own) {
+    uint64_t used = (uint64_t)__builtin_frame_address(0) - own->stack_low;
+    begin_part(own);
+    if (used < own->quiet_span)
+        own->quiet_span = used;
+}
+
+/* A place, counted from where the program is loaded; 0: it isn't in it. */
+int32_t taskback_offset(uint64_t place);
 
 /* An access of `size` bytes by the thread's task. */
 void taskback_access(enum kind kind, uint64_t address, uint64_t size, uint64_t place, int mark);
@@ -128,18 +123,31 @@ struct runtime_item {
 };
 
 /* The bytes from here on are new: what was there before has nothing to do with them. */
-void taskback_new_memory(struct own *own, uint64_t address, uint64_t size);
+struct event *taskback_new_memory(struct own *own, uint64_t address, uint64_t size, uint64_t place);
 
 /* The task begins or ends on this thread's stack. */
-void taskback_push_task(struct own *own, uint32_t task);
+void taskback_push_task(struct own *own, uint32_t task, uint32_t prior, int is_untied);
 void taskback_pop_task(struct own *own, uint32_t task);
 
 /* A block that the program has taken, or gives back. */
-void *taskback_taken(void *block, size_t size);
+void *taskback_taken(void *block, uint64_t place);
 void taskback_given_back(void *block, uint64_t place);
 
-/* Writes what is left to the file that TASKBACK_TRACE names, once. */
-void taskback_write_trace(void);
+/* The program has come to its end: nothing is written down any more. */
+void taskback_end_trace(void);
+
+/* Whether a file is written, and whether the runtime has called the recorder. */
+extern int taskback_is_recording;
+extern int taskback_has_tool;
+
+/* A fence: what was stored before is seen by who reads what is stored atomically from here on. */
+void taskback_fence(void);
+
+/* A lock that is held from here on, or up to here. */
+void taskback_note_lock(enum kind kind, const void *lock, uint64_t place);
+
+/* Which task may fill which record of a loop's tasks. */
+void taskback_fill_record(struct own *own, uint64_t record, uint64_t size);
 
 #define PLACE ((uint64_t)__builtin_return_address(0))
 #endif

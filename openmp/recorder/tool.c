@@ -1,29 +1,30 @@
 /* The OMPT tool: which tasks there are, and when each starts, waits and ends. */
 #include <omp-tools.h>
-#include <signal.h>
 
 #include "recorder.h"
 
-enum { STARTED = 1 };
+/* A task's data is its number with these below. */
+enum { STARTED = 1, UNTIED = 2, NUMBER_SHIFT = 2 };
 
+int taskback_has_tool;
 static uint32_t task_count;
 static uint64_t region_count;
 
-static uint32_t number_of(const ompt_data_t *data) { return data ? (uint32_t)(data->value >> 1) : 0; }
+static uint32_t number_of(const ompt_data_t *data) { return data ? (uint32_t)(data->value >> NUMBER_SHIFT) : 0; }
 
-static void name_task(ompt_data_t *data, int started) {
+static void name_task(ompt_data_t *data, uint64_t marks) {
     uint64_t number = __atomic_add_fetch(&task_count, 1, __ATOMIC_RELAXED);
-    data->value = number << 1 | (uint64_t)started;
+    data->value = number << NUMBER_SHIFT | marks;
 }
 
-void taskback_new_memory(struct own *own, uint64_t address, uint64_t size) {
+struct event *taskback_new_memory(struct own *own, uint64_t address, uint64_t size, uint64_t place) {
     begin_part(own);
-    taskback_note(own, MEMORY, own->task, address, size, 0);
+    return taskback_note(own, MEMORY, own->task, address, size, place);
 }
 
-void taskback_push_task(struct own *own, uint32_t task) {
+void taskback_push_task(struct own *own, uint32_t task, uint32_t prior, int is_untied) {
     if (own->depth < RUNNING_MOST)
-        own->running[own->depth] = (struct running){task, 0};
+        own->running[own->depth] = (struct running){task, prior, (uint32_t)is_untied, 0};
     else
         taskback_note(own, NOTE, task, 0, NOTE_DEEP, 0);
     own->depth++;
@@ -40,7 +41,7 @@ void taskback_pop_task(struct own *own, uint32_t task) {
     if (top->task != task)
         return;
     if (top->base)
-        taskback_new_memory(own, own->stack_low, top->base - own->stack_low);
+        taskback_new_memory(own, own->stack_low, top->base - own->stack_low, 0);
     own->depth--;
 }
 
@@ -56,8 +57,8 @@ static void on_create(ompt_data_t *creator, const ompt_frame_t *frame, ompt_data
     struct own *own = own_state();
     if (flags & (ompt_task_initial | ompt_task_taskwait))
         return;
-    begin_part(own);
-    name_task(child, 0);
+    begin_loud_part(own);
+    name_task(child, flags & ompt_task_untied ? UNTIED : 0);
     uint64_t kept = (uint32_t)flags & ~(uint32_t)ompt_task_undeferred;
     uint64_t where = (uint64_t)place;
     if (own->caller && own->caller == number_of(creator)) {
@@ -75,19 +76,33 @@ static void finish(struct own *own, uint32_t task) {
     taskback_note(own, END, task, 0, 0, 0);
 }
 
-static void go_on(struct own *own, ompt_data_t *next) {
+static int runs_here(const struct own *own, uint32_t task) {
+    for (uint32_t i = own->depth < RUNNING_MOST ? own->depth : RUNNING_MOST; i > 0; i--)
+        if (own->running[i - 1].task == task)
+            return 1;
+    return 0;
+}
+
+/* An untied task may go on by another thread than before. */
+static void go_on(struct own *own, ompt_data_t *next, uint32_t before) {
+    int is_untied = (next->value & UNTIED) != 0;
     own->task = number_of(next);
-    if (next->value & STARTED)
+    if (next->value & STARTED) {
+        if (is_untied && !runs_here(own, own->task)) {
+            taskback_note(own, RESUME, own->task, 0, 0, 0);
+            taskback_push_task(own, own->task, before, 1);
+        }
         return;
+    }
     next->value |= STARTED;
     taskback_note(own, START, own->task, 0, 0, 0);
-    taskback_push_task(own, own->task);
+    taskback_push_task(own, own->task, before, is_untied);
 }
 
 static void on_schedule(ompt_data_t *prior, ompt_task_status_t status, ompt_data_t *next) {
     struct own *own = own_state();
-    begin_part(own);
-    uint32_t before = number_of(prior);
+    begin_loud_part(own);
+    uint32_t before = number_of(prior), met = own->task;
     switch (status) {
     case ompt_task_complete:
     case ompt_task_cancel:
@@ -98,22 +113,25 @@ static void on_schedule(ompt_data_t *prior, ompt_task_status_t status, ompt_data
         taskback_pop_task(own, before);
         break;
     case ompt_task_late_fulfill:
+        taskback_note(own, FULFIL, own->task, before, 0, 0);
         finish(own, before);
         return;
     case ompt_task_early_fulfill:
+        taskback_note(own, FULFIL, own->task, before, 0, 0);
+        return;
     case ompt_taskwait_complete:
         return;
     default:
         break;
     }
     if (next)
-        go_on(own, next);
+        go_on(own, next, met);
 }
 
 static void on_sync(ompt_sync_region_t kind, ompt_scope_endpoint_t end, ompt_data_t *region, ompt_data_t *task,
                     const void *place) {
     struct own *own = own_state();
-    begin_part(own);
+    begin_loud_part(own);
     uint32_t number = task && task->value ? number_of(task) : own->task;
     uint64_t where = region ? region->value : 0;
     switch (kind) {
@@ -136,7 +154,7 @@ static void on_region_begin(ompt_data_t *task, const ompt_frame_t *frame, ompt_d
                             int flags, const void *place) {
     (void)frame, (void)flags;
     struct own *own = own_state();
-    begin_part(own);
+    begin_loud_part(own);
     region->value = __atomic_add_fetch(&region_count, 1, __ATOMIC_RELAXED);
     taskback_note(own, REGION_BEGIN, number_of(task), region->value, wanted, (uint64_t)place);
 }
@@ -144,42 +162,42 @@ static void on_region_begin(ompt_data_t *task, const ompt_frame_t *frame, ompt_d
 static void on_region_end(ompt_data_t *region, ompt_data_t *task, int flags, const void *place) {
     (void)flags;
     struct own *own = own_state();
-    begin_part(own);
+    begin_loud_part(own);
     own->task = number_of(task);
     taskback_note(own, REGION_END, own->task, region->value, 0, (uint64_t)place);
 }
 
 static void on_implicit(ompt_scope_endpoint_t end, ompt_data_t *region, ompt_data_t *task, unsigned int size,
                         unsigned int index, int flags) {
-    (void)size;
     struct own *own = own_state();
-    begin_part(own);
+    begin_loud_part(own);
     if (end == ompt_scope_end) {
         taskback_pop_task(own, number_of(task));
         return;
     }
-    name_task(task, 1);
+    uint32_t before = own->task;
+    name_task(task, STARTED);
     own->task = number_of(task);
     uint64_t where = flags & ompt_task_initial || !region ? 0 : region->value;
-    taskback_note(own, IMPLICIT_BEGIN, own->task, where, index, 0);
+    taskback_note(own, IMPLICIT_BEGIN, own->task, where, index, 0)->size = (uint16_t)size;
     if (where)
-        taskback_push_task(own, own->task);
+        taskback_push_task(own, own->task, before, 0);
 }
 
-static void note_lock(enum kind kind, ompt_wait_id_t lock, const void *place) {
+void taskback_note_lock(enum kind kind, const void *lock, uint64_t place) {
     struct own *own = own_state();
-    begin_part(own);
-    taskback_note(own, kind, own->task, lock, 0, (uint64_t)place);
+    begin_loud_part(own);
+    taskback_note(own, kind, own->task, (uint64_t)lock, 0, place);
 }
 
 static void on_lock(ompt_mutex_t kind, ompt_wait_id_t lock, const void *place) {
     if (kind != ompt_mutex_ordered)
-        note_lock(LOCK, lock, place);
+        taskback_note_lock(LOCK, (const void *)lock, (uint64_t)place);
 }
 
 static void on_unlock(ompt_mutex_t kind, ompt_wait_id_t lock, const void *place) {
     if (kind != ompt_mutex_ordered)
-        note_lock(UNLOCK, lock, place);
+        taskback_note_lock(UNLOCK, (const void *)lock, (uint64_t)place);
 }
 
 static void on_cancel(ompt_data_t *task, int flags, const void *place) {
@@ -187,26 +205,10 @@ static void on_cancel(ompt_data_t *task, int flags, const void *place) {
     taskback_note(own_state(), NOTE, number_of(task), 0, NOTE_CANCEL, (uint64_t)place);
 }
 
-/* A program that a signal ends leaves its trace too. */
-static void on_signal(int number) {
-    signal(number, SIG_DFL);
-    taskback_write_trace();
-    raise(number);
-}
-
-static void watch_signals(void) {
-    static const int numbers[] = {SIGSEGV, SIGBUS, SIGFPE, SIGILL, SIGABRT, SIGTERM, SIGINT};
-    for (size_t i = 0; i < sizeof numbers / sizeof numbers[0]; i++) {
-        void (*before)(int) = signal(numbers[i], on_signal);
-        if (before != SIG_DFL)
-            signal(numbers[i], before);
-    }
-}
-
 static int begin(ompt_function_lookup_t look_up, int device, ompt_data_t *data) {
     (void)device, (void)data;
     ompt_set_callback_t set = (ompt_set_callback_t)look_up("ompt_set_callback");
-    watch_signals();
+    taskback_has_tool = 1;
     set(ompt_callback_task_create, (ompt_callback_t)on_create);
     set(ompt_callback_task_schedule, (ompt_callback_t)on_schedule);
     set(ompt_callback_sync_region, (ompt_callback_t)on_sync);
@@ -219,10 +221,7 @@ static int begin(ompt_function_lookup_t look_up, int device, ompt_data_t *data) 
     return 1;
 }
 
-static void end(ompt_data_t *data) {
-    (void)data;
-    taskback_write_trace();
-}
+static void end(ompt_data_t *data) { (void)data; }
 
 ompt_start_tool_result_t *ompt_start_tool(unsigned int version, const char *runtime) {
     static ompt_start_tool_result_t result = {begin, end, {0}};

@@ -1,4 +1,6 @@
 /* What the program calls and the tool's interface doesn't tell: `ld --wrap` leads these calls through here. */
+#include <stdlib.h>
+
 #include "recorder.h"
 
 /* ---- the runtime's entries for tasks */
@@ -8,32 +10,30 @@ int32_t __real___kmpc_omp_task(void *, int32_t, void *);
 int32_t __real___kmpc_omp_task_with_deps(void *, int32_t, void *, int32_t, void *, int32_t, void *);
 void __real___kmpc_omp_task_begin_if0(void *, int32_t, void *);
 void __real___kmpc_omp_wait_deps(void *, int32_t, int32_t, void *, int32_t, void *);
+/* Not in the runtime of clang 14. */
+__attribute__((weak)) void __real___kmpc_omp_taskwait_deps_51(void *, int32_t, int32_t, void *, int32_t, void *, int32_t);
 void __real___kmpc_taskloop(void *, int32_t, void *, int32_t, uint64_t *, uint64_t *, int64_t, int32_t, int32_t,
                             uint64_t, void *);
 void *__real___kmpc_task_allow_completion_event(void *, int32_t, void *);
-void *__real___kmpc_taskred_init(int32_t, int32_t, void *);
-void *__real___kmpc_taskred_modifier_init(void *, int32_t, int32_t, int32_t, void *);
-void *__real___kmpc_task_reduction_get_th_data(int32_t, void *, void *);
-int32_t __real___kmpc_reduce(void *, int32_t, int32_t, size_t, void *, void *, void *);
-int32_t __real___kmpc_reduce_nowait(void *, int32_t, int32_t, size_t, void *, void *, void *);
-
-void __real___kmpc_end_reduce(void *, int32_t, void *);
-void __real___kmpc_end_reduce_nowait(void *, int32_t, void *);
-
 enum { HAS_PRIORITY = 0x20 };
 
 /* The creator fills the record of a task that is still to come: nobody else can see it until then. */
 void *__wrap___kmpc_omp_task_alloc(void *at, int32_t thread, int32_t flags, size_t size, size_t shared, void *entry) {
     void *record = __real___kmpc_omp_task_alloc(at, thread, flags, size, shared, entry);
     struct own *own = own_state();
-    uint64_t whole = (size + 15) / 8 * 8 + shared;
-    taskback_new_memory(own, (uint64_t)record, whole);
+    taskback_fill_record(own, (uint64_t)record, (size + 15) / 8 * 8 + shared);
     if (flags & HAS_PRIORITY)
         taskback_note(own, NOTE, own->task, 0, NOTE_PRIORITY, PLACE);
-    own->record = (uint64_t)record;
-    own->record_size = whole;
-    own->record_creator = own->task;
+    if (!taskback_has_tool)
+        taskback_note(own, NOTE, own->task, 0, NOTE_NO_TOOL, PLACE);
     return record;
+}
+
+void taskback_fill_record(struct own *own, uint64_t record, uint64_t size) {
+    taskback_new_memory(own, record, size, 0);
+    own->record = record;
+    own->record_size = size;
+    own->record_creator = own->task;
 }
 
 /* A call that creates children: who makes it and where, which another task's call within it may change. */
@@ -47,7 +47,7 @@ struct call {
 static struct call enter(uint64_t place, int undeferred) {
     struct own *own = own_state();
     struct call before = {own, own->caller, own->caller_place, own->undeferred};
-    begin_part(own);
+    begin_loud_part(own);
     own->record_size = 0;
     own->caller = own->task;
     own->caller_place = place;
@@ -87,6 +87,13 @@ int32_t __wrap___kmpc_omp_task_with_deps(void *at, int32_t thread, void *task, i
     return result;
 }
 
+struct items {
+    int count;
+    const void *items;
+    int more_count;
+    const void *more;
+};
+
 static void note_wait_items(struct own *own, int count, const void *items) {
     const struct runtime_item *item = items;
     for (int i = 0; i < count; i++)
@@ -94,25 +101,45 @@ static void note_wait_items(struct own *own, int count, const void *items) {
 }
 
 /* Two things come here: an undeferred task with items, of which the record is already there, and a taskwait. */
+struct record {
+    uint64_t at, size;
+};
+
+static struct record before_wait(struct own *own) {
+    begin_loud_part(own);
+    struct record record = {own->record, own->record_creator == own->task ? own->record_size : 0};
+    own->record_size = 0;
+    return record;
+}
+
+static void after_wait(struct own *own, struct record record, struct items items, uint64_t place) {
+    begin_loud_part(own);
+    if (record.size) {
+        own->record = record.at;
+        own->record_size = record.size;
+        own->record_creator = own->task;
+        keep_items(own, items.count, items.items, items.more_count, items.more);
+        return;
+    }
+    note_wait_items(own, items.count, items.items);
+    note_wait_items(own, items.more_count, items.more);
+    taskback_note(own, WAIT_ITEMS, own->task, 0, 0, place);
+}
+
 void __wrap___kmpc_omp_wait_deps(void *at, int32_t thread, int32_t count, void *items, int32_t more_count,
                                  void *more_items) {
     struct own *own = own_state();
-    begin_part(own);
-    uint64_t record = own->record, size = own->record_size;
-    int for_task = size && own->record_creator == own->task;
-    own->record_size = 0;
+    struct record record = before_wait(own);
     __real___kmpc_omp_wait_deps(at, thread, count, items, more_count, more_items);
-    begin_part(own);
-    if (for_task) {
-        own->record = record;
-        own->record_size = size;
-        own->record_creator = own->task;
-        keep_items(own, count, items, more_count, more_items);
-        return;
-    }
-    note_wait_items(own, count, items);
-    note_wait_items(own, more_count, more_items);
-    taskback_note(own, WAIT_ITEMS, own->task, 0, 0, PLACE);
+    after_wait(own, record, (struct items){count, items, more_count, more_items}, PLACE);
+}
+
+void __wrap___kmpc_omp_taskwait_deps_51(void *at, int32_t thread, int32_t count, void *items, int32_t more_count,
+                                        void *more_items, int32_t no_wait) {
+    struct own *own = own_state();
+    struct record record = before_wait(own);
+    __real___kmpc_omp_taskwait_deps_51(at, thread, count, items, more_count, more_items, no_wait);
+    after_wait(own, record, (struct items){count, items, more_count, more_items}, PLACE);
 }
 
 void __wrap___kmpc_omp_task_begin_if0(void *at, int32_t thread, void *task) {
@@ -121,11 +148,65 @@ void __wrap___kmpc_omp_task_begin_if0(void *at, int32_t thread, void *task) {
     leave(&call);
 }
 
+/* ---- a loop's tasks: the runtime copies the record of the first, and calls a function for each copy */
+
+void *__real_malloc(size_t);
+
+typedef void copy_function(void *, void *, int32_t);
+
+/* By the function that the tasks run: how large a record is, and what fills its copy. */
+struct copied {
+    const void *entry;
+    copy_function *copy;
+    uint64_t size;
+    struct copied *link;
+};
+
+static struct copied *all_copied;
+
+/* The runtime's record of a task begins so. */
+struct task_record {
+    void *shared;
+    const void *entry;
+};
+
+static struct copied *find_copied(const void *entry) {
+    struct copied *found = __atomic_load_n(&all_copied, __ATOMIC_ACQUIRE);
+    while (found && found->entry != entry)
+        found = found->link;
+    return found;
+}
+
+static void keep_copied(const void *entry, copy_function *copy, uint64_t size) {
+    if (find_copied(entry))
+        return;
+    struct copied *kept = __real_malloc(sizeof *kept);
+    if (!kept)
+        abort();
+    *kept = (struct copied){entry, copy, size, __atomic_load_n(&all_copied, __ATOMIC_ACQUIRE)};
+    while (!__atomic_compare_exchange_n(&all_copied, &kept->link, kept, 0, __ATOMIC_ACQ_REL, __ATOMIC_ACQUIRE))
+        ;
+}
+
+static void copy_record(void *to, void *from, int32_t is_last) {
+    const struct copied *found = find_copied(((struct task_record *)from)->entry);
+    struct own *own = own_state();
+    uint32_t muted = own->muted;
+    taskback_fill_record(own, (uint64_t)to, found ? found->size : 0);
+    own->muted = own->task;
+    if (found && found->copy)
+        found->copy(to, from, is_last);
+    taskback_settle(own);
+    own->muted = muted;
+}
+
 void __wrap___kmpc_taskloop(void *at, int32_t thread, void *task, int32_t deferred, uint64_t *low, uint64_t *high,
                             int64_t stride, int32_t no_group, int32_t schedule, uint64_t grain, void *copy) {
+    struct own *own = own_state();
+    keep_copied(((struct task_record *)task)->entry, (copy_function *)copy, own->record_size);
     struct call call = enter(PLACE, !deferred);
     keep_items(call.own, 0, 0, 0, 0);
-    __real___kmpc_taskloop(at, thread, task, deferred, low, high, stride, no_group, schedule, grain, copy);
+    __real___kmpc_taskloop(at, thread, task, deferred, low, high, stride, no_group, schedule, grain, (void *)copy_record);
     leave(&call);
 }
 
@@ -133,85 +214,4 @@ void *__wrap___kmpc_task_allow_completion_event(void *at, int32_t thread, void *
     struct own *own = own_state();
     taskback_note(own, NOTE, own->task, 0, NOTE_DETACH, PLACE);
     return __real___kmpc_task_allow_completion_event(at, thread, task);
-}
-
-/* ---- reductions: the copies of one thread serve several tasks, and nothing of them is shared */
-
-struct reduced {
-    void *shared, *original;
-    size_t size;
-    void *rest[4];
-};
-
-static void note_reduction(int count, const void *data, uint64_t place) {
-    const struct reduced *reduced = data;
-    struct own *own = own_state();
-    taskback_note(own, NOTE, own->task, 0, NOTE_REDUCTION, place);
-    for (int i = 0; i < count; i++)
-        set_size(taskback_note(own, COPY, own->task, (uint64_t)reduced[i].shared, 0, place), reduced[i].size);
-}
-
-void *__wrap___kmpc_taskred_init(int32_t thread, int32_t count, void *data) {
-    note_reduction(count, data, PLACE);
-    return __real___kmpc_taskred_init(thread, count, data);
-}
-
-void *__wrap___kmpc_taskred_modifier_init(void *at, int32_t thread, int32_t loop, int32_t count, void *data) {
-    note_reduction(count, data, PLACE);
-    return __real___kmpc_taskred_modifier_init(at, thread, loop, count, data);
-}
-
-void *__wrap___kmpc_task_reduction_get_th_data(int32_t thread, void *group, void *item) {
-    void *copy = __real___kmpc_task_reduction_get_th_data(thread, group, item);
-    struct own *own = own_state();
-    begin_part(own);
-    /* A thread that is alone has no copies: what its tasks add up is kept apart by the reduction. */
-    if (copy == item)
-        taskback_note(own, LOCK, own->task, (uint64_t)item, 1, PLACE);
-    else
-        taskback_note(own, COPY, own->task, (uint64_t)copy, (uint64_t)item, PLACE);
-    return copy;
-}
-
-/* From here to the end of the reduction the runtime keeps the team's threads apart, as a lock does. */
-static void lock_reduction(const void *lock, uint64_t place) {
-    struct own *own = own_state();
-    begin_part(own);
-    taskback_note(own, NOTE, own->task, 0, NOTE_REDUCTION, place);
-    taskback_note(own, LOCK, own->task, (uint64_t)lock, 1, place);
-}
-
-static void unlock_reduction(const void *lock, uint64_t place) {
-    struct own *own = own_state();
-    begin_part(own);
-    taskback_note(own, UNLOCK, own->task, (uint64_t)lock, 0, place);
-}
-
-int32_t __wrap___kmpc_reduce(void *at, int32_t thread, int32_t count, size_t size, void *data, void *combine,
-                             void *lock) {
-    lock_reduction(lock, PLACE);
-    int32_t way = __real___kmpc_reduce(at, thread, count, size, data, combine, lock);
-    if (way != 1)
-        unlock_reduction(lock, PLACE);
-    return way;
-}
-
-int32_t __wrap___kmpc_reduce_nowait(void *at, int32_t thread, int32_t count, size_t size, void *data, void *combine,
-                                    void *lock) {
-    lock_reduction(lock, PLACE);
-    int32_t way = __real___kmpc_reduce_nowait(at, thread, count, size, data, combine, lock);
-    if (way != 1)
-        unlock_reduction(lock, PLACE);
-    return way;
-}
-
-/* Way 1 holds the lock up to here; way 2 has let it go already, and lets it go once more. */
-void __wrap___kmpc_end_reduce(void *at, int32_t thread, void *lock) {
-    unlock_reduction(lock, PLACE);
-    __real___kmpc_end_reduce(at, thread, lock);
-}
-
-void __wrap___kmpc_end_reduce_nowait(void *at, int32_t thread, void *lock) {
-    unlock_reduction(lock, PLACE);
-    __real___kmpc_end_reduce_nowait(at, thread, lock);
 }

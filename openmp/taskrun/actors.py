@@ -118,7 +118,9 @@ class Run:
         self._sizes = {}
         handlers = self._handlers()
         for event in trace.events:
-            handlers[event.kind](event)
+            handler = handlers.get(event.kind)
+            if handler:
+                handler(event)
         self._find_homes()
         self._place_parts()
 
@@ -218,6 +220,8 @@ class Run:
 
     def _access(self, event):
         task = event.task
+        if event.mark & t.OUTERMOST and task not in self.tasks:
+            return      # a thread's share of a region ends: its tasks have ended by then
         self.accesses.append(Access(event, self._now.get(task, self.root), self._locks.get(task, NO_LOCKS)))
 
     def _lock(self, event):

@@ -1,8 +1,6 @@
 """The answer about a run: a fault, races by source lines, or that there are none."""
 
-import re
-
-from . import trace as t
+from .advice import remedy
 
 FAULT, RACES, NONE, UNKNOWN = 1, 2, 0, 3
 RULES = {
@@ -14,193 +12,199 @@ RULES = {
     "Undeferred": ("went on", "a child that isn't deferred ends first (OpenMP 5.2, 12.5)"),
 }
 FOR_EVERY = "for this input, every schedule has this outcome"
+AS_SEEN = "no race as far as was seen: nothing is said of other schedules"
+
+# What orders nothing, or is this run's alone: where one of these is there, what is said of every schedule says less.
+ALIKE = (("locks", "critical sections and locks"), ("reductions", "reductions"), ("cancellations", "cancellations"),
+         ("by_atomics", "accesses by atomic operations alone"), ("by_locks", "accesses that one lock keeps apart"),
+         ("handed_over", "steps ordered by atomics as seen"),
+         ("by_thread_number", "accesses by the thread's number, which the runtime chooses"))
+# What wasn't seen: where one of these is there, nothing is said of other schedules.
+UNSEEN = (("strangers", "accesses of threads that aren't OpenMP's"), ("forks", "processes that were forked"))
 
 
-class Race:
-    """Two steps that nothing orders."""
+def what_is_unseen(finding):
+    """Lines on what of the program wasn't seen."""
+    lines = [f"not seen: {words}: {finding.counts[name]}" for name, words in UNSEEN if finding.counts.get(name)]
+    if finding.told["unseen"]:
+        lines.append(f"not seen: what these do, which weren't compiled by `record cc`: {finding.told['unseen']}")
+    return lines
 
-    def __init__(self, earlier, later, is_apart):
-        self.earlier = earlier
-        self.later = later
-        self.is_apart = is_apart
 
-
-def read_races(session, lines):
-    """The races in a reply's lines."""
-    found = []
-    for line in lines:
-        told = re.fullmatch(r"(\S+) (\S+) (?:cell \d+|print)( apart)?", line)
-        if told and told[1] in session.identifiers and told[2] in session.identifiers:
-            found.append(Race(session.identifiers[told[1]], session.identifiers[told[2]], bool(told[3])))
-    return found
+def what_is_alike(finding):
+    """Lines on what may come in either order without a race."""
+    return [f"not ordered, or only as seen: {words}: {finding.counts[name]}" for name, words in ALIKE
+            if finding.counts.get(name)]
 
 
 # ---- a fault of the run
 
-def tell_fault(session, number, reply):
-    """The lines about the step that was refused."""
-    taken = session.taken[number]
-    words = reply.split()
-    kind, other = (words[2] if len(words) > 2 else ""), (words[3] if len(words) > 3 else "")
-    if kind not in RULES:
-        return [f"this can't be a run: {session.describe(taken)} was answered `{reply}`"]
-    done, rule = RULES[kind]
-    who = {actor.name: actor for actor in session.actors}
-    return [f"fault of the run: {task_words(session, taken.actor)} {done} while {task_words(session, who[other])} "
-            f"hadn't ended: {rule}",
-            f"  the step: {session.describe(taken)}; answered `{reply}` at step {number + 1} of {len(session.taken)}"]
-
-
-def task_words(session, actor):
+def task_words(finding, number):
     """`task 0.1 (sum.c:9)`."""
-    return f"task {actor.name} ({session.line_of(actor.place)})" if actor.place else f"task {actor.name} (the program)"
+    actor = finding.actors[number]
+    return f"task {actor.name} ({finding.line(actor.place)})" if actor.is_task else f"task {actor.name} (the program)"
+
+
+def tell_fault(finding):
+    """The lines about the step that broke a rule."""
+    fault = finding.fault
+    done, rule = RULES[fault["rule"]]
+    where = finding.line(fault["place"] or finding.actors[fault["actor"]].place)
+    return [f"fault of the run: {task_words(finding, fault['actor'])} {done} while "
+            f"{task_words(finding, fault['other'])} hadn't ended: {rule}",
+            f"  the step: it {fault['step']}, at {where}; event {fault['stamp']} of {finding.told['events']}"]
 
 
 # ---- races
 
-def tell_races(session, races):
-    """A line for each pair of source lines that race, and what would order them."""
-    told, lines = {}, []
+class Report:
+    """The races of one pair of lines: one mistake."""
+
+    def __init__(self, race):
+        self.race = race
+        self.count = race.count
+
+    def add(self, race):
+        """Takes another race of these lines in; the one in which both write is told."""
+        self.count += race.count
+        if writes_of(race) > writes_of(self.race):
+            self.race = race
+
+
+def writes_of(race):
+    """How many of its two sides write."""
+    return sum(side.done != "reads" for side in (race.earlier, race.later))
+
+
+def gather(finding, races):
+    """The reports, in the order in which their first races came: one for each pair of lines, and of these one for what
+    the same advice mends."""
+    by_lines, by_advice = {}, {}
     for race in races:
-        line = (f"{session.describe(race.earlier)}, {session.describe(race.later)}: nothing orders "
-                f"{who_words(session, race)}; {remedy(session, race)}")
-        told[line] = told.get(line, 0) + 1
-    for line, count in told.items():
-        lines.append(line + (f"  ({count} times)" if count > 1 else ""))
-    return lines
+        key = frozenset((finding.line_of(race.earlier), finding.line_of(race.later)))
+        if key in by_lines:
+            by_lines[key].add(race)
+        else:
+            by_lines[key] = Report(race)
+    for report in by_lines.values():
+        first = by_advice.setdefault((who_words(finding, report.race), remedy(finding, report.race)), report)
+        if first is not report:
+            first.count += report.count
+    return list(by_advice.values())
 
 
-def who_words(session, race):
+def step_words(finding, race, side):
+    """`sum.c:9 writes total`; of memory without a name, where it was taken."""
+    name = finding.name_of(side)
+    if side.is_frame:
+        return f"{finding.line_of(side)} frees memory of the function that ends there"
+    words = f"{finding.line_of(side)} {side.done} {name}{finding.chain_of(side)}"
+    if name == "memory" and race.block and finding.sources.is_own(race.block["place"]):
+        words += f" (byte {race.block['offset']} of the block taken at {finding.line(race.block['place'])})"
+    return words
+
+
+def who_words(finding, race):
     """`tasks at sum.c:9 and sum.c:9`; the one that made the other isn't called a task."""
     first, second = race.earlier.actor, race.later.actor
+    if race.is_copied:
+        return f"{part_words(finding, first)} (seen with one: each would do it)"
+    if first is second:
+        return f"what {part_words(finding, first)} share out"
     if second.is_under(first):
-        return f"the task at {session.line_of(second.place)} and what made it"
+        return f"the task at {finding.line(second.place)} and what made it"
     if first.is_under(second):
-        return f"the task at {session.line_of(first.place)} and what made it"
-    return f"tasks at {session.line_of(first.place)} and {session.line_of(second.place)}"
+        return f"the task at {finding.line(first.place)} and what made it"
+    if first.is_part and second.is_part and first.place == second.place:
+        return part_words(finding, first)
+    if first.is_task and second.is_task:
+        return f"tasks at {finding.line(first.place)} and {finding.line(second.place)}"
+    return " and ".join(f"the task at {finding.line(actor.place)}" if actor.is_task else part_words(finding, actor)
+                        for actor in (first, second))
 
 
-def branch(actor, ancestor):
-    """The child of the ancestor that the actor is or comes from."""
-    while actor.parent is not ancestor:
+def part_words(finding, actor):
+    """`the threads of the region at sum.c:7`."""
+    while not actor.is_part and actor.parent is not None:
         actor = actor.parent
-    return actor
+    return f"the threads of the region at {finding.line(actor.place)}"
 
 
-def common(first, second):
-    """The innermost actor that both are or come from."""
-    while not second.is_under(first):
-        first = first.parent
-    return first
-
-
-def spawn_of(child):
-    """The place in its parent at which a child was made."""
-    for _, _, step in child.parent.steps:
-        if step.child is child:
-            return step.place
-    return child.place
-
-
-def remedy(session, race):
-    """What would order the two."""
-    first, second = race.earlier.actor, race.later.actor
-    meeting = common(first, second)
-    if meeting is second:
-        child = branch(first, meeting)
-        extra = "" if child is first else (f", and one at the end of the task at {session.line_of(child.place)}"
-                                           ", or a taskgroup around both")
-        return f"add a taskwait in front of {session.line_of(race.later.step.place)}{extra}"
-    if meeting is first:
-        child = branch(second, meeting)
-        return (f"add a taskwait in front of {session.line_of(race.earlier.step.place)}, or make the task at "
-                f"{session.line_of(child.place)} after that line")
-    one, other = branch(first, meeting), branch(second, meeting)
-    behind = one if is_made_first(meeting, other, one) else other
-    wait = f"a taskwait in front of {session.line_of(spawn_of(behind))}"
-    if one is first and other is second and is_explicit(one) and is_explicit(other):
-        return f"{depend_words(session, race)}, or {wait}"
-    if is_explicit(one) and is_explicit(other):
-        return (f"add a taskgroup around the task at {session.line_of(spawn_of(other if behind is one else one))}: "
-                "a depend clause orders children of one task alone")
-    return "add a barrier between the two"
-
-
-def is_explicit(actor):
-    """Whether a task directive made it; else it is a thread's part of a region."""
-    return any(step.child is actor and step.place != 0 for _, _, step in actor.parent.steps) and not actor.is_part
-
-
-def is_made_first(parent, one, other):
-    """Whether the parent made this child in front of the other."""
-    order = [step.child for _, _, step in parent.steps if step.child in (one, other)]
-    return order[0] is one
-
-
-def depend_words(session, race):
-    """`depend(inout: total)`, or `in` and `out` where one only reads; where one of the two names the place in a
-    clause already, what the other one lacks."""
-    sides = (race.earlier, race.later)
-    places = [session.line_of(taken.actor.place) for taken in sides]
-    kinds = [lines_kind(taken) for taken in sides]
-    known = [item_name(session, taken) for taken in sides]
-    for one, other in ((0, 1), (1, 0)):
-        if known[one] and not known[other] and places[0] != places[1]:
-            return (f"add depend({kinds[other]}: {known[one]}) to the task at {places[other]} "
-                    f"(so the one at {places[one]} names that place)")
-    names = [session.sources.expression(taken.step.place) for taken in sides]
-    name = names[0] if names[0] != "memory" else names[1]
-    if kinds[0] == kinds[1] or places[0] == places[1]:
-        return f"add depend(inout: {name})"
-    return f"add depend({kinds[0]}: {name}) at {places[0]} and depend({kinds[1]}: {name}) at {places[1]}"
-
-
-def item_name(session, taken):
-    """The name of the depend item of the step's task that covers what the step touches, or None."""
-    actor = taken.actor
-    names = session.sources.items(actor.place)
-    for number, ((address, _), length) in enumerate(zip(actor.items, actor.lengths)):
-        if address <= taken.step.cell.address < address + max(length, 1) and len(names) == len(actor.items):
-            return names[number]
-    return None
-
-
-def lines_kind(taken):
-    """The depend type for what the step's task does to that cell."""
-    stores = any(step.mark & t.WRITES and step.cell is taken.step.cell for _, _, step in taken.actor.steps)
-    return "inout" if stores else "in"
+def tell_races(finding, races):
+    """A line for each report."""
+    lines = []
+    for report in gather(finding, races):
+        race = report.race
+        times = f"  ({report.count} times)" if report.count > 1 else ""
+        lines.append(f"{step_words(finding, race, race.earlier)}, {step_words(finding, race, race.later)}: nothing orders "
+                     f"{who_words(finding, race)}; {remedy(finding, race)}{times}")
+    return lines
 
 
 # ---- the whole answer
 
-def answer(session, replies):
-    """(exit status, lines) for a session that was played."""
-    number = replies.refused()
-    if number is not None:
-        return FAULT, tell_fault(session, number, replies.steps[number])
-    lines = [f"not said by the notation: {name}: {count}" for name, count in session.unsaid()]
-    if session.is_cut:
-        return UNKNOWN, lines + ["events are missing from the trace (no room for its file?), or tasks were too deep "
-                                 "to follow: nothing is answered"]
-    if replies.races is None:
-        return UNKNOWN, lines + ["the run was legal; this program doesn't know the command `races` (it answers "
-                                 "`error word`), so nothing is said of races"]
-    return tell_outcome(session, read_races(session, replies.races), lines)
-
-
-def tell_outcome(session, races, lines):
-    """(exit status, lines) for a legal and finished run with these races."""
-    open_races = [race for race in races if not race.is_apart]
-    apart = [race for race in races if race.is_apart]
+def answer(finding):
+    """(exit status, lines)."""
+    if finding.fault:
+        return FAULT, tell_fault(finding)
+    lines = what_is_unseen(finding) + what_is_alike(finding)
+    open_races = [race for race in finding.races if not race.is_apart]
     if open_races:
-        return RACES, lines + tell_races(session, open_races)
-    if session.unfinished:
-        return UNKNOWN, lines + [f"up to its end the trace is legal and has no race, but {len(session.unfinished)} "
-                                 "tasks hadn't ended: nothing is said of other schedules"]
-    done = f"a legal run of {len(session.actors) - 1} tasks without a race"
-    if apart:
-        shown = sorted({f"{session.describe(race.earlier)}, {session.describe(race.later)}" for race in apart})
-        lines += [f"either may come first, never both at once (mutexinoutset): {pair}" for pair in shown]
-    if apart or session.unsaid():
-        return NONE, lines + [f"{done}: {FOR_EVERY}, as far as what is told above comes out alike in either order"]
-    return NONE, lines + [f"{done}: {FOR_EVERY}"]
+        return RACES, lines + tell_races(finding, open_races) + why_unended(finding)
+    whole = why_unended(finding)
+    if whole:
+        return UNKNOWN, lines + whole
+    return NONE, lines + tell_outcome(finding)
+
+
+def why_unended(finding):
+    """Lines on what keeps the trace from being a whole run's."""
+    told = finding.told
+    if finding.counts["no_tool"]:
+        return ["the runtime didn't call the recorder (OMP_TOOL=disabled?): tasks and threads weren't seen"]
+    if finding.counts["deep"]:
+        return ["tasks were too deep to follow: nothing is said of other schedules"]
+    if told["ended"] and told["cut"]:
+        return ["events are missing from the trace (no room for its file?): nothing is said of other schedules"]
+    if not told["ended"] or told["unended"] or told["open_regions"]:
+        rest = f", and {told['unended']} tasks hadn't ended" if told["unended"] else ""
+        return [f"the run didn't end by itself{rest}: what is told is of what was seen until then"]
+    return []
+
+
+def tell_outcome(finding):
+    """Lines for a legal and finished run without an open race."""
+    told = finding.told
+    lines = []
+    pairs = sorted({f"{step_words(finding, race, race.earlier)}, {step_words(finding, race, race.later)}"
+                    for race in finding.races})
+    lines += [f"either may come first, never both at once (mutexinoutset): {pair}" for pair in pairs]
+    if not told["tasks"] and told["team"] < 2 and not told["regions"]:
+        return lines + ["the run had no task and no parallel region: it has one schedule"]
+    kind = f"a legal run of {told['tasks']} tasks without a race" if told["tasks"] else \
+        f"a legal run of {told['regions']} parallel regions, without a task and without a race"
+    if what_is_unseen(finding):
+        return lines + [f"a legal run of {told['tasks']} tasks; {AS_SEEN}"]
+    if pairs or what_is_alike(finding):
+        return lines + [f"{kind}: {FOR_EVERY}, as far as what is told above comes out alike in either order"]
+    return lines + [f"{kind}: {FOR_EVERY}"]
+
+
+def as_json(finding, status, lines):
+    """The answer as one object: the status, the lines, and each report with its parts."""
+    reports = []
+    for report in gather(finding, finding.races):
+        race = report.race
+        reports.append({"count": report.count, "apart": race.is_apart, "who": who_words(finding, race),
+                        "remedy": remedy(finding, race),
+                        "steps": [side_json(finding, race, side) for side in (race.earlier, race.later)]})
+    return {"status": status, "lines": lines, "tasks": finding.told["tasks"], "threads": finding.told["team"],
+            "events": finding.told["events"], "races": reports}
+
+
+def side_json(finding, race, side):
+    """One step of a race."""
+    place = finding.sources.place(side.own)
+    return {"file": place.file, "line": place.line, "column": place.column,
+            "chain": [finding.line(place) for place in (side.place, *side.callers)], "does": side.done,
+            "name": finding.name_of(side), "task": side.actor.name, "directive": finding.line(side.actor.place)}

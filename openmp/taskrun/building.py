@@ -1,32 +1,70 @@
 """Compiles a program with its instrumentation, links the recorder, and runs it."""
 
+import hashlib
 import os
 import shutil
+import signal
 import subprocess
 import sys
 import tempfile
 
 RECORDER = os.path.join(os.path.dirname(os.path.dirname(os.path.abspath(__file__))), "recorder")
-PARTS = ["buffers.c", "accesses.c", "atomics.c", "tool.c", "wraps.c", "memory.c"]
-PARTS_CXX = ["operators.c"]
-CXX_ENDINGS = (".cc", ".cpp", ".cxx", ".C")
+JUDGE = os.path.join(os.path.dirname(RECORDER), "judge")
+PARTS = ["buffers.c", "accesses.c", "atomics.c", "tool.c", "wraps.c", "reductions.c", "loops.c", "locks.c", "memory.c",
+         "strings.c", "operators.c"]
+CXX_ENDINGS = (".cc", ".cpp", ".cxx", ".C", ".c++", ".cp", ".CPP")
 SOURCE_ENDINGS = (".c",) + CXX_ENDINGS
-# The instrumentation's calls alone: no runtime of the sanitizer is linked. Frames keep their pointers, by which
-# the recorder sees where a task's part of the stack begins; a read in front of a write of one place is kept.
+OBJECT_ENDINGS = (".o", ".a", ".so")
+# Loads and stores by the coverage's calls, which have those of parts of local variables; functions and atomic operations
+# by the thread instrumentation's. No runtime of either is linked. Frames keep their pointers, by which the recorder sees
+# where a task's part of the stack begins. With its assertions the C++ library has its strings made in the program, where
+# they are seen.
 COMPILING = ["-g", "-fopenmp", "-fsanitize=thread", "-fno-omit-frame-pointer", "-fno-optimize-sibling-calls",
-             "-mllvm", "-tsan-instrument-read-before-write=1"]
-RUNTIME_CALLS = ["omp_task_alloc", "omp_task", "omp_task_with_deps", "omp_task_begin_if0", "omp_wait_deps", "taskloop",
-                 "task_allow_completion_event", "taskred_init", "taskred_modifier_init",
-                 "task_reduction_get_th_data", "reduce", "reduce_nowait", "end_reduce",
-                 "end_reduce_nowait"]
-MEMORY_CALLS = ["malloc", "calloc", "realloc", "aligned_alloc", "posix_memalign", "free", "memcpy", "memmove", "memset"]
-OPERATORS = ["_Znwm", "_Znam", "_ZdlPv", "_ZdaPv", "_ZdlPvm", "_ZdaPvm"]
+             "-mllvm", "-tsan-instrument-memory-accesses=0", "-fsanitize-coverage=func,trace-loads,trace-stores",
+             "-U_FORTIFY_SOURCE", "-D_GLIBCXX_ASSERTIONS"]
+LOOP_KINDS = ("4", "4u", "8", "8u")
+RUNTIME_CALLS = ["omp_task_alloc", "omp_task", "omp_task_with_deps", "omp_task_begin_if0", "omp_wait_deps",
+                 "omp_taskwait_deps_51", "taskloop", "task_allow_completion_event", "taskred_init",
+                 "taskred_modifier_init", "task_reduction_modifier_fini", "task_reduction_get_th_data", "end_taskgroup",
+                 "reduce", "reduce_nowait", "end_reduce", "end_reduce_nowait", "for_static_fini", "single", "end_single",
+                 "master", "end_master", "masked", "end_masked", "ordered", "end_ordered", "doacross_init",
+                 "doacross_post", "doacross_wait", "push_num_threads", "flush",
+                 *(f"{name}_{kind}" for name in ("for_static_init", "dispatch_init", "dispatch_next")
+                   for kind in LOOP_KINDS)]
+OTHER_CALLS = ["omp_get_thread_num", "omp_set_num_threads",
+               "malloc", "calloc", "realloc", "reallocarray", "aligned_alloc", "posix_memalign", "memalign", "valloc",
+               "free", "memcpy", "memmove", "memset", "strcpy", "stpcpy", "strcat", "strncpy", "strncat", "strlen", "atoi",
+               "atol", "atof", "strtol", "strtoul", "strtod", "strchr", "strrchr", "strcmp", "strcasecmp", "strstr",
+               "strncmp", "memcmp", "strdup", "strndup", "qsort", "bsearch", "printf", "fprintf", "sprintf", "snprintf",
+               "puts", "fputs", "fgets", "fread", "fwrite",
+               "pthread_mutex_lock", "pthread_mutex_trylock", "pthread_mutex_timedlock", "pthread_mutex_unlock",
+               "pthread_spin_lock", "pthread_spin_trylock", "pthread_spin_unlock", "pthread_rwlock_rdlock",
+               "pthread_rwlock_tryrdlock", "pthread_rwlock_wrlock", "pthread_rwlock_trywrlock", "pthread_rwlock_unlock",
+               "__cxa_guard_acquire", "__cxa_guard_release"]
+OPERATORS = ["_Znwm", "_Znam", "_ZnwmRKSt9nothrow_t", "_ZnamRKSt9nothrow_t", "_ZnwmSt11align_val_t",
+             "_ZnamSt11align_val_t", "_ZdlPv", "_ZdaPv", "_ZdlPvm", "_ZdaPvm", "_ZdlPvRKSt9nothrow_t",
+             "_ZdaPvRKSt9nothrow_t", "_ZdlPvSt11align_val_t", "_ZdaPvSt11align_val_t", "_ZdlPvmSt11align_val_t",
+             "_ZdaPvmSt11align_val_t"]
+
+
+class CannotBuild(Exception):
+    """There is no such compiler, or it isn't clang."""
 
 
 def clang():
     """The compiler's path, or None where there is none."""
     named = os.environ.get("TASKBACK_CLANG")
     return shutil.which(named) if named else shutil.which("clang-14") or shutil.which("clang")
+
+
+def driver_of(compiler, is_cxx):
+    """The command that compiles C++ where that is wanted: beside the one that compiles C, by its own name."""
+    if not is_cxx:
+        return compiler
+    folder, name = os.path.split(compiler)
+    if "clang++" in name:
+        return compiler
+    return os.path.join(folder, name.replace("clang", "clang++", 1))
 
 
 def has_runtime():
@@ -44,32 +82,74 @@ def has_runtime():
     return done.returncode == 0
 
 
+def need_clang():
+    """The compiler's path; CannotBuild where there is none, or it is another one."""
+    compiler = clang()
+    if not compiler:
+        raise CannotBuild("no clang; TASKBACK_CLANG names one")
+    told = subprocess.run([compiler, "--version"], capture_output=True, text=True, check=False).stdout
+    if "clang version" not in told:
+        first = told.splitlines()[0] if told else compiler
+        raise CannotBuild(f"{compiler} is {first}: the recorder needs clang and its runtime libomp; gcc's runtime libgomp "
+                          "has no OMPT, by which the recorder sees tasks")
+    return compiler
+
+
 def cache_folder():
-    """Where the recorder's parts are kept: beside it, or where the user keeps such, if nobody may write there."""
+    """Where what is compiled at first use is kept: beside the recorder, or where the user keeps such, if nobody may
+    write there."""
     beside = os.path.dirname(RECORDER)
     if os.access(beside, os.W_OK):
         return os.path.join(beside, ".cache")
     return os.path.join(os.environ.get("XDG_CACHE_HOME") or os.path.expanduser("~/.cache"), "taskback")
 
 
+def is_newer(made, *sources):
+    """Whether the file is there and newer than all of these."""
+    return os.path.exists(made) and os.path.getmtime(made) > max(os.path.getmtime(source) for source in sources)
+
+
+def compile_whole(command, made):
+    """Runs the command with ` -o FILE`, and puts the file in its place when it is whole."""
+    handle, part = tempfile.mkstemp(dir=os.path.dirname(made), suffix=os.path.splitext(made)[1])
+    os.close(handle)
+    subprocess.run([*command, "-o", part], check=True)
+    os.replace(part, made)
+
+
+def folder_for(compiler):
+    """The part of the cache that belongs to this compiler."""
+    real = os.path.realpath(compiler)
+    name = f"{os.path.basename(compiler)}-{hashlib.sha1(real.encode()).hexdigest()[:8]}"
+    folder = os.path.join(cache_folder(), name)
+    os.makedirs(folder, exist_ok=True)
+    return folder
+
+
 def recorder_objects(compiler, names):
     """The recorder's parts, compiled where they aren't or are older than their text."""
-    folder = cache_folder()
-    os.makedirs(folder, exist_ok=True)
-    newest_header = os.path.getmtime(os.path.join(RECORDER, "recorder.h"))
+    folder = folder_for(compiler)
+    headers = [os.path.join(RECORDER, name) for name in ("recorder.h", "event.h")]
     objects = []
     for name in names:
         source = os.path.join(RECORDER, name)
         made = os.path.join(folder, name[:-2] + ".o")
         objects.append(made)
-        if os.path.exists(made) and os.path.getmtime(made) > max(newest_header, os.path.getmtime(source)):
-            continue
-        handle, part = tempfile.mkstemp(dir=folder, suffix=".o")
-        os.close(handle)
-        options = ["-O2", "-Wall", "-Wextra", "-Wno-frame-address"]
-        subprocess.run([compiler, *options, "-c", source, "-o", part], check=True)
-        os.replace(part, made)
+        if not is_newer(made, source, *headers):
+            compile_whole([compiler, "-O2", "-fPIE", "-fno-builtin", "-fno-omit-frame-pointer",
+                            "-Wall", "-Wextra", "-Wno-frame-address", "-c", source], made)
     return objects
+
+
+def judge():
+    """The program that judges traces, compiled by this clang where it isn't or is older than its text."""
+    compiler = need_clang()
+    sources = [os.path.join(JUDGE, name) for name in sorted(os.listdir(JUDGE)) if name.endswith((".cc", ".h"))]
+    made = os.path.join(folder_for(compiler), "judge")
+    if not is_newer(made, os.path.join(RECORDER, "event.h"), *sources):
+        texts = [source for source in sources if source.endswith(".cc")]
+        compile_whole([driver_of(compiler, True), "-std=c++17", "-O2", "-Wall", "-Wextra", *texts], made)
+    return made
 
 
 def compile_options(words):
@@ -78,44 +158,104 @@ def compile_options(words):
     for word in words:
         if skip or word == "-o":
             skip = not skip
-        elif word.startswith("-") and not word.startswith(("-l", "-L", "-Wl,")):
+        elif word.startswith("-") and not word.startswith(("-l", "-L", "-Wl,")) and word not in ("-shared", "-static"):
             options.append(word)
-        elif options and options[-1] in ("-I", "-D", "-U", "-include", "-isystem", "-x"):
+        elif options and options[-1] in ("-I", "-D", "-U", "-include", "-isystem", "-x", "-MF", "-MT", "-MQ"):
             options.append(word)
     return options
 
 
-def wraps(names):
+def wraps():
+    """The linker's words by which calls are led through the recorder."""
+    names = ["__kmpc_" + name for name in RUNTIME_CALLS] + OTHER_CALLS + OPERATORS
     return [f"-Wl,--wrap={name}" for name in names]
 
 
-def compile_program(words):
+def unseen_objects(words):
+    """The object files and archives among these that have code and none of the instrumentation's calls."""
+    found = []
+    for word in words:
+        if not word.endswith(OBJECT_ENDINGS) or not os.path.exists(word):
+            continue
+        listed = subprocess.run(["nm", word], capture_output=True, text=True, check=False).stdout
+        if " T " in listed and "__tsan_func_entry" not in listed and "__sanitizer_cov_" not in listed:
+            found.append(os.path.basename(word))
+    return found
+
+
+def list_of_unseen(compiler, names, folder):
+    """An object that names them, or nothing."""
+    if not names:
+        return []
+    source, made = os.path.join(folder, "unseen.c"), os.path.join(folder, "unseen.o")
+    text = "".join(letter if letter.isprintable() and letter not in '"\\?' else "_" for letter in " ".join(names))
+    with open(source, "w", encoding="utf-8") as file:
+        file.write(f'const char taskback_unseen_objects[] = "{text[:900]}";\n')
+    subprocess.run([compiler, "-c", source, "-o", made], check=True)
+    return [made]
+
+
+def is_in_cxx(words, sources):
+    """Whether C++ is linked: by a source's name, or by what an object calls."""
+    if any(word.endswith(CXX_ENDINGS) for word in sources):
+        return True
+    objects = [word for word in words if word.endswith((".o", ".a")) and os.path.exists(word)]
+    if not objects:
+        return False
+    listed = subprocess.run(["nm", *objects], capture_output=True, text=True, check=False).stdout
+    return " U __gxx_personality_v0" in listed or " U _Zn" in listed or " U _ZSt" in listed or " U _ZNSt" in listed
+
+
+def compile_program(words, is_cxx=False):
     """As clang with these words; the exit status."""
-    compiler = clang()
-    if not compiler:
-        print("record: no clang; TASKBACK_CLANG names one", file=sys.stderr)
+    try:
+        compiler = need_clang()
+    except CannotBuild as fault:
+        print(f"record: {fault}", file=sys.stderr)
         return 64
-    sources = [word for word in words if word.endswith(SOURCE_ENDINGS)]
-    is_cxx = any(word.endswith(CXX_ENDINGS) for word in sources)
-    driver = compiler.replace("clang", "clang++") if is_cxx else compiler
-    if "-c" in words:
+    inputs = inputs_of(words)
+    sources = [word for word in inputs if word.endswith(SOURCE_ENDINGS)]
+    is_cxx = is_cxx or is_in_cxx(inputs, sources)
+    driver = driver_of(compiler, is_cxx)
+    if {"-c", "-S", "-E", "-M", "-MM", "-fsyntax-only"} & set(words) or not inputs:
         return subprocess.run([driver, *COMPILING, *words], check=False).returncode
     with tempfile.TemporaryDirectory() as folder:
         linking = list(words)
         options = compile_options(words)
         for number, source in enumerate(sources):
             made = os.path.join(folder, f"{number}.o")
-            status = subprocess.run([driver, *COMPILING, *options, "-c", source, "-o", made], check=False).returncode
+            one = driver if source.endswith(CXX_ENDINGS) or is_cxx else compiler
+            status = subprocess.run([one, *COMPILING, *options, "-c", source, "-o", made], check=False).returncode
             if status != 0:
                 return status
-            linking[linking.index(source)] = made
-        parts = recorder_objects(compiler, PARTS + (PARTS_CXX if is_cxx else []))
-        calls = wraps(["__kmpc_" + name for name in RUNTIME_CALLS] + MEMORY_CALLS + (OPERATORS if is_cxx else []))
-        return subprocess.run([driver, "-fopenmp", "-rdynamic", *linking, *parts, *calls], check=False).returncode
+            replace_input(linking, source, made)
+        return link_program(compiler, driver, linking, words, folder)
+
+
+def replace_input(words, source, made):
+    """Puts the object in the source's place, which isn't behind `-o`."""
+    for at, word in enumerate(words):
+        if word == source and (at == 0 or words[at - 1] != "-o"):
+            words[at] = made
+            return
+
+
+def inputs_of(words):
+    """The words that name what is compiled or linked."""
+    return [word for before, word in zip(["", *words], words)
+            if before != "-o" and not word.startswith("-") and word.endswith(SOURCE_ENDINGS + OBJECT_ENDINGS)]
+
+
+def link_program(compiler, driver, linking, words, folder):
+    """Links these; a shared library has its calls led through the recorder that the program has."""
+    if "-shared" in words:
+        return subprocess.run([driver, "-fopenmp", *linking, *wraps()], check=False).returncode
+    parts = recorder_objects(compiler, PARTS) + list_of_unseen(compiler, unseen_objects(words), folder)
+    return subprocess.run([driver, "-fopenmp", "-rdynamic", *linking, *parts, *wraps()], check=False).returncode
 
 
 def run_program(trace, words):
-    """Runs the program; its exit status, or 64 where it left no trace."""
+    """Runs the program; its exit status, or 64 where it left no trace. An interrupt goes to the program."""
     try:
         with open(trace, "wb"):
             pass
@@ -123,14 +263,18 @@ def run_program(trace, words):
     except OSError as fault:
         print(f"record: can't write {trace}: {fault.strerror}", file=sys.stderr)
         return 64
-    environment = {**os.environ, "TASKBACK_TRACE": os.path.abspath(trace)}
+    environment = {**os.environ, "TASKBACK_TRACE": os.path.abspath(trace), "OMP_TOOL": "enabled"}
+    before = signal.signal(signal.SIGINT, signal.SIG_IGN)
     try:
-        status = subprocess.run(words, env=environment, check=False).returncode
+        child = subprocess.Popen(words, env=environment, restore_signals=True,
+                                 preexec_fn=lambda: signal.signal(signal.SIGINT, before))
+        status = child.wait()
     except OSError as fault:
         print(f"record: can't run {words[0]}: {fault.strerror}", file=sys.stderr)
         return 64
+    finally:
+        signal.signal(signal.SIGINT, before)
     if not os.path.exists(trace):
-        print(f"record: {words[0]} left no trace (status {status}): was it compiled by `record cc`, "
-              "and did it end by exit?", file=sys.stderr)
+        print(f"record: {words[0]} left no trace (status {status}): was it compiled by `record cc`?", file=sys.stderr)
         return 64
     return status if status >= 0 else 128 - status

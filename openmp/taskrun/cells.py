@@ -14,8 +14,9 @@ class Quiet:
 
     def __init__(self, run):
         made = [(task.steps_stamp, task) for task in made_tasks(run)]
+        # A region inside another one ends its own tasks alone.
         closes = [phase.closed for region, phase in run.phases
-                  if phase.closed is not None and region.meeting.whose() is run.root]
+                  if phase.closed is not None and region.meeting is run.root]
         waits = [stamp for stamp, _, step in run.root.steps if step.kind == "taskwait" and not step.items]
         self._ends = []  # (from, to): not alone
         begin, nested = None, False

@@ -8,6 +8,8 @@ from typing import NamedTuple
 
 IDENTIFIER = re.compile(r"[A-Za-z_]\w*")
 LONGEST = 40
+SYSTEM = ("/usr/", "/opt/")
+LONGEST_STATEMENT = 40   # lines
 
 
 class Place(NamedTuple):
@@ -59,9 +61,8 @@ def read_place(told):
 class Sources:
     """The places of one program and the text that stands there."""
 
-    def __init__(self, trace):
-        places = {event.place for event in trace.events}
-        self._places = find_places(trace.program, places)
+    def __init__(self, program, places):
+        self._places = find_places(program, places)
         self._texts = {}
         self._names = {}
 
@@ -78,8 +79,35 @@ class Sources:
             self._names[address] = expression_at(line, place.column) or "memory"
         return self._names[address]
 
-    def items(self, address):
-        """The names in the depend clauses of the directive there, in their order."""
+    def is_own(self, address):
+        """Whether the program's own sources have the place, and not a header of the system."""
+        place = self.place(address)
+        return bool(place.line) and not place.file.startswith(SYSTEM)
+
+    def is_call(self, address):
+        """Whether a function's name stands there, in front of its arguments."""
+        place = self.place(address)
+        lines = self._lines(place.file) if place.line else []
+        line = lines[place.line - 1] if 0 < place.line <= len(lines) else ""
+        return bool(re.match(r"[\w.>:<,-]*[\w>]\s*\(", line[max(place.column - 1, 0):]))
+
+    def argument(self, address, is_written):
+        """What the library's function that is called there writes, its first argument, or reads: the last one that is
+        no literal and no format."""
+        place = self.place(address)
+        lines = self._lines(place.file) if place.line else []
+        line = lines[place.line - 1] if 0 < place.line <= len(lines) else ""
+        begin = line.find("(", max(place.column - 1, 0))
+        end = matching(line, begin) if begin >= 0 else 0
+        if not end:
+            return "memory"
+        arguments = [name for name in names_in(":" + line[begin + 1:end - 1]) if IDENTIFIER.match(name.lstrip("&*"))]
+        if not arguments:
+            return "memory"
+        return arguments[0].lstrip("&") if is_written else arguments[-1].lstrip("&")
+
+    def directive(self, address):
+        """The text of the directive there, with the lines that go on from it."""
         place = self.place(address)
         lines = self._lines(place.file) if place.line else []
         text = ""
@@ -87,8 +115,28 @@ class Sources:
             text += line.rstrip("\\")
             if not line.endswith("\\"):
                 break
+        return text
+
+    def items(self, address):
+        """The names in the depend clauses of the directive there, in their order."""
+        text = self.directive(address)
         return [name for clause in re.finditer(r"\bdepend\s*\(", text)
                 for name in names_in(text[clause.end():matching(text, clause.end() - 1) - 1])]
+
+    def statement(self, address):
+        """The statement that the directive there stands in front of: up to its semicolon, or its closing brace."""
+        place = self.place(address)
+        lines = self._lines(place.file) if place.line else []
+        at = place.line - 1
+        while 0 <= at < len(lines) and (lines[at].endswith("\\") or lines[at].lstrip().startswith("#")):
+            at += 1
+        text = "\n".join(lines[at:at + LONGEST_STATEMENT]) if place.line else ""
+        depth = 0
+        for number, letter in enumerate(text):
+            depth += (letter in "{([") - (letter in "})]")
+            if depth <= 0 and letter in ";}":
+                return text[:number + 1]
+        return text
 
     def _lines(self, file):
         if file not in self._texts:
@@ -112,6 +160,11 @@ def names_in(clause):
     return [shortened(name) for name in names]
 
 
+def postfix_expressions(text, name):
+    """The expressions in the text that begin with this name."""
+    return [postfixed(text, found.start()) for found in re.finditer(rf"(?<![\w.>]){re.escape(name)}\b", text)]
+
+
 def expression_at(line, column):
     """The expression at this column: the one that begins there, or the one in front of an operator that assigns."""
     if not 0 < column <= len(line):
@@ -126,6 +179,8 @@ def expression_at(line, column):
         if before:
             return before
         at += len(assigned[0])
+    if re.match(r"\w+::", line[at:]):
+        return ""
     if line[at:at + 1] in ("*", "&") or line[at:at + 1] == "(":
         return prefixed(line, at)
     return postfixed(line, at)

@@ -11,6 +11,7 @@ from .trace import FREED, WRITES
 
 MOST_CELLS, MOST_BODIES, MOST_LINES, MOST_ITEMS, MOST_STEPS = 65536, 1024, 65536, 64, 999999
 LONGEST_LINE = 1000
+STARTS = 3           # behind the steps by which a region's shares are made
 REGISTERS = 15       # for parameters; the last one is for what is read
 TYPES = {1: "in", 2: "out", 3: "inout", 4: "mutexinoutset", 8: "inoutset"}
 ALL_MEMORY = 0x80
@@ -43,7 +44,7 @@ class Session:
         self.trace = trace
         self.run = Run(trace)
         self.memory = Memory(self.run)
-        self.sources = Sources(trace)
+        self.sources = Sources(trace.program, {event.place for event in trace.events})
         self.counts = Counter(self.run.counts) + Counter(self.memory.counts)
         self.actors = all_homes(self.run)
         self._item_cells = {}
@@ -94,7 +95,8 @@ class Session:
             start = 0 if actor is self.run.root else actor.started
             if start is None:
                 continue
-            taken.append(((start, 0), Taken(actor, "start", None, start)))
+            # The first thread out of a barrier starts its share where it is made.
+            taken.append(((start, STARTS if actor.is_part else 0), Taken(actor, "start", None, start)))
             taken += [((stamp, turn), Taken(actor, step.kind, step, stamp)) for stamp, turn, step in actor.steps]
             if actor is not self.run.root and actor.ended is not None:
                 taken.append(((actor.ended, 0), Taken(actor, "end", None, actor.ended)))

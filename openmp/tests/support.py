@@ -1,6 +1,8 @@
 """What the recorder's tests share: where things are, and a program compiled, run and checked."""
 
+import concurrent.futures
 import functools
+import json
 import os
 import re
 import subprocess
@@ -12,9 +14,11 @@ FOLDER = os.path.dirname(os.path.dirname(os.path.abspath(__file__)))
 TOP = os.path.dirname(FOLDER)
 sys.path.insert(0, FOLDER)
 
-from taskrun import answer, building, play  # noqa: E402
+import play  # noqa: E402
+from taskrun import answer, building  # noqa: E402
+from taskrun.finding import judge_trace  # noqa: E402
 from taskrun.session import Session  # noqa: E402
-from taskrun.trace import Trace  # noqa: E402
+from taskrun.trace import FORMAT, HEADER, PAGE, Trace  # noqa: E402
 
 EXAMPLES = os.path.join(FOLDER, "examples")
 THREADS = (1, 2, 8)
@@ -40,6 +44,36 @@ def replies_to(text, steps):
     return play.play(text, steps)
 
 
+class Compiled:
+    """The examples, compiled side by side in front of the tests that run them."""
+
+    _folder = tempfile.TemporaryDirectory()
+    _pool = concurrent.futures.ThreadPoolExecutor(max(2, min(4, (os.cpu_count() or 2))))
+    _made = {}
+
+    @classmethod
+    def start(cls, *options):
+        """Begins with all that aren't under way."""
+        for name in sorted(os.listdir(EXAMPLES)):
+            key = (name, *options)
+            if key not in cls._made:
+                cls._made[key] = cls._pool.submit(cls._compile, name, options)
+
+    @classmethod
+    def get(cls, name, *options):
+        """(the program's path, what the compiler said): the path is None where it refused."""
+        cls.start(*options)
+        return cls._made[name, *options].result()
+
+    @classmethod
+    def _compile(cls, name, options):
+        made = os.path.join(cls._folder.name, name + "".join(options))
+        source = os.path.join(EXAMPLES, name)
+        done = subprocess.run([os.path.join(FOLDER, "record"), "cc", source, "-o", made, "-lm", *options],
+                              capture_output=True, text=True, check=False)
+        return made if done.returncode == 0 else None, done.stderr
+
+
 class Recorded(unittest.TestCase):
     """A test with a folder of its own, in which programs are compiled and run."""
 
@@ -60,11 +94,26 @@ class Recorded(unittest.TestCase):
         self.assertEqual(done.stderr, "", "a warning")
         return made
 
-    def compile_text(self, text, name="program"):
-        source = self.path(name + ".c")
+    def compile_text(self, text, name="program", ending=".c", options=()):
+        source = self.path(name + ending)
         with open(source, "w", encoding="utf-8") as file:
             file.write(text)
-        return self.compile(source, name)
+        return self.compile(source, name, options)
+
+    def example(self, name, *options):
+        """The path of an example that was compiled without a word."""
+        made, told = Compiled.get(name, *options)
+        self.assertEqual(told, "", "a warning")
+        self.assertIsNotNone(made)
+        return made
+
+    def run_alone(self, program, threads):
+        """The path of the trace of one run, which ended well."""
+        trace = self.path("trace")
+        done = subprocess.run([program], capture_output=True, timeout=SECONDS, check=False,
+                              env={**os.environ, "OMP_NUM_THREADS": str(threads), "TASKBACK_TRACE": trace})
+        self.assertEqual((done.returncode, done.stderr), (0, b""))
+        return trace
 
     def record(self, program, threads, words=()):
         """The path of the trace of one run, and what it wrote."""
@@ -80,15 +129,29 @@ class Recorded(unittest.TestCase):
 
     def check(self, program, threads, words=()):
         """(status, lines) as `openmp/check` has them."""
-        session = self.session(program, threads, words)
-        return answer.answer(session, replies_to(session.text(), len(session.taken)))
+        return answer.answer(judge_trace(self.record(program, threads, words)[0]))
+
+    def check_text(self, text, threads=1, name="program"):
+        return self.check(self.compile_text(text, name), threads)
+
+
+def write_trace(path, program, events):
+    """A trace of these events, as if one thread had written it."""
+    with open(path, "wb") as file:
+        file.write((HEADER + program.encode() + b"\n").ljust(PAGE, b"\n"))
+        for event in events:
+            file.write(FORMAT.pack(*event))
+
+
+# `file.c:9 writes x`, with what may stand in brackets behind it.
+STEP = r"\S+ (?:reads|writes|frees) (\S+)(?: \([^()]*\))*(?: of the function that ends there)?"
 
 
 def names_told(lines):
     """The variables of the lines that tell races: the first name of each expression."""
     told = set()
     for line in lines:
-        pair = re.match(r"\S+ (?:reads|writes|frees) (\S+), \S+ (?:reads|writes|frees) (\S+): nothing orders ", line)
+        pair = re.match(rf"{STEP}, {STEP}: nothing orders ", line)
         if pair:
             told |= {re.search(r"\w+", name)[0] for name in pair.groups()}
     return told

@@ -17,14 +17,16 @@ def expected(name):
 
 
 @support.needs_clang
-@support.needs_program
 class Examples(support.Recorded):
     def check_all(self, name):
-        program = self.compile(os.path.join(support.EXAMPLES, name))
+        program = self.example(name)
         for threads in support.THREADS:
             for run in range(RUNS):
                 with self.subTest(example=name, threads=threads, run=run):
-                    self.compare(expected(name), *self.check(program, threads))
+                    self.compare(expected(name), *self.check_example(program, threads))
+
+    def check_example(self, program, threads):
+        return support.answer.answer(support.judge_trace(self.run_alone(program, threads)))
 
     def compare(self, wanted, status, lines):
         told = "\n".join(lines)
@@ -41,20 +43,19 @@ class Examples(support.Recorded):
         elif wanted[0] == "apart":
             self.assertRegex(lines[0], f"never both at once .*{wanted[1]}")
         else:
-            self.assertTrue(lines[0].startswith("not said by the notation: "), told)
+            self.assertTrue(lines[0].startswith("not ordered, or only as seen: "), told)
 
     def test_optimised(self):
         """With `-O2` the names may be others, but not whether there is a race."""
         for name in sorted(os.listdir(support.EXAMPLES)):
             with self.subTest(example=name):
-                program = self.compile(os.path.join(support.EXAMPLES, name), options=["-O2"])
-                status, lines = self.check(program, 2)
+                status, lines = self.check_example(self.example(name, "-O2"), 2)
                 self.assertEqual(status, 2 if expected(name)[0] == "race" else 0, lines)
 
     def test_there_are_enough(self):
         wanted = [expected(name)[0] for name in os.listdir(support.EXAMPLES)]
-        self.assertGreaterEqual(len(wanted), 24)
-        self.assertGreaterEqual(2 * wanted.count("race"), len(wanted) - 6)
+        self.assertGreaterEqual(len(wanted), 120)
+        self.assertGreaterEqual(2 * wanted.count("race"), len(wanted) - 8)
 
 
 def add_tests():

@@ -28,19 +28,14 @@ ORDERED = """int main(void) {
 """
 
 
-class Moved:
-    """A trace in which one event comes right behind another."""
-
-    def __init__(self, trace, event, behind):
-        self.program = trace.program
-        self.is_cut = False
-        self.events = [each for each in trace.events if each is not event]
-        self.events.insert(self.events.index(behind) + 1, event)
-        self.events = [each._replace(stamp=number) for number, each in enumerate(self.events, 1)]
+def moved(events, event, behind):
+    """The events with one right behind another, numbered anew."""
+    left = [each for each in events if each is not event]
+    left.insert(left.index(behind) + 1, event)
+    return [each._replace(stamp=number) for number, each in enumerate(left, 1)]
 
 
 @support.needs_clang
-@support.needs_program
 class Faults(support.Recorded):
     def setUp(self):
         super().setUp()
@@ -52,15 +47,17 @@ class Faults(support.Recorded):
     def events(self, kind, task=None):
         return [event for event in self.trace.events if event.kind == kind and task in (None, event.task)]
 
+    def judge(self, events):
+        path = self.path("changed")
+        support.write_trace(path, self.trace.program, events)
+        return support.answer.answer(support.judge_trace(path))
+
     def answer(self, event, behind):
         """The answer where this event comes right behind that one."""
-        session = support.Session(Moved(self.trace, event, behind))
-        return support.answer.answer(session, support.play.play(session.text(), len(session.taken)))
+        return self.judge(moved(self.trace.events, event, behind))
 
     def test_the_run_is_right(self):
-        session = support.Session(self.trace)
-        replies = support.play.play(session.text(), len(session.taken))
-        self.assertIsNone(replies.refused())
+        self.assertEqual(self.judge(self.trace.events)[0], 0)
 
     def test_started_too_early(self):
         end = self.events(t.END, self.tasks[0])[0]
@@ -98,24 +95,24 @@ class Faults(support.Recorded):
         self.assertEqual(status, 1)
         self.assertRegex(lines[0], r"passed the end of a taskgroup or region while task 0\.4")
 
-    def test_end_of_the_trace(self):
-        self.trace.events = [event for event in self.trace.events
-                             if not (event.kind == t.END and event.task == self.tasks[3])]
-        session = support.Session(self.trace)
-        cut = [taken for taken in session.taken if taken.stamp < self.events(t.REGION_END)[0].stamp]
-        self.assertTrue(session.unfinished)
-        self.assertLess(len(cut), len(session.taken))
+    def test_a_task_that_never_ended(self):
+        region_end = self.events(t.REGION_END)[0]
+        events = [event for event in self.trace.events if event.stamp < region_end.stamp
+                  and not (event.kind == t.END and event.task == self.tasks[3])
+                  and event.kind != t.BARRIER_END]
+        events = [event._replace(stamp=number) for number, event in enumerate(events, 1)]
+        status, lines = self.judge(events)
+        self.assertEqual(status, 3, lines)
+        self.assertRegex(lines[-1], "the run didn't end by itself, and 1 tasks hadn't ended")
+
+    def test_an_event_is_missing(self):
+        events = [event for event in self.trace.events if event.kind != t.MEMORY]
+        status, lines = self.judge(events)
+        self.assertEqual(status, 3, lines)
+        self.assertRegex(lines[-1], "events are missing from the trace")
 
 
-@support.needs_clang
-class Words(support.Recorded):
-    def test_program_without_races(self):
-        session = self.session(self.compile_text(ORDERED), 1)
-        replies = support.play.Replies(["0#1 start"] * len(session.taken) + ["error word"], len(session.taken))
-        status, lines = support.answer.answer(session, replies)
-        self.assertEqual(status, 3)
-        self.assertIn("error word", lines[-1])
-
+class Words(unittest.TestCase):
     def test_no_trace(self):
         from taskrun.trace import BadTrace
         with self.assertRaises(BadTrace):

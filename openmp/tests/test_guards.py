@@ -17,7 +17,6 @@ def program(forms, before=""):
 
 
 @support.needs_clang
-@support.needs_program
 class Guards(support.Recorded):
     def statuses(self, *words):
         built = self.compile_text(program(*words))

@@ -19,7 +19,6 @@ def is_task_lost(trace):
 
 
 @support.needs_clang
-@support.needs_program
 class RandomPrograms(support.Recorded):
     def test_runs_are_legal(self):
         for first in range(0, COUNT, AT_ONCE):
@@ -32,10 +31,9 @@ class RandomPrograms(support.Recorded):
     def check_seed(self, program, seed):
         answers = {}
         for threads in support.THREADS:
-            trace = support.Trace(self.record(program, threads, [str(seed)])[0])
-            session = support.Session(trace)
-            status, lines = support.answer.answer(session, support.replies_to(session.text(), len(session.taken)))
-            if is_task_lost(trace):
+            path, _ = self.record(program, threads, [str(seed)])
+            status, lines = support.answer.answer(support.judge_trace(path))
+            if is_task_lost(support.Trace(path)):
                 # So the run isn't legal, and that is told.
                 self.assertEqual((status, lines[0].split(":")[0]), (1, "fault of the run"), lines)
             else:

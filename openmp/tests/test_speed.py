@@ -50,7 +50,6 @@ def least_time(words, **changes):
 
 
 @support.needs_clang
-@support.needs_program
 class Speed(support.Recorded):
     def test_recording_and_checking(self):
         recorded = self.compile_text(SOURCE)

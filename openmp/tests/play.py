@@ -1,4 +1,4 @@
-"""Plays a session through the program, and reads its replies by their counts."""
+"""Plays a session through the proved program, whose answer is compared with the judge's."""
 
 import os
 import re

@@ -1,0 +1,20 @@
+/* C++: the lock is given back before the sum is written.
+   expect: race sum */
+#include <cstdio>
+#include <mutex>
+
+int main() {
+    std::mutex lock;
+    int sum = 0;
+#pragma omp parallel
+#pragma omp single
+    for (int i = 0; i < 4; i++) {
+#pragma omp task shared(lock, sum) firstprivate(i)
+        {
+            { std::lock_guard<std::mutex> guard(lock); }
+            sum += i;
+        }
+    }
+    std::printf("%d\n", sum);
+    return 0;
+}

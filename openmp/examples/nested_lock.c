@@ -1,0 +1,31 @@
+/* A nested lock is taken twice, and given back twice.
+   expect: told locks */
+#include <omp.h>
+#include <stdio.h>
+
+static omp_nest_lock_t lock;
+static int sum;
+
+static void add(int n) {
+    omp_set_nest_lock(&lock);
+    sum += n;
+    omp_unset_nest_lock(&lock);
+}
+
+int main(void) {
+    omp_init_nest_lock(&lock);
+#pragma omp parallel
+#pragma omp single
+    for (int i = 0; i < 4; i++) {
+#pragma omp task firstprivate(i)
+        {
+            omp_set_nest_lock(&lock);
+            add(i);
+            sum += 1;
+            omp_unset_nest_lock(&lock);
+        }
+    }
+    omp_destroy_nest_lock(&lock);
+    printf("%d\n", sum);
+    return 0;
+}

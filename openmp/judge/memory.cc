@@ -1,0 +1,302 @@
+#include "memory.h"
+
+namespace judge {
+
+namespace {
+
+constexpr u32 MOST_RACES = 16;    // of one place: then it isn't looked at any more
+constexpr u32 DEAD = NONE - 1;    // such a place
+constexpr u32 FEW = 4;            // loads that a load is compared with, to stand for them
+
+u8 mask_of(u64 granule, u64 address, u64 size) {
+    u64 begin = address > granule * 8 ? address - granule * 8 : 0;
+    u64 end = address + size - granule * 8;
+    return static_cast<u8>((end >= 8 ? 0xff : (1u << end) - 1) & ~((1u << begin) - 1));
+}
+
+}  // namespace
+
+Memory::Memory(Run &run) : run_(run) {
+    for (std::size_t at = 0; at < run.trace.size(); at++)
+        take(at);
+}
+
+void Memory::take(std::size_t at) {
+    const event &e = run_.trace[at];
+    if (e.kind == MEMORY)
+        return is_new(at, e);
+    if (e.kind == GROUP_CLOSE) {
+        auto found = run_.combined.find(at);
+        if (found != run_.combined.end())
+            for (const auto &written : found->second)
+                touch(at, written.first, written.second, true, 0);
+        return;
+    }
+    if ((e.kind != READ && e.kind != WRITE) || run_.segment_of[at] == NONE)
+        return;
+    u64 size = e.size == LARGE ? e.value : e.size;
+    if (!run_.copies.empty()) {
+        auto copy = run_.copies.upper_bound(e.address);
+        if (copy != run_.copies.begin() && e.address - std::prev(copy)->first < std::prev(copy)->second) {
+            copies++;
+            return;
+        }
+    }
+    if (run_.segments[run_.segment_of[at]].actor == 0 && run_.trace.thread(at) != 0)
+        strangers++;
+    touch(at, e.address, size ? size : 1, e.kind == WRITE, e.mark);
+}
+
+// What a block is given back for reaches over many places; only those that somebody has touched are looked at.
+void Memory::touch(std::size_t at, u64 address, u64 size, bool is_write, u8 mark) {
+    Now now{static_cast<u32>(at), run_.segment_of[at], run_.locks_of[at], address, size, 0, is_write,
+            (mark & ATOMIC) != 0, 0};
+    bool is_freed = mark & FREED;
+    u64 low = address / GRANULE, high = (address + size + GRANULE - 1) / GRANULE;
+    for (now.granule = low; now.granule < high; now.granule++) {
+        u64 number = now.granule / PAGE;
+        if (number != last_page_number_) {
+            auto page = pages_.lower_bound(number);
+            if (page == pages_.end() || page->first != number) {
+                if (is_freed) {
+                    if (page == pages_.end() || page->first * PAGE >= high)
+                        break;
+                    now.granule = page->first * PAGE - 1;
+                    continue;
+                }
+                page = pages_.emplace(number, std::make_unique<Page>()).first;
+                page->second->fill(NONE);
+            }
+            last_page_number_ = number;
+            last_page_ = page->second.get();
+        }
+        u32 &place = (*last_page_)[now.granule % PAGE];
+        if (place == NONE && !is_freed && !freed_.empty())
+            find_freed(now, place);
+        if (place == DEAD || (is_freed && place == NONE))
+            continue;
+        now.mask = mask_of(now.granule, address, size);
+        touch_place(now, place);
+    }
+    if (is_freed)
+        keep_freed(now);
+    else if (is_write)
+        look_for_copies(now);
+}
+
+// Of what is given back only places are marked that somebody has touched; who touches another one later looks here.
+void Memory::keep_freed(const Now &now) {
+    auto first = freed_.lower_bound(now.address);
+    freed_.erase(first, freed_.lower_bound(now.address + now.size));
+    freed_.emplace(now.address, now);
+}
+
+void Memory::find_freed(const Now &now, u32 &place) {
+    auto after = freed_.upper_bound(now.granule * GRANULE + GRANULE - 1);
+    if (after == freed_.begin())
+        return;
+    Now given = std::prev(after)->second;
+    if (now.granule * GRANULE >= given.address + given.size)
+        return;
+    given.mask = mask_of(now.granule, given.address, given.size);
+    keep(given, place);
+}
+
+void Memory::touch_place(Now &now, u32 &place) {
+    bool is_known = false;
+    for (u32 at = place; at != NONE; at = buckets_[at].next)
+        is_known = compare(now, buckets_[at]) || is_known;
+    if (raced_.size() && raced_.count(now.granule) && raced_[now.granule] >= MOST_RACES)
+        place = DEAD;
+    else if (!is_known)
+        keep(now, place);
+}
+
+// Compares with the touches of one bucket, and drops those that this one stands for from here on. Gives whether one of
+// them stands for this one.
+bool Memory::compare(const Now &now, Bucket &bucket) {
+    bool is_alike = bucket.is_write == now.is_write && bucket.is_atomic == now.is_atomic && bucket.locks == now.locks;
+    bool conflicts = (bucket.is_write || now.is_write) && !(bucket.is_atomic && now.is_atomic)
+                     && !run_.locks.exclude(bucket.locks, now.locks);
+    bool covers = (now.is_write || !bucket.is_write) && (!now.is_atomic || bucket.is_atomic)
+                  && run_.locks.are_in(now.locks, bucket.locks);
+    if (!conflicts && (bucket.is_write || now.is_write))
+        (bucket.is_atomic && now.is_atomic ? by_atomics : by_locks)++;
+    if (conflicts && !is_alike && bucket.passed != NONE && run_.is_node_before(bucket.passed, now.segment))
+        return false;
+    u32 seen = 0;
+    bool is_passed = conflicts;
+    for (u32 *link = &bucket.head; *link != NONE;) {
+        u32 here = *link;
+        Touch touch = touches_[here];
+        if (touch.segment == now.segment && is_alike && (touch.mask & now.mask) == now.mask)
+            return true;
+        if (!conflicts && ++seen > FEW)
+            return false;
+        bool meets = touch.mask & now.mask && (conflicts || covers);
+        bool is_ordered = meets && (run_.is_before(touch.segment, now.segment) || is_own(now, touch));
+        if (meets && !is_ordered && conflicts)
+            add_race(now, touch.at, touch.segment, run_.are_apart(touch.segment, now.segment), false);
+        is_passed = is_passed && is_ordered;
+        if (is_ordered && covers && (touch.mask & ~now.mask) == 0) {
+            *link = touch.next;
+            touches_[here].next = free_touch_;
+            free_touch_ = here;
+        } else {
+            link = &touches_[here].next;
+        }
+    }
+    if (is_passed && bucket.head != NONE)
+        pass(now, bucket);
+    return false;
+}
+
+// All of the bucket's touches come before this one: who comes after the same node needn't look at each again.
+void Memory::pass(const Now &now, Bucket &bucket) {
+    u32 node = run_.in_front_of(now.segment);
+    for (u32 at = bucket.head; at != NONE && node != NONE; at = touches_[at].next)
+        if (!run_.is_before_node(touches_[at].segment, node))
+            node = NONE;
+    bucket.passed = node != NONE ? node : run_.begin_of(now.segment);
+}
+
+void Memory::keep(const Now &now, u32 &place) {
+    u32 at = place;
+    while (at != NONE && !(buckets_[at].is_write == now.is_write && buckets_[at].is_atomic == now.is_atomic
+                           && buckets_[at].locks == now.locks))
+        at = buckets_[at].next;
+    if (at == NONE) {
+        at = free_bucket_;
+        if (at == NONE) {
+            at = static_cast<u32>(buckets_.size());
+            buckets_.emplace_back();
+        } else {
+            free_bucket_ = buckets_[at].next;
+        }
+        buckets_[at] = Bucket{place, NONE, NONE, now.locks, now.is_write, now.is_atomic};
+        place = at;
+    }
+    u32 kept = free_touch_;
+    if (kept == NONE) {
+        kept = static_cast<u32>(touches_.size());
+        touches_.emplace_back();
+    } else {
+        free_touch_ = touches_[kept].next;
+    }
+    touches_[kept] = Touch{now.segment, now.at, buckets_[at].head, now.mask};
+    buckets_[at].head = kept;
+    buckets_[at].passed = NONE;
+}
+
+void Memory::is_new(std::size_t at, const event &e) {
+    clear(e.address, e.value);
+    freed_.erase(freed_.lower_bound(e.address), freed_.lower_bound(e.address + e.value));
+    auto last = blocks.lower_bound(e.address + e.value);
+    auto first = blocks.lower_bound(e.address);
+    if (e.mark == STACK && run_.segment_of[at] != NONE)
+        stacks_.emplace(run_.segments[run_.segment_of[at]].actor, std::make_pair(e.address, e.value));
+    blocks.erase(first, last);
+    blocks[e.address] = Block{e.value, static_cast<u32>(at), run_.segment_of[at]};
+}
+
+void Memory::clear(u64 address, u64 size) {
+    u64 low = address / GRANULE, high = (address + size + GRANULE - 1) / GRANULE;
+    for (auto page = pages_.lower_bound(low / PAGE); page != pages_.end() && page->first * PAGE < high; ++page) {
+        u64 begin = page->first * PAGE;
+        for (u64 i = std::max(low, begin); i < std::min(high, begin + PAGE); i++) {
+            u32 &place = (*page->second)[i % PAGE];
+            while (place != NONE && place != DEAD) {
+                Bucket &bucket = buckets_[place];
+                while (bucket.head != NONE) {
+                    u32 kept = bucket.head;
+                    bucket.head = touches_[kept].next;
+                    touches_[kept].next = free_touch_;
+                    free_touch_ = kept;
+                }
+                u32 next = bucket.next;
+                bucket.next = free_bucket_;
+                free_bucket_ = place;
+                place = next;
+            }
+            if (place == DEAD)
+                raced_.erase(i);
+            place = NONE;
+        }
+    }
+}
+
+const Block *Memory::block_at(u64 address, u64 *begin) const {
+    auto after = blocks.upper_bound(address);
+    if (after == blocks.begin())
+        return nullptr;
+    const auto &found = *std::prev(after);
+    if (begin)
+        *begin = found.first;
+    return address - found.first < found.second.size ? &found.second : nullptr;
+}
+
+// Whether the memory is one that a thread's share has for itself: its part of the stack, and what it has taken.
+bool Memory::is_private(u32 part, u64 address) const {
+    auto stack = stacks_.find(part);
+    if (stack != stacks_.end() && address - stack->second.first < stack->second.second)
+        return true;
+    const Block *block = block_at(address);
+    if (!block || block->segment == NONE)
+        return false;
+    const Segment &segment = run_.segments[block->segment];
+    return segment.actor == part && !(segment.flags & Segment::IS_UNIT);
+}
+
+// Whether one thread did both in units that might be two threads', on memory that is its own.
+bool Memory::is_own(const Now &now, const Touch &earlier) {
+    u32 one = run_.segments[earlier.segment].actor, other = run_.segments[now.segment].actor;
+    const Actor &a = run_.actors[one], &b = run_.actors[other];
+    bool is_one_thread = a.thread == b.thread && a.thread != NONE;
+    if (one == other && a.flags & Actor::IS_PART && is_private(one, now.granule * GRANULE))
+        return true;
+    bool asked = one == other && a.flags & Actor::IS_PART ? run_.regions[a.region].has_number
+                                                         : (a.flags & b.flags & Actor::HAS_NUMBER) != 0;
+    if (is_one_thread && asked)
+        by_thread_number++;
+    return is_one_thread && asked;
+}
+
+// In a team of one thread: what all threads of a larger one would do, to memory that they share, each would do at once.
+void Memory::look_for_copies(const Now &now) {
+    const Segment &segment = run_.segments[now.segment];
+    const Actor &actor = run_.actors[segment.actor];
+    bool is_copied = actor.flags & Actor::IS_PART ? !(segment.flags & (Segment::IS_UNIT | Segment::IS_ALONE))
+                                                  : (actor.flags & Actor::IS_COPIED) != 0;
+    if (!is_copied || now.is_atomic || now.locks != 0 || actor.region == NONE)
+        return;
+    const Region &region = run_.regions[actor.region];
+    if (!region.stands_for_more() || region.has_number)
+        return;
+    auto stack = stacks_.find(segment.actor);
+    if (stack != stacks_.end() && now.address - stack->second.first < stack->second.second)
+        return;
+    const Block *block = block_at(now.address);
+    if (block && run_.trace[block->at].stamp > region.begun)
+        return;
+    add_race(now, now.at, now.segment, false, true);
+}
+
+void Memory::add_race(const Now &now, u32 at, u32 segment, bool is_apart, bool is_copied) {
+    const event &e = run_.trace[at], &f = run_.trace[now.at];
+    raced_[now.granule]++;
+    u64 lines = static_cast<u64>(static_cast<u32>(e.place)) << 32 | static_cast<u32>(f.place);
+    u64 kinds = (u64{e.kind} << 8 | f.kind) << 8 | (is_apart ? 2 : 0) | (is_copied ? 1 : 0);
+    kinds |= u64{e.mark} << 32 | u64{f.mark} << 40;
+    auto added = known_.emplace(Key{lines, kinds}, static_cast<u32>(races.size()));
+    if (!added.second) {
+        races[added.first->second].count++;
+        return;
+    }
+    races.push_back(Race{at, now.at, segment, now.segment, std::max(now.address, e.address), 1, is_apart, is_copied});
+    u64 begin = 0;
+    const Block *block = block_at(races.back().address, &begin);
+    block_of_race.push_back(block ? *block : Block{0, NONE, NONE});
+    block_begin.push_back(begin);
+}
+
+}  // namespace judge

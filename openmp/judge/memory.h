@@ -1,0 +1,105 @@
+// Who touched which memory, and which of these touches nothing orders.
+#pragma once
+
+#include <array>
+#include <map>
+#include <memory>
+#include <unordered_map>
+#include <vector>
+
+#include "run.h"
+
+namespace judge {
+
+// A load or store that may still race with a later one.
+struct Touch {
+    u32 segment;
+    u32 at;        // the event
+    u32 next;
+    u8 mask;       // which of the eight bytes
+};
+
+// Two touches that nothing orders; of one kind are those with the same two places.
+struct Race {
+    u32 earlier, later;   // events
+    u32 earlier_segment, later_segment;
+    u64 address;
+    u64 count = 1;
+    bool is_apart = false;
+    bool is_copied = false;   // each thread of a larger team would do it: the two are one event
+};
+
+// A block that was taken, or a task's part of a stack.
+struct Block {
+    u64 size;
+    u32 at;          // the event
+    u32 segment;     // in which it was taken
+};
+
+class Memory {
+public:
+    explicit Memory(Run &run);
+
+    std::vector<Race> races;
+    u64 by_thread_number = 0;      // kept out, since the program asked for the thread's number
+    u64 by_atomics = 0, by_locks = 0, copies = 0, strangers = 0;
+    std::map<u64, Block> blocks;   // as they were at the end
+    // The block that an address was in when it was touched, for each race.
+    std::vector<Block> block_of_race;
+    std::vector<u64> block_begin;
+
+private:
+    // The touches of a place of eight bytes that are alike: loads or stores, under the same locks, atomic or not.
+    struct Bucket {
+        u32 next, head;
+        u32 passed;      // a node that all of these come before
+        u32 locks;
+        bool is_write, is_atomic;
+    };
+    static constexpr u64 GRANULE = 8, PAGE = 512;
+    using Page = std::array<u32, PAGE>;
+
+    struct Now {
+        u32 at, segment, locks;
+        u64 address, size, granule;
+        bool is_write, is_atomic;
+        u8 mask;
+    };
+
+    void take(std::size_t at);
+    void touch(std::size_t at, u64 address, u64 size, bool is_write, u8 mark);
+    void touch_place(Now &now, u32 &place);
+    bool compare(const Now &now, Bucket &bucket);
+    void keep(const Now &now, u32 &place);
+    void is_new(std::size_t at, const event &e);
+    void clear(u64 address, u64 size);
+    void pass(const Now &now, Bucket &bucket);
+    bool is_own(const Now &now, const Touch &earlier);
+    bool is_private(u32 part, u64 address) const;
+    void look_for_copies(const Now &now);
+    void add_race(const Now &now, u32 at, u32 segment, bool is_apart, bool is_copied);
+    void keep_freed(const Now &now);
+    void find_freed(const Now &now, u32 &place);
+    const Block *block_at(u64 address, u64 *begin = nullptr) const;
+
+    Run &run_;
+    std::map<u64, std::unique_ptr<Page>> pages_;
+    u64 last_page_number_ = ~u64{0};
+    Page *last_page_ = nullptr;
+    std::vector<Bucket> buckets_;
+    std::vector<Touch> touches_;
+    u32 free_bucket_ = NONE, free_touch_ = NONE;
+    struct Key {
+        u64 places, kinds;
+        bool operator==(const Key &o) const { return places == o.places && kinds == o.kinds; }
+    };
+    struct Hash {
+        std::size_t operator()(const Key &key) const { return key.places * 0x9E3779B97F4A7C15u ^ key.kinds; }
+    };
+    std::unordered_map<Key, u32, Hash> known_;
+    std::map<u64, Now> freed_;               // what was given back last, by where it begins
+    std::unordered_map<u64, u32> raced_;     // how many races a place has had
+    std::unordered_map<u32, std::pair<u64, u64>> stacks_;   // of each actor, its part of a stack
+};
+
+}  // namespace judge

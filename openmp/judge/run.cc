@@ -1,0 +1,250 @@
+// The events of a run, one after the other.
+#include "run.h"
+
+namespace judge {
+
+Run::Run(const Trace &of) : trace(of) {
+    segment_of.assign(trace.size(), NONE);
+    locks_of.assign(trace.size(), 0);
+    chain_of.assign(trace.size(), NONE);
+    actors.emplace_back();
+    actors[0].is_started = true;
+    number_of_.push_back(0);
+    fresh(0);
+    add_segment(0, graph_.add(NONE), 0);
+    actors[0].start = segments[0].node;
+    for (std::size_t at = 0; at < trace.size() && fault.rule.empty(); at++)
+        take(at);
+    finish();
+}
+
+// A number that no task was given stands for the program's first thread.
+State &Run::state(u32 number) {
+    if (number < states_.size() && states_[number])
+        return *states_[number];
+    return *states_[0];
+}
+
+State &Run::fresh(u32 number) {
+    if (number >= states_.size())
+        states_.resize(number + number / 2 + 16);
+    states_[number] = std::make_shared<State>();
+    return *states_[number];
+}
+
+u32 Run::add_segment(u32 actor, u32 node, u32 flags) {
+    segments.push_back(Segment{actor, node, flags});
+    return static_cast<u32>(segments.size() - 1);
+}
+
+u32 Run::node_of(State &s) {
+    Segment &segment = segments[s.segment];
+    if (segment.flags & Segment::IS_LIGHT) {
+        segment.node = graph_.add(phases[segment.node].open);
+        segment.flags &= ~Segment::IS_LIGHT;
+    }
+    return segment.node;
+}
+
+// The actor's next part begins, after the one that it was in and after another one.
+void Run::split(State &s, u32 also) {
+    u32 node = graph_.add(node_of(s));
+    if (also != NONE)
+        graph_.lead(also, node);
+    s.segment = add_segment(s.actor, node, segments[s.segment].flags);
+}
+
+void Run::refuse(const char *rule, const char *step, const State &s, u32 other, const event &e) {
+    if (fault.rule.empty())
+        fault = Fault{rule, step, s.actor, other, e.place, e.stamp};
+}
+
+void Run::take(std::size_t at) {
+    const event &e = trace[at];
+    if (e.kind == READ || e.kind == WRITE)
+        return access(at, e);
+    if (e.kind == CHAIN) {
+        state_of(e).callers = static_cast<u32>(at);
+        return;
+    }
+    if (e.kind != START && e.kind != END && e.kind != ITEM && e.kind != IMPLICIT_BEGIN && e.kind != NOTE) {
+        State &s = state_of(e);
+        if (s.pending != NONE && e.kind != MEMORY && e.kind != COPY)
+            return refuse("Undeferred", "goes on", s, s.pending, e);
+    }
+    take_sync(at, e);
+}
+
+void Run::access(std::size_t at, const event &e) {
+    State &s = state_of(e);
+    if (s.pending != NONE)
+        return refuse("Undeferred", e.kind == READ ? "reads" : "writes", s, s.pending, e);
+    segment_of[at] = s.segment;
+    locks_of[at] = s.locks;
+    chain_of[at] = s.callers;
+}
+
+void Run::take_sync(std::size_t at, const event &e) {
+    switch (e.kind) {
+    case CREATE: return create(e);
+    case ITEM:
+        actors[state_of(e).actor].items.push_back(Item{e.address, e.value, e.mark});
+        return;
+    case START: return start(e, trace.thread(at));
+    case END: return end(e);
+    case RESUME: actors[state_of(e).actor].thread = trace.thread(at); return;
+    case FULFIL: return fulfil(e);
+    case WAIT: return wait(e);
+    case WAIT_ITEM: state_of(e).wait_items.push_back(Item{e.address, e.value, e.mark}); return;
+    case WAIT_ITEMS: return wait_items(e);
+    case GROUP_OPEN: return open_group(e);
+    case GROUP_CLOSE: return close_group(at, e);
+    case REGION_BEGIN: return begin_region(e);
+    case REGION_END: return end_region(e);
+    case IMPLICIT_BEGIN: return begin_part(e, trace.thread(at));
+    case BARRIER_BEGIN: return begin_barrier(e);
+    case BARRIER_END: return end_barrier(e);
+    case LOCK: case UNLOCK: return lock(e);
+    case RELEASE: return release(e);
+    case ACQUIRE: return acquire(e);
+    case NOTE: return note(e);
+    case COPY: return copy(e);
+    case MEMORY:
+        segment_of[at] = state_of(e).segment;
+        released_.erase(released_.lower_bound(e.address), released_.lower_bound(e.address + e.value));
+        return;
+    case ENDED: has_ended = true; return;
+    default: return take_share(e);
+    }
+}
+
+void Run::take_share(const event &e) {
+    switch (e.kind) {
+    case LOOP_BEGIN: return begin_loop(e);
+    case ITERATION: return iterate(e);
+    case LOOP_END: return end_loop(e);
+    case SINGLE_BEGIN: return begin_single(e);
+    case SINGLE_END: return end_single(e);
+    case MASKED_BEGIN: return begin_masked(e);
+    case MASKED_END: return end_masked(e);
+    case ORDERED_BEGIN: return begin_ordered(e);
+    case ORDERED_END: return end_ordered(e);
+    case POST: return post(e);
+    case AWAIT: return await(e);
+    default: return;
+    }
+}
+
+void Run::note(const event &e) {
+    State &s = state_of(e);
+    switch (e.value) {
+    case NOTE_REDUCTION: counts.reductions++; return;
+    case NOTE_DETACH: counts.detached++; return;
+    case NOTE_PRIORITY: counts.priorities++; return;
+    case NOTE_CANCEL: counts.cancellations++; return;
+    case NOTE_DEEP: counts.deep++; return;
+    case NOTE_FORK: counts.forks++; return;
+    case NOTE_NO_TOOL: counts.no_tool++; return;
+    case NOTE_ONE_THREAD: is_next_one_ = true; return;
+    case NOTE_THREAD_NUMBER:
+        actors[s.actor].flags |= Actor::HAS_NUMBER;
+        if (actors[s.actor].flags & Actor::IS_PART)
+            regions[actors[s.actor].region].has_number = true;
+        return;
+    default: return;
+    }
+}
+
+// A thread's copy of a reduced variable: nobody else touches it.
+void Run::copy(const event &e) {
+    State &s = state_of(e);
+    if (e.size) {
+        u64 size = e.size == LARGE ? e.value : e.size;
+        sizes_[e.address] = size;
+        if (s.group != NONE)
+            groups[s.group].reduced.emplace_back(e.address, size);
+        return;
+    }
+    auto known = sizes_.find(e.value);
+    u64 size = known == sizes_.end() ? 8 : known->second;
+    sizes_[e.address] = size;
+    copies[e.address] = std::max(copies[e.address], size);
+}
+
+void Run::finish() {
+    for (u32 i = 1; i < actors.size(); i++)
+        if (!(actors[i].flags & Actor::IS_PART) && !actors[i].is_ended)
+            unended.push_back(i);
+    for (const Region &region : regions)
+        open_regions += region.is_ended ? 0 : 1;
+    states_.clear();
+    graph_.finish();
+}
+
+u32 Run::begin_of(u32 segment) const {
+    const Segment &at = segments[segment];
+    return at.flags & Segment::IS_LIGHT ? phases[at.node].open : at.node;
+}
+
+u32 Run::in_front_of(u32 segment) const {
+    const Segment &at = segments[segment];
+    return at.flags & Segment::IS_LIGHT ? phases[at.node].open : graph_.parent(at.node);
+}
+
+bool Run::is_before_node(u32 segment, u32 node) {
+    const Segment &at = segments[segment];
+    u32 end = at.flags & Segment::IS_LIGHT ? phases[at.node].close : at.node;
+    return end != NONE && graph_.leads(end, node);
+}
+
+bool Run::is_before(u32 one, u32 other) {
+    const Segment &a = segments[one], &b = segments[other];
+    if (one == other)
+        return true;
+    if (a.flags & b.flags & Segment::IS_LIGHT && a.node == b.node)
+        return false;
+    return is_before_node(one, begin_of(other));
+}
+
+u32 Run::home(u32 actor) const {
+    while (actors[actor].flags & Actor::IS_PART)
+        actor = actors[actor].parent;
+    return actor;
+}
+
+std::string Run::name(u32 actor) const {
+    std::string text;
+    for (u32 at = home(actor); at != 0; at = home(actors[at].parent))
+        text = "." + std::to_string(actors[at].child) + text;
+    return "0" + text;
+}
+
+namespace {
+
+bool exclude(const Actor &one, const Actor &other) {
+    for (const Item &a : one.items)
+        for (const Item &b : other.items)
+            if (a.type == Item::MUTEXINOUTSET && b.type == Item::MUTEXINOUTSET && a.address == b.address)
+                return true;
+    return false;
+}
+
+}  // namespace
+
+// A task that excludes another keeps apart from it all that comes in front of its end.
+bool Run::are_apart(u32 one, u32 other) {
+    for (u32 a = segments[one].actor; a != NONE; a = actors[a].parent)
+        for (u32 b = segments[other].actor; b != NONE; b = actors[b].parent) {
+            if (a == b || actors[a].parent != actors[b].parent || !exclude(actors[a], actors[b]))
+                continue;
+            bool is_in_a = segments[one].actor == a
+                           || (actors[a].end != NONE && graph_.leads(segments[one].node, actors[a].end));
+            bool is_in_b = segments[other].actor == b
+                           || (actors[b].end != NONE && graph_.leads(segments[other].node, actors[b].end));
+            if (is_in_a && is_in_b)
+                return true;
+        }
+    return false;
+}
+
+}  // namespace judge

@@ -1,0 +1,58 @@
+// A trace as the recorder wrote it: a page of text, and then pieces of events, each of one thread.
+#pragma once
+
+#include <cstddef>
+#include <cstdint>
+#include <stdexcept>
+#include <string>
+#include <vector>
+
+#include "../recorder/event.h"
+
+namespace judge {
+
+using u8 = std::uint8_t;
+using u32 = std::uint32_t;
+using u64 = std::uint64_t;
+
+constexpr u32 NONE = ~u32{0};
+
+struct BadTrace : std::runtime_error {
+    using std::runtime_error::runtime_error;
+};
+
+// The events of a trace in the order of their stamps.
+class Trace {
+public:
+    explicit Trace(const char *path);
+    ~Trace();
+    Trace(const Trace &) = delete;
+    Trace &operator=(const Trace &) = delete;
+
+    std::size_t size() const { return order_.size(); }
+    const event &operator[](std::size_t at) const { return events_[order_[at]]; }
+    // The thread that wrote the event down.
+    u32 thread(std::size_t at) const { return threads_[order_[at] / PIECE]; }
+    const std::string &program() const { return program_; }
+    // The object files of the program that have none of the instrumentation's calls.
+    const std::string &unseen() const { return unseen_; }
+    // Whether an event is missing in front of the last one.
+    bool is_cut() const { return is_cut_; }
+
+private:
+    static constexpr std::size_t HEADER = 4096, PIECE = 2048;
+
+    void read_header();
+    void put_in_order();
+
+    const char *bytes_ = nullptr;
+    std::size_t length_ = 0;
+    const event *events_ = nullptr;
+    std::size_t count_ = 0;
+    std::vector<u32> order_;
+    std::vector<u32> threads_;
+    std::string program_, unseen_;
+    bool is_cut_ = false;
+};
+
+}  // namespace judge

@@ -1,0 +1,80 @@
+/* What the recorder writes down and the judge reads: the events of a run. openmp/taskrun/trace.py has the same numbers. */
+#ifndef TASKBACK_EVENT_H
+#define TASKBACK_EVENT_H
+
+#include <stdint.h>
+
+/* The kinds of events. */
+enum kind {
+    CREATE = 1,     /* task: the creator; address: the child; value: its flags; place: the directive */
+    ITEM,           /* task: the child; address; value: the length; mark: the type's bits */
+    START,          /* task */
+    END,            /* task */
+    WAIT,           /* task: it has passed a taskwait */
+    WAIT_ITEM,      /* task; the rest as of ITEM; in front of its WAIT_ITEMS */
+    WAIT_ITEMS,     /* task: it has passed a taskwait with items */
+    GROUP_OPEN,     /* task */
+    GROUP_CLOSE,    /* task */
+    REGION_BEGIN,   /* task: who met the parallel region; address: the region */
+    REGION_END,     /* the same */
+    IMPLICIT_BEGIN, /* task: the implicit task; address: its region, 0 for the initial task; value: its index */
+    BARRIER_BEGIN,  /* task: an implicit task; address: its region */
+    BARRIER_END,    /* the same */
+    READ,           /* task; address; value: the number read; size; place */
+    WRITE,          /* task; address; value: the number written; size; place */
+    MEMORY,         /* task; address, value: from here on this many bytes are new; place: who took them; mark: STACK */
+    LOCK,           /* task; address: the lock; value: 1 where it is a reduction's; mark: SHARED */
+    UNLOCK,         /* task; address: the lock */
+    NOTE,           /* task; value: one of enum note; place */
+    COPY,           /* address: a thread's copy of a reduced variable; value: the variable; with a size, its own */
+    CHUNK,          /* the first of each piece of the file; address: the thread's number; it has no stamp */
+    ENDED,          /* the program has come to its end */
+    LOOP_BEGIN,     /* task: an implicit task; address: how many iterations; value: the chunk's size, 0 for none; mark */
+    ITERATION,      /* task; address: of the loop's number, or 0; value: the number; mark: HANDED_OUT */
+    LOOP_END,       /* task; mark: 1 where it did the last iteration */
+    SINGLE_BEGIN,   /* task; mark: 1 where it is the one that does it */
+    SINGLE_END,     /* task */
+    MASKED_BEGIN,   /* task */
+    MASKED_END,     /* task */
+    ORDERED_BEGIN,  /* task */
+    ORDERED_END,    /* task */
+    POST,           /* task; address: the loop; value: the iteration's numbers, hashed */
+    AWAIT,          /* the same */
+    RELEASE,        /* task; address; mark: KEEPS where it adds to what is there, GUARD, NOTHING to take over,
+                       DOWN where it counts down */
+    ACQUIRE,        /* task; address; mark: UP where it counts up */
+    FULFIL,         /* task; address: the task whose event it fulfils */
+    RESUME,         /* task: it goes on on this thread, where it hasn't been */
+    CHAIN           /* task: its next loads and stores are in a function that was called at place, its caller at the low
+                       half of address, and so on: the high half, and the halves of value */
+};
+
+/* What the notation has no word for, and what else is told of a run. */
+enum note {
+    NOTE_REDUCTION = 1, NOTE_DETACH, NOTE_PRIORITY, NOTE_CANCEL, NOTE_DEEP, NOTE_THREAD_NUMBER, NOTE_ONE_THREAD,
+    NOTE_NO_TOOL, NOTE_NO_ROOM, NOTE_FORK
+};
+
+/* Marks of a READ or WRITE; what is freed may be the frame of a function that ends, of a task's
+   outermost one. */
+enum mark { ATOMIC = 1, FREED = 2, LIBRARY = 4, FRAME = 8, OUTERMOST = 16 };
+
+/* Marks of a loop, of an iteration, of a release, of a lock that several may hold, and of a task's
+   own part of a stack. */
+enum { LOOP_STATIC = 1, LOOP_ORDERED = 2, HANDED_OUT = 1, KEEPS = 1, GUARD = 2, NOTHING = 4, DOWN = 8, UP = 8, SHARED = 1,
+       STACK = 1 };
+
+/* 32 bytes: what is written is most of what recording costs. */
+struct event {
+    uint64_t address;
+    uint64_t value;
+    uint32_t stamp;
+    uint32_t task;
+    int32_t place;  /* from where the program is loaded; 0: not in it */
+    uint16_t size;  /* LARGE: the size is the value */
+    uint8_t kind;
+    uint8_t mark;
+};
+
+enum { LARGE = 0xffff, LONGEST_NUMBER = 16, CALLERS = 5 };
+#endif

@@ -1,0 +1,82 @@
+/* Locks that aren't OpenMP's: of POSIX, which C++'s are too, and the guards of a function's static variables. */
+#include <pthread.h>
+
+#include "recorder.h"
+
+int __real_pthread_mutex_lock(pthread_mutex_t *);
+int __real_pthread_mutex_trylock(pthread_mutex_t *);
+int __real_pthread_mutex_timedlock(pthread_mutex_t *, const struct timespec *);
+int __real_pthread_mutex_unlock(pthread_mutex_t *);
+int __real_pthread_spin_lock(pthread_spinlock_t *);
+int __real_pthread_spin_trylock(pthread_spinlock_t *);
+int __real_pthread_spin_unlock(pthread_spinlock_t *);
+int __real_pthread_rwlock_rdlock(pthread_rwlock_t *);
+int __real_pthread_rwlock_tryrdlock(pthread_rwlock_t *);
+int __real_pthread_rwlock_wrlock(pthread_rwlock_t *);
+int __real_pthread_rwlock_trywrlock(pthread_rwlock_t *);
+int __real_pthread_rwlock_unlock(pthread_rwlock_t *);
+__attribute__((weak)) int __real___cxa_guard_acquire(uint64_t *);
+__attribute__((weak)) void __real___cxa_guard_release(uint64_t *);
+
+static int taken(int status, const volatile void *lock, uint64_t place) {
+    if (status == 0)
+        taskback_note_lock(LOCK, (const void *)lock, place);
+    return status;
+}
+
+#define TAKES(name, type) \
+    int __wrap_##name(type *lock) { return taken(__real_##name(lock), lock, PLACE); }
+#define GIVES(name, type)                              \
+    int __wrap_##name(type *lock) {                    \
+        taskback_note_lock(UNLOCK, (const void *)lock, PLACE); \
+        return __real_##name(lock);                    \
+    }
+TAKES(pthread_mutex_lock, pthread_mutex_t)
+TAKES(pthread_mutex_trylock, pthread_mutex_t)
+GIVES(pthread_mutex_unlock, pthread_mutex_t)
+TAKES(pthread_spin_lock, pthread_spinlock_t)
+TAKES(pthread_spin_trylock, pthread_spinlock_t)
+GIVES(pthread_spin_unlock, pthread_spinlock_t)
+TAKES(pthread_rwlock_wrlock, pthread_rwlock_t)
+TAKES(pthread_rwlock_trywrlock, pthread_rwlock_t)
+
+int __wrap_pthread_mutex_timedlock(pthread_mutex_t *lock, const struct timespec *end) {
+    return taken(__real_pthread_mutex_timedlock(lock, end), lock, PLACE);
+}
+
+/* Readers of such a lock aren't kept apart from each other, but from who writes. */
+static int taken_to_read(int status, const void *lock, uint64_t place) {
+    if (status == 0) {
+        struct own *own = own_state();
+        begin_loud_part(own);
+        taskback_note(own, LOCK, own->task, (uint64_t)lock, 0, place)->mark = SHARED;
+    }
+    return status;
+}
+
+int __wrap_pthread_rwlock_rdlock(pthread_rwlock_t *lock) {
+    return taken_to_read(__real_pthread_rwlock_rdlock(lock), lock, PLACE);
+}
+
+int __wrap_pthread_rwlock_tryrdlock(pthread_rwlock_t *lock) {
+    return taken_to_read(__real_pthread_rwlock_tryrdlock(lock), lock, PLACE);
+}
+
+GIVES(pthread_rwlock_unlock, pthread_rwlock_t)
+
+/* Who finds a static variable made comes after its making, whoever made it. */
+int __wrap___cxa_guard_acquire(uint64_t *guard) {
+    int makes = __real___cxa_guard_acquire(guard);
+    struct own *own = own_state();
+    begin_loud_part(own);
+    if (!makes)
+        taskback_note(own, ACQUIRE, own->task, (uint64_t)guard, 0, PLACE);
+    return makes;
+}
+
+void __wrap___cxa_guard_release(uint64_t *guard) {
+    struct own *own = own_state();
+    begin_loud_part(own);
+    taskback_note(own, RELEASE, own->task, (uint64_t)guard, 0, PLACE)->mark = GUARD;
+    __real___cxa_guard_release(guard);
+}

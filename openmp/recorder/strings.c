@@ -1,0 +1,232 @@
+/* Functions of C's library that read and write the program's memory: what they touch is written down in front of them,
+   or after them where only they know how much it is. */
+#define _GNU_SOURCE
+#include <stdarg.h>
+#include <stdio.h>
+#include <stdlib.h>
+#include <string.h>
+
+#include "recorder.h"
+
+static void touches(enum kind kind, const void *address, size_t size, uint64_t place) {
+    if (address && size)
+        taskback_access(kind, (uint64_t)address, size, place, LIBRARY);
+}
+
+static void reads(const void *address, size_t size, uint64_t place) { touches(READ, address, size, place); }
+static void writes(const void *address, size_t size, uint64_t place) { touches(WRITE, address, size, place); }
+
+/* What the recorder itself calls isn't led through it. */
+size_t __real_strlen(const char *);
+char *__real_strchr(const char *, int);
+int __real_atoi(const char *);
+static size_t whole(const char *text) { return text ? __real_strlen(text) + 1 : 0; }
+
+/* ---- strings */
+
+#define COPIES(name, written)                              \
+    char *__real_##name(char *, const char *);             \
+    char *__wrap_##name(char *to, const char *from) {      \
+        reads(from, whole(from), PLACE);                   \
+        writes(written, whole(from), PLACE);               \
+        return __real_##name(to, from);                    \
+    }
+COPIES(strcpy, to)
+COPIES(stpcpy, to)
+COPIES(strcat, to + __real_strlen(to))
+
+#define COPIES_MOST(name, written, count)                          \
+    char *__real_##name(char *, const char *, size_t);             \
+    char *__wrap_##name(char *to, const char *from, size_t most) { \
+        reads(from, strnlen(from, most), PLACE);                   \
+        writes(written, count, PLACE);                             \
+        return __real_##name(to, from, most);                      \
+    }
+COPIES_MOST(strncpy, to, most)
+COPIES_MOST(strncat, to + __real_strlen(to), strnlen(from, most) + 1)
+
+#define READS_ONE(type, name)                              \
+    type __real_##name(const char *);                      \
+    type __wrap_##name(const char *text) {                 \
+        reads(text, whole(text), PLACE);                   \
+        return __real_##name(text);                        \
+    }
+#define NUMBER_OF(type, name)                                          \
+    type __real_##name(const char *, char **, int);                    \
+    type __wrap_##name(const char *text, char **end, int base) {       \
+        reads(text, whole(text), PLACE);                               \
+        return __real_##name(text, end, base);                         \
+    }
+#define SEEKS(name)                                        \
+    char *__real_##name(const char *, int);                \
+    char *__wrap_##name(const char *text, int letter) {    \
+        reads(text, whole(text), PLACE);                   \
+        return __real_##name(text, letter);                \
+    }
+#define COMPARES(type, name)                                       \
+    type __real_##name(const char *, const char *);                \
+    type __wrap_##name(const char *one, const char *other) {       \
+        reads(one, whole(one), PLACE);                             \
+        reads(other, whole(other), PLACE);                         \
+        return __real_##name(one, other);                          \
+    }
+READS_ONE(size_t, strlen)
+READS_ONE(int, atoi)
+READS_ONE(long, atol)
+READS_ONE(double, atof)
+NUMBER_OF(long, strtol)
+NUMBER_OF(unsigned long, strtoul)
+SEEKS(strchr)
+SEEKS(strrchr)
+COMPARES(int, strcmp)
+COMPARES(int, strcasecmp)
+COMPARES(char *, strstr)
+
+double __real_strtod(const char *, char **);
+double __wrap_strtod(const char *text, char **end) {
+    reads(text, whole(text), PLACE);
+    return __real_strtod(text, end);
+}
+
+int __real_strncmp(const char *, const char *, size_t);
+int __wrap_strncmp(const char *one, const char *other, size_t most) {
+    reads(one, strnlen(one, most), PLACE);
+    reads(other, strnlen(other, most), PLACE);
+    return __real_strncmp(one, other, most);
+}
+
+int __real_memcmp(const void *, const void *, size_t);
+int __wrap_memcmp(const void *one, const void *other, size_t size) {
+    reads(one, size, PLACE);
+    reads(other, size, PLACE);
+    return __real_memcmp(one, other, size);
+}
+
+char *__real_strdup(const char *);
+char *__wrap_strdup(const char *text) {
+    reads(text, whole(text), PLACE);
+    return taskback_taken(__real_strdup(text), PLACE);
+}
+
+char *__real_strndup(const char *, size_t);
+char *__wrap_strndup(const char *text, size_t most) {
+    reads(text, strnlen(text, most), PLACE);
+    return taskback_taken(__real_strndup(text, most), PLACE);
+}
+
+/* ---- arrays */
+
+typedef int compare_function(const void *, const void *);
+void __real_qsort(void *, size_t, size_t, compare_function *);
+void *__real_bsearch(const void *, const void *, size_t, size_t, compare_function *);
+
+void __wrap_qsort(void *array, size_t count, size_t size, compare_function *compare) {
+    reads(array, count * size, PLACE);
+    writes(array, count * size, PLACE);
+    struct own *own = own_state();
+    uint32_t muted = own->muted;
+    own->muted = own->task;
+    __real_qsort(array, count, size, compare);
+    taskback_settle(own);
+    own->muted = muted;
+}
+
+void *__wrap_bsearch(const void *key, const void *array, size_t count, size_t size, compare_function *compare) {
+    reads(array, count * size, PLACE);
+    return __real_bsearch(key, array, count, size, compare);
+}
+
+/* ---- input and output: the strings that a format prints are read */
+
+/* Takes the arguments of one conversion; gives the string that it prints. */
+static const char *argument(char conversion, int longs, va_list *arguments) {
+    switch (conversion) {
+    case 's': return longs ? (va_arg(*arguments, void *), (const char *)0) : va_arg(*arguments, const char *);
+    case 'p': case 'n': va_arg(*arguments, void *); return 0;
+    case 'a': case 'A': case 'e': case 'E': case 'f': case 'F': case 'g': case 'G':
+        if (longs == 'L')
+            va_arg(*arguments, long double);
+        else
+            va_arg(*arguments, double);
+        return 0;
+    case '%': case 'm': return 0;
+    default:
+        if (longs)
+            va_arg(*arguments, long);
+        else
+            va_arg(*arguments, int);
+        return 0;
+    }
+}
+
+static void reads_of(const char *format, va_list *arguments, uint64_t place) {
+    while ((format = __real_strchr(format, '%')) != 0) {
+        int longs = 0, most = -1;
+        for (format++; *format && __real_strchr("-+ #0123456789.'*hljztLq", *format); format++) {
+            if (*format == '*') {
+                int given = va_arg(*arguments, int);
+                most = format[-1] == '.' ? given : most;
+            } else if (*format == '.') {
+                most = __real_atoi(format + 1);
+            } else if (__real_strchr("ljztLq", *format)) {
+                longs = *format;
+            }
+        }
+        if (!*format)
+            return;
+        const char *text = argument(*format++, longs, arguments);
+        if (text)
+            reads(text, most >= 0 ? strnlen(text, (size_t)most) : whole(text), place);
+    }
+}
+
+#define FORMATTED(type, name, parameters, arguments, real, after)   \
+    type __wrap_##name parameters {                                 \
+        va_list list, again;                                        \
+        va_start(list, format);                                     \
+        va_copy(again, list);                                       \
+        reads_of(format, &again, PLACE);                            \
+        va_end(again);                                              \
+        type done = real arguments;                                 \
+        va_end(list);                                               \
+        after;                                                      \
+        return done;                                                \
+    }
+FORMATTED(int, printf, (const char *format, ...), (format, list), vprintf, )
+FORMATTED(int, fprintf, (FILE *file, const char *format, ...), (file, format, list), vfprintf, )
+FORMATTED(int, sprintf, (char *to, const char *format, ...), (to, format, list), vsprintf,
+          writes(to, done < 0 ? 0 : (size_t)done + 1, PLACE))
+FORMATTED(int, snprintf, (char *to, size_t most, const char *format, ...), (to, most, format, list), vsnprintf,
+          writes(to, done < 0 ? 0 : (size_t)done < most ? (size_t)done + 1 : most, PLACE))
+
+int __real_puts(const char *);
+int __wrap_puts(const char *text) {
+    reads(text, whole(text), PLACE);
+    return __real_puts(text);
+}
+
+int __real_fputs(const char *, FILE *);
+int __wrap_fputs(const char *text, FILE *file) {
+    reads(text, whole(text), PLACE);
+    return __real_fputs(text, file);
+}
+
+char *__real_fgets(char *, int, FILE *);
+char *__wrap_fgets(char *to, int most, FILE *file) {
+    char *got = __real_fgets(to, most, file);
+    writes(got, whole(got), PLACE);
+    return got;
+}
+
+size_t __real_fread(void *, size_t, size_t, FILE *);
+size_t __wrap_fread(void *to, size_t size, size_t count, FILE *file) {
+    size_t got = __real_fread(to, size, count, file);
+    writes(to, got * size, PLACE);
+    return got;
+}
+
+size_t __real_fwrite(const void *, size_t, size_t, FILE *);
+size_t __wrap_fwrite(const void *from, size_t size, size_t count, FILE *file) {
+    reads(from, size * count, PLACE);
+    return __real_fwrite(from, size, count, file);
+}
