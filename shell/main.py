@@ -13,7 +13,7 @@ from shell import faults  # noqa: E402
 from shell.commands import Shell  # noqa: E402
 from shell.console import Console, JsonConsole, counted  # noqa: E402
 from shell.protocol import Ended, Refused, is_digits  # noqa: E402
-from shell.script import Script, lines_of  # noqa: E402
+from shell.script import INTERRUPTED, Script, lines_of  # noqa: E402
 from shell.session import Session  # noqa: E402
 from shell.source import Source, read_text, split_session  # noqa: E402
 
@@ -150,6 +150,9 @@ def main(words: list[str]) -> int:
     status = 3
     try:
         status = play_script(given, shell, commands) if scripted else hold_talk(given, shell)
+    except KeyboardInterrupt:
+        # Between two commands of a script, or while it is read.
+        status = INTERRUPTED
     except OSError as fault:
         # Nobody reads on, or nothing can be written: only the second is said.
         if not isinstance(fault, BrokenPipeError):

@@ -6,17 +6,19 @@ from collections.abc import Sequence
 from shell.commands import Shell
 from shell.console import Outcome
 from shell.protocol import words_of
-from shell.source import read_text, split_session
+from shell.source import numbered_commands, read_text
+
+# As shells have it for what Ctrl-C has ended.
+INTERRUPTED = 130
 
 
 def lines_of(path: str) -> list[tuple[int, str]]:
     """The commands of a file with their lines (`-`: of standard input); of a session, those after its `---`."""
     text = sys.stdin.read() if path == "-" else read_text(path)
-    commands = split_session(text)[1]
-    if commands is None:
-        return [(number, line) for number, line in enumerate(text.split("\n"), 1) if words_of(line)]
-    first = len(text.split("\n")) - len(text.split("---", 1)[1].split("\n")) + 1
-    return [(number, line) for number, line in enumerate(text.split("\n")[first:], first + 1) if words_of(line)]
+    session = numbered_commands(text)
+    if session is not None:
+        return session[1]
+    return [(number, line) for number, line in enumerate(text.split("\n"), 1) if words_of(line)]
 
 
 class Script:
@@ -36,7 +38,7 @@ class Script:
                 return self.stop(number, command, name)
             if ends or self.shell.interrupted:
                 break
-        return 130 if self.shell.interrupted else 0
+        return INTERRUPTED if self.shell.interrupted else 0
 
     def stop(self, number: int, command: str, name: str) -> int:
         """Says at which line the script was ended, and why; returns the status."""

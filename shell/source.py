@@ -18,12 +18,20 @@ def read_text(path: str) -> str:
 
 def split_session(text: str) -> tuple[str, list[str] | None]:
     """The program of a text, and the lines of its commands (None where no line `---` is there)."""
+    numbered = numbered_commands(text)
+    if numbered is None:
+        return text, None
+    first, commands = numbered
+    return "".join(part + "\n" for part in text.split("\n")[:first - 1]), [command for _, command in commands]
+
+
+def numbered_commands(text: str) -> tuple[int, list[tuple[int, str]]] | None:
+    """The line `---` of a session, and its commands with their lines; None where it is none."""
     lines = text.split("\n")
-    for index, line in enumerate(lines):
-        if words_of(line) == ["---"]:
-            program = "".join(part + "\n" for part in lines[:index])
-            return program, [part for part in map(unmarked, lines[index + 1:]) if words_of(part)]
-    return text, None
+    first = next((number for number, line in enumerate(lines, 1) if words_of(line) == ["---"]), None)
+    if first is None:
+        return None
+    return first, [(number, unmarked(line)) for number, line in enumerate(lines[first:], first + 1) if words_of(unmarked(line))]
 
 
 def unmarked(line: str) -> str:

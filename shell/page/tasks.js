@@ -15,9 +15,9 @@ function showGraph() {
   const place = new Map(plan.nodes.map((node) => [node.name, [24 + node.column * WIDE + (node.row % 2) * SLANT, 30 + node.row * HIGH]]));
   for (const box of plan.boxes) groupBox(box, plan.groups.get(box.name).line, parts);
   for (const task of shown) edgesOf(task, place, shown.length <= 40, parts);
+  raceEdges((step) => step.task, place, parts);
   for (const node of plan.nodes.filter((some) => some.isWait)) waitOf(node, place, parts);
   for (const task of shown) boxOf(task, place.get(task.name), plan.inside.get(task.name), parts);
-  raceEdges((step) => step.task, place, parts);
   svg.setAttribute("width", plan.wide * WIDE + 50);
   svg.setAttribute("height", plan.high * HIGH + 26);
   svg.replaceChildren(headOf(), ...parts);
@@ -47,7 +47,7 @@ function edgeOf(place, one, two, name, label, text, parts) {
 
 function edgesOf(task, place, labelled, parts) {
   const parent = task.name.split(".").slice(0, -1).join(".");
-  if (parent) edgeOf(place, parent, task.name, "spawn", parent + " generates " + task.name, "", parts);
+  if (parent && wish.spawns) edgeOf(place, parent, task.name, "spawn", parent + " generates " + task.name, "", parts);
   for (const [other, label] of task.before) edgeOf(place, tasks[other].name, task.name, "before", label.join("; "), labelled ? label[0] : "", parts);
   for (const [other, label] of task.apart) edgeOf(place, tasks[other].name, task.name, "apart", label.join("; "), labelled ? label[0] : "", parts);
 }
@@ -123,9 +123,9 @@ function drawClusters(svg, parts, shown) {
   const across = Math.max(6, wide);
   shown.forEach((task, at) => place.set(task.name, [24 + (at % across) * WIDE, 30 + (high + Math.floor(at / across)) * HIGH]));
   clusterEdges(clusters, standing, place, parts);
+  raceEdges((step) => clusterOf(standing.get(step.task)), place, parts);
   for (const cluster of clusters.values()) clusterBox(cluster, place.get(cluster.key), parts);
   for (const task of shown) boxOf(task, place.get(task.name), "", parts);
-  raceEdges((step) => clusterOf(standing.get(step.task)), place, parts);
   svg.setAttribute("width", (shown.length ? across : wide) * WIDE + 50);
   svg.setAttribute("height", (high + Math.ceil(shown.length / across)) * HIGH + 26);
   svg.replaceChildren(headOf(), ...parts);

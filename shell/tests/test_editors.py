@@ -37,8 +37,8 @@ const extension = require(process.env.EXTENSION);
 extension.activate({ subscriptions: [] });
 const config = registered.config.resolveDebugConfiguration(undefined, {});
 registered["taskback.showPage"]();
-setInterval(() => { if (shown.length) { console.log(JSON.stringify({ command: registered.adapter.createDebugAdapterDescriptor().command, config,
-  page: (shown[0].webview || {}).html || shown[0], title: shown[0].title, scripts: (shown[0].how || {}).enableScripts })); process.exit(0); } }, 20);
+const timer = setInterval(() => { if (shown.length) { clearInterval(timer); process.stdout.write(JSON.stringify({ command: registered.adapter.createDebugAdapterDescriptor().command, config,
+  page: (shown[0].webview || {}).html || shown[0], title: shown[0].title, scripts: (shown[0].how || {}).enableScripts })); } }, 20);
 """
 
 

@@ -100,6 +100,13 @@ class Checked(unittest.TestCase):
     def test_a_saved_session_is_a_script(self):
         self.assertEqual(ran("-x", os.path.join(EXAMPLES, "race.session"), RACE)[0], example("race.out"))
 
+    def test_lines_of_a_session_are_counted_from_its_first(self):
+        path = self.script("# --- a comment\n" + example("race.task") + "---  # now\nstep 0\n# shell: break line 13\nstep 0.7\n")
+        out, _, status = ran("--check", "-x", path, RACE)
+        self.assertEqual(status, 1)
+        last = 3 + len(("# --- a comment\n" + example("race.task") + "---").split("\n"))
+        self.assertEqual(out.split("\n")[-4:-1], ["break s1 line 13", "refused 1 NoSuchTask", f"a.script:{last}: step 0.7: task 0.7 hasn't been generated"])
+
     def test_usage_and_files(self):
         for words in (["-x"], ["-x", "/no/script", RACE], ["-x", self.script("step 0\n")], ["-x", self.script(""), "/no/file"]):
             out, told, status = ran(*words)
