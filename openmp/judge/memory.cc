@@ -19,6 +19,7 @@ u8 mask_of(u64 granule, u64 address, u64 size) {
 Memory::Memory(Run &run) : run_(run) {
     for (std::size_t at = 0; at < run.trace.size(); at++)
         take(at);
+    tell_copies();
 }
 
 void Memory::take(std::size_t at) {
@@ -151,13 +152,27 @@ bool Memory::compare(const Now &now, Bucket &bucket) {
     return false;
 }
 
-// All of the bucket's touches come before this one: who comes after the same node needn't look at each again.
+// All of the bucket's touches come before this one: who comes after a node that they all come before needn't look at each
+// again. The farther that node is up the tree, the more come after it.
 void Memory::pass(const Now &now, Bucket &bucket) {
-    u32 node = run_.in_front_of(now.segment);
-    for (u32 at = bucket.head; at != NONE && node != NONE; at = touches_[at].next)
-        if (!run_.is_before_node(touches_[at].segment, node))
-            node = NONE;
-    bucket.passed = node != NONE ? node : run_.begin_of(now.segment);
+    u32 newest = 0;
+    for (u32 at = bucket.head; at != NONE; at = touches_[at].next)
+        newest = std::max(newest, run_.end_of(touches_[at].segment));
+    std::vector<u32> nodes(1, run_.begin_of(now.segment));
+    for (u32 node = run_.in_front_of(now.segment); node != NONE && node >= newest; node = run_.parent_of(node))
+        nodes.push_back(node);
+    auto is_passed = [&](u32 node) {
+        for (u32 at = bucket.head; at != NONE; at = touches_[at].next)
+            if (!run_.is_before_node(touches_[at].segment, node))
+                return false;
+        return true;
+    };
+    std::size_t known = 0, beyond = nodes.size();
+    while (beyond - known > 1) {
+        std::size_t middle = known + (beyond - known) / 2;
+        (is_passed(nodes[middle]) ? known : beyond) = middle;
+    }
+    bucket.passed = nodes[known];
 }
 
 void Memory::keep(const Now &now, u32 &place) {
@@ -244,7 +259,7 @@ bool Memory::is_private(u32 part, u64 address) const {
     if (!block || block->segment == NONE)
         return false;
     const Segment &segment = run_.segments[block->segment];
-    return segment.actor == part && !(segment.flags & Segment::IS_UNIT);
+    return segment.actor == part && !(segment.flags & Segment::IS_SINGLE);
 }
 
 // Whether one thread did both in units that might be two threads', on memory that is its own.
@@ -278,7 +293,18 @@ void Memory::look_for_copies(const Now &now) {
     const Block *block = block_at(now.address);
     if (block && run_.trace[block->at].stamp > region.begun)
         return;
-    add_race(now, now.at, now.segment, false, true);
+    auto added = copied_.emplace(std::make_pair(segment.actor, run_.trace[now.at].place),
+                                 Copied{now, now.at < actor.parted});
+    Copied &known = added.first->second;
+    if (!added.second && !known.is_sure && known.now.address != now.address)
+        known.now.size = 0;
+}
+
+// Where the threads may have gone different ways, an address that varies may be another one for each.
+void Memory::tell_copies() {
+    for (auto &entry : copied_)
+        if (entry.second.now.size != 0)
+            add_race(entry.second.now, entry.second.now.at, entry.second.now.segment, false, true);
 }
 
 void Memory::add_race(const Now &now, u32 at, u32 segment, bool is_apart, bool is_copied) {

@@ -77,6 +77,7 @@ private:
     bool is_own(const Now &now, const Touch &earlier);
     bool is_private(u32 part, u64 address) const;
     void look_for_copies(const Now &now);
+    void tell_copies();
     void add_race(const Now &now, u32 at, u32 segment, bool is_apart, bool is_copied);
     void keep_freed(const Now &now);
     void find_freed(const Now &now, u32 &place);
@@ -98,6 +99,12 @@ private:
     };
     std::unordered_map<Key, u32, Hash> known_;
     std::map<u64, Now> freed_;               // what was given back last, by where it begins
+    // What each thread of a larger team would do, by who does it and where.
+    struct Copied {
+        Now now;
+        bool is_sure;     // else only where it is always the same address
+    };
+    std::map<std::pair<u32, int>, Copied> copied_;
     std::unordered_map<u64, u32> raced_;     // how many races a place has had
     std::unordered_map<u32, std::pair<u64, u64>> stacks_;   // of each actor, its part of a stack
 };

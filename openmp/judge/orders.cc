@@ -3,8 +3,9 @@
 
 namespace judge {
 
-void Run::lock(const event &e) {
+void Run::lock(std::size_t at, const event &e) {
     State &s = state_of(e);
+    part_ways(s, at);
     if (e.kind == UNLOCK) {
         s.locks = locks.without(s.locks, e.address);
         return;

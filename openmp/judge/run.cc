@@ -82,6 +82,13 @@ void Run::access(std::size_t at, const event &e) {
     segment_of[at] = s.segment;
     locks_of[at] = s.locks;
     chain_of[at] = s.callers;
+    if (e.mark & ATOMIC)
+        part_ways(s, at);
+}
+
+// What is read under a lock or by an atomic operation may be another value for each thread.
+void Run::part_ways(const State &s, std::size_t at) {
+    actors[s.actor].parted = std::min(actors[s.actor].parted, at);
 }
 
 void Run::take_sync(std::size_t at, const event &e) {
@@ -104,7 +111,7 @@ void Run::take_sync(std::size_t at, const event &e) {
     case IMPLICIT_BEGIN: return begin_part(e, trace.thread(at));
     case BARRIER_BEGIN: return begin_barrier(e);
     case BARRIER_END: return end_barrier(e);
-    case LOCK: case UNLOCK: return lock(e);
+    case LOCK: case UNLOCK: return lock(at, e);
     case RELEASE: return release(e);
     case ACQUIRE: return acquire(e);
     case NOTE: return note(e);
@@ -191,9 +198,13 @@ u32 Run::in_front_of(u32 segment) const {
     return at.flags & Segment::IS_LIGHT ? phases[at.node].open : graph_.parent(at.node);
 }
 
-bool Run::is_before_node(u32 segment, u32 node) {
+u32 Run::end_of(u32 segment) const {
     const Segment &at = segments[segment];
-    u32 end = at.flags & Segment::IS_LIGHT ? phases[at.node].close : at.node;
+    return at.flags & Segment::IS_LIGHT ? phases[at.node].close : at.node;
+}
+
+bool Run::is_before_node(u32 segment, u32 node) {
+    u32 end = end_of(segment);
     return end != NONE && graph_.leads(end, node);
 }
 

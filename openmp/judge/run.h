@@ -34,6 +34,7 @@ struct Actor {
     u32 thread = NONE;
     u32 region = NONE;
     u32 start = NONE, end = NONE;   // nodes
+    std::size_t parted = ~std::size_t{0};   // the event from which on the threads of its team may go different ways
     bool is_started = false, is_ended = false, is_joined = false;
     std::vector<Item> items;
     std::vector<u32> waits;         // the siblings that its items make it wait for, until it starts
@@ -42,7 +43,7 @@ struct Actor {
 // A part of an actor between two steps that order something. A thread's part of a loop, an iteration, has no node of
 // its own as long as nothing is ordered by it: it stands between the ends of its phase.
 struct Segment {
-    enum Flag : u32 { IS_UNIT = 1, IS_ALONE = 2, IS_LIGHT = 4 };
+    enum Flag : u32 { IS_UNIT = 1, IS_ALONE = 2, IS_LIGHT = 4, IS_SINGLE = 8 };
     u32 actor;
     u32 node;    // of a light one: its phase
     u32 flags;
@@ -129,9 +130,11 @@ public:
     explicit Run(const Trace &trace);
 
     bool is_before(u32 one, u32 other);
-    // The node at which a segment begins, and that in front of it (NONE: there is none).
+    // The node at which a segment begins, and those in front of it in the tree (NONE: there is none).
     u32 begin_of(u32 segment) const;
     u32 in_front_of(u32 segment) const;
+    u32 parent_of(u32 node) const { return graph_.parent(node); }
+    u32 end_of(u32 segment) const;      // the node at which it ends
     // Whether all of the segment comes in front of the node, or the node in front of the segment.
     bool is_before_node(u32 segment, u32 node);
     bool is_node_before(u32 node, u32 segment) { return graph_.leads(node, begin_of(segment)); }
@@ -205,12 +208,13 @@ private:
     void end_ordered(const event &e);
     void post(const event &e);
     void await(const event &e);
-    void lock(const event &e);
+    void lock(std::size_t at, const event &e);
     void release(const event &e);
     void acquire(const event &e);
     void note(const event &e);
     void copy(const event &e);
     void access(std::size_t at, const event &e);
+    void part_ways(const State &s, std::size_t at);
     Shared *next_shared(State &s);
     void finish();
 

@@ -93,7 +93,7 @@ void Run::begin_single(const event &e) {
     if (!e.mark)
         return;
     s.chain = s.segment;
-    s.segment = add_segment(s.actor, graph_.add(phases[s.phase].open), Segment::IS_UNIT);
+    s.segment = add_segment(s.actor, graph_.add(phases[s.phase].open), Segment::IS_UNIT | Segment::IS_SINGLE);
 }
 
 void Run::end_single(const event &e) {
@@ -115,7 +115,7 @@ void Run::begin_masked(const event &e) {
     u32 node = graph_.add(phases[s.phase].open);
     graph_.lead(s.masked, node);
     s.chain = s.segment;
-    s.segment = add_segment(s.actor, node, Segment::IS_UNIT | Segment::IS_ALONE);
+    s.segment = add_segment(s.actor, node, Segment::IS_UNIT | Segment::IS_ALONE | Segment::IS_SINGLE);
 }
 
 void Run::end_masked(const event &e) {

@@ -82,15 +82,18 @@ static void turn_page(struct own *own) {
     own->next = own->events;
 }
 
+/* The first module is the program; below a thread's pointer are the variables that the modules have for each thread. */
 static int find_own(struct dl_phdr_info *info, size_t size, void *data) {
-    (void)size, (void)data;
-    program_base = info->dlpi_addr;
+    int *count = data;
+    (void)size;
+    if ((*count)++ == 0)
+        program_base = info->dlpi_addr;
     for (int i = 0; i < info->dlpi_phnum; i++)
         if (info->dlpi_phdr[i].p_type == PT_TLS) {
             uint64_t align = info->dlpi_phdr[i].p_align ? info->dlpi_phdr[i].p_align : 1;
-            thread_local_size = (info->dlpi_phdr[i].p_memsz + align - 1) / align * align;
+            thread_local_size += (info->dlpi_phdr[i].p_memsz + align - 1) / align * align;
         }
-    return 1; /* the first one is the program */
+    return 0;
 }
 
 struct own *taskback_adopt(void) {
@@ -173,7 +176,8 @@ static void note_fork(void) {
 
 __attribute__((constructor(101))) static void at_the_beginning(void) {
     const char *name = getenv("TASKBACK_TRACE"), *tools = getenv("OMP_TOOL");
-    dl_iterate_phdr(find_own, 0);
+    int modules = 0;
+    dl_iterate_phdr(find_own, &modules);
     __libc_single_threaded = 0; /* or a lone thread's counts of shared pointers aren't atomic */
     if (!name)
         return;

@@ -15,6 +15,7 @@ int __real_pthread_rwlock_tryrdlock(pthread_rwlock_t *);
 int __real_pthread_rwlock_wrlock(pthread_rwlock_t *);
 int __real_pthread_rwlock_trywrlock(pthread_rwlock_t *);
 int __real_pthread_rwlock_unlock(pthread_rwlock_t *);
+int __real_pthread_once(pthread_once_t *, void (*)(void));
 __attribute__((weak)) int __real___cxa_guard_acquire(uint64_t *);
 __attribute__((weak)) void __real___cxa_guard_release(uint64_t *);
 
@@ -63,6 +64,28 @@ int __wrap_pthread_rwlock_tryrdlock(pthread_rwlock_t *lock) {
 }
 
 GIVES(pthread_rwlock_unlock, pthread_rwlock_t)
+
+/* What `pthread_once` does once comes in front of what all that call it do then. */
+static __thread void (*once_function)(void);
+static __thread int does_once;
+
+static void do_once(void) {
+    does_once = 1;
+    once_function();
+}
+
+int __wrap_pthread_once(pthread_once_t *once, void (*function)(void)) {
+    void (*before)(void) = once_function;
+    once_function = function;
+    does_once = 0;
+    int status = __real_pthread_once(once, do_once);
+    struct own *own = own_state();
+    once_function = before;
+    begin_loud_part(own);
+    taskback_note(own, does_once ? RELEASE : ACQUIRE, own->task, (uint64_t)once, 0, PLACE)->mark = does_once ? GUARD : 0;
+    does_once = 0;
+    return status;
+}
 
 /* Who finds a static variable made comes after its making, whoever made it. */
 int __wrap___cxa_guard_acquire(uint64_t *guard) {

@@ -52,9 +52,9 @@ class Compiled:
     _made = {}
 
     @classmethod
-    def start(cls, *options):
-        """Begins with all that aren't under way."""
-        for name in sorted(os.listdir(EXAMPLES)):
+    def start(cls, names, *options):
+        """Begins with those that aren't under way."""
+        for name in names:
             key = (name, *options)
             if key not in cls._made:
                 cls._made[key] = cls._pool.submit(cls._compile, name, options)
@@ -62,7 +62,7 @@ class Compiled:
     @classmethod
     def get(cls, name, *options):
         """(the program's path, what the compiler said): the path is None where it refused."""
-        cls.start(*options)
+        cls.start([name] if options else sorted(os.listdir(EXAMPLES)), *options)
         return cls._made[name, *options].result()
 
     @classmethod

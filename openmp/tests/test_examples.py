@@ -47,7 +47,9 @@ class Examples(support.Recorded):
 
     def test_optimised(self):
         """With `-O2` the names may be others, but not whether there is a race."""
-        for name in sorted(os.listdir(support.EXAMPLES)):
+        names = sorted(os.listdir(support.EXAMPLES))[::1 if RUNS >= 10 else 3]
+        support.Compiled.start(names, "-O2")
+        for name in names:
             with self.subTest(example=name):
                 status, lines = self.check_example(self.example(name, "-O2"), 2)
                 self.assertEqual(status, 2 if expected(name)[0] == "race" else 0, lines)
