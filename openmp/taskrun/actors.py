@@ -113,6 +113,7 @@ class Run:
         self.counts = Counter()
         self._now = {0: self.root}     # the actor that each number stands for now
         self._implicit = {}            # number: (region, phase)
+        self._busy = set()             # the numbers that have touched memory since their last barrier
         self._locks = {}
         self._wait_items = {}
         self._sizes = {}
@@ -207,6 +208,7 @@ class Run:
     def _barrier_end(self, event):
         if event.task not in self._implicit:
             return
+        self._busy.discard(event.task)
         region, phase = self._implicit[event.task]
         if region.ended:
             return
@@ -220,8 +222,10 @@ class Run:
 
     def _access(self, event):
         task = event.task
-        if event.mark & t.OUTERMOST and task not in self.tasks:
-            return      # a thread's share of a region ends: its tasks have ended by then
+        if event.mark & t.FRAME and task not in self.tasks and task not in self._busy:
+            return      # a thread's share of a region ends, behind its last barrier
+        if not event.mark & t.FRAME:
+            self._busy.add(task)
         self.accesses.append(Access(event, self._now.get(task, self.root), self._locks.get(task, NO_LOCKS)))
 
     def _lock(self, event):
