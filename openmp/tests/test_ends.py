@@ -84,7 +84,9 @@ class Ends(support.Recorded):
     def test_interrupt(self):
         program, trace = self.compile_text(ENDLESS), self.path("trace")
         child = subprocess.Popen([os.path.join(support.FOLDER, "record"), "run", "-o", trace, program],
-                                 start_new_session=True, env={**os.environ, "OMP_NUM_THREADS": "2"})
+                                 start_new_session=True, env={**os.environ, "OMP_NUM_THREADS": "2"},
+                                 # A shell's command in the background, which these tests may be, ignores Ctrl-C.
+                                 preexec_fn=lambda: signal.signal(signal.SIGINT, signal.SIG_DFL))
         time.sleep(2)
         os.killpg(child.pid, signal.SIGINT)
         self.assertEqual(child.wait(timeout=support.SECONDS), 128 + signal.SIGINT)
