@@ -1,5 +1,6 @@
 """Runs that don't end well: what was seen until then is judged, and never is nothing said to be wrong."""
 
+import contextlib
 import os
 import signal
 import subprocess
@@ -52,6 +53,12 @@ ENDLESS = """int main(void) {
 UNENDED = "the run didn't end by itself"
 
 
+def end_group(leader):
+    """Ends what is left of a process group, where a test failed."""
+    with contextlib.suppress(ProcessLookupError):
+        os.killpg(leader, signal.SIGKILL)
+
+
 @support.needs_clang
 class Ends(support.Recorded):
     def run_to_its_end(self, program, threads, **changes):
@@ -87,6 +94,7 @@ class Ends(support.Recorded):
                                  start_new_session=True, env={**os.environ, "OMP_NUM_THREADS": "2"},
                                  # A shell's command in the background, which these tests may be, ignores Ctrl-C.
                                  preexec_fn=lambda: signal.signal(signal.SIGINT, signal.SIG_DFL))
+        self.addCleanup(end_group, child.pid)
         time.sleep(2)
         os.killpg(child.pid, signal.SIGINT)
         self.assertEqual(child.wait(timeout=support.SECONDS), 128 + signal.SIGINT)
