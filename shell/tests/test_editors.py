@@ -96,7 +96,7 @@ class Emacs(unittest.TestCase):
             self.skipTest("left out: no clang with its OpenMP runtime is here")
         session, c_file = made
         with open(session, encoding="utf-8") as file:
-            line = max(int(number) for number in re.findall(r"^  store .*# inout_race\.c:(\d+)", file.read(), re.M))
+            line = max(int(number) for number in re.findall(r"^  store .*# inout_race\.c:(\d+) writes ", file.read(), re.M))
         seen = self.seen(c_file, session, line)
         self.assertRegex(seen["breakpoint"], rf"^task\w+:{line} ")
         self.assertEqual((seen["back"].split(":")[0], seen["again"]), (seen["breakpoint"].split(":")[0], seen["breakpoint"]))
