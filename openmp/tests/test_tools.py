@@ -1,7 +1,6 @@
 """The recorder as build systems use it: other names, objects, libraries, and compilers that aren't clang."""
 
 import os
-import shutil
 import subprocess
 import unittest
 
@@ -67,10 +66,11 @@ class Tools(support.Recorded):
         self.assertEqual(self.built("record", "cc", "one.c", "-o", "out.c"), (0, ""))
         self.assertEqual(self.answer_of("out.c")[0], 2)
 
-    @unittest.skipUnless(shutil.which("gcc"), "no gcc")
     def test_gcc_is_refused_by_name(self):
         self.write("one.c", C_PROGRAM)
-        status, told = self.built("record", "cc", "one.c", "-o", "program", TASKBACK_CLANG="gcc")
+        compiler = self.write("gcc", "#!/bin/sh\necho 'gcc (Debian 12.2.0-14) 12.2.0'\n")
+        os.chmod(compiler, 0o755)
+        status, told = self.built("record", "cc", "one.c", "-o", "program", TASKBACK_CLANG=compiler)
         self.assertEqual(status, 64)
         self.assertIn("libgomp", told)
 
