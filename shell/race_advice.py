@@ -13,6 +13,8 @@ from shell.facts import Race, by_name
 from shell.session import Session
 from shell.texts import needs_order
 
+# So many lines are named one by one.
+MOST_LINES = 8
 APART = "never at the same time, but in either order: their tasks exclude each other"
 
 
@@ -142,11 +144,17 @@ def clauses_in_words(clauses: Iterable[Clause]) -> str:
     by_text: dict[str, list[int]] = defaultdict(list)
     for clause in clauses:
         by_text[str(clause)].append(clause.line)
-    told = []
-    for text, lines in by_text.items():
-        numbers = [str(line) for line in sorted(set(lines))]
-        told.append(f"{text} on line{'s' if len(numbers) > 1 else ''} {' and '.join([', '.join(numbers[:-1]), numbers[-1]] if len(numbers) > 1 else numbers)}")
-    return " and ".join(told)
+    return " and ".join(f"{text} on {lines_in_words(sorted(set(lines)))}" for text, lines in by_text.items())
+
+
+def lines_in_words(lines: list[int]) -> str:
+    """Rising numbers of lines: all of them where they are few, else the first ones and the last."""
+    numbers = [str(line) for line in lines]
+    if len(numbers) == 1:
+        return f"line {numbers[0]}"
+    if len(numbers) > MOST_LINES:
+        return f"{len(numbers)} lines, {', '.join(numbers[:MOST_LINES - 2])}, .. and {numbers[-1]},"
+    return f"lines {', '.join(numbers[:-1])} and {numbers[-1]}"
 
 
 def siblings_of(race: Race) -> tuple[str, str] | None:

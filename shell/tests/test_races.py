@@ -165,6 +165,13 @@ class RaceWords(unittest.TestCase):
             "0.1#4 0.2#4 cell 0              13: store 0 r1  |  13: store 0 r1",
             "  race 2: `depend inout 0` on lines 4 and 5 would order them, or a `taskwait` between"])
 
+    def test_many_lines_are_told_by_the_first_and_the_last(self):
+        def words(lines):
+            return race_advice.clauses_in_words([race_advice.Clause(line, "inout", "0") for line in lines])
+        self.assertEqual(words([4, 4]), "`depend inout 0` on line 4")
+        self.assertEqual(words([9, *range(2, 9)]), "`depend inout 0` on lines 2, 3, 4, 5, 6, 7, 8 and 9")
+        self.assertEqual(words(range(101, 200)), "`depend inout 0` on 99 lines, 101, 102, 103, 104, 105, 106, .. and 199,")
+
     def test_many_races_are_told_by_pairs_of_lines(self):
         text = "cells 1\nbody main 0\n  while r1 < 30\n    task add\n    let r1 r1 + 1\n  end\nend\nbody add 0\n  load r1 0\n  store 0 r1\nend\n"
         session = run_to_end(self, text)
