@@ -56,11 +56,11 @@ is_one (Cell c) All h = absurd (false≢true h)
 is_one All (Cell c) h = absurd (false≢true h)
 is_one All All h = refl
 
-meets_itself : (p : Place) → same_place p p ≡ true
+pub meets_itself : (p : Place) → same_place p p ≡ true
 meets_itself (Cell c) = eq-eqb c c refl
 meets_itself All = refl
 
-pub meets_back : (p q : Place) → same_place p q ≡ true → same_place q p ≡ true
+meets_back : (p q : Place) → same_place p q ≡ true → same_place q p ≡ true
 meets_back (Cell c) (Cell d) h = eq-eqb d c (sym (eqb-true c d h))
 meets_back (Cell c) All h = refl
 meets_back All (Cell c) h = refl
@@ -135,6 +135,3 @@ apart_takes H t u h =
     let m = meeting H u t o.1 in
     record { upper = m.1; lower = m.0; kin = inr o.0; meet = meets_back m.0 m.1 m.2; mine = m.4; others = m.3 })
     (or_cases (is_elder u t && some_meet is_apart (items_of t H) (items_of u H)) _ h)
-
-pub place_itself : (p : Place) → same_place p p ≡ true
-place_itself p = meets_itself p

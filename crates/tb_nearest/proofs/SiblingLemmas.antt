@@ -20,7 +20,7 @@ use Rattle.tb_model.proofs.RulesLemmas.{started_where}
 use Rattle.tb_nearest.specs.Nearest.{Nearest, start, holder, takes, starts_holder}
 use Rattle.tb_nearest.proofs.WayLemmas.{Found, found, any_there, needs_end, Way, whole, by_ended}
 use Rattle.tb_nearest.proofs.DirectLemmas.{by_waiting}
-use Rattle.tb_nearest.proofs.HolderLemmas.{apart_takes, takers_apart, place_itself}
+use Rattle.tb_nearest.proofs.HolderLemmas.{apart_takes, takers_apart, meets_itself}
 use Rattle.tb_nearest.proofs.BetweenLemmas.{beside}
 
 -- a number below n that passes the test, or none
@@ -157,7 +157,7 @@ module _ (cells : Cells) (v u : Event) (between front : History) (l : Legal cell
       let there : own u.task E ≢ [] = λ n. both_ways (list_any (is_of u.task) E) (no_acts u.task E n) (any_there (is_of u.task) f.earlier u front (same_refl u.task)) in
       let fresh : own w.task E ≡ [] = subst (Continues cells w.task (own w.task E)) st lw.1.own in
       let differ : w.task ≡ u.task → ⊥ = λ n. there (subst (λ t. own t E ≡ []) n fresh) in
-      let above = takers_apart H p p v.task w.task (⊎_elim inr inl (or_cases (is_elder v.task w.task) _ i.0)) (place_itself p) mine i.1 in
+      let above = takers_apart H p p v.task w.task (⊎_elim inr inl (or_cases (is_elder v.task w.task) _ i.0)) (meets_itself p) mine i.1 in
       let under = takers_apart H p q w.task u.task (kin v.task w.task u.task i.0 k differ) meet i.1 others in
       let cut : H ≡ (f.later ++ w ∷ []) ++ E = is ∙ sym (append_assoc f.later (w ∷ []) E) in
       let settled = apart_settled cells (f.later ++ w ∷ []) E u.task w.task (subst (Legal cells) cut l.0) (subst (IsTimely cells E w.task) st lw.1.timely).spawned (acted_spawned cells E u.task lw.0 there) in

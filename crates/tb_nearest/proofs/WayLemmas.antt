@@ -1,7 +1,7 @@
 -- A need that goes by way of an event in between.
-use Rattle.std.proofs.Common.{◌≡◌, ◌⊎◌, inl, inr, ⊎_elim, List, [], ◌∷◌, ◌++◌, Bool, true, false, ◌&&◌, ◌||◌, refl, sym, ap, ◌∙◌, subst, append_assoc, append-nil}
+use Rattle.std.proofs.Common.{◌≡◌, ◌⊎◌, inl, inr, ⊎_elim, List, [], ◌∷◌, ◌++◌, Bool, true, false, ◌&&◌, refl, sym, ap, ◌∙◌, subst, append_assoc, append-nil}
 use Rattle.std.specs.List.{list_any}
-use Rattle.std.proofs.lemmas.Bool.{or_cases, or_left, or_right, and_parts, and_from, cases_Bool, false≢true}
+use Rattle.std.proofs.lemmas.Bool.{or_cases, or_parts, or_left, or_right, and_parts, and_from, cases_Bool, false≢true}
 use Rattle.std.proofs.lemmas.List.Folds.{list_any-append}
 use Rattle.tb_model.specs.declared.event.Event.{Event}
 use Rattle.tb_model.specs.Names.{Name, same_name}
@@ -114,15 +114,11 @@ none_or_way v u between front test none some =
 
 -- ---- one's own events
 
-neither : (a b : Bool) → (a || b) ≡ false → (a ≡ false) × (b ≡ false)
-neither true b e = absurd (false≢true (sym e))
-neither false b e = (refl, e)
-
 -- a task that has none in between has behind them what it had in front
 pub own_behind : (t : Name) (b front : History) → list_any (is_of t) b ≡ false → own t (b ++ front) ≡ own t front
 own_behind t [] front h = refl
 own_behind t (v ∷ b) front h =
-    let n = neither (is_of t v) (list_any (is_of t) b) h in
+    let n = or_parts (is_of t v) (list_any (is_of t) b) h in
     own_other t v (b ++ front) n.0 ∙ own_behind t b front n.1
 
 pub none_own : (t : Name) (H : History) → list_any (is_of t) H ≡ false → own t H ≡ []
