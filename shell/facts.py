@@ -6,7 +6,6 @@ from collections.abc import Callable, Iterator, Sequence
 from dataclasses import dataclass, field
 
 from shell.session import Session
-from shell.source import Places
 from shell.texts import matching_pairs
 
 NOT_THERE = ["error word"]
@@ -61,12 +60,6 @@ class Race:
     second: str
     over: str
     apart: bool
-
-
-def step_of(line: str, places: Places) -> Step:
-    """The step of a line that shows one."""
-    name, _, did = line.partition(" ")
-    return Step(name, did, places.line_of(name))
 
 
 def race_of(line: str) -> Race:

@@ -144,7 +144,6 @@ public:
     u32 home(u32 actor) const;
     // `0.1.2`: the second child of the first child of the program.
     std::string name(u32 actor) const;
-    bool ended_well() const { return has_ended && unended.empty() && open_regions == 0; }
 
     const Trace &trace;
     std::vector<Actor> actors;

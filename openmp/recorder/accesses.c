@@ -24,7 +24,7 @@ void taskback_settle(struct own *own) {
     event->value = number_at(event->address, event->size);
 }
 
-/* The same access again in one part of a task changes no order: it is written down once, with its last number. */
+/* An access that comes again in one part of a task changes no order: it is written down once, with its last number. */
 static struct event *seen_before(struct own *own, enum kind kind, uint64_t address, uint64_t place, struct seen **at) {
     uint64_t hash = (address >> 2 ^ place * 31 ^ kind) * 0x9E3779B97F4A7C15u >> 52;
     struct seen *seen = &own->seen[hash % SEEN];

@@ -34,11 +34,6 @@ class Lines:
                 self._shown[number] = line
                 self._program.setdefault(line, []).append(number)
 
-    @property
-    def is_recorded(self) -> bool:
-        """Whether the program is a recorded run, whose lines are those of C files."""
-        return bool(self._shown)
-
     def find(self, name: str) -> str:
         """The path of a file that a comment names: in the first folder that has it."""
         paths = [os.path.join(folder, name) for folder in self.folders]
