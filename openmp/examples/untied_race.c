@@ -1,5 +1,5 @@
-/* An untied task's children write one variable. Where such a task goes on, its function's end may be told as another's.
-   expect: race x memory */
+/* An untied task's children write one variable.
+   expect: race x */
 #include <stdio.h>
 
 int main(void) {

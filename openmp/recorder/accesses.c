@@ -144,14 +144,16 @@ void __tsan_func_entry(void *caller) {
     taskback_new_memory(own, own->stack_low, top - own->stack_low, 0)->mark = STACK;
 }
 
-/* What a function has on the stack ends with it, as a block that is given back; of an untied task's first function the
-   runtime doesn't say that it leaves the thread. */
+/* What a function has on the stack ends with it, as a block that is given back. A task's first function is that task's to
+   its end: of an untied task the runtime says at the latest call in it, or not at all, that it leaves the thread. */
 void __tsan_func_exit(void) {
     struct own *own = own_state();
     uint64_t top = (uint64_t)__builtin_frame_address(1) + 16, low = (uint64_t)__builtin_frame_address(0) + 16;
     int is_followed = own->depth > 0 && own->depth <= RUNNING_MOST;
     struct running *running = &own->running[is_followed ? own->depth - 1 : 0];
     int is_outermost = is_followed && running->base == top;
+    if (is_outermost)
+        own->task = running->task;
     if (top - own->stack_low > own->quiet_span && top > low)
         taskback_access(WRITE, low, top - low, PLACE, FREED | FRAME | (is_outermost ? OUTERMOST : 0));
     if (!is_outermost || !running->is_untied)
