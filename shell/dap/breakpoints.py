@@ -21,6 +21,8 @@ class Breakpoints:
         self.stops = debuggee.shell.stops
         self._of: dict[str, list[int]] = {}
         self.reasons: dict[int, str] = {}
+        # Of a breakpoint at a line: the number that the client has for it, and its line there.
+        self._lines: dict[int, tuple[int, int]] = {}
 
     def replace(self, kind: str) -> None:
         """Takes those of a kind away."""
@@ -59,7 +61,13 @@ class Breakpoints:
             numbers = [self.add(kind, "breakpoint", Where("line", str(step)), wanted.get("condition") or "") for step in steps]
         except Failed as fault:
             return {"verified": False, "line": number, "message": str(fault)}
+        self._lines.update((step, (numbers[0], there)) for step in numbers)
         return {"verified": True, "id": numbers[0], "line": there, "source": {"path": path}}
+
+    def as_told(self, number: int, text: str) -> tuple[int, str]:
+        """A breakpoint as the client knows it: one at a line of its file may be several at lines of the program."""
+        told, line = self._lines.get(number, (number, None))
+        return told, text if line is None else re.sub("^line [0-9]+", f"line {line}", text)
 
     def at_bodies(self, wanted: list[Body]) -> list[Body]:
         """Breakpoints at the starts of bodies."""

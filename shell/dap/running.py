@@ -67,9 +67,10 @@ class Runner:
         """How breakpoints end a job, from what is said of those that are met."""
         if not said:
             return None
-        hit = [int(text.split(":")[0][1:]) for text in said]
-        reason = self.breakpoints.reasons.get(hit[0], "breakpoint")
-        return Stopped(reason, task, "; ".join(text.split(": ", 1)[1] for text in said), hit)
+        found = [(int(number[1:]), text) for number, text in (line.split(": ", 1) for line in said)]
+        reason = self.breakpoints.reasons.get(found[0][0], "breakpoint")
+        told = [self.breakpoints.as_told(number, text) for number, text in found]
+        return Stopped(reason, task, "; ".join(dict.fromkeys(text for _, text in told)), sorted({number for number, _ in told}))
 
     def over(self, task: str) -> Stopped:
         """How a job ends where no task can step."""

@@ -259,6 +259,13 @@ class RecordedRun(unittest.TestCase):
         self.client.stopped("continue", threadId=1)
         self.assertEqual(self.client.stopped("reverseContinue", threadId=1)["reason"], "breakpoint")
 
+    def test_a_breakpoint_is_one_for_the_client(self):
+        told = self.client.do("setBreakpoints", source={"path": self.c_file}, breakpoints=[{"line": 5}, {"line": 7}])["breakpoints"]
+        self.client.begin()
+        for point, line in ((0, 5), (0, 5), (1, 7), (1, 7)):
+            stopped = self.client.stopped("continue", threadId=1)
+            self.assertEqual((stopped["hitBreakpointIds"], stopped["description"]), ([told[point]["id"]], f"line {line}"))
+
     def test_the_recorded_order(self):
         self.client.begin()
         self.client.stopped("continue", threadId=1)
