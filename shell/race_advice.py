@@ -5,9 +5,9 @@ registers; and races by pairs of lines, since a loop soon has thousands of one k
 from __future__ import annotations
 
 import re
-from collections import defaultdict
+from collections import Counter, defaultdict
 from collections.abc import Iterable, Sequence
-from dataclasses import dataclass, field
+from dataclasses import dataclass, field, replace
 
 from shell.facts import Race, by_name
 from shell.session import Session
@@ -49,6 +49,8 @@ class Clause:
     type: str
     place: str
     instead: str = ""
+    # Whether the line generated several tasks.
+    repeated: bool = False
 
     def __str__(self) -> str:
         if not self.place:
@@ -62,6 +64,7 @@ class Run:
     def __init__(self, session: Session) -> None:
         self.session = session
         self.spawned: dict[str, Spawned] = {}
+        self._counts: Counter[int] = Counter()
         self.touched: dict[str, dict[str, Touched]] = defaultdict(lambda: defaultdict(Touched))
         self._registers: dict[str, list[int]] = {"0": [0] * 16}
         for name, did in session.standing.items():
@@ -81,7 +84,13 @@ class Run:
             given = [int(word) for word in words[3:stop]]
             self._registers[words[1]] = given + [0] * (16 - len(given))
             items = [" ".join(words[at + 1:at + 3]) for at, word in enumerate(words) if word == "depend"]
-            self.spawned[words[1]] = Spawned(self.session.places.line_of(name) or 0, items, tuple(self._registers[task]))
+            line = self.session.places.line_of(name) or 0
+            self._counts[line] += 1
+            self.spawned[words[1]] = Spawned(line, items, tuple(self._registers[task]))
+
+    def is_repeated(self, line: int) -> bool:
+        """Whether a line generated several tasks."""
+        return self._counts[line] > 1
 
     def all_of(self, task: str, cell: str, also_below: bool) -> Touched:
         """What a task did to a cell, with its descendants where they count."""
@@ -140,21 +149,41 @@ class Kind:
 
 
 def clauses_in_words(clauses: Iterable[Clause]) -> str:
-    """Clauses with their lines: those that are alike stand together."""
-    by_text: dict[str, list[int]] = defaultdict(list)
+    """Clauses with their lines: those that are alike are told together, and so are the cells of one line."""
+    by_kind: dict[tuple[int, str, str, bool], list[Clause]] = defaultdict(list)
     for clause in clauses:
-        by_text[str(clause)].append(clause.line)
+        by_kind[clause.line, clause.type, clause.instead, clause.place.isdigit()].append(clause)
+    by_text: dict[str, list[int]] = defaultdict(list)
+    for (line, *_, numbered), alike in by_kind.items():
+        together = numbered and len({clause.place for clause in alike}) > 1
+        for text in [cells_in_words(alike)] if together else map(str, alike):
+            by_text[text].append(line)
     return " and ".join(f"{text} on {lines_in_words(sorted(set(lines)))}" for text, lines in by_text.items())
 
 
+def cells_in_words(clauses: Sequence[Clause]) -> str:
+    """Clauses of one line that differ in their cells alone."""
+    first = clauses[0]
+    cells = numbers_in_words(sorted({int(clause.place) for clause in clauses}))
+    text = f"`depend {first.type}` of " + (f"each task's own cell ({cells})" if first.repeated else f"cells {cells}")
+    return text + (f" in place of `depend {first.instead}`" if first.instead else "")
+
+
 def lines_in_words(lines: list[int]) -> str:
-    """Rising numbers of lines: all of them where they are few, else the first ones and the last."""
-    numbers = [str(line) for line in lines]
-    if len(numbers) == 1:
-        return f"line {numbers[0]}"
-    if len(numbers) > MOST_LINES:
-        return f"{len(numbers)} lines, {', '.join(numbers[:MOST_LINES - 2])}, .. and {numbers[-1]},"
-    return f"lines {', '.join(numbers[:-1])} and {numbers[-1]}"
+    """Rising numbers of lines."""
+    if len(lines) > MOST_LINES:
+        return f"{len(lines)} lines, {numbers_in_words(lines)},"
+    return f"line{'s' if len(lines) > 1 else ''} {numbers_in_words(lines)}"
+
+
+def numbers_in_words(numbers: Sequence[int]) -> str:
+    """Rising numbers: all of them where they are few, else the first ones and the last."""
+    if len(numbers) > 2 and numbers[-1] - numbers[0] == len(numbers) - 1:
+        return f"{numbers[0]} to {numbers[-1]}"
+    words = [str(number) for number in numbers]
+    if len(words) > MOST_LINES:
+        return f"{', '.join(words[:MOST_LINES - 2])}, .. and {words[-1]}"
+    return " and ".join(filter(None, [", ".join(words[:-1]), words[-1]]))
 
 
 def siblings_of(race: Race) -> tuple[str, str] | None:
@@ -187,14 +216,16 @@ def clauses_for(run: Run, race: Race, pair: Sequence[str]) -> list[Clause]:
         items.append(own[0] if own else f"{wanted} {cell}")
         if not own or (has == "in" and touched.stores):
             place = run.place_on_line(sibling, cell, touched.line)
-            found.append(Clause(run.spawned[sibling].line, "inout" if has else wanted, place, has))
+            line = run.spawned[sibling].line
+            found.append(Clause(line, "inout" if has else wanted, place, has, run.is_repeated(line)))
             items[-1] = f"{'inout' if has else wanted} {cell}"
     if needs_order(items[1], items[0]) != "after":
         # Both have a type that keeps no order among those that have it.
         has = items[1].split(" ")[0]
         younger = pair[1]
         place = run.place_on_line(younger, cell, run.all_of(younger, cell, True).line)
-        found = [Clause(run.spawned[younger].line, "inout", place, has)]
+        line = run.spawned[younger].line
+        found = [Clause(line, "inout", place, has, run.is_repeated(line))]
     return found
 
 
@@ -241,7 +272,7 @@ def add_clause(clauses: list[Clause], new: Clause) -> None:
     for at, clause in enumerate(clauses):
         if (clause.line, clause.place) == (new.line, new.place):
             if clause.type != new.type:
-                clauses[at] = Clause(clause.line, "inout", clause.place, clause.instead or new.instead)
+                clauses[at] = replace(clause, type="inout", instead=clause.instead or new.instead)
             return
     clauses.append(new)
 
@@ -257,5 +288,3 @@ def kinds_of(session: Session, races: Sequence[Race]) -> list[Kind]:
         kind.count += 1
         advise(run, race, kind)
     return list(found.values())
-
-

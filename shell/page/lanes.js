@@ -4,22 +4,30 @@ const SHAPES = { start: "M-5 -6 L7 0 L-5 6 Z", end: "M-6 -6 H6 V6 H-6 Z", fault:
 const ROUND = "M-5 0 A5 5 0 1 0 5 0 A5 5 0 1 0 -5 0 Z";
 const LIT = [undefined, "needs", "needers", "chosen"];
 const FULL = ["start", "end", "store", "print"];
-// Of a row, a lane and a letter, at the zoom that is chosen.
-const size = { row: 26, lane: 168, letter: 8 };
+const LEAST_LETTERS = 8, MOST_LETTERS = 26;
+// Of a row and a letter, at the zoom that is chosen.
+const size = { row: 26, letter: 8 };
 
 function setZoom(zoom) {
   wish.zoom = Math.max(0.4, Math.min(2.5, zoom));
-  Object.assign(size, { row: 26 * wish.zoom, lane: 168 * wish.zoom, letter: 8 * wish.zoom });
+  Object.assign(size, { row: 26 * wish.zoom, letter: 8 * wish.zoom });
   find("lanes").style.setProperty("--zoom", wish.zoom);
   sizeLanes();
   drawLanes();
 }
 
-const placeOf = (index) => [LEFT + size.lane * view.lane.get(steps[index].task), TOP + size.row * view.row.get(index)];
+const placeOf = (index) => [LEFT + view.left[view.lane.get(steps[index].task)], TOP + size.row * view.row.get(index)];
+const wideOf = (task) => { const lane = view.lane.get(task); return view.left[lane + 1] - view.left[lane]; };
 
+// Each lane is as wide as its steps' words, but for what would take more than a good third of the screen.
 function sizeLanes() {
-  const room = find("lanes").firstElementChild;
-  room.style.width = Math.max(300, LEFT + size.lane * view.lanes.length) + "px";
+  const box = find("lanes"), room = box.firstElementChild, most = Math.max(12, Math.min(MOST_LETTERS, Math.floor(box.clientWidth / 21)));
+  view.left = [0];
+  for (const task of view.lanes) {
+    const name = Math.max(LEAST_LETTERS, task.name.length, task.body.length), letters = Math.min(most, Math.max(name, view.letters.get(task.name) || 0));
+    view.left.push(view.left[view.left.length - 1] + (letters + 5) * size.letter);
+  }
+  room.style.width = Math.max(300, LEFT + view.left[view.lanes.length]) + "px";
   room.style.height = TOP + size.row * (view.rows.length + 1) + "px";
 }
 
@@ -32,17 +40,17 @@ function drawLanes() {
   svg.setAttribute("viewBox", left + " " + top + " " + wide + " " + high);
   const first = Math.max(0, Math.floor((top - TOP) / size.row) - 2), last = Math.min(view.rows.length - 1, Math.ceil((top + high - TOP) / size.row) + 2);
   const seen = view.rows.slice(first, last + 1), parts = [];
-  const from = Math.max(0, Math.floor((left - LEFT) / size.lane) - 1), lanes = view.lanes.slice(from, Math.ceil((left + wide) / size.lane) + 1);
+  const lanes = view.lanes.filter((task, lane) => LEFT + view.left[lane + 1] > left && view.left[lane] < left + wide);
   for (const task of lanes) {
-    const x = LEFT + size.lane * view.lane.get(task.name), [begin, end] = view.lives.get(task.name);
+    const x = LEFT + view.left[view.lane.get(task.name)], [begin, end] = view.lives.get(task.name);
     parts.push(element("line", { class: "lane " + colourOf(task.body), x1: x, x2: x, y1: Math.max(top - 20, TOP + size.row * begin), y2: Math.min(top + high + 20, TOP + size.row * end) }));
   }
   drawArrows(seen, first, last, parts);
   for (const step of seen) parts.push(stepOf(step));
   parts.push(element("rect", { class: "head", x: left, y: top, width: wide, height: 40 }));
   for (const task of lanes) {
-    const x = LEFT + size.lane * view.lane.get(task.name) - 8, made = element("g", { class: "lane-name", "data-lane": task.name });
-    made.append(element("rect", { class: "stripe " + colourOf(task.body), x, y: top + 36, width: Math.min(90, size.lane - 20), height: 3 }),
+    const x = LEFT + view.left[view.lane.get(task.name)] - 8, made = element("g", { class: "lane-name", "data-lane": task.name });
+    made.append(element("rect", { class: "stripe " + colourOf(task.body), x, y: top + 36, width: Math.min(90, wideOf(task.name) - 20), height: 3 }),
       element("text", { x, y: top + 17, "font-weight": "bold" }, task.name), element("text", { x, y: top + 33 }, task.body));
     parts.push(made);
   }
@@ -59,11 +67,7 @@ function drawArrows(seen, first, last, parts) {
     if (!few) for (const [kind, late] of view.later.get(step.index) || []) if (!inSight(late)) note(kind, step.index, late);
   }
   const wide = tooMany([...drawn.values()], inSight);
-  for (const [late, kind, count] of wide) {
-    const [x, y] = placeOf(late);
-    parts.push(element("text", { class: "kind", x: x + 12, y: y - 9 }, kind + ": " + counted(count, "step")));
-  }
-  const shown = [...drawn.values()].filter(([kind, early, late]) => !wide.some(([some, word]) => some === late && word === kind) || inSight(early) && inSight(late) && Math.abs(placeOf(early)[0] - placeOf(late)[0]) < 3 * size.lane);
+  const shown = [...drawn.values()].filter(([kind, early, late]) => !wide.some(([some, word]) => some === late && word === kind) || inSight(early) && inSight(late) && Math.abs(placeOf(early)[0] - placeOf(late)[0]) < 60 * size.letter);
   const curves = shown.map(([kind, early, late]) => ({ kind, early, late, name: "arrow " + kind.split(" ")[0], ...curveOf(early, late, 0, false) }));
   for (const step of seen) {
     if (step.race && view.row.has(step.race[0])) {
@@ -77,7 +81,7 @@ function drawArrows(seen, first, last, parts) {
     path.append(element("title", {}, curve.kind + ": " + steps[curve.early].name + " and " + steps[curve.late].name));
     parts.push(path);
   }
-  placeLabels(curves.filter((curve) => inSight(curve.early) || inSight(curve.late)), seen, parts);
+  placeLabels(curves.filter((curve) => inSight(curve.early) || inSight(curve.late)), wide, seen, parts);
 }
 
 // The steps in sight to which more arrows of a kind lead than can be told from each other: of these the nearest are drawn.
@@ -106,43 +110,47 @@ const pointsOf = (points) => Math.max(24, Math.ceil(points.slice(1).reduce((sum,
 
 const meet = (one, two) => one.x < two.x + two.wide && two.x < one.x + one.wide && one.y < two.y + two.high && two.y < one.y + one.high;
 
-// Labels of arrows: each at the first place beside its arrow where it lies on no arrow, no step's words and no other label.
-function placeLabels(curves, seen, parts) {
-  if (curves.length > MOST_LABELS) return;
-  const taken = seen.map((step) => { const [x, y] = placeOf(step.index); return { x: x - 8, y: y - 9, wide: 22 + size.letter * Math.min(labelOf(step).length, letters()), high: 18 }; });
-  const onArrows = curves.flatMap((curve) => { const count = pointsOf(curve.points); return [...Array(count + 1).keys()].map((at) => pointOn(curve.points, at / count)); });
-  for (const curve of curves) {
-    if (curve.kind === "spawn") continue;
-    const text = (curve.race ? "✕ " : "") + curve.kind, wide = 6.8 * text.length, high = 13;
-    for (const part of [0.5, 0.4, 0.6, 0.3, 0.7, 0.2, 0.8, 0.9]) {
+const wordsAt = (step) => { const [x, y] = placeOf(step.index); return { x: x - 8, y: y - 9, wide: 22 + size.letter * Math.min(step.did.length, letters(step.task)), high: 18 }; };
+
+// Labels of arrows, and the counts of those that aren't drawn: each at the first place beside its arrow or its step
+// where it lies on no arrow, no step's words and no other label.
+function placeLabels(curves, counts, seen, parts) {
+  const few = curves.length <= MOST_LABELS, taken = seen.map(wordsAt);
+  const onArrows = !few && !counts.length ? [] : curves.flatMap((curve) => { const count = pointsOf(curve.points); return [...Array(count + 1).keys()].map((at) => pointOn(curve.points, at / count)); });
+  const isFree = (rect) => rect.x > 0 && !taken.some((other) => meet(rect, other)) && !onArrows.some(([a, b]) => a > rect.x - 2 && a < rect.x + rect.wide + 2 && b > rect.y - 1 && b < rect.y + rect.high + 1);
+  const put = (text, name, spots) => {
+    const wide = 6.8 * text.length, high = 13, spot = spots(wide, high).map(([x, y]) => ({ x, y, wide, high })).find(isFree);
+    if (!spot) return;
+    taken.push(spot);
+    parts.push(element("text", { class: "kind" + name, x: spot.x, y: spot.y + high - 3 }, text));
+  };
+  for (const [late, kind, count] of counts) {
+    const words = wordsAt(steps[late]), beside = words.x + words.wide + 6;
+    put(kind + ": " + counted(count, "step"), "", () => [[beside, words.y + 2], [beside, words.y - 8], [beside, words.y + 12], [words.x + 20, words.y - 14], [beside + 60, words.y + 2]]);
+  }
+  for (const curve of few ? curves.filter((some) => some.kind !== "spawn") : []) {
+    put((curve.race ? "✕ " : "") + curve.kind, curve.race ? " racing" : "", (wide, high) => [0.5, 0.4, 0.6, 0.3, 0.7, 0.2, 0.8, 0.9].flatMap((part) => {
       const [x, y] = pointOn(curve.points, part);
-      const spots = [[x - wide / 2, y - high - 4], [x - wide / 2, y + 4], [x + 6, y - high / 2], [x - wide - 6, y - high / 2]];
-      const spot = spots.map(([left, above]) => ({ x: left, y: above, wide, high })).find((rect) => rect.x > 0 && !taken.some((other) => meet(rect, other)) &&
-        !onArrows.some(([a, b]) => a > rect.x - 2 && a < rect.x + wide + 2 && b > rect.y - 1 && b < rect.y + high + 1));
-      if (!spot) continue;
-      taken.push(spot);
-      parts.push(element("text", { class: "kind" + (curve.race ? " racing" : ""), x: spot.x, y: spot.y + high - 3 }, text));
-      break;
-    }
+      return [[x - wide / 2, y - high - 4], [x - wide / 2, y + 4], [x + 6, y - high / 2], [x - wide - 6, y - high / 2]];
+    }));
   }
 }
 
-const letters = () => Math.max(4, Math.floor((size.lane - 40) / size.letter));
-const labelOf = (step) => step.did;
+const letters = (task) => Math.max(4, Math.floor(wideOf(task) / size.letter - 5));
 
 function stepOf(step) {
   const [x, y] = placeOf(step.index), group = element("g", { class: "step", id: "step-" + step.index, "data-step": step.name, "data-index": step.index, role: "option" });
-  const lit = view.lit && view.lit.get(step.index), room = lit ? letters() - 3 : letters();
+  const lit = view.lit && view.lit.get(step.index), wide = wideOf(step.task), room = letters(step.task) - (lit ? 1 : 0);
   const label = step.did.length > room ? step.did.slice(0, Math.max(1, room - 1)) + "…" : step.did;
   if (lit) group.classList.add(lit);
   if (step.index === view.chosen) group.setAttribute("aria-selected", "true");
   const colour = colourOf(view.lanes[view.lane.get(step.task)].body);
   group.append(element("title", {}, step.name + " " + step.did + (step.line ? ", line " + step.line : "")),
-    element("rect", { class: "back", x: x - 12, y: y - 12, width: size.lane - 20, height: 24, rx: 4 }),
+    element("rect", { class: "back", x: x - 12, y: y - 12, width: wide - 14, height: 24, rx: 4 }),
     element("path", { class: "shape " + colour + (FULL.includes(step.word) ? " full" : ""), transform: "translate(" + x + " " + y + ")", d: SHAPES[step.word] || ROUND }),
     element("text", { class: "label", x: x + 12, y: y + 4 }, label));
   const mark = { needs: "▲", needers: "▼" }[lit];
-  if (mark) group.append(element("text", { x: x + size.lane - 46, y: y + 4, "font-weight": "bold" }, mark));
+  if (mark) group.append(element("text", { x: x + wide - 16 - 1.6 * size.letter, y: y + 4, "font-weight": "bold" }, mark));
   return group;
 }
 
@@ -173,7 +181,19 @@ function choose(index, pinned) {
 function scrollTo(index) {
   const box = find("lanes"), [x, y] = placeOf(index);
   if (y < box.scrollTop + TOP || y > box.scrollTop + box.clientHeight - size.row) box.scrollTop = y - box.clientHeight / 2;
-  if (x < box.scrollLeft || x + size.lane > box.scrollLeft + box.clientWidth) box.scrollLeft = Math.max(0, x - box.clientWidth / 3);
+  if (x < box.scrollLeft || x + wideOf(steps[index].task) > box.scrollLeft + box.clientWidth) box.scrollLeft = Math.max(0, x - box.clientWidth / 3);
+  drawLanes();
+}
+
+// Of the rows in sight, the lanes in which most steps are: a root that waits shows nothing of who works.
+function showBusyLanes() {
+  const box = find("lanes"), counts = new Map();
+  const first = Math.floor((box.scrollTop + 40 - TOP) / size.row), last = Math.ceil((box.scrollTop + box.clientHeight - TOP) / size.row);
+  for (const step of view.rows.slice(Math.max(0, first), last)) counts.set(view.lane.get(step.task), (counts.get(view.lane.get(step.task)) || 0) + 1);
+  const busy = [...counts].sort(([one], [two]) => one - two);
+  const countFrom = (from) => busy.reduce((sum, [lane, count]) => sum + (lane >= from && LEFT + view.left[lane + 1] - view.left[from] <= box.clientWidth ? count : 0), 0);
+  const best = busy.reduce((found, [lane]) => { const count = countFrom(lane); return count > found.count ? { lane, count } : found; }, { lane: 0, count: countFrom(0) });
+  box.scrollLeft = view.left[best.lane];
   drawLanes();
 }
 

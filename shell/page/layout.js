@@ -83,17 +83,34 @@ const layoutOf = (function () {
     return next;
   }
 
+  // Gives the nodes the rows that are used, from 0 on; a row of more nodes outside of groups than fit goes on below.
+  // Which rows go on is told by the nodes: those that aren't in the first line of their row have `goesOn`.
+  function denseRows(nodes, fit) {
+    const counts = new Map(), lines = new Map();
+    for (const node of nodes) {
+      const count = node.group === null ? counts.get(node.row) || 0 : 0;
+      if (node.group === null) counts.set(node.row, count + 1);
+      node.below = Math.floor(count / fit);
+      node.goesOn = node.below > 0;
+      lines.set(node.row, Math.max(lines.get(node.row) || 0, node.below));
+    }
+    const dense = new Map();
+    let next = 0;
+    for (const row of [...lines.keys()].sort((one, two) => one - two)) { dense.set(row, next); next += lines.get(row) + 1; }
+    for (const node of nodes) node.row = dense.get(node.row) + node.below;
+    return next;
+  }
+
   // Nodes with rows and columns, boxes, and how many rows and columns there are. `earlier` tells the tasks that a task
-  // comes after, and the children that a wait needs; `isShown` which tasks are drawn.
-  return function (steps, earlier, isShown, mostWaits) {
+  // comes after, and the children that a wait needs; `isShown` which tasks are drawn; `fit` how many stand side by side.
+  return function (steps, earlier, isShown, mostWaits, fit) {
     const told = readHistory(steps, earlier), nodes = [];
     for (const [name, row] of told.row) if (isShown(name)) nodes.push({ name, row, group: told.inside.get(name) });
     for (const wait of told.waits.filter((some) => isShown(some.task)).slice(0, mostWaits)) nodes.push({ ...wait, isWait: true });
-    const used = [...new Set(nodes.map((node) => node.row))].sort((one, two) => one - two), dense = new Map(used.map((row, at) => [row, at]));
-    for (const node of nodes) node.row = dense.get(node.row);
+    const high = denseRows(nodes, fit);
     const members = membersOf(nodes, told.groups), boxes = [];
     const { wide } = measure(members, null);
     settle(members, null, 0, 0, boxes);
-    return { nodes, boxes, groups: told.groups, inside: told.inside, wide, high: used.length };
+    return { nodes, boxes, groups: told.groups, inside: told.inside, wide, high };
   };
 }());

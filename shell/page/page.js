@@ -64,7 +64,7 @@ function showMarks() {
 function listenAtLanes() {
   const lanes = find("lanes"), stepAt = (event) => { const group = event.target.closest(".step"); return group ? Number(group.dataset.index) : null; };
   lanes.addEventListener("scroll", () => requestAnimationFrame(drawLanes));
-  window.addEventListener("resize", drawLanes);
+  window.addEventListener("resize", () => { sizeLanes(); showGraph(); showBusyLanes(); });
   lanes.addEventListener("pointerover", (event) => { const index = stepAt(event); if (index !== null && !view.pinned && index !== view.chosen) choose(index, false); });
   lanes.addEventListener("pointerleave", () => { if (!view.pinned) choose(null, false); });
   lanes.addEventListener("click", (event) => { const index = stepAt(event); choose(index, index !== null); });
@@ -91,8 +91,9 @@ function listen() {
   listenAtLanes();
 }
 
-// Takes the data of a session, and opens at its end.
+// Takes the data of a session, and shows its end; a page that opens shows the lanes that work there.
 function load(told) {
+  const opens = !data;
   readData(told);
   const list = find("program").querySelector("ol");
   list.replaceChildren();
@@ -106,4 +107,5 @@ function load(told) {
   listBodies();
   showMarks();
   goTo(data.moments);
+  if (opens) showBusyLanes();
 }

@@ -3,7 +3,7 @@
 const find = (id) => document.getElementById(id);
 let data, steps, tasks;
 // What there is at the moment that is shown. `rows` are the steps that are shown in the history, by the filter.
-const view = { at: 0, steps: [], rows: [], row: null, tasks: [], lanes: [], lane: new Map(), lives: new Map(), races: [], chosen: null, pinned: false, lit: null };
+const view = { at: 0, steps: [], rows: [], row: null, tasks: [], lanes: [], lane: new Map(), letters: new Map(), left: [0], lives: new Map(), races: [], chosen: null, pinned: false, lit: null };
 // What the user chose: a line of the program, tasks by their names, words and bodies that are folded away, and the zoom.
 const wish = { line: null, tasks: "", folded: new Set(), bodies: new Set(), spawns: true, zoom: 1, opened: new Set() };
 
@@ -130,6 +130,8 @@ function choosePart() {
   view.rows = view.steps.filter((step) => isShown(step, wished));
   view.row = rowsOf(view.rows);
   view.lane = new Map(view.lanes.map((task, lane) => [task.name, lane]));
+  view.letters = new Map();
+  for (const step of view.rows) if (step.did.length > (view.letters.get(step.task) || 0)) view.letters.set(step.task, step.did.length);
   view.lives = new Map();
   const spawned = new Map(view.lanes.map((task) => [task.step, task.name]));
   const first = new Map(), last = new Map();

@@ -1,5 +1,5 @@
 // The graph of the tasks: groups as boxes, the waits that are over, races in red; many tasks stand in clusters.
-const MOST_BOXES = 300, WIDE = 188, HIGH = 116, SLANT = 10;     // from box to box, and how odd rows are moved
+const MOST_BOXES = 300, LEAST_FIT = 4, WIDE = 188, HIGH = 116, SLANT = 10;     // from box to box, and how odd rows are moved
 
 function showGraph() {
   const svg = find("graph"), parts = [], clustered = view.tasks.length > MOST_BOXES;
@@ -11,10 +11,11 @@ function showGraph() {
     tasks: (name) => standing.get(name).before.map(([other]) => tasks[other].name),
     children: (step) => step.causes.filter(([kind]) => kind === "wait").map(([, early]) => steps[early].task),
   };
-  const plan = layoutOf(view.steps, earlier, (name) => there.has(name), MOST_BOXES);
+  const plan = layoutOf(view.steps, earlier, (name) => there.has(name), MOST_BOXES, Math.max(LEAST_FIT, Math.floor((svg.parentElement.clientWidth - 50) / WIDE)));
+  const goesOn = new Set(plan.nodes.filter((node) => node.goesOn).map((node) => node.name));
   const place = new Map(plan.nodes.map((node) => [node.name, [24 + node.column * WIDE + (node.row % 2) * SLANT, 30 + node.row * HIGH]]));
   for (const box of plan.boxes) groupBox(box, plan.groups.get(box.name).line, parts);
-  for (const task of shown) edgesOf(task, place, shown.length <= 40, parts);
+  for (const task of shown) edgesOf(task, place, shown.length <= 40, goesOn.has(task.name), parts);
   raceEdges((step) => step.task, place, parts);
   for (const node of plan.nodes.filter((some) => some.isWait)) waitOf(node, place, parts);
   for (const task of shown) boxOf(task, place.get(task.name), plan.inside.get(task.name), parts);
@@ -45,9 +46,10 @@ function edgeOf(place, one, two, name, label, text, parts) {
   return made;
 }
 
-function edgesOf(task, place, labelled, parts) {
+// Of a row that goes on below, the first line alone has arrows from who generated its tasks: the names tell the rest.
+function edgesOf(task, place, labelled, goesOn, parts) {
   const parent = task.name.split(".").slice(0, -1).join(".");
-  if (parent && wish.spawns) edgeOf(place, parent, task.name, "spawn", parent + " generates " + task.name, "", parts);
+  if (parent && wish.spawns && !goesOn) edgeOf(place, parent, task.name, "spawn", parent + " generates " + task.name, "", parts);
   for (const [other, label] of task.before) edgeOf(place, tasks[other].name, task.name, "before", label.join("; "), labelled ? label[0] : "", parts);
   for (const [other, label] of task.apart) edgeOf(place, tasks[other].name, task.name, "apart", label.join("; "), labelled ? label[0] : "", parts);
 }
@@ -71,14 +73,16 @@ function raceEdges(boxOfStep, place, parts) {
 function waitOf(wait, place, parts) {
   const [x, y] = place.get(wait.name), [fromX, fromY] = place.get(wait.task), told = "taskwait" + (wait.line ? ", line " + wait.line : "");
   parts.push(element("path", { class: "edge at", d: "M" + (fromX + 12) + " " + (fromY + 58) + " L" + (x + 12) + " " + (y + 29) + " L" + (x + 30) + " " + (y + 29) }));
+  const many = wait.children.length > MOST_ARROWS;
   for (const child of wait.children) {
-    if (!place.has(child)) continue;
+    if (many || !place.has(child)) continue;
     const [childX, childY] = place.get(child);
     parts.push(element("path", { class: "edge wait", "data-from": child, "data-to": wait.name, "marker-end": "url(#head)", d: "M" + (childX + 70) + " " + (childY + 58) + " L" + (x + 70) + " " + (y + 9) }));
   }
   const group = element("g", { "data-wait": wait.name });
   group.append(element("path", { class: "diamond", d: "M" + (x + 30) + " " + (y + 29) + " L" + (x + 70) + " " + (y + 9) + " L" + (x + 110) + " " + (y + 29) + " L" + (x + 70) + " " + (y + 49) + " Z" }),
     element("text", { class: "kind", x: x + 70, y: y + 33, "text-anchor": "middle" }, wait.line ? "line " + wait.line : "wait"),
+    ...(many ? [element("text", { class: "kind", x: x + 116, y: y + 33 }, "waits for " + wait.children.length)] : []),
     element("title", {}, wait.name + " " + told + (wait.children.length ? ": waited for " + wait.children.join(", ") : "")));
   parts.push(group);
 }

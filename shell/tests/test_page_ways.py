@@ -28,6 +28,17 @@ body large 0
   store 0 r1
 end
 """
+# Tasks of one loop, each on a cell of its own; the root waits for all of them.
+LOOP = "cells 60\nbody main 0\n  while r0 < 50\n    task work r0 depend inout r0\n    let r0 r0 + 1\n  end\n  taskwait\n  load r1 0\nend\n" \
+       "body work 1\n  let r2 r0 + 1\n  load r3 r2\n  store r0 r3\nend\n"
+LABELS = """
+  const boxOf = (text) => { const box = text.getBBox(); return [box.x + 1, box.y + 2, box.x + box.width - 1, box.y + box.height - 3]; };
+  const labels = [...document.querySelectorAll("#drawn .kind")].map(boxOf), words = [...document.querySelectorAll(".step .label")].map(boxOf);
+  const lap = (one, two) => one[0] < two[2] && two[0] < one[2] && one[1] < two[3] && two[1] < one[3];
+  const points = [...document.querySelectorAll("#drawn .arrow")].flatMap((path) => [...Array(401).keys()].map((at) => path.getPointAtLength(path.getTotalLength() * at / 400)));
+  const clash = labels.filter((box, at) => words.some((other) => lap(box, other)) || labels.some((other, place) => place !== at && lap(box, other)) ||
+    points.some((point) => point.x > box[0] && point.x < box[2] && point.y > box[1] && point.y < box[3]));
+"""
 
 
 @needs_program
@@ -104,16 +115,36 @@ class Ways(unittest.TestCase):
 
     def test_labels_lie_on_nothing(self):
         for name in ("tasks.session", "right_sum.session", "waits.session"):
-            told = self.tried(self.page(name), """
-              const boxOf = (text) => { const box = text.getBBox(); return [box.x + 1, box.y + 2, box.x + box.width - 1, box.y + box.height - 3]; };
-              const labels = [...document.querySelectorAll("#drawn .kind")].map(boxOf), words = [...document.querySelectorAll(".step .label")].map(boxOf);
-              const lap = (one, two) => one[0] < two[2] && two[0] < one[2] && one[1] < two[3] && two[1] < one[3];
-              const points = [...document.querySelectorAll("#drawn .arrow")].flatMap((path) => [...Array(401).keys()].map((at) => path.getPointAtLength(path.getTotalLength() * at / 400)));
-              const clash = labels.filter((box, at) => words.some((other) => lap(box, other)) || labels.some((other, place) => place !== at && lap(box, other)) ||
-                points.some((point) => point.x > box[0] && point.x < box[2] && point.y > box[1] && point.y < box[3]));
-              return [labels.length, clash.length];""", "1400,2400")
+            told = self.tried(self.page(name), LABELS + "return [labels.length, clash.length];", "1400,2400")
             self.assertGreater(told[0], 0, name)
             self.assertEqual(told[1], 0, name)
+
+    def looped(self):
+        """The page of fifty tasks of one loop, of which the last ones ran before the root's end."""
+        session = Session(PROGRAM, Source(LOOP, "loop.task"))
+        self.addCleanup(session.close)
+        session.do("run 20000")
+        return page_file(self, session)
+
+    def test_opens_at_the_lanes_that_work(self):
+        told = self.tried(self.looped(), LABELS + """
+          const lanes = () => [...document.querySelectorAll(".lane-name")].map((lane) => lane.dataset.lane), told = [lanes(), texts("#where").join("").split(" ")[0]];
+          const step = document.querySelector('.step[data-step="0.50#5"]').getBoundingClientRect(), box = find("lanes").getBoundingClientRect();
+          told.push(step.left >= box.left && step.right <= box.right + 1);
+          find("lanes").scrollLeft = 0; drawLanes();
+          return told.concat([texts("#drawn .kind"), clash.length]);""", "800,900")
+        self.assertIn("0.50", told[0])
+        self.assertNotIn("0", told[0])
+        self.assertEqual((told[2], told[4]), (True, 0))
+        self.assertIn("wait: 50 steps", told[3])
+
+    def test_a_long_row_of_tasks_goes_on_below(self):
+        told = self.tried(self.looped(), """
+          const boxes = [...document.querySelectorAll("#graph [data-task]")].map((task) => { const box = task.querySelector(".box"); return [Number(box.getAttribute("x")), Number(box.getAttribute("y"))]; });
+          const wide = find("graph").parentElement.clientWidth;
+          return [boxes.length, Math.max(...boxes.map(([x]) => x)) + 140 <= wide, new Set(boxes.map(String)).size, document.querySelectorAll("#graph .edge.spawn").length < 12,
+            document.querySelectorAll("#graph .edge.wait").length, texts("#graph [data-wait]")[0].split("0#")[0]];""", "1400,900")
+        self.assertEqual(told, [51, True, 51, True, 0, "line 7waits for 50"])
 
     def test_many_tasks_are_clusters(self):
         session = Session(PROGRAM, Source(MANY, "many.task"))

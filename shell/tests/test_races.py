@@ -169,8 +169,27 @@ class RaceWords(unittest.TestCase):
         def words(lines):
             return race_advice.clauses_in_words([race_advice.Clause(line, "inout", "0") for line in lines])
         self.assertEqual(words([4, 4]), "`depend inout 0` on line 4")
-        self.assertEqual(words([9, *range(2, 9)]), "`depend inout 0` on lines 2, 3, 4, 5, 6, 7, 8 and 9")
-        self.assertEqual(words(range(101, 200)), "`depend inout 0` on 99 lines, 101, 102, 103, 104, 105, 106, .. and 199,")
+        self.assertEqual(words([9, 2, 4, 3]), "`depend inout 0` on lines 2, 3, 4 and 9")
+        self.assertEqual(words([9, *range(2, 9)]), "`depend inout 0` on lines 2 to 9")
+        self.assertEqual(words(range(101, 200)), "`depend inout 0` on 99 lines, 101 to 199,")
+        self.assertEqual(words(range(101, 300, 2)), "`depend inout 0` on 100 lines, 101, 103, 105, 107, 109, 111, .. and 299,")
+
+    def test_many_cells_of_a_line_are_told_together(self):
+        def words(repeated, *cells, instead=""):
+            return race_advice.clauses_in_words([race_advice.Clause(5, "inout", cell, instead, repeated) for cell in cells])
+        self.assertEqual(words(False, "3"), "`depend inout 3` on line 5")
+        self.assertEqual(words(False, "3", "0", "3"), "`depend inout` of cells 0 and 3 on line 5")
+        self.assertEqual(words(True, *map(str, range(9, 0, -1))), "`depend inout` of each task's own cell (1 to 9) on line 5")
+        self.assertEqual(words(True, "r2", "1", "4", instead="in"),
+                         "`depend inout r2` in place of `depend in r2` on line 5 and `depend inout` of each task's own cell (1 and 4) in place of `depend in` on line 5")
+
+    def test_a_loop_whose_tasks_read_the_next_ones_cell(self):
+        text = "cells 9\nbody main 0\n  while r0 < 8\n    task work r0 depend inout r0\n    let r0 r0 + 1\n  end\nend\n" \
+               "body work 1\n  let r2 r0 + 1\n  load r3 r2\n  store r0 r3\nend\n"
+        session = run_to_end(self, text)
+        races = [race_of(line) for line in session.view("races")[1:]]
+        self.assertEqual([kind.advice() for kind in race_advice.kinds_of(session, races)],
+                         ["`depend in` of each task's own cell (1 to 7) on line 4 would order them, or a `taskwait` between"])
 
     def test_many_races_are_told_by_pairs_of_lines(self):
         text = "cells 1\nbody main 0\n  while r1 < 30\n    task add\n    let r1 r1 + 1\n  end\nend\nbody add 0\n  load r1 0\n  store 0 r1\nend\n"
