@@ -61,6 +61,10 @@ class Console:
         self._shown = 0
         self._began = self._told = time.monotonic()
 
+    def announce(self) -> None:
+        """What a command has written so far is shown before it ends: it holds on."""
+        self.out.flush()
+
     def finish(self, outcome: Outcome) -> None:
         """A command has ended."""
         self.out.flush()
@@ -182,6 +186,7 @@ class Record:
     lines: list[str] = field(default_factory=list)
     steps: list[dict[str, object]] = field(default_factory=list)
     words: list[str] = field(default_factory=list)
+    announced: bool = False
 
 
 class JsonConsole(Console):
@@ -211,8 +216,17 @@ class JsonConsole(Console):
         if step:
             record.steps.append({"step": f"{step[1]}#{step[2]}", "task": step[1], "number": int(step[2]), "did": step[3], "line": line_number})
 
+    def announce(self) -> None:
+        self._records[-1].announced = True
+        self._show(self._records[-1], Outcome.DONE)
+
     def finish(self, outcome: Outcome) -> None:
         record = self._records.pop()
+        if not record.announced:
+            self._show(record, outcome)
+
+    def _show(self, record: Record, outcome: Outcome) -> None:
+        """Writes the line of a record."""
         told: dict[str, object] = {"version": VERSION, "number": record.number, "command": record.command, "outcome": outcome.name.lower(),
                                    "lines": record.lines, "steps": record.steps, "words": record.words}
         refused = next(filter(None, map(REFUSED.fullmatch, record.lines)), None)

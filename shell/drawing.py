@@ -126,7 +126,7 @@ class Drawing(Writing):
             return
         with server:
             self.say(f"the page is at {server.address} ; Ctrl-C ends it")
-            self.console.flush()
+            self.console.announce()
             server.serve_until(lambda: self.interrupted)
 
     def do_page(self, words: Words) -> None:

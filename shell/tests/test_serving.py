@@ -11,7 +11,7 @@ import threading
 import time
 import unittest
 
-from support import EXAMPLES, PROGRAM, TOP, Terminal, example, needs_program
+from support import EXAMPLES, PROGRAM, TOP, Terminal, example, needs_program, write_file
 from test_page import needs_browser, shown_by_browser
 from shell.serving import ALLOWED, LONGEST, Live, LiveServer
 from shell.session import Session
@@ -167,6 +167,18 @@ class Commands(unittest.TestCase):
             connection.close()
             child.send_signal(ending)
             self.assertEqual(child.wait(timeout=30), 0)
+
+    def test_a_script_that_serves_says_where_at_once(self):
+        script = write_file(self, "run 3\nserve\nout\n", "a.script")
+        child = subprocess.Popen([os.path.join(TOP, "run"), "--json", "-x", script, os.path.join(EXAMPLES, "race.task")], stdout=subprocess.PIPE, text=True,
+                                 env={**os.environ, "TASKBACK_PROGRAM": PROGRAM})
+        self.addCleanup(child.stdout.close)
+        self.addCleanup(child.kill)
+        told = [json.loads(child.stdout.readline()) for _ in range(2)]
+        self.assertEqual([record["command"] for record in told], ["run 3", "serve"])
+        self.assertRegex(told[1]["lines"][0], r"the page is at http://127\.0\.0\.1:\d+/[\w-]+/ ; Ctrl-C ends it")
+        child.send_signal(signal.SIGINT)
+        self.assertEqual((child.wait(timeout=30), child.stdout.read()), (130, ""))
 
     def test_wrong_words(self):
         for words, wanted in (([], "serve.py FILE"), (["/no/file"], "can't read /no/file"), ([os.path.join(EXAMPLES, "race.task"), "x"], "serve.py FILE"),
