@@ -1,6 +1,7 @@
 """Starts the shell on a program file or a session file, at a terminal or on a list of commands."""
 
 import argparse
+import itertools
 import os
 import signal
 import sys
@@ -120,7 +121,8 @@ def play_script(given: argparse.Namespace, shell: Shell, commands: list[str]) ->
     except OSError as fault:
         print(f"run: can't read {given.script}: {fault.strerror}", file=sys.stderr)
         return 2
-    return Script(shell, given.check).play([(0, command) for command in commands] + lines, os.path.basename(given.script))
+    own = [(0, command) for command in commands]
+    return Script(shell, given.check).play(itertools.chain(own, lines), os.path.basename(given.script))
 
 
 def hold_talk(given: argparse.Namespace, shell: Shell) -> int:

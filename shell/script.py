@@ -1,24 +1,58 @@
 """Plays a list of commands, and says by a status how that went."""
 
+import select
 import sys
-from collections.abc import Sequence
+from collections.abc import Iterable, Iterator
+from typing import TextIO
 
 from shell.commands import Shell
 from shell.console import Outcome
 from shell.protocol import words_of
-from shell.source import numbered_commands, read_text
+from shell.source import BYTE_ORDER_MARK, numbered_commands, read_text
 
 # As shells have it for what Ctrl-C has ended.
 INTERRUPTED = 130
+# Whoever is waited for so long, in seconds, has perhaps left a pipe open by mistake.
+PATIENCE = 5
+
+Line = tuple[int, str]
 
 
-def lines_of(path: str) -> list[tuple[int, str]]:
-    """The commands of a file with their lines (`-`: of standard input); of a session, those after its `---`."""
-    text = sys.stdin.read() if path == "-" else read_text(path)
+def lines_of(path: str) -> Iterable[Line]:
+    """The commands of a file with their lines; of a session, those after its `---`. Those of standard input, `-`, as they come."""
+    if path == "-":
+        return piped(sys.stdin) if sys.stdin else ()
+    return lines_in(read_text(path))
+
+
+def lines_in(text: str) -> list[Line]:
+    """The commands of a text with their lines."""
     session = numbered_commands(text)
     if session is not None:
         return session[1]
     return [(number, line) for number, line in enumerate(text.split("\n"), 1) if words_of(line)]
+
+
+def piped(stream: TextIO) -> Iterator[Line]:
+    """Commands as they are piped in. A session that is piped in is read to its end: its commands come after its program."""
+    if not select.select([stream], [], [], PATIENCE)[0]:
+        print("run: commands are awaited from standard input; with `< /dev/null` there are none", file=sys.stderr)
+    head = ""
+    for line in stream:
+        head += line
+        words = words_of(line.removeprefix(BYTE_ORDER_MARK).rstrip("\n"))
+        if words:
+            break
+    else:
+        return
+    if words[0] == "body" or (words[0] == "cells" and len(words) > 1):
+        yield from lines_in((head + stream.read()).removeprefix(BYTE_ORDER_MARK))
+        return
+    first = head.count("\n", 0, -1) + 1
+    yield first, line.rstrip("\n").removeprefix(BYTE_ORDER_MARK)
+    for number, line in enumerate(stream, first + 1):
+        if words_of(line.rstrip("\n")):
+            yield number, line.rstrip("\n")
 
 
 class Script:
@@ -28,7 +62,7 @@ class Script:
         self.shell = shell
         self.checks = checks
 
-    def play(self, lines: Sequence[tuple[int, str]], name: str) -> int:
+    def play(self, lines: Iterable[Line], name: str) -> int:
         """Plays all lines; returns the status."""
         for number, command in lines:
             ends = self.shell.onecmd(command)

@@ -56,6 +56,30 @@ class Piped(unittest.TestCase):
             done = subprocess.run([RUN, RACE], stdin=file, capture_output=True, text=True, timeout=120, check=False)
         self.assertEqual((done.stdout, done.returncode), ("0#1 start\n", 0))
 
+    def test_each_line_is_answered_as_it_comes(self):
+        child = subprocess.Popen([RUN, "--json", RACE], stdin=subprocess.PIPE, stdout=subprocess.PIPE, text=True, bufsize=1)
+        self.addCleanup(child.stdout.close)
+        self.addCleanup(child.kill)
+        for typed, wanted in (("step 0", ["0#1 start"]), ("run 2", ["0#2 spawn 0.1 add 1", "0#3 spawn 0.2 add 2", "ran 2 limit"]), ("step 0", ["refused 5 Children 0.1"])):
+            child.stdin.write(f"\n# a comment\n{typed}\n")
+            self.assertEqual(json.loads(child.stdout.readline())["lines"], wanted)
+        child.stdin.close()
+        self.assertEqual(child.wait(timeout=60), 0)
+
+    def test_a_session_may_be_piped_in(self):
+        for text in (example("race.session"), "\ufeff\n# a comment\n" + example("race.session")):
+            self.assertEqual(ran(RACE, typed=text), (example("race.out"), "", 0))
+        self.assertEqual(ran("--check", RACE, typed="\n\nstep 0\nstep 0.1")[0].split("\n")[-2], "-:4: step 0.1: task 0.1 hasn't been generated")
+
+    def test_a_pipe_that_is_left_open_is_told(self):
+        child = subprocess.Popen([RUN, RACE], stdin=subprocess.PIPE, stdout=subprocess.PIPE, stderr=subprocess.PIPE, text=True)
+        for stream in (child.stdin, child.stdout, child.stderr):
+            self.addCleanup(stream.close)
+        self.addCleanup(child.kill)
+        self.assertEqual(child.stderr.readline(), "run: commands are awaited from standard input; with `< /dev/null` there are none\n")
+        child.stdin.close()
+        self.assertEqual((child.wait(timeout=60), child.stdout.read()), (0, ""))
+
     def test_a_byte_order_mark_is_passed_over(self):
         text = "\ufeff" + example("race.task")
         path = write_file(self, text, "marked.task")
