@@ -26,7 +26,7 @@ from shell.walking import Walking
 
 STEP = re.compile(r"(?<![\w.#])[0-9][0-9.]*#[0-9]+")
 # What asks for much in small pieces: Ctrl-C ends it after one. Any other command's reply is cut.
-PIECEWISE = ("step", "run", "go", "finish", "until", "random", "last", "back", "rs", "rc", "source", "graph", "lanes", "page", "serve", "compare", "flip")
+PIECEWISE = ("step", "run", "go", "finish", "until", "random", "last", "back", "rs", "rc", "source", "graph", "lanes", "slide", "page", "serve", "compare", "flip")
 # After these the expressions of `display` are shown.
 STEPS = ("step", "run", "go", "finish", "until", "random", "last", "back", "rs", "rc", "undo", "roll", "rolltask", "rollcell", "rollprint",
          "redo", "keep", "at", "restart")

@@ -15,8 +15,8 @@ if TYPE_CHECKING:
     from shell.commands import Shell
 
 TAKES_TASK = ("step", "finish", "task", "deps", "rolltask", "list", "rs")
-TAKES_STEP = ("undo", "roll", "why", "who", "until", "causes", "lanes", "keep", "at")
-TAKES_FILE = ("save", "source", "page", "graph", "lanes", "compare")
+TAKES_STEP = ("undo", "roll", "why", "who", "until", "causes", "lanes", "slide", "keep", "at")
+TAKES_FILE = ("save", "source", "page", "graph", "lanes", "slide", "compare")
 MOST_CELLS = 100
 
 

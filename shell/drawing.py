@@ -18,6 +18,7 @@ from shell.lanes_pages import write_lanes
 from shell.page import page_of
 from shell.protocol import Cut, Ended, Refused
 from shell.session import Session
+from shell.slide import write_slide
 from shell.source import Source, read_text, split_session
 
 TOP = os.path.dirname(os.path.dirname(os.path.abspath(__file__)))
@@ -78,11 +79,7 @@ class Drawing(Writing):
             for line in tree_of(graph):
                 self.say(line)
             return
-        try:
-            self.say(write_graph(names[0], graph))
-            WRITTEN.add(names[0])
-        except OSError as fault:
-            self.refuse(f"can't write {names[0]}: {fault.strerror}")
+        self.put(names[0], write_graph, graph)
 
     def do_lanes(self, words: Words) -> None:
         """The history in lanes, as text or to a file."""
@@ -96,17 +93,35 @@ class Drawing(Writing):
         elif not files or self.may_write(files[0], force):
             self.draw_lanes(chosen, files[0] if files else None)
 
+    def do_slide(self, words: Words) -> None:
+        """The history as one picture for a lecture."""
+        force, names = forced(words)
+        chosen = next((word for word in names if "#" in word), None)
+        files = [word for word in names if word != chosen]
+        if len(files) != 1:
+            self.wrong("slide")
+        elif chosen and chosen not in self.session.standing:
+            self.refuse(f"step {chosen} isn't in the history")
+        elif self.may_write(files[0], force):
+            lanes = self.drawn(lanes_of, chosen)
+            if lanes is not None:
+                self.put(files[0], write_slide, lanes)
+
+    def put(self, path: str, write: Callable[[str, Drawn], str], what: Drawn) -> None:
+        """Writes a picture, and says so."""
+        try:
+            self.say(write(path, what))
+            WRITTEN.add(path)
+        except OSError as fault:
+            self.refuse(f"can't write {path}: {fault.strerror}")
+
     def draw_lanes(self, chosen: str | None, path: str | None) -> None:
         """Draws the lanes, as text where there is no file."""
         lanes = self.drawn(lanes_of, chosen)
         if lanes is None:
             return
         if path is not None:
-            try:
-                self.say(write_lanes(path, lanes))
-                WRITTEN.add(path)
-            except OSError as fault:
-                self.refuse(f"can't write {path}: {fault.strerror}")
+            self.put(path, write_lanes, lanes)
             return
         width = shutil.get_terminal_size((100, 24)).columns
         for row in text_rows(lanes, width, self.console.shaded):

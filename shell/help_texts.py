@@ -58,6 +58,7 @@ HELP = {
     "compare": Help("compare FILE", "whether the session of FILE did the same, but for the order of independent steps", "compare other.session"),
     "graph": Help("graph [-f] [FILE]", "the tasks as a tree with their order; to FILE as Graphviz draws it (.svg, .png), or .dot", "graph tasks.svg"),
     "lanes": Help("lanes [-f] [T#K] [FILE]", "the history, a lane a task; what roll T#K would take is shaded; to FILE as SVG", "lanes 0.1#4"),
+    "slide": Help("slide [-f] [T#K] FILE", "the history as one SVG of 16:9 for a lecture, a bar a task; what roll T#K would take is shaded", "slide talk.svg"),
     "page": Help("page [-f] FILE", "all that was done, as one page for a browser: program, history, tasks, races", "page race.html"),
     "serve": Help("serve [PORT]", "the page live for a browser on this machine: a click steps, undoes, rolls back; Ctrl-C ends it", "serve"),
     "info": Help("info VIEW", "a view by any beginning of its name, as `i ta` for `tasks`", "i tasks"),

@@ -48,6 +48,7 @@ RACE = (
     ("hist", ["hist 17", "0#1 start"]),
     ("lanes 0#7", ["  0 ", "* end"]),
     ("graph", ["0 main: ended"]),
+    ("slide", ["slide [-f] [T#K] FILE, for example: slide talk.svg"]),
     ("page", ["page [-f] FILE, for example: page race.html"]),
     ("why 0.2#2", ["why 8", "0#1 start"]),
     ("why 0#9", ["refused 1 NoSuchStep", "  step 0#9 isn't in the history"]),

@@ -1,0 +1,77 @@
+"""The picture for a lecture: its shape, its letters, and what of the history it shows."""
+
+import re
+import tempfile
+import unittest
+import xml.etree.ElementTree as tree
+
+from support import PROGRAM, Typed, contrast, example, needs_program
+from test_lanes import SVG, drawn, walked
+from shell import slide
+from shell.labels import Rect
+from shell.lanes import lanes_of
+from shell.lanes_svg import BODIES
+from shell.session import Session
+from shell.slide import slide_of
+from shell.source import Source
+
+LOOP = "cells 60\nbody main 0\n  while r0 < {count}\n    task work r0 depend inout r0\n    let r0 r0 + 1\n  end\n  taskwait\n  print r0\nend\n" \
+       "body work 1\n  let r2 r0 + 1\n  load r3 r2\n  store r0 r3\nend\n"
+
+
+def rects(root):
+    """Where the names of tasks and the words of steps are."""
+    for text in root.iter(SVG + "text"):
+        if text.get("class") in ("name", "word"):
+            x, y = float(text.get("x")), float(text.get("y"))
+            yield Rect(x, y - slide.LETTER + 3, slide.LETTER_WIDE * len(text.text), slide.LETTER - 2)
+
+
+@needs_program
+class SlideTest(unittest.TestCase):
+    def looped(self, count):
+        """The slide of a loop of so many tasks."""
+        session = Session(PROGRAM, Source(LOOP.replace("{count}", str(count)), "loop.task"))
+        self.addCleanup(session.close)
+        session.do("run 9000")
+        return session, slide_of(lanes_of(session, "0.2#3"))
+
+    def test_sixteen_to_nine_with_large_letters_that_lie_on_no_others(self):
+        for count in (9, 30, 49):
+            session, svg = self.looped(count)
+            root = tree.fromstring(svg)
+            self.assertEqual(int(root.get("width")) * 9, int(root.get("height")) * 16)
+            sizes = [int(size) for size in re.findall(r"font(?:-size)?:(\d+)px", svg)]
+            self.assertGreaterEqual(min(sizes) * 45, int(root.get("height")))
+            there = list(rects(root))
+            self.assertGreaterEqual(len(there), 17)
+            for at, one in enumerate(there):
+                self.assertTrue(0 <= one.x and one.x + one.wide <= slide.WIDE and 0 < one.y < slide.HIGH)
+                self.assertFalse([other for other in there[:at] if one.meets(other)], count)
+
+    def test_what_is_shown_is_what_happened(self):
+        session, svg = self.looped(9)
+        self.assertIn("<text class=\"title\" x=\"40\" y=\"48\">loop.task: 10 tasks, 77 steps, 8 races</text>", svg)
+        self.assertIn("✕ lines 12 and 13: 8 races", svg)
+        taken = {"0.2#3"} | {line.split(" ")[0] for line in session.view("who 0.2#3")[1:]}
+        self.assertEqual({name for name, in drawn(svg, "shade", "step")}, taken)
+        self.assertEqual(drawn(svg, "race", "from", "to")[:8], [tuple(line.split(" ")[:2]) for line in session.view("races")[1:]])
+        self.assertEqual(len(drawn(svg, "step")), 77 - sum(" let " in line or " test " in line for line in session.view("hist")[1:]))
+
+    def test_any_session(self):
+        for seed in range(15):
+            session, _ = walked(self, seed)
+            tree.fromstring(slide_of(lanes_of(session)))
+
+    def test_colours_can_be_told_from_white(self):
+        self.assertGreater(min(contrast(colour, "#ffffff") for colour in BODIES), 4.5)
+
+    def test_command(self):
+        typed = Typed(self, example("race.task"))
+        typed.ask("run 99")
+        with tempfile.TemporaryDirectory() as folder:
+            self.assertEqual(typed.ask(f"slide 0.1#4 {folder}/a.svg"), [f"drawn to {folder}/a.svg, 17 steps of 3 tasks"])
+            self.assertEqual(typed.ask(f"slide {folder}/a.svg"), [f"drawn to {folder}/a.svg, 17 steps of 3 tasks"])
+            self.assertEqual(typed.ask(f"slide {folder}/no/a.svg"), [f"can't write {folder}/no/a.svg: No such file or directory"])
+            self.assertEqual(typed.ask(f"slide 0.9#4 {folder}/a.svg"), ["step 0.9#4 isn't in the history"])
+        self.assertEqual(typed.ask("slide"), ["slide [-f] [T#K] FILE, for example: slide talk.svg"])
