@@ -208,7 +208,7 @@ class Shell(cmd.Cmd):
         self.console.begin(line, paged=not self.in_pieces)
         try:
             ends = self.pass_line(line, words) if self.passes else self.command(name, line, words)
-            if not self.passes and name in STEPS:
+            if not self.passes and name in STEPS and self.outcome is not Outcome.ERROR:
                 self.breaking.show_displays()
         except PageEnded:
             ends = False

@@ -224,7 +224,8 @@ def tokens_of(text: str) -> list[str]:
     while at < len(text):
         token = TOKEN.match(text, at)
         if not token:
-            raise Unreadable(f"`{text[at:].split()[0]}` can't stand in an expression")
+            word = text[at:].split()[0]
+            raise Unreadable(f"`{word}` can't stand in an expression" + ("; a register is written r1" if word.startswith("$") else ""))
         found.append(token[0].strip())
         at = token.end()
     return found
@@ -316,6 +317,8 @@ class Parser:
             self.need(")")
             return found
         if token == "c":
+            if self.tokens[self.at:self.at + 1] != ["["]:
+                raise Unreadable("a cell is written c[3]")
             self.need("[")
             number = self.either()
             self.need("]")

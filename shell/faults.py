@@ -241,6 +241,8 @@ def should_be(words: Sequence[str], line: str | None = None) -> str | None:
         return " ".join(["let", words[0], *words[2:]])
     if words[0] in ("if", "while") and len(words) == 4 and words[2] in COMPARED:
         return COMPARED[words[2]].format(*words)
+    if words[0] in ("store", "print") and len(words) >= 4 and words[-2] in "+-*" and is_operand(words[-1]) and is_operand(words[-3]):
+        return f"let rK {' '.join(words[-3:])}, and in the next line {' '.join(words[:-3])} rK"
     foreign = from_other_languages(words, line)
     if foreign:
         return foreign

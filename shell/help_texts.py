@@ -41,7 +41,7 @@ HELP = {
     "print": Help("print EXPR", "a number of registers, cells, arguments and counts of steps", "print r0 + c[3]"),
     "display": Help("display [EXPR]", "shows EXPR after each command that steps; alone: shows all of them", "display c[0]"),
     "undisplay": Help("undisplay N", "shows the Nth expression no more", "undisplay 1"),
-    "list": Help("list [T|LINE]", "the source, with marks where tasks are", "list 0.1"),
+    "list": Help("list [T|LINE|BODY]", "the source, with marks where tasks are", "list 0.1"),
     "tasks": Help("tasks", "all tasks, and at what line they are", "tasks"),
     "task": Help("task T", "a task's registers, groups and items", "task 0.1"),
     "cells": Help("cells", "the cells that aren't 0", "cells"),
@@ -79,11 +79,16 @@ ABBREVIATIONS = {"s": "step", "r": "run", "b": "break", "u": "undo", "i": "info"
 OF_THE_PROGRAM = ("step", "run", "go", "undo", "roll", "rolltask", "rollcell", "rollprint", "break", "clear", "breaks", "tasks", "task", "cells",
                   "out", "ready", "waits", "deps", "hist", "why", "who", "races", "causes")
 
-# What other debuggers call it.
-ELSEWHERE = {"next": "step", "n": "step", "delete": "clear N", "bt": "task T", "backtrace": "task T", "where": "tasks",
-             "reverse-continue": "rc", "reverse-step": "rs T", "reverse-next": "rs T", "reverse-stepi": "rs T", "threads": "tasks",
-             "locals": "task T", "x": "print c[0]", "until-line": "break line L", "tbreak": "break line L", "advance": "until T#K",
-             "start": "step 0", "kill": "restart", "frame": "list T", "set-var": "roll T#K", "load": "source FILE", "open": "source FILE"}
+# What other debuggers call it; the last word in capitals stands for what was typed after theirs.
+ELSEWHERE = {"next": "step", "n": "step", "ni": "step", "si": "step", "stepi": "step", "nexti": "step", "delete": "clear N", "disable": "clear N",
+             "bt": "task T", "backtrace": "task T", "thread": "task T", "where": "tasks", "threads": "tasks", "locals": "task T",
+             "reverse-continue": "rc", "reverse-step": "rs T", "reverse-next": "rs T", "reverse-stepi": "rs T", "rn": "rs T", "rsi": "rs T",
+             "reverse-finish": "rolltask T", "x": "print c[0]", "inspect": "print EXPR", "until-line": "break line L", "tbreak": "break line L",
+             "tb": "break line L", "advance": "break line L", "condition": "break line L if EXPR", "rwatch": "watch EXPR",
+             "awatch": "watch EXPR", "start": "step 0", "kill": "restart", "frame": "list T", "up": "list T", "down": "list T", "set-var": "roll T#K",
+             "load": "source FILE", "open": "source FILE", "checkpoint": "save FILE"}
+PLACE = re.compile(r" (T|N|L|FILE|EXPR)$")
+FITS = {"T": r"0(\.[1-9][0-9]*)*", "N": r"s?[0-9]+", "L": r"[0-9]+", "FILE": r".+", "EXPR": r".+"}
 KINDS = ("task", "cell", "body", "print", "fault", "line")
 
 
@@ -114,16 +119,35 @@ def break_meant(words: Sequence[str], bodies: Sequence[str]) -> str | None:
     return " ".join(["break", near[0], *words[2:]]) if near else None
 
 
+def from_elsewhere(word: str, rest: str) -> str:
+    """What another debugger's command may have meant, with what was typed after it where that fits."""
+    found = ELSEWHERE[word]
+    if word == "condition":
+        # The number of its breakpoint comes first.
+        rest = rest.partition(" ")[2]
+    place = PLACE.search(found)
+    if place:
+        return found[:place.start() + 1] + rest if re.fullmatch(FITS[place[1]], rest) else found
+    if found == "step" and re.fullmatch(r"[1-9][0-9]*", rest):
+        return f"step T {rest}"
+    if word == "x" and re.fullmatch(r"[0-9]+", rest):
+        return f"print c[{rest}]"
+    return f"{found} {rest}" if rest and found in HELP else found
+
+
 def meant(words: Sequence[str], bodies: Sequence[str]) -> str:
     """What is said of an unknown command."""
-    word = words[0]
+    # As other debuggers have it: a format after a slash.
+    word, slash, _ = words[0].partition("/")
     fitting = expanded(word)
+    if slash and len(fitting) == 1:
+        return f"did you mean `{' '.join([fitting[0], *words[1:]])}`?"
     if len(fitting) > 1:
         return "ambiguous: " + ", ".join(fitting)
     if fitting == ["break"]:
         found = break_meant(words, bodies)
     elif word in ELSEWHERE:
-        found = " ".join([ELSEWHERE[word], *words[1:]]) if " " not in ELSEWHERE[word] else ELSEWHERE[word]
+        found = from_elsewhere(word, " ".join(words[1:]))
     else:
         near = difflib.get_close_matches(word, HELP, 1)
         found = " ".join([near[0], *words[1:]]) if near else None

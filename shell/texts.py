@@ -1,8 +1,10 @@
 """What the shell says of replies: errors, refusals and causes in words."""
 
+import re
 from collections.abc import Sequence
 
 from shell import help_texts
+from shell.console import counted
 from shell.protocol import words_of
 from shell.session import GREATEST_LIMIT, Session
 
@@ -25,6 +27,8 @@ def error_words(command: str, kind: str, workers: int, bodies: Sequence[str] = (
     if kind == "word" and words:
         return help_texts.meant(words, bodies)
     text = ERRORS.get(kind, kind)
+    if name == "step" and kind == "name" and re.fullmatch(r"[1-9][0-9]*", words[1]):
+        return f"{text}; `step 0 {words[1]}` takes {counted(int(words[1]), 'step')} of task 0"
     if name == "go" and kind == "number":
         return f"{text}: here W is 1 to {workers}, which `--workers` sets for the whole session, and N is 0 to 1000000"
     if kind != "count" or name not in help_texts.HELP:

@@ -11,6 +11,8 @@ from shell.race_advice import kinds_of
 from shell.session import is_step
 
 VIEWS = ("tasks", "task", "cells", "out", "ready", "waits", "deps", "breaks", "hist", "why", "who", "races", "causes")
+# What other debuggers call a view.
+ELSEWHERE = {"threads": "tasks", "breakpoints": "breaks", "watchpoints": "breaks", "locals": "task", "registers": "task", "args": "task", "frame": "task"}
 
 
 class Viewing(Group):
@@ -54,6 +56,9 @@ class Viewing(Group):
             self.fail("info wants a view: " + ", ".join(VIEWS))
             return
         fitting = [name for name in VIEWS if name == words[0]] or [name for name in VIEWS if name.startswith(words[0])]
+        if words[0] in ELSEWHERE:
+            fitting = [ELSEWHERE[words[0]]]
+            words = [*words, self.shell.focus] if fitting == ["task"] and len(words) == 1 else words
         if not fitting:
             self.fail(f"no such view: {words[0]}; there are " + ", ".join(VIEWS))
             return
@@ -64,13 +69,13 @@ class Viewing(Group):
             self.shell.send(" ".join([fitting[0], *words[1:]]))
 
     def do_list(self, words: Words) -> None:
-        """The source around a task or a line, with marks where tasks are."""
+        """The source around a task, a line or a body, with marks where tasks are."""
         source, places = self.session.source, self.session.places
         middle, count = None, len(source.lines)
         if words and is_digits(words[0]) and words[0] != "0":
             middle = int(words[0])
         elif words:
-            middle = places.position.get(words[0])
+            middle = source.bodies.get(words[0]) or places.position.get(words[0])
             if middle is None:
                 self.refuse(f"{words[0]} is at no line")
                 return

@@ -78,6 +78,9 @@ class Walking(Group):
         self.shell.explain(prefix, f"ran {taken} {why}")
         if why == "break" and not self.console.exact:
             self.shell.breaking.tell_met(self.session.newest)
+        if not taken and why == "done" and self.session.standing:
+            self.note("no task can step: `waits` says for whom they wait" if len(self.session.view("waits")) > 1 else
+                      "all tasks are over; `restart` starts anew, and `rc` goes back")
         if self.interrupted:
             self.note("stopped by Ctrl-C; the session goes on")
         return ended

@@ -16,7 +16,15 @@ MEANT = (
     ("roll", "error count"), ("ro 0#1", "ambiguous: roll, rolltask, rollcell, rollprint"), ("break 5", "did you mean `break line 5`?"),
     ("b 5", "did you mean `break line 5`?"), ("brek 5", "did you mean `break line 5`?"), ("break add", "did you mean `break body add`?"),
     ("break 0.1", "did you mean `break task 0.1`?"), ("break c[0]", "did you mean `break cell 0`?"), ("break lin 5", "did you mean `break line 5`?"),
-    ("taks", "did you mean `tasks`?"), ("delete 1", "did you mean `clear N`?"), ("next 0.1", "did you mean `step 0.1`?"),
+    ("taks", "did you mean `tasks`?"), ("delete 1", "did you mean `clear 1`?"), ("next 0.1", "did you mean `step 0.1`?"),
+    ("delete", "did you mean `clear N`?"), ("next 5", "did you mean `step T 5`?"), ("next", "did you mean `step`?"), ("tbreak 12", "did you mean `break line 12`?"),
+    ("x 0", "did you mean `print c[0]`?"), ("x/4 0", "did you mean `print c[0]`?"), ("p/x r1", "did you mean `print r1`?"), ("thread 0.1", "did you mean `task 0.1`?"),
+    ("disable s1", "did you mean `clear s1`?"), ("reverse-finish 0.1", "did you mean `rolltask 0.1`?"), ("up", "did you mean `list T`?"),
+    ("rwatch c[0]", "did you mean `watch c[0]`?"), ("condition 1 r0 > 1", "did you mean `break line L if r0 > 1`?"), ("load a b", "did you mean `source a b`?"),
+    ("start", "did you mean `step 0`?"), ("step 5", "a task is written 0.1, and a step 0.1#2; `step 0 5` takes 5 steps of task 0"),
+    ("p $r1", "`$r1` can't stand in an expression; a register is written r1"), ("p c", "a cell is written c[3]"), ("p c + 1", "a cell is written c[3]"),
+    ("info threads", "tasks 3"), ("info breakpoints", "breaks 0"), ("i locals", "task 0"), ("info registers 0.1", "task 0.1"), ("info zebra", "no such view: zebra"),
+    ("list add", "=>   10  body add 1   <- 0.1, 0.2"),
     ("rverse", "no such command"), ("reverse-continue", "did you mean `rc`?"), ("xyzzy", "no such command; `help` lists them"),
     ("rollcell 9", "the program has no cell 9: its cells are 0 to 0"), ("rollcell 0", "nothing was stored to cell 0"),
     ("rolltask 0.7", "task 0.7 hasn't been generated"), ("rolltask 0.2", "task 0.2 hasn't started"), ("rollprint", "nothing was printed"),
@@ -46,7 +54,8 @@ FOREIGN = (
     ("for (int i = 0; i < 3; i++)", "while A CMP B .. end, with a `let` in front and one at its end"), ("int x", "let rK A"),
     ("task f depend(in: 0)", "task f depend in 0"), ("task f depend(in: 0, r1) depend(out: 2)", "task f depend in 0 depend in r1 depend out 2"),
     ("r1 += 2", "let r1 r1 + 2"), ("r2++", "let r2 r2 + 1"), ("printf(\"%d\", r0);", "print VAL"), ("return r0;", "end"), ("}", "end"),
-    ("Task f 0", "task f 0"), ("r1 = r2 + 3", "let r1 r2 + 3"), ("barrier", "taskwait"), ("stroe 0 1", "store ADDR VAL"),
+    ("Task f 0", "task f 0"), ("r1 = r2 + 3", "let r1 r2 + 3"),
+    ("store r0 r1 + 1", "let rK r1 + 1, and in the next line store r0 rK"), ("print r0 * 2", "let rK r0 * 2, and in the next line print rK"), ("barrier", "taskwait"), ("stroe 0 1", "store ADDR VAL"),
 )
 
 
