@@ -27,7 +27,7 @@ _taskback_run() {
         -x) mapfile -t COMPREPLY < <(compgen -f -- "$word") ;;
         *)
             if [[ $word == -* ]]; then
-                _taskback_words "$word" "--prove --serve --limit --workers --plain --check --json --help --version -i -x"
+                _taskback_words "$word" "--prove --serve --page --graph --lanes --limit --workers --plain --check --json --help --version -i -x"
             else
                 _taskback_files "$word" task session
             fi
@@ -51,7 +51,7 @@ _taskback_dap() {
     COMPREPLY=()
     case ${COMP_WORDS[COMP_CWORD - 1]} in
         --program) mapfile -t COMPREPLY < <(compgen -f -- "$word") ;;
-        *) _taskback_words "$word" "--port --program --help" ;;
+        *) _taskback_words "$word" "--port --program --help --version" ;;
     esac
 }
 

@@ -181,5 +181,3 @@ def is_step_name(word: str) -> bool:
     """Whether a word is written as a step."""
     task, sign, number = word.partition("#")
     return bool(sign) and all(map(is_digits, task.split("."))) and is_digits(number) and not number.startswith("0")
-
-

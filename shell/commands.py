@@ -271,5 +271,3 @@ class Shell(cmd.Cmd):
             return []
         finally:
             self.busy = False
-
-

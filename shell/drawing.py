@@ -20,8 +20,8 @@ from shell.protocol import Cut, Ended, Refused
 from shell.session import Session
 from shell.slide import write_slide
 from shell.source import Source, read_text, split_session
+from shell.version import TOP
 
-TOP = os.path.dirname(os.path.dirname(os.path.abspath(__file__)))
 BUILT = os.path.join(TOP, "crates", "taskback", "out", "taskback")
 UNPROVED = os.path.join(TOP, ".cache", "taskback")
 Drawn = TypeVar("Drawn")

@@ -1,7 +1,6 @@
-#!/usr/bin/env python3
 """The tasks as a graph: who generated whom, which dependences order them, who excludes whom, and who is waited for.
 
-    shell/graph.py SESSION [FILE]     plays the session and draws its tasks: FILE.dot as text, else by Graphviz
+    ./run --graph SESSION [FILE]     plays the session and draws its tasks: FILE.dot as text, else by Graphviz
                                       as FILE's ending says; without FILE, the dot language on standard output
 """
 
@@ -14,15 +13,12 @@ import sys
 from collections.abc import Callable, Sequence
 from dataclasses import dataclass
 
-if __name__ == "__main__":
-    sys.path.insert(0, os.path.dirname(os.path.dirname(os.path.abspath(__file__))))
-
-from shell.console import counted  # noqa: E402
-from shell.clusters import MOST_TASKS, clusters_in_dot  # noqa: E402
-from shell.facts import Facts, Progress, Race, Step, Task, by_name, label_of, reduced  # noqa: E402
-from shell.files import write_bytes, write_text  # noqa: E402
-from shell.lanes import NO_CAUSES, NO_RACES  # noqa: E402
-from shell.session import Session  # noqa: E402
+from shell.console import counted
+from shell.clusters import MOST_TASKS, clusters_in_dot
+from shell.facts import Facts, Progress, Race, Step, Task, by_name, label_of, reduced
+from shell.files import write_bytes, write_text
+from shell.lanes import NO_CAUSES, NO_RACES
+from shell.session import Session
 
 # Each state: its fill, its outline, and the style of the outline, so that it can be told without colour.
 STATES = {
@@ -248,7 +244,3 @@ def main(words: list[str]) -> int:
     else:
         print(write_graph(words[1], graph))
     return 0
-
-
-if __name__ == "__main__":
-    sys.exit(main(sys.argv[1:]))

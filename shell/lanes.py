@@ -1,22 +1,17 @@
-#!/usr/bin/env python3
 """The history as a space-time picture: a lane for each task, the steps in order from the top, and why each is needed.
 
-    shell/lanes.py SESSION [T#K] [FILE]     plays the session, and draws its lanes as text, or to FILE as SVG;
+    ./run --lanes SESSION [T#K] [FILE]     plays the session, and draws its lanes as text, or to FILE as SVG;
                                             what `roll T#K` would take is shaded
 """
 
 from __future__ import annotations
 
-import os
 import sys
 from collections.abc import Callable, Iterable, Sequence
 from dataclasses import dataclass
 
-if __name__ == "__main__":
-    sys.path.insert(0, os.path.dirname(os.path.dirname(os.path.abspath(__file__))))
-
-from shell.facts import Causes, Facts, Progress, Race, Step, Task, by_name  # noqa: E402
-from shell.session import Session  # noqa: E402
+from shell.facts import Causes, Facts, Progress, Race, Step, Task, by_name
+from shell.session import Session
 
 NO_CAUSES = "this program shows no causes: their arrows are left out"
 NO_RACES = "this program shows no races: they are left out"
@@ -135,7 +130,3 @@ def main(words: list[str]) -> int:
     from shell.lanes_pages import write_lanes
     print(write_lanes(files[0], lanes))
     return 0
-
-
-if __name__ == "__main__":
-    sys.exit(main(sys.argv[1:]))

@@ -45,12 +45,14 @@ def overview_of(lanes: Lanes, files: list[str]) -> str:
         tasks = lanes.tasks[at * MOST_LANES:(at + 1) * MOST_LANES]
         left, width = x[tasks[0].name] - 3, LANE * len(tasks) + 1
         parts.append(f'<a href={quoteattr(name)}><title>{escape(f"tasks {tasks[0].name} to {tasks[-1].name}")}</title>'
-                     f'<rect class="page" x="{left}" y="{TOP - 22}" width="{width}" height="{high - TOP + 14:.0f}" fill="{"#f3f3f3" if at % 2 else "#ffffff"}" stroke="#767676"/>'
+                     f'<rect class="page" x="{left}" y="{TOP - 22}" width="{width}" height="{high - TOP + 14:.0f}" '
+                     f'fill="{"#f3f3f3" if at % 2 else "#ffffff"}" stroke="#767676"/>'
                      f'<text x="{left + 3}" y="{TOP - 9}">{escape(tasks[0].name)} ..</text></a>')
     for task in lanes.tasks:
         first, last = there[task.name]
         colour = BODIES[bodies.index(task.body) % len(BODIES)]
-        parts.append(f'<path class="lane" data-task={quoteattr(task.name)} stroke="{colour}" d="M{x[task.name]} {TOP + step_high * first:.1f} V{TOP + step_high * min(last + 1, count):.1f}"/>')
+        begin, end = (TOP + step_high * moment for moment in (first, min(last + 1, count)))
+        parts.append(f'<path class="lane" data-task={quoteattr(task.name)} stroke="{colour}" d="M{x[task.name]} {begin:.1f} V{end:.1f}"/>')
     for step in lanes.steps:
         if step.word in ("store", "print"):
             parts.append(f'<path stroke="#1b1b1b" stroke-width="3" d="M{x[step.task] - 1} {row[step.name]:.1f} h3"/>')

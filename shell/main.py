@@ -8,25 +8,23 @@ import sys
 from collections.abc import Callable
 from types import FrameType
 
-sys.path.insert(0, os.path.dirname(os.path.dirname(os.path.abspath(__file__))))
-
-from shell import faults  # noqa: E402
-from shell.commands import Shell  # noqa: E402
-from shell.console import Console, JsonConsole, counted  # noqa: E402
-from shell.protocol import Ended, Refused, is_digits  # noqa: E402
-from shell.script import INTERRUPTED, Script, lines_of  # noqa: E402
-from shell.session import Session  # noqa: E402
-from shell.source import Source, read_text, split_session  # noqa: E402
-
-TOP = os.path.dirname(os.path.dirname(os.path.abspath(__file__)))
-BUILT = os.path.join(TOP, "crates", "taskback", "out", "taskback")
+from shell import faults
+from shell.commands import Shell
+from shell.console import Console, JsonConsole, counted
+from shell.drawing import program_here
+from shell.protocol import Ended, Refused, is_digits
+from shell.script import INTERRUPTED, Script, lines_of
+from shell.session import Session
+from shell.source import Source, read_text, split_session
+from shell.version import version
 
 
 def read_words(words: list[str]) -> argparse.Namespace:
     """The command line."""
-    parser = argparse.ArgumentParser(prog="taskback shell", description="A shell over Taskback's session commands.")
+    parser = argparse.ArgumentParser(prog="taskback-shell", description="A shell over Taskback's session commands.")
     parser.add_argument("file", help="a program, or a session, whose commands `source` plays")
-    parser.add_argument("--program", default=os.environ.get("TASKBACK_PROGRAM") or BUILT, help="the program to run")
+    parser.add_argument("--program", default=program_here(), help="the program to run; TASKBACK_PROGRAM names one too")
+    parser.add_argument("--version", action="version", version=f"taskback {version()}")
     parser.add_argument("--plain", action="store_true", help="the program's own lines, and nothing beside them")
     parser.add_argument("-x", "--script", help="plays the commands of a file (`-`: of standard input), and ends")
     parser.add_argument("--check", action="store_true", help="a script ends at the first refusal, with status 1")
@@ -162,7 +160,3 @@ def main(words: list[str]) -> int:
         os.dup2(os.open(os.devnull, os.O_WRONLY), sys.stdout.fileno())
     session.close()
     return status
-
-
-if __name__ == "__main__":
-    sys.exit(main(sys.argv[1:]))

@@ -1,7 +1,6 @@
-#!/usr/bin/env python3
 """One page for a session, with all that it needs in it: no network, no library.
 
-    shell/page.py SESSION FILE     plays the session, and writes its page to FILE
+    ./run --page SESSION FILE     plays the session, and writes its page to FILE
 """
 
 from __future__ import annotations
@@ -11,15 +10,11 @@ import os
 import sys
 from collections.abc import Callable
 
-HERE = os.path.dirname(os.path.abspath(__file__))
-if __name__ == "__main__":
-    sys.path.insert(0, os.path.dirname(HERE))
+from shell.facts import Progress
+from shell.session import Session
+from shell.story import Story
 
-from shell.facts import Progress  # noqa: E402
-from shell.session import Session  # noqa: E402
-from shell.story import Story  # noqa: E402
-
-PARTS = os.path.join(HERE, "page")
+PARTS = os.path.join(os.path.dirname(os.path.abspath(__file__)), "page")
 # The scripts of the page, in their order; they are one script.
 SCRIPTS = ("state.js", "layout.js", "lanes.js", "tasks.js", "side.js", "page.js")
 
@@ -66,7 +61,3 @@ def main(words: list[str]) -> int:
     write_text(words[1], page)
     print(f"written to {words[1]}, {commands} commands and {steps} steps")
     return 0
-
-
-if __name__ == "__main__":
-    sys.exit(main(sys.argv[1:]))

@@ -1,22 +1,16 @@
-#!/usr/bin/env python3
 """Serves a program or a session as a live page, on this machine alone, until Ctrl-C.
 
-    shell/serve.py FILE [PORT]     plays the commands of the file, and says at which address its page is
+    ./run --serve FILE [PORT]     plays the commands of the file, and says at which address its page is
 """
 
 from __future__ import annotations
 
-import os
 import signal
 import sys
 
-HERE = os.path.dirname(os.path.abspath(__file__))
-if __name__ == "__main__":
-    sys.path.insert(0, os.path.dirname(HERE))
-
-from shell.drawing import play_file  # noqa: E402
-from shell.protocol import is_digits  # noqa: E402
-from shell.serving import Live, LiveServer  # noqa: E402
+from shell.drawing import play_file
+from shell.protocol import is_digits
+from shell.serving import Live, LiveServer
 
 
 def main(words: list[str]) -> int:
@@ -38,7 +32,3 @@ def main(words: list[str]) -> int:
         server.serve_until(lambda: bool(ended))
     session.close()
     return 0
-
-
-if __name__ == "__main__":
-    sys.exit(main(sys.argv[1:]))

@@ -171,7 +171,8 @@ def slide_of(lanes: Lanes) -> str:
     parts = slide.bars() + slide.marks() + slide.arrows() + slide.words() + slide.legend()
     return (f'<svg xmlns="http://www.w3.org/2000/svg" role="img" width="{WIDE}" height="{HIGH}" viewBox="0 0 {WIDE} {HIGH}">\n'
             f'<title>{escape(title)}</title>\n<style>{STYLE}</style>\n'
-            f'<defs><marker id="head" viewBox="0 0 8 8" refX="7" refY="4" markerWidth="6" markerHeight="6" orient="auto"><path d="M0 0 L8 4 L0 8 Z" style="fill:{INK}"/></marker></defs>\n'
+            '<defs><marker id="head" viewBox="0 0 8 8" refX="7" refY="4" markerWidth="6" markerHeight="6" orient="auto">'
+            f'<path d="M0 0 L8 4 L0 8 Z" style="fill:{INK}"/></marker></defs>\n'
             f'<rect width="100%" height="100%" fill="#fff"/>\n<text class="title" x="{MARGIN}" y="48">{escape(cut(title, 80))}</text>\n'
             + "\n".join(parts) + "\n</svg>\n")
 

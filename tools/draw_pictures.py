@@ -1,45 +1,45 @@
-#!/usr/bin/env python3
 """Draws the pictures of the README and the tutorial from the program's own replies.
 
-    tools/draw_pictures.py [FOLDER]     draws to FOLDER (none: docs/pictures)
+    python3 -m tools.draw_pictures [FOLDER]     draws to FOLDER (none: docs/pictures)
 
 TASKBACK_PROGRAM names the program; without it, it is the proved one, else the unproved one of ./run. The shell's tests draw them too, and compare.
 """
 import os
 import sys
 
-TOP = os.path.dirname(os.path.dirname(os.path.realpath(__file__)))
-sys.path.insert(0, TOP)
-
-from shell.drawing import program_here  # noqa: E402
-from shell.lanes import lanes_of  # noqa: E402
-from shell.lanes_svg import svg_of  # noqa: E402
-from shell.session import Session  # noqa: E402
-from shell.source import Source, split_session  # noqa: E402
+from shell.drawing import program_here
+from shell.lanes import lanes_of
+from shell.lanes_svg import svg_of
+from shell.session import Session
+from shell.source import Source, split_session
+from shell.version import TOP
 
 # Each picture: its session, how many of its commands are carried out first, and the step whose rollback is shaded.
-PICTURES = {
+PICTURES: dict[str, tuple[int, str | None]] = {
     "right_sum": (1, "0.1#4"), "race": (6, "0.2#2"), "order": (5, None), "exclusion": (8, "0.2#1"), "apart": (1, "0.1#1"),
     "waits": (16, None), "grandchild": (1, "0.1.1#2"),
     "undeferred": (5, "0.1#3"), "partial_wait": (5, None), "unrelated": (1, "0.1#1"), "needs": (6, "0.1#2"), "breakpoints": (8, "0.2#2"),
 }
 
 
-def picture(name, program):
+def picture(name: str, program: str) -> str:
     """The lanes of a session after some of its commands."""
     count, chosen = PICTURES[name]
     with open(os.path.join(TOP, "examples", name + ".session"), encoding="utf-8") as file:
         text, commands = split_session(file.read())
     session = Session(program, Source(text, name + ".session"))
     try:
-        for command in commands[:count]:
+        for command in (commands or ())[:count]:
             session.do(command)
-        return svg_of(lanes_of(session, chosen))
+        lanes = lanes_of(session, chosen)
+        assert lanes is not None, f"{name}: {chosen} isn't in the history"
+        return svg_of(lanes)
     finally:
         session.close()
 
 
-def main(words):
+def main(words: list[str]) -> int:
+    """Draws all of them; returns the status."""
     if len(words) > 1:
         print(__doc__, file=sys.stderr)
         return 2

@@ -6,11 +6,11 @@ const os = require("os");
 const path = require("path");
 const vscode = require("vscode");
 
-// The folder of Taskback: as it is set, else the one that this extension lies in, else a folder that is open.
+// The folder of Taskback: as it is set, else the one that this extension lies in, a folder that is open, or where Debian's package puts it.
 function folderOfTaskback() {
   const set = vscode.workspace.getConfiguration("taskback").get("folder");
   const open = (vscode.workspace.workspaceFolders || []).map((folder) => folder.uri.fsPath);
-  return [set, path.resolve(__dirname, "..", ".."), ...open].find((folder) => folder && fs.existsSync(path.join(folder, "taskback-dap")));
+  return [set, path.resolve(__dirname, "..", ".."), ...open, "/usr/lib/taskback"].find((folder) => folder && fs.existsSync(path.join(folder, "taskback-dap")));
 }
 
 function refuse() {
@@ -40,7 +40,7 @@ function pageOf(file, callback) {
   const folder = folderOfTaskback() || refuse();
   const there = path.join(fs.mkdtempSync(path.join(os.tmpdir(), "taskback-")), "page.html");
   const python = vscode.workspace.getConfiguration("taskback").get("python") || "python3";
-  childProcess.execFile(python, [path.join(folder, "shell", "page.py"), file, there], (fault, out, told) => {
+  childProcess.execFile(python, [path.join(folder, "taskback-shell"), "--page", file, there], (fault, out, told) => {
     callback(fault ? told || String(fault) : null, fault ? "" : fs.readFileSync(there, "utf8"));
     fs.rmSync(path.dirname(there), { recursive: true, force: true });
   });

@@ -11,9 +11,8 @@ import time
 import unittest
 
 TOP = os.path.dirname(os.path.dirname(os.path.dirname(os.path.abspath(__file__))))
-sys.path.insert(0, TOP)
 EXAMPLES = os.path.join(TOP, "examples")
-MAIN = os.path.join(TOP, "shell", "main.py")
+MAIN = os.path.join(TOP, "taskback-shell")
 PROGRAM = os.environ.get("TASKBACK_PROGRAM", os.path.join(TOP, "crates", "taskback", "out", "taskback"))
 needs_program = unittest.skipUnless(os.access(PROGRAM, os.X_OK),
                                     f"no program at {PROGRAM}; TASKBACK_PROGRAM names another")

@@ -8,7 +8,7 @@ import sys
 import unittest
 import xml.etree.ElementTree as tree
 
-from support import EXAMPLES, PROGRAM, TOP, Terminal, needs_program, write_file
+from support import EXAMPLES, MAIN, PROGRAM, Terminal, needs_program, write_file
 from shell.drawing import play_file
 from shell.graph import dot_of, graph_of, tree_of, write_graph
 from shell.lanes import NO_CAUSES
@@ -169,7 +169,7 @@ class GraphTest(unittest.TestCase):
 
     def test_without_graphviz_the_text_is_written(self):
         path = write_file(self, "", "a.svg")
-        done = subprocess.run([sys.executable, os.path.join(TOP, "shell", "graph.py"), os.path.join(EXAMPLES, "order.session"), path],
+        done = subprocess.run([sys.executable, MAIN, "--graph", os.path.join(EXAMPLES, "order.session"), path],
                               capture_output=True, text=True, check=True, env={"TASKBACK_PROGRAM": PROGRAM, "PATH": "/nowhere"})
         wanted = path.replace(".svg", ".dot")
         self.assertEqual(done.stdout, f"written to {wanted}, 3 tasks; Graphviz, which would draw it, isn't here\n")

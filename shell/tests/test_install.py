@@ -22,7 +22,7 @@ def completed(words, folder=TOP):
 
 class Bash(unittest.TestCase):
     def test_options(self):
-        self.assertEqual(completed(["./run", "--"]), ["--check", "--help", "--json", "--limit", "--plain", "--prove", "--serve", "--version", "--workers"])
+        self.assertEqual(completed(["./run", "--"]), ["--check", "--graph", "--help", "--json", "--lanes", "--limit", "--page", "--plain", "--prove", "--serve", "--version", "--workers"])
         self.assertEqual(completed(["./run", "--limit", "1"]), ["1000", "100000", "1000000"])
         self.assertEqual(completed(["./run", "--workers", "6"]), ["64"])
         self.assertEqual(completed(["taskback", "--v"]), ["--version"])
@@ -58,10 +58,16 @@ class Zsh(unittest.TestCase):
 @needs_program
 class Version(unittest.TestCase):
     def test_it_is_the_programs(self):
-        told = [subprocess.run([*words, "--version"], capture_output=True, text=True, timeout=120, check=True).stdout
-                for words in ([os.path.join(TOP, "run")], [PROGRAM])]
-        self.assertEqual(told[0], told[1])
-        self.assertRegex(told[0], r"^taskback \d+\.\d+\.\d+\n$")
+        with open(os.path.join(TOP, "VERSION"), encoding="ascii") as file:
+            version = file.read().strip()
+        self.assertRegex(version, r"^\d+\.\d+\.\d+$")
+        for program in (PROGRAM, *(os.path.join(TOP, name) for name in ("run", "taskback-shell", "taskback-dap"))):
+            told = subprocess.run([program, "--version"], capture_output=True, text=True, timeout=120, check=True).stdout
+            self.assertEqual(told, f"taskback {version}\n", program)
+        for name, wanted in (("docs/taskback.1", f'"Taskback {version}"'), ("editors/vscode/package.json", f'"version": "{version}"'),
+                             ("editors/vscode/README.md", f"taskback-{version}.vsix"), ("docs/EDITORS.md", f"taskback-{version}.vsix"), ("docs/SHELL.md", f"taskback_{version}_"), ("CHANGELOG.md", f"\n## {version}\n")):
+            with open(os.path.join(TOP, name), encoding="utf-8") as file:
+                self.assertIn(wanted, file.read(), name)
 
 
 if __name__ == "__main__":

@@ -7,7 +7,7 @@ import sys
 import unittest
 import xml.etree.ElementTree as tree
 
-from support import PROGRAM, TOP, needs_program, write_file
+from support import MAIN, PROGRAM, TOP, needs_program, write_file
 from test_tutorial import page, sections
 from tools.draw_pictures import PICTURES, picture
 
@@ -20,28 +20,27 @@ class PicturesTest(unittest.TestCase):
         self.assertEqual({name + ".svg" for name in PICTURES}, set(os.listdir(FOLDER)))
         for name in PICTURES:
             with open(os.path.join(FOLDER, name + ".svg"), encoding="utf-8") as file:
-                self.assertEqual(file.read(), picture(name, PROGRAM), f"{name}: tools/draw_pictures.py draws it anew")
-
+                self.assertEqual(file.read(), picture(name, PROGRAM), f"{name}: python3 -m tools.draw_pictures draws it anew")
 
     def run_script(self, name, *words):
-        """What a script of the shell says, and its status."""
-        done = subprocess.run([sys.executable, os.path.join(TOP, "shell", name), *words], capture_output=True, text=True, timeout=60,
+        """What a program of the front end says, and its status."""
+        done = subprocess.run([sys.executable, MAIN, f"--{name}", *words], capture_output=True, text=True, timeout=60,
                               env={**os.environ, "TASKBACK_PROGRAM": PROGRAM}, check=False)
         return done.stdout, done.stderr, done.returncode
 
     def test_scripts(self):
         session, path = os.path.join(TOP, "examples", "race.session"), write_file(self, "", "out")
-        for name in ("graph.py", "lanes.py", "page.py"):
+        for name in ("graph", "lanes", "page"):
             out, told, status = self.run_script(name)
             self.assertEqual((out, status), ("", 2))
-            self.assertIn(f"shell/{name} SESSION", told)
+            self.assertIn(f"./run --{name} SESSION", told)
             self.assertEqual(self.run_script(name, "/no/file", path), ("", "can't read /no/file: No such file or directory\n", 2))
-        self.assertTrue(self.run_script("graph.py", session)[0].startswith("digraph tasks {"))
-        self.assertTrue(self.run_script("lanes.py", session)[0].startswith("  0 "))
-        self.assertEqual(self.run_script("lanes.py", session, "0#99")[1:], ("step 0#99 isn't in the history\n", 2))
-        self.assertEqual(self.run_script("lanes.py", session, "0.1#4", path), (f"drawn to {path}, 17 steps in 3 lanes\n", "", 0))
+        self.assertTrue(self.run_script("graph", session)[0].startswith("digraph tasks {"))
+        self.assertTrue(self.run_script("lanes", session)[0].startswith("  0 "))
+        self.assertEqual(self.run_script("lanes", session, "0#99")[1:], ("step 0#99 isn't in the history\n", 2))
+        self.assertEqual(self.run_script("lanes", session, "0.1#4", path), (f"drawn to {path}, 17 steps in 3 lanes\n", "", 0))
         self.assertEqual(tree.parse(path).getroot().get("role"), "img")
-        self.assertEqual(self.run_script("page.py", session, path)[0], f"written to {path}, 12 commands and 27 steps\n")
+        self.assertEqual(self.run_script("page", session, path)[0], f"written to {path}, 12 commands and 27 steps\n")
 
 
 class PlacesTest(unittest.TestCase):

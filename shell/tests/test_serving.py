@@ -6,12 +6,11 @@ import os
 import re
 import signal
 import subprocess
-import sys
 import threading
 import time
 import unittest
 
-from support import EXAMPLES, PROGRAM, TOP, Terminal, example, needs_program, write_file
+from support import EXAMPLES, MAIN, PROGRAM, TOP, Terminal, example, needs_program, write_file
 from test_page import needs_browser, shown_by_browser
 from shell.serving import ALLOWED, LONGEST, Live, LiveServer
 from shell.session import Session
@@ -181,11 +180,11 @@ class Commands(unittest.TestCase):
         self.assertEqual((child.wait(timeout=30), child.stdout.read()), (130, ""))
 
     def test_wrong_words(self):
-        for words, wanted in (([], "serve.py FILE"), (["/no/file"], "can't read /no/file"), ([os.path.join(EXAMPLES, "race.task"), "x"], "serve.py FILE"),
+        for words, wanted in (([], "--serve FILE [PORT]"), (["/no/file"], "can't read /no/file"), ([os.path.join(EXAMPLES, "race.task"), "x"], "--serve FILE [PORT]"),
                               ([os.path.join(EXAMPLES, "race.task"), "1"], None)):
             if wanted is None and os.geteuid() == 0:
                 continue
-            done = subprocess.run([sys.executable, os.path.join(TOP, "shell", "serve.py"), *words], capture_output=True, text=True, timeout=60, check=False,
+            done = subprocess.run([MAIN, "--serve", *words], capture_output=True, text=True, timeout=60, check=False,
                                   env={**os.environ, "TASKBACK_PROGRAM": PROGRAM})
             self.assertEqual(done.returncode, 2)
             self.assertIn(wanted or "can't serve", done.stderr)

@@ -2,7 +2,6 @@
 
 import unittest
 
-import support
 from shell import faults, help_texts, texts
 
 

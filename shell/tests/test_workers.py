@@ -111,8 +111,8 @@ class Typed(Stalling):
         self.assertEqual(shell.ask("go 4 5")[-1], "ran 5 limit")
         self.assertEqual(shell.ask("")[-1], "ran 5 limit")
         self.assertEqual(shell.ask("c 3 100")[-1], "ran 17 done")
-        self.assertEqual(shell.ask("go 5 1"), ["error number", "  a number is missing, or out of its range: here W is 1 to 4, "
-                                              "which `--workers` sets for the whole session, and N is 0 to 1000000"])
+        words = "  a number is missing, or out of its range: here W is 1 to 4, which `--workers` sets for the whole session, and N is 0 to 1000000"
+        self.assertEqual(shell.ask("go 5 1"), ["error number", words])
         self.assertEqual(shell.ask("go 4 x")[0], "error number")
         self.assertEqual(shell.ask("go 1 2 3")[0], "error count")
         self.assertIn("  for example: go 4 100", shell.ask("help go"))
