@@ -1,5 +1,5 @@
 #!/usr/bin/env bash
-# Installs by apt what tests want and this machine lacks: Chromium, Graphviz, groff, Emacs with dap-mode, the schema of the debug protocol, Vim, zsh, clang and its OpenMP runtime.
+# Installs by apt what tests want and this machine lacks: Chromium, Graphviz, groff, Emacs with dap-mode, the schema of the debug protocol, Vim, zsh, mypy, flake8, clang and its OpenMP runtime.
 # It takes ten minutes at most. What can't be installed is told, and the tests that want it are left out.
 #   tools/install_for_tests.sh
 set -u
@@ -32,6 +32,8 @@ command -v emacs > /dev/null || lacking+=(emacs-nox elpa-dap-mode)
 [ -d /usr/lib/python3/dist-packages/_pydevd_bundle ] || lacking+=(python3-pydevd)
 command -v vim > /dev/null || lacking+=(vim)
 command -v zsh > /dev/null || lacking+=(zsh)
+command -v mypy > /dev/null || lacking+=(mypy)
+command -v flake8 > /dev/null || lacking+=(flake8)
 command -v clang-14 > /dev/null || command -v clang > /dev/null || lacking+=(clang-14)
 has_runtime || lacking+=(libomp-14-dev)
 # The largest comes last, so that no other waits for it.
