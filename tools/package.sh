@@ -1,27 +1,88 @@
 #!/usr/bin/env bash
-# Makes an archive that runs on a Debian machine without the toolchain: the proved program, ./run,
-# the shell, the recorder, docs and examples, each where it lies in the repository.
-#   tools/package.sh [FOLDER]      the archive goes into FOLDER (none: the current one), and its name is told
+# Makes an archive and a Debian package that run without the toolchain: the proved program, ./run, the shell, the recorder,
+# editors, completions, the manual, docs and examples.
+#   tools/package.sh [--program PROGRAM] [FOLDER]      both go into FOLDER (none: the current one), and their names are told
+# --program: another program than the proved one, for a try. The package is made by dpkg-deb, and left out where there is none.
 set -eu
 top=$(cd "$(dirname "$(readlink -f "${BASH_SOURCE[0]}")")/.." && pwd)
-program=crates/taskback/out/taskback
-into=$(cd "${1-.}" && pwd)
-cd "$top"
-if [ ! -x "$program" ] || [ -n "$(find crates \( -name out -o -name '*_tests' -o -name '*_rows' \) -prune \
+place=crates/taskback/out/taskback
+program=$top/$place
+if [ "${1-}" = --program ]; then
+    program=$(readlink -f "${2?--program wants a program}")
+    shift 2
+elif [ ! -x "$program" ] || [ -n "$(find "$top/crates" \( -name out -o -name '*_tests' -o -name '*_rows' \) -prune \
     -o \( -name '*.rt' -o -name '*.antt' \) -newer "$program" -print -quit)" ]; then
     echo "package: no proved program of these sources: ./run --prove makes it" >&2
     exit 2
 fi
-version=$("$program" --version)
-name="taskback-${version##* }"
+into=$(cd "${1-.}" && pwd)
+cd "$top"
+version=$(cat VERSION)
+[ "$("$program" --version)" = "taskback $version" ] || { echo "package: $program has another version than $version" >&2; exit 2; }
 work=$(mktemp -d)
 trap 'rm -rf "$work"' EXIT
-mkdir -p "$work/$name/$(dirname "$program")"
-cp "$program" "$work/$name/$program"
-for part in README.md LICENSE run taskback-dap shell editors completions openmp docs examples; do
-    [ ! -e "$part" ] || cp -R "$part" "$work/$name/"
-done
-find "$work/$name" -name __pycache__ -prune -exec rm -rf {} +
-rm -rf "$work/$name/shell/tests" "$work/$name/openmp/tests" "$work/$name/openmp/run_tests"
+
+# Copies these parts into a folder, and the program to its place there, without tests and what Python keeps.
+lay() {
+    local folder=$1
+    shift
+    mkdir -p "$folder/$(dirname "$place")"
+    cp "$program" "$folder/$place"
+    cp -R "$@" "$folder/"
+    find "$folder" \( -name __pycache__ -o -name .mypy_cache -o -name .cache \) -prune -exec rm -rf {} +
+    rm -rf "$folder/shell/tests" "$folder/openmp/tests" "$folder/openmp/run_tests"
+}
+
+parts=(LICENSE VERSION run taskback-shell taskback-dap shell editors openmp)
+name="taskback-$version"
+lay "$work/$name" README.md CHANGELOG.md "${parts[@]}" completions docs examples
 tar -C "$work" --sort=name --owner=0 --group=0 --numeric-owner -czf "$into/$name.tar.gz" "$name"
 echo "$into/$name.tar.gz"
+
+command -v dpkg-deb > /dev/null || exit 0
+root=$work/root
+share=$root/usr/share
+lay "$root/usr/lib/taskback" "${parts[@]}"
+mkdir -p "$root/DEBIAN" "$root/usr/bin" "$share/man/man1" "$share/doc/taskback" "$share/bash-completion/completions" \
+    "$share/zsh/vendor-completions" "$share/vim/vimfiles"
+
+# What is called by its name: `taskback` is ./run.
+for pair in taskback=run taskback-dap=taskback-dap taskback-record=openmp/record taskback-check=openmp/check \
+    taskback-session=openmp/session taskback-cc=openmp/taskback-cc taskback-c++=openmp/taskback-c++; do
+    printf '#!/bin/sh\nexec "$(dirname "$(readlink -f "$0")")/../lib/taskback/%s" "$@"\n' "${pair#*=}" > "$root/usr/bin/${pair%%=*}"
+    chmod 755 "$root/usr/bin/${pair%%=*}"
+done
+sed 's|\./run|taskback|g' docs/taskback.1 | gzip -9n > "$share/man/man1/taskback.1.gz"
+for other in taskback-dap taskback-record taskback-check taskback-session taskback-cc taskback-c++; do
+    echo '.so man1/taskback.1' | gzip -9n > "$share/man/man1/$other.1.gz"
+done
+for command in taskback taskback-dap; do
+    { cat completions/taskback.bash; echo 'complete -r run; complete -F _taskback_run taskback'; } > "$share/bash-completion/completions/$command"
+done
+sed -e 's/^#compdef run /#compdef /' -e 's/^    run)$/    run | taskback)/' completions/_taskback > "$share/zsh/vendor-completions/_taskback"
+cp -R editors/vim/. "$share/vim/vimfiles/"
+cp -R README.md CHANGELOG.md docs examples "$share/doc/taskback/"
+cp LICENSE "$share/doc/taskback/copyright"
+editors/vscode/build.py "$share/doc/taskback" > /dev/null
+find "$root" -type d -exec chmod 755 {} +
+cat > "$root/DEBIAN/control" << CONTROL
+Package: taskback
+Version: $version
+Architecture: $(dpkg --print-architecture)
+Maintainer: Taskback
+Installed-Size: $(du -sk --exclude=DEBIAN "$root" | cut -f1)
+Depends: libc6, python3 (>= 3.10)
+Recommends: clang-14 | clang, libomp-14-dev | libomp-dev, graphviz
+Suggests: elpa-dap-mode, chromium
+Section: devel
+Priority: optional
+Description: reversible debugger for OpenMP task programs
+ Takes back any step you choose, together with exactly the later steps that need it.
+ A shell, pictures, a page for a browser, a server for editors, and a recorder of C programs.
+CONTROL
+# What Python keeps beside the modules goes with them.
+printf '#!/bin/sh\nset -e\nfind /usr/lib/taskback -name __pycache__ -prune -exec rm -rf {} +\n' > "$root/DEBIAN/prerm"
+chmod 755 "$root/DEBIAN/prerm"
+package="$into/taskback_${version}_$(dpkg --print-architecture).deb"
+dpkg-deb --root-owner-group --build "$root" "$package" > /dev/null
+echo "$package"

@@ -1,18 +1,15 @@
-"""The README, the pages, the man page and the archive: their links, their commands, and that they are enough to start."""
+"""The README, the pages and the man page: their links, and their commands."""
 
 import os
 import re
 import shutil
 import subprocess
-import tempfile
-import time
 import unittest
 
-from support import EXAMPLES, PROGRAM, PROMPT, TOP, Terminal, needs_program
+from support import TOP
 from shell import help_texts
 
-PAGES = ["README.md"] + [os.path.join("docs", name) for name in sorted(os.listdir(os.path.join(TOP, "docs"))) if name.endswith(".md")]
-BARE = {"PATH": "/usr/bin:/bin"}
+PAGES = ["README.md", "CHANGELOG.md"] + [os.path.join("docs", name) for name in sorted(os.listdir(os.path.join(TOP, "docs"))) if name.endswith(".md")]
 
 
 def text_of(name):
@@ -75,69 +72,6 @@ class Pages(unittest.TestCase):
         done = subprocess.run(["groff", "-man", "-Tutf8", "-ww", os.path.join(TOP, "docs", "taskback.1")],
                               capture_output=True, text=True, check=False)
         self.assertEqual((done.returncode, done.stderr), (0, ""))
-
-
-@needs_program
-class Archive(unittest.TestCase):
-    """The archive of a copy of the repository, in which the program that the tests use is the built one."""
-
-    def setUp(self):
-        folder = tempfile.TemporaryDirectory()
-        self.addCleanup(folder.cleanup)
-        self.folder = folder.name
-        self.top = os.path.join(self.folder, "top")
-        for part in ("README.md", "LICENSE", "run", "taskback-dap", "shell", "editors", "completions", "openmp", "docs", "examples", "tools"):
-            copy = shutil.copytree if os.path.isdir(os.path.join(TOP, part)) else shutil.copy2
-            os.makedirs(self.top, exist_ok=True)
-            copy(os.path.join(TOP, part), os.path.join(self.top, part))
-        os.makedirs(os.path.join(self.top, "crates", "taskback", "out"))
-        self.built = os.path.join(self.top, "crates", "taskback", "out", "taskback")
-
-    def package(self):
-        return subprocess.run([os.path.join(self.top, "tools", "package.sh"), self.folder], env=BARE, capture_output=True, text=True, check=False)
-
-    def unpacked(self):
-        """The archive's folder, elsewhere; the copy it was made of is gone."""
-        shutil.copy2(PROGRAM, self.built)
-        made = self.package()
-        self.assertEqual((made.returncode, made.stderr), (0, ""))
-        shutil.rmtree(self.top)
-        subprocess.run(["tar", "-C", self.folder, "-xzf", made.stdout.strip()], check=True)
-        return made.stdout.strip().removesuffix(".tar.gz")
-
-    def test_without_a_program_of_these_sources_there_is_none(self):
-        self.assertIn("./run --prove makes it", self.package().stderr)
-        shutil.copy2(PROGRAM, self.built)
-        source = os.path.join(self.top, "crates", "taskback", "main.rt")
-        with open(source, "w", encoding="ascii"):
-            os.utime(source, (time.time() + 9, time.time() + 9))
-        refused = self.package()
-        self.assertEqual((refused.returncode, refused.stdout), (2, ""))
-        self.assertIn("no proved program of these sources", refused.stderr)
-
-    def test_it_runs_alone(self):
-        there = self.unpacked()
-        for name in sorted(os.listdir(EXAMPLES)):
-            if name.endswith(".session"):
-                done = subprocess.run(["./run", "examples/" + name], cwd=there, env=BARE, stdin=subprocess.DEVNULL, capture_output=True, text=True, check=False)
-                self.assertEqual((done.returncode, done.stdout, done.stderr), (0, text_of("examples/" + name.replace(".session", ".out")), ""), name)
-        drawn = subprocess.run(["shell/graph.py", "examples/waits.session"], cwd=there, env=BARE, capture_output=True, text=True, check=False)
-        self.assertEqual((drawn.returncode, drawn.stderr), (0, ""))
-        self.assertIn("digraph tasks {", drawn.stdout)
-
-    def test_its_shell_runs_alone(self):
-        there = self.unpacked()
-        shell = Terminal(self, [os.path.join(there, "examples", "right_sum.session")], (os.path.join(there, "run"),),
-                         NO_COLOR="1", PATH=BARE["PATH"], TASKBACK_PROGRAM="")
-        shell.read_until(PROMPT)
-        self.assertIn("ran 17 done", shell.ask("source"))
-        self.assertEqual(shell.ask("back")[0].split("  ")[0], "undone 0#7")
-
-    def test_its_links_lead_somewhere(self):
-        there = self.unpacked()
-        for page in PAGES:
-            for link in re.findall(r"\]\(([^)\s#]+)[^)]*\)", text_of(page)):
-                self.assertTrue(os.path.exists(os.path.join(there, os.path.dirname(page), link)), (page, link))
 
 
 if __name__ == "__main__":
