@@ -3,7 +3,6 @@
 from __future__ import annotations
 
 from collections.abc import Sequence
-from typing import TYPE_CHECKING
 
 from shell.console import counted
 from shell.group import Group, Words, count_in
@@ -12,17 +11,11 @@ from shell.retaking import Came, needed_of, retaken
 from shell.session import LIMIT
 from shell.stops import Where, program_stops
 
-if TYPE_CHECKING:
-    from shell.commands import Shell
-
 SHOWN_NEEDERS = 8
 
 
 class Backwards(Group):
     """Commands that take steps back."""
-
-    def __init__(self, shell: Shell) -> None:
-        super().__init__(shell)
 
     def undo_newest(self) -> bool:
         """Takes the newest step back; returns whether it could."""

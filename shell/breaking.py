@@ -3,16 +3,12 @@
 from __future__ import annotations
 
 import re
-from typing import TYPE_CHECKING
 
 from shell.expressions import Unknown, Unreadable, parsed
-from shell.group import Group, Words
+from shell.group import Group, Host, Words
 from shell.protocol import is_digits
 from shell.stops import Breakpoint, Stop, Where, program_stops
 from shell.values import Values
-
-if TYPE_CHECKING:
-    from shell.commands import Shell
 
 TASK = re.compile(r"0(\.[1-9][0-9]*)*")
 SETTINGS = ("run-breaks", "pager")
@@ -21,7 +17,7 @@ SETTINGS = ("run-breaks", "pager")
 class Breaking(Group):
     """Breakpoints, watched numbers, expressions and settings."""
 
-    def __init__(self, shell: Shell) -> None:
+    def __init__(self, shell: Host) -> None:
         super().__init__(shell)
         self.run_breaks = False
         self.displays: dict[int, tuple[str, str]] = {}

@@ -4,15 +4,12 @@ from __future__ import annotations
 
 import os
 from collections.abc import Iterable
-from typing import TYPE_CHECKING
 
 from shell import help_texts
 from shell.breaking import SETTINGS
+from shell.group import Host
 from shell.protocol import words_of
 from shell.viewing import VIEWS
-
-if TYPE_CHECKING:
-    from shell.commands import Shell
 
 TAKES_TASK = ("step", "finish", "task", "deps", "rolltask", "list", "rs")
 TAKES_STEP = ("undo", "roll", "why", "who", "until", "causes", "lanes", "slide", "keep", "at")
@@ -35,7 +32,7 @@ def files_beginning(text: str) -> list[str]:
 class Completing:
     """Finds the words that fit where the cursor is."""
 
-    def __init__(self, shell: Shell) -> None:
+    def __init__(self, shell: Host) -> None:
         self.shell = shell
 
     def words(self, text: str, before: str) -> list[str]:

@@ -2,19 +2,74 @@
 
 from __future__ import annotations
 
-from collections.abc import Callable, Sequence
-from typing import TYPE_CHECKING
+from collections.abc import Callable, Iterator, Sequence
+from typing import Protocol
 
 from shell import help_texts
-from shell.console import Outcome
+from shell.console import Console, Outcome
 from shell.protocol import is_digits
 from shell.session import GREATEST_LIMIT, Session
-
-if TYPE_CHECKING:
-    from shell.commands import Shell
+from shell.stops import Stops
 
 Words = Sequence[str]
 Command = Callable[[Words], bool | None]
+
+
+class Breakers(Protocol):
+    """What other groups ask of the group of breakpoints."""
+
+    run_breaks: bool
+
+    def tell_met(self, name: str | None) -> None:
+        """Which of the program's breakpoints a step meets."""
+
+
+class Host(Protocol):
+    """What commands ask of the shell that they belong to.
+
+    `present` is the user's session, and `past` a second one where a past state is looked at; `focus` is the task that
+    stepped last, `last_step` what Enter does again, `queue` the commands of an opened session that weren't played yet.
+    """
+
+    console: Console
+    present: Session
+    past: Session | None
+    stops: Stops
+    queue: list[str]
+    methods: dict[str, Command]
+    focus: str
+    last_step: str | None
+    outcome: Outcome
+    interrupted: bool
+
+    @property
+    def session(self) -> Session:
+        """The session that is looked at."""
+
+    @property
+    def breaking(self) -> Breakers:
+        """The group of breakpoints."""
+
+    def send(self, command: str) -> list[str]:
+        """Has the program carry out a command, and shows its reply."""
+
+    def show(self, lines: Sequence[str]) -> None:
+        """Shows lines of a reply."""
+
+    def show_line(self, line: str) -> None:
+        """Shows one of them."""
+
+    def up_to_interrupt(self, lines: Sequence[str]) -> Iterator[str]:
+        """The lines up to Ctrl-C."""
+
+    def explain(self, command: str, line: str) -> None:
+        """Says in words what a line of a reply to a command means."""
+
+    def clauses(self, task: str, other: str) -> str:
+        """The clauses for which one task waits for another."""
+
+    def carry_out(self, line: str) -> bool:
+        """Carries out a line as it would be typed; true ends the shell."""
 
 
 def count_in(words: Words, place: int, usual: int) -> int | None:
@@ -29,7 +84,7 @@ def count_in(words: Words, place: int, usual: int) -> int | None:
 class Group:
     """Commands of one topic: each method `do_NAME` carries out the command NAME, and returns true to end the shell."""
 
-    def __init__(self, shell: Shell) -> None:
+    def __init__(self, shell: Host) -> None:
         self.shell = shell
         self.console = shell.console
 
