@@ -110,7 +110,7 @@ class Breaking(Group):
         self.shell.send(" ".join(["breaks", *words]))
         for number, stop in self.shell.stops.there.items():
             line = int(stop.where.what) if isinstance(stop, Breakpoint) and stop.where.kind == "line" else None
-            self.console.reply(f"s{number} {stop}", line, f"{line}: {self.session.source.line(line)}" if line else "")
+            self.console.reply(f"s{number} {stop}", line, f"{line}: {self.session.source.shown(line)}" if line else "")
 
     def tell_met(self, name: str | None) -> None:
         """Which of the program's breakpoints the newest step meets."""

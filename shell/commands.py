@@ -83,7 +83,7 @@ class Shell(cmd.Cmd):
             number = self.session.places.line_of(step)
             first = first or number
             if number:
-                parts.append(f"{number}: {self.session.source.line(number)}")
+                parts.append(f"{number}: {self.session.source.shown(number)}")
         self.console.reply(line, first, "  |  ".join(parts))
 
     def up_to_interrupt(self, lines: Sequence[str]) -> Iterator[str]:

@@ -8,7 +8,7 @@ from __future__ import annotations
 
 import sys
 from collections.abc import Callable, Iterable, Sequence
-from dataclasses import dataclass
+from dataclasses import dataclass, field
 
 from shell.facts import Causes, Facts, Progress, Race, Step, Task, by_name
 from shell.session import Session
@@ -28,6 +28,8 @@ class Lanes:
     races: list[Race] | None
     chosen: str | None = None
     shaded: frozenset[str] = frozenset()
+    # Of a recorded run, the C file's line that each step's line names, as `sum.c:12`.
+    recorded: dict[str, str] = field(default_factory=dict)
 
     def remarks(self) -> list[str]:
         """What isn't drawn, since the program has no such view."""
@@ -46,7 +48,10 @@ def lanes_of(session: Session, chosen: str | None = None, stop: Callable[[], boo
     causes = facts.all_causes(steps, progress)
     shaded: set[str] | None = facts.taken_back(chosen) if chosen else set()
     tasks = sorted(facts.task_states().values(), key=lambda task: by_name(task.name))
-    return None if shaded is None else Lanes(session.source.name, tasks, steps, causes, facts.races(), chosen, frozenset(shaded))
+    if shaded is None:
+        return None
+    recorded = {step.name: f"{place[0]}:{place[1]}" for step in steps if (place := session.source.recorded(step.line))}
+    return Lanes(session.source.name, tasks, steps, causes, facts.races(), chosen, frozenset(shaded), recorded)
 
 
 def note_of(lanes: Lanes, step: Step, races: dict[str, list[Race]]) -> str:

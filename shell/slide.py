@@ -6,11 +6,11 @@ A task is a bar, time goes to the right. What a task does for itself, `let` and 
 from __future__ import annotations
 
 import math
-from collections.abc import Iterable, Sequence
+from collections import Counter
 from xml.sax.saxutils import escape, quoteattr
 
 from shell.console import counted
-from shell.facts import Race, Step
+from shell.facts import Step
 from shell.files import write_text
 from shell.labels import Rect
 from shell.lanes import Lanes, lives
@@ -23,7 +23,7 @@ TOP, BOTTOM, MARGIN = 84, 110, 40
 FOLDED = ("let", "test")
 # Of more arrows of a kind nothing could be told.
 MOST_ARROWS = 120
-LONGEST_NAME = 14
+LONGEST_NAME, LONGEST_WORDS = 14, 16
 STYLE = (f"text{{font:{LETTER}px ui-monospace,Menlo,Consolas,'DejaVu Sans Mono',monospace;fill:{INK}}}.title{{font-size:30px;font-weight:bold}}"
          ".word{paint-order:stroke;stroke:#fff;stroke-width:5px;stroke-linejoin:round}.race{font-weight:bold}path{fill:none}")
 
@@ -122,13 +122,14 @@ class Slide:
     def word(self, step: Step, races: bool) -> list[str]:
         """A step's words above its bar, where there is room."""
         x, y = self.place(step.name)
-        wide = LETTER_WIDE * len(step.did)
+        did = cut(step.did, LONGEST_WORDS)
+        wide = LETTER_WIDE * len(did)
         rect = Rect(min(x - wide / 2, WIDE - MARGIN - wide), y - self.thick / 2 - LETTER - 3, wide, LETTER + 2)
         if rect.x < self.left or any(rect.meets(other) for other in self.taken):
             return []
         self.taken.append(rect)
         style = f' style="fill:{RED}"' if races else ""
-        return [f'<text class="word" data-step={quoteattr(step.name)} x="{rect.x:.0f}" y="{rect.y + LETTER - 2:.0f}"{style}>{escape(step.did)}</text>']
+        return [f'<text class="word" data-step={quoteattr(step.name)} x="{rect.x:.0f}" y="{rect.y + LETTER - 2:.0f}"{style}>{escape(did)}</text>']
 
     def legend(self) -> list[str]:
         """The colours of the bodies, and what is red, shaded and an arrow."""
@@ -150,18 +151,16 @@ class Slide:
 
     def told(self) -> list[str]:
         """The races by pairs of lines, as many as a line holds."""
-        text = "✕ " + "; ".join(pairs_of(self.lanes.races or (), self.lanes.steps))
+        text = "✕ " + "; ".join(pairs_of(self.lanes))
         return [cut(text, int((WIDE - 2 * MARGIN) / LETTER_WIDE))] if self.lanes.races else []
 
 
-def pairs_of(races: Iterable[Race], steps: Sequence[Step]) -> list[str]:
-    """Each pair of lines that races, with how often."""
-    line = {step.name: step.line for step in steps}
-    counts: dict[tuple[int | None, int | None, bool], int] = {}
-    for race in races:
-        key = line.get(race.first), line.get(race.second), race.apart
-        counts[key] = counts.get(key, 0) + 1
-    return [f"lines {one} and {two}: {counted(count, 'race')}" + (", never at once" if apart else "") for (one, two, apart), count in counts.items()]
+def pairs_of(lanes: Lanes) -> list[str]:
+    """Each pair of lines that races, with how often; of a recorded run, lines of the C file."""
+    line = {step.name: lanes.recorded.get(step.name, str(step.line)) for step in lanes.steps}
+    counts = Counter((line[race.first], line[race.second], race.apart) for race in lanes.races or ())
+    word = "" if lanes.recorded else "lines "
+    return [f"{word}{one} and {two}: {counted(count, 'race')}" + (", never at once" if apart else "") for (one, two, apart), count in counts.items()]
 
 
 def slide_of(lanes: Lanes) -> str:

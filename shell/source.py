@@ -1,6 +1,7 @@
 """The program's text: which line a task stands at, and at which line each step was taken."""
 
 import os
+import re
 from collections.abc import Sequence
 
 from shell.protocol import is_digits, words_of
@@ -37,6 +38,10 @@ def numbered_commands(text: str) -> tuple[int, list[tuple[int, str]]] | None:
 def unmarked(line: str) -> str:
     """A line of a session as the shell reads it: a comment may have a command of the shell's own."""
     return line.removeprefix(SHELL_MARK)
+
+
+# A place in a recorded run's comment, as `sum.c:12`.
+RECORDED = re.compile(r"([^\s:]+\.(?:c|cc|cpp|cxx|h|hpp)):([0-9]+)\b")
 
 
 class Source:
@@ -94,6 +99,15 @@ class Source:
         if number is None or not 1 <= number <= len(self.lines):
             return ""
         return self.lines[number - 1].partition("#")[2].strip()
+
+    def recorded(self, number: int | None) -> tuple[str, int] | None:
+        """The C file and its line that a line of a recorded run names in its comment; None where it names none."""
+        found = RECORDED.match(self.comment(number))
+        return (found[1], int(found[2])) if found else None
+
+    def shown(self, number: int) -> str:
+        """A line as it is shown beside a step; that of a recorded run with what it was in C."""
+        return self.line(number) + (f"  # {self.comment(number)}" if self.recorded(number) else "")
 
     def body_at(self, number: int) -> str | None:
         """The body to which a line belongs."""

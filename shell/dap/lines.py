@@ -3,13 +3,9 @@
 from __future__ import annotations
 
 import os
-import re
 from typing import NamedTuple
 
 from shell.source import Source
-
-# A place in a recorded session's comment, as `sum.c:12`.
-RECORDED = re.compile(r"^([^\s:]+\.(?:c|cc|cpp|cxx|h|hpp)):([0-9]+)\b")
 
 
 class Line(NamedTuple):
@@ -28,9 +24,9 @@ class Lines:
         self._shown: dict[int, Line] = {}
         self._program: dict[Line, list[int]] = {}
         for number in range(1, len(source.lines) + 1):
-            found = RECORDED.match(source.comment(number))
+            found = source.recorded(number)
             if found:
-                line = Line(self.find(found[1]), int(found[2]))
+                line = Line(self.find(found[0]), found[1])
                 self._shown[number] = line
                 self._program.setdefault(line, []).append(number)
 

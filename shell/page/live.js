@@ -47,6 +47,7 @@ function listenLive() {
     if (view.at === data.moments && why === "can step") ask("step " + task.name);
     else find("live-told").textContent = task.name + " " + (why || "has ended");
   };
+  find("task-click").textContent = "a click steps a task that can step";
   page.chosen = showChosen;
   page.shown = showLive;
 }

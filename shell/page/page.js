@@ -51,10 +51,10 @@ function play(on) {
   find("play").setAttribute("aria-label", on ? "pause" : "play");
 }
 
-// Marks below the slider, where commands end.
+// Marks below the slider, where commands end; of more than can be told from each other, none.
 function showMarks() {
   const marks = find("marks"), ends = [...new Set(data.commands.map((command) => command[2]))].filter((end) => end > 0);
-  marks.replaceChildren(...(ends.length > 400 ? [] : ends).map((end) => {
+  marks.replaceChildren(...(ends.length > marks.clientWidth / 6 ? [] : ends).map((end) => {
     const mark = document.createElement("i");
     mark.style.left = 100 * end / Math.max(1, data.moments) + "%";
     return mark;

@@ -44,6 +44,12 @@ function showCells() {
 
 // Races
 
+// Two lines of the program; of a recorded run, those of the C file that their comments name.
+function linesOf(...lines) {
+  const places = lines.map((line) => /#\s*([^\s:]+\.(?:c|cc|cpp|cxx|h|hpp):[0-9]+)\b/.exec(data.source[line - 1] || ""));
+  return places.every((place) => place) ? places.map((place) => place[1]).join(" and ") : "lines " + lines.join(" and ");
+}
+
 function showRaces() {
   const list = find("race-list"), kinds = new Map();
   list.replaceChildren();
@@ -54,7 +60,7 @@ function showRaces() {
   }
   for (const [key, raced] of [...kinds].slice(0, 500)) {
     const step = raced[0], [early, over, apart] = step.race;
-    const made = button("✕ lines " + steps[early].line + " and " + step.line + (raced.length > 1 ? ", " + raced.length + " races, as " : ": ") + steps[early].name + " and " + step.name + ", " + over + (apart ? ", never at once but in either order" : ""), () => showRace(step));
+    const made = button("✕ " + linesOf(steps[early].line, step.line) + (raced.length > 1 ? ", " + raced.length + " races, as " : ": ") + steps[early].name + " and " + step.name + ", " + over + (apart ? ", never at once but in either order" : ""), () => showRace(step));
     made.dataset.races = raced.map((some) => steps[some.race[0]].name + " " + some.name).join("; ");
     const row = item(list, "");
     row.append(made);

@@ -7,7 +7,8 @@ import sys
 import unittest
 
 from programs import random_program
-from support import EXAMPLES, PROGRAM, Terminal, example, needs_program, write_file
+from support import EXAMPLES, PROGRAM, Terminal, Typed, example, needs_program, write_file
+from test_dap import RECORDED
 from shell import race_advice
 from shell.commands import Shell
 from shell.console import Console
@@ -151,6 +152,13 @@ class RaceWords(unittest.TestCase):
         races = [race_of(line) for line in session.view("races")[1:]]
         self.assertEqual([kind.told() for kind in race_advice.kinds_of(session, races)],
                          ["race 1: `depend in 1` on line 6 would order them, or a `taskwait` between"])
+
+    def test_a_recorded_run_shows_its_lines_of_c(self):
+        typed = Typed(self, RECORDED.split("---\n")[0].replace(" depend inout 0", ""), "sum.session")
+        self.assertEqual(typed.ask("run 3")[1], "0#2 spawn 0.1 task4             3: task task4  # sum.c:4")
+        typed.ask("run")
+        self.assertIn("0.1#3 0.2#2 cell 0              9: store 0 1  # sum.c:5  |  12: load r1 0  # sum.c:7", typed.ask("races"))
+        self.assertEqual(typed.session.source.shown(2), "body main 0")
 
     def test_the_right_sum(self):
         if not has_views(self):

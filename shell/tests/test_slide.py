@@ -6,6 +6,7 @@ import unittest
 import xml.etree.ElementTree as tree
 
 from support import PROGRAM, Typed, contrast, example, needs_program
+from test_dap import RECORDED
 from test_lanes import SVG, drawn, walked
 from shell import slide
 from shell.labels import Rect
@@ -57,6 +58,13 @@ class SlideTest(unittest.TestCase):
         self.assertEqual({name for name, in drawn(svg, "shade", "step")}, taken)
         self.assertEqual(drawn(svg, "race", "from", "to")[:8], [tuple(line.split(" ")[:2]) for line in session.view("races")[1:]])
         self.assertEqual(len(drawn(svg, "step")), 77 - sum(" let " in line or " test " in line for line in session.view("hist")[1:]))
+
+    def test_races_of_a_recorded_run_are_told_by_lines_of_c(self):
+        text = RECORDED.split("---\n")[0].replace(" depend inout 0", "")
+        session = Session(PROGRAM, Source(text, "sum.session"))
+        self.addCleanup(session.close)
+        session.do("run 99")
+        self.assertIn("✕ sum.c:5 and sum.c:7: 2 races", slide_of(lanes_of(session)))
 
     def test_any_session(self):
         for seed in range(15):
