@@ -81,7 +81,8 @@
   "Keep the races that PARAMS tells, and say how many kinds there are."
   (setq taskback-races (gethash "races" params))
   (unless (zerop (length taskback-races))
-    (message "Taskback: %d kinds of races; `races' in the console shows them" (length taskback-races))))
+    (message "Taskback: %d kind%s of races; `races' in the console shows them"
+             (length taskback-races) (if (= 1 (length taskback-races)) "" "s"))))
 
 (defun taskback-step-back ()
   "Take the newest step of the current task back, with all steps that need it."
@@ -92,6 +93,29 @@
   "Take the newest steps back, up to the breakpoint before."
   (interactive)
   (dap--step "reverseContinue" (dap--cur-active-session-or-die)))
+
+;; Keys
+
+(defvar taskback-keys-mode-map
+  (let ((map (make-sparse-keymap)))
+    (define-key map (kbd "C-c C-d") #'dap-debug)
+    (define-key map (kbd "C-c C-t") #'dap-breakpoint-toggle)
+    (define-key map (kbd "C-c C-n") #'dap-next)
+    (define-key map (kbd "C-c C-s") #'dap-step-in)
+    (define-key map (kbd "C-c C-c") #'dap-continue)
+    (define-key map (kbd "C-c C-p") #'taskback-step-back)
+    (define-key map (kbd "C-c C-r") #'taskback-reverse-continue)
+    (define-key map (kbd "C-c C-e") #'dap-eval)
+    (define-key map (kbd "C-c C-l") #'dap-ui-locals)
+    map)
+  "Keys that step forwards and backwards.")
+
+;;;###autoload
+(define-minor-mode taskback-keys-mode
+  "Keys that step forwards and backwards; also for the C file of a recorded run."
+  :lighter " Back")
+
+(add-hook 'taskback-mode-hook #'taskback-keys-mode)
 
 (provide 'taskback)
 ;;; taskback.el ends here

@@ -35,6 +35,7 @@
   (load library nil t)
   (find-file file)
   (say "mode" major-mode)
+  (say "keys" taskback-keys-mode (key-binding (kbd "C-c C-p")) (key-binding (kbd "C-c C-r")) (key-binding (kbd "C-c C-n")))
   (goto-char (point-min))
   (forward-line (1- line))
   (dap-breakpoint-add)
