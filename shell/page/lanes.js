@@ -185,11 +185,12 @@ function scrollTo(index) {
   drawLanes();
 }
 
-// Of the rows in sight, the lanes in which most steps are: a root that waits shows nothing of who works.
+// Of the rows in sight, the lanes in which most steps are, of which the later ones weigh more: a root that waits shows
+// nothing of who works.
 function showBusyLanes() {
   const box = find("lanes"), counts = new Map();
   const first = Math.floor((box.scrollTop + 40 - TOP) / size.row), last = Math.ceil((box.scrollTop + box.clientHeight - TOP) / size.row);
-  for (const step of view.rows.slice(Math.max(0, first), last)) counts.set(view.lane.get(step.task), (counts.get(view.lane.get(step.task)) || 0) + 1);
+  view.rows.slice(Math.max(0, first), last).forEach((step, at) => counts.set(view.lane.get(step.task), (counts.get(view.lane.get(step.task)) || 0) + at + 1));
   const busy = [...counts].sort(([one], [two]) => one - two);
   const countFrom = (from) => busy.reduce((sum, [lane, count]) => sum + (lane >= from && LEFT + view.left[lane + 1] - view.left[from] <= box.clientWidth ? count : 0), 0);
   const best = busy.reduce((found, [lane]) => { const count = countFrom(lane); return count > found.count ? { lane, count } : found; }, { lane: 0, count: countFrom(0) });
