@@ -2,9 +2,7 @@
 
 from __future__ import annotations
 
-import os
 import shutil
-import sys
 from collections.abc import Callable
 from typing import TypeVar
 
@@ -16,38 +14,10 @@ from shell.group import Words, count_in
 from shell.lanes import lanes_of, text_rows
 from shell.lanes_pages import write_lanes
 from shell.page import page_of
-from shell.protocol import Cut, Ended, Refused
-from shell.session import Session
+from shell.protocol import Cut
 from shell.slide import write_slide
-from shell.source import Source, read_text, split_session
-from shell.version import TOP
 
-BUILT = os.path.join(TOP, "crates", "taskback", "out", "taskback")
-UNPROVED = os.path.join(TOP, ".cache", "taskback")
 Drawn = TypeVar("Drawn")
-
-
-def program_here() -> str:
-    """The program that TASKBACK_PROGRAM names, else the proved one, else the unproved one that ./run has built."""
-    there = [path for path in (BUILT, UNPROVED) if os.access(path, os.X_OK)]
-    return os.environ.get("TASKBACK_PROGRAM") or (there or [BUILT])[0]
-
-
-def play_file(path: str, program: str | None = None) -> Session:
-    """A session whose commands have been carried out; ends with a status where it can't be."""
-    program = program or program_here()
-    try:
-        text, commands = split_session(read_text(path))
-        session = Session(program, Source(text, path))
-    except OSError as fault:
-        print(f"can't read {path}: {fault.strerror}", file=sys.stderr)
-        sys.exit(2)
-    except (Refused, Ended) as fault:
-        print(fault, file=sys.stderr)
-        sys.exit(1)
-    for command in commands or ():
-        session.do(command)
-    return session
 
 
 class Drawing(Writing):

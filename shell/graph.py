@@ -1,15 +1,10 @@
-"""The tasks as a graph: who generated whom, which dependences order them, who excludes whom, and who is waited for.
-
-    ./run --graph SESSION [FILE]     plays the session and draws its tasks: FILE.dot as text, else by Graphviz
-                                      as FILE's ending says; without FILE, the dot language on standard output
-"""
+"""The tasks as a graph: who generated whom, which dependences order them, who excludes whom, and who is waited for."""
 
 from __future__ import annotations
 
 import os
 import shutil
 import subprocess
-import sys
 from collections.abc import Callable, Sequence
 from dataclasses import dataclass
 
@@ -228,19 +223,3 @@ def write_graph(path: str, graph: Graph) -> str:
     path = path if kind == ".dot" else base + ".dot"
     write_text(path, dot_of(graph))
     return f"written to {path}, {counted(len(graph.tasks), 'task')}" + ("" if kind == ".dot" else "; Graphviz, which would draw it, isn't here")
-
-
-def main(words: list[str]) -> int:
-    """Draws a session's tasks; returns the status."""
-    from shell.drawing import play_file
-    if not 1 <= len(words) <= 2:
-        print(__doc__, file=sys.stderr)
-        return 2
-    session = play_file(words[0])
-    graph = graph_of(session)
-    session.close()
-    if len(words) == 1:
-        sys.stdout.write(dot_of(graph))
-    else:
-        print(write_graph(words[1], graph))
-    return 0

@@ -1,12 +1,7 @@
-"""The history as a space-time picture: a lane for each task, the steps in order from the top, and why each is needed.
-
-    ./run --lanes SESSION [T#K] [FILE]     plays the session, and draws its lanes as text, or to FILE as SVG;
-                                            what `roll T#K` would take is shaded
-"""
+"""The history as a space-time picture: a lane for each task, the steps in order from the top, and why each is needed."""
 
 from __future__ import annotations
 
-import sys
 from collections.abc import Callable, Iterable, Sequence
 from dataclasses import dataclass, field
 
@@ -113,25 +108,3 @@ def text_rows(lanes: Lanes, width: int, shade: Callable[[str], str] = lambda tex
     if lanes.chosen:
         rows.append(cut(f"  * roll {lanes.chosen} would take these {len(lanes.shaded)} steps", width))
     return rows + [cut("  " + text, width) for text in lanes.remarks()]
-
-
-def main(words: list[str]) -> int:
-    """Draws a session's lanes; returns the status."""
-    from shell.drawing import play_file
-    chosen = next((word for word in words[1:] if "#" in word), None)
-    files = [word for word in words[1:] if word != chosen]
-    if not words or len(files) > 1:
-        print(__doc__, file=sys.stderr)
-        return 2
-    session = play_file(words[0])
-    lanes = lanes_of(session, chosen)
-    session.close()
-    if lanes is None:
-        print(f"step {chosen} isn't in the history", file=sys.stderr)
-        return 2
-    if not files:
-        print("\n".join(text_rows(lanes, 100)))
-        return 0
-    from shell.lanes_pages import write_lanes
-    print(write_lanes(files[0], lanes))
-    return 0

@@ -8,15 +8,13 @@ import sys
 from collections.abc import Callable
 from types import FrameType
 
-from shell import faults
 from shell.commands import Shell
 from shell.console import Console, JsonConsole, counted
-from shell.drawing import program_here
-from shell.protocol import Ended, Refused, is_digits
+from shell.installed import program_here, version
+from shell.opening import open_file
+from shell.protocol import is_digits
 from shell.script import INTERRUPTED, Script, lines_of
 from shell.session import Session
-from shell.source import Source, read_text, split_session
-from shell.version import version
 
 
 def read_words(words: list[str]) -> argparse.Namespace:
@@ -44,25 +42,12 @@ def set_streams() -> None:
 
 def start_session(given: argparse.Namespace) -> tuple[Session, list[str]]:
     """The session of the given file, and its commands; ends with a status where it can't be."""
-    try:
-        text, commands = split_session(read_text(given.file))
-    except OSError as fault:
-        print(f"run: can't read {given.file}: {fault.strerror}", file=sys.stderr)
-        sys.exit(2)
     options = [] if given.workers is None else ["--workers", given.workers]
     limit = int(given.limit) if given.limit and is_digits(given.limit) else None
     if given.limit is not None and limit is None:
         # The program says what is wrong with it.
         options += ["--limit", given.limit]
-    try:
-        return Session(given.program, Source(text, given.file), limit, options), commands or []
-    except Refused as refused:
-        for line in faults.fault_lines(os.path.basename(given.file), text, refused.line, refused.kind):
-            print(line, file=sys.stderr)
-        sys.exit(1)
-    except Ended as ended:
-        print(ended, file=sys.stderr)
-        sys.exit(ended.status or 3)
+    return open_file(given.file, given.program, limit, options)
 
 
 def set_history() -> Callable[[], None]:

@@ -1,13 +1,9 @@
-"""One page for a session, with all that it needs in it: no network, no library.
-
-    ./run --page SESSION FILE     plays the session, and writes its page to FILE
-"""
+"""One page for a session, with all that it needs in it: no network, no library."""
 
 from __future__ import annotations
 
 import json
 import os
-import sys
 from collections.abc import Callable
 
 from shell.facts import Progress
@@ -46,18 +42,3 @@ def page_of(session: Session, stop: Callable[[], bool] = lambda: False, progress
     """The page of all that a session did, and how many commands and steps these were."""
     story = Story(session, stop, progress)
     return filled(story.data()), len(story.commands), len(story.steps)
-
-
-def main(words: list[str]) -> int:
-    """Writes a session's page; returns the status."""
-    from shell.drawing import play_file
-    from shell.files import write_text
-    if len(words) != 2:
-        print(__doc__, file=sys.stderr)
-        return 2
-    session = play_file(words[0])
-    page, commands, steps = page_of(session)
-    session.close()
-    write_text(words[1], page)
-    print(f"written to {words[1]}, {commands} commands and {steps} steps")
-    return 0

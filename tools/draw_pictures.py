@@ -7,12 +7,11 @@ TASKBACK_PROGRAM names the program; without it, it is the proved one, else the u
 import os
 import sys
 
-from shell.drawing import program_here
+from shell.installed import TOP, program_here
 from shell.lanes import lanes_of
 from shell.lanes_svg import svg_of
 from shell.session import Session
 from shell.source import Source, split_session
-from shell.version import TOP
 
 # Each picture: its session, how many of its commands are carried out first, and the step whose rollback is shaded.
 PICTURES: dict[str, tuple[int, str | None]] = {

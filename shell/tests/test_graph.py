@@ -9,7 +9,7 @@ import unittest
 import xml.etree.ElementTree as tree
 
 from support import EXAMPLES, MAIN, PROGRAM, Terminal, needs_program, write_file
-from shell.drawing import play_file
+from shell.opening import play_file
 from shell.graph import dot_of, graph_of, tree_of, write_graph
 from shell.lanes import NO_CAUSES
 from test_lanes import walked

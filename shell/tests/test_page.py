@@ -14,7 +14,7 @@ from support import EXAMPLES, PROGRAM, TOP, Terminal, contrast, example, needs_p
 from shell import story
 from shell.commands import Shell
 from shell.console import Console
-from shell.drawing import play_file
+from shell.opening import play_file
 from shell.facts import Facts
 from shell.graph import groups_of, waits_of
 from shell.page import page_of

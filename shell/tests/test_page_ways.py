@@ -5,7 +5,7 @@ import unittest
 
 from support import EXAMPLES, PROGRAM, needs_program
 from test_page import in_browser, needs_browser, page_file
-from shell.drawing import play_file
+from shell.opening import play_file
 from shell.session import Session
 from shell.source import Source
 
