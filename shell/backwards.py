@@ -145,7 +145,7 @@ class Backwards(Group):
         wanted = {line.split(" ")[0] for line in reply[1:]} | {words[0]}
         rolls = taken = 0
         while not self.interrupted:
-            oldest = next((name for name in self.session.standing if name not in wanted), None)
+            oldest = next((name for name in self.session.history if name not in wanted), None)
             if oldest is None:
                 break
             rolled = self.shell.send(f"roll {oldest}")
@@ -153,16 +153,16 @@ class Backwards(Group):
                 break
             rolls, taken = rolls + 1, taken + len(rolled) - 1
         self.session.merge_taken_back(rolls)
-        self.say(f"kept {words[0]} with {counted(len(self.session.standing) - 1, 'step')}; {taken} taken back")
+        self.say(f"kept {words[0]} with {counted(len(self.session.history) - 1, 'step')}; {taken} taken back")
 
     def do_trim(self, words: Words) -> None:
         """Starts anew with the steps of the history alone."""
         count = count_in(words, 0, 0)
-        if count is None or count > len(self.session.standing):
+        if count is None or count > len(self.session.history):
             self.wrong("trim")
             return
         session = self.session
-        lines = [session.line_of(name) for name in session.standing]
+        lines = [session.line_of(name) for name in session.history]
         wanted = lines[:len(lines) - count]
         session.restart()
         session.retake(wanted)

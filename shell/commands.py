@@ -1,4 +1,4 @@
-"""The shell: takes lines, finds the command of each, and carries it out. The commands stand in groups."""
+"""The shell: takes lines, finds the command of each, and carries it out. The commands are methods of groups."""
 
 from __future__ import annotations
 
@@ -61,7 +61,7 @@ class Shell(cmd.Cmd):
         """The prompt: it says at which step the past is looked at."""
         if not self.console.typed:
             return ""
-        return "(taskback) " if self.past is None else f"(taskback @{len(self.past.standing)}) "
+        return "(taskback) " if self.past is None else f"(taskback @{len(self.past.history)}) "
 
     @property
     def session(self) -> Session:
@@ -103,7 +103,7 @@ class Shell(cmd.Cmd):
         return reply
 
     def explain(self, command: str, line: str) -> None:
-        """The words beside a refusal, an error, or a full journal."""
+        """Says in words what a refusal, an error or a full journal means."""
         told = line.split(" ")
         if told[0] == "error":
             self.outcome = max(self.outcome, Outcome.ERROR)
@@ -221,7 +221,7 @@ class Shell(cmd.Cmd):
         """A command of the shell's own, or one of the program."""
         if self.past is not None and name in OF_THE_PRESENT:
             self.outcome = max(self.outcome, Outcome.REFUSED)
-            self.console.say(f"a past state is looked at, after {len(self.past.standing)} steps; `at now` comes back, and then `{name}` can be done")
+            self.console.say(f"a past state is looked at, after {len(self.past.history)} steps; `at now` comes back, and then `{name}` can be done")
             return False
         method = self.methods.get(name)
         if method:

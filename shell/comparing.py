@@ -46,16 +46,16 @@ def first_difference(one: Session, two: Session) -> Found | None:
 
     Runs with the same steps and the same immediate needs differ in the order of independent steps alone.
     """
-    names = [name for name in one.standing if name in two.standing and two.standing[name] == one.standing[name]]
+    names = [name for name in one.history if name in two.history and two.history[name] == one.history[name]]
     differing = {name for name, here, there in zip(names, needs_of(one, names), needs_of(two, names)) if sorted(here) != sorted(there)}
     same = set(names)
-    for name in one.standing:
+    for name in one.history:
         if name not in same:
-            return Found(name, one.standing[name], two.standing.get(name, "not taken"))
+            return Found(name, one.history[name], two.history.get(name, "not taken"))
         if name in differing:
-            return Found(name, one.standing[name], two.standing[name])
-    extra = next((name for name in two.standing if name not in one.standing), None)
-    return None if extra is None else Found(extra, "not taken", two.standing[extra])
+            return Found(name, one.history[name], two.history[name])
+    extra = next((name for name in two.history if name not in one.history), None)
+    return None if extra is None else Found(extra, "not taken", two.history[extra])
 
 
 def flip(other: Session, race: Race, stop: Callable[[], bool]) -> str | None:
@@ -67,7 +67,7 @@ def flip(other: Session, race: Race, stop: Callable[[], bool]) -> str | None:
     early, late = race.first.split("#")[0], race.second.split("#")[0]
     other.do(f"rolltask {early}" if race.apart else f"roll {race.first}")
     for _ in range(MOST_STEPS):
-        if race.second in other.standing:
+        if race.second in other.history:
             return None
         if stop():
             return "stopped by Ctrl-C; the session is as it was"
@@ -114,16 +114,16 @@ class Comparing(Group):
         if other.source.text != self.session.source.text:
             self.say(f"{path} has another program")
         found = first_difference(self.session, other)
-        count = len(self.session.standing)
+        count = len(self.session.history)
         if found is None:
-            same = list(self.session.standing) == list(other.standing)
+            same = list(self.session.history) == list(other.history)
             self.say(f"equal: {counted(count, 'step')}" + ("" if same else ", but for the order of independent steps"))
             return
         self.say(f"different at {found.step}")
         self.say(f"  here:  {found.here}")
         self.say(f"  there: {found.there}")
         for name, session in (("here", self.session), ("there", other)):
-            if found.step in session.standing:
+            if found.step in session.history:
                 needs = [line for line in needs_of(session, [found.step])[0] if not line.startswith("task: ")]
                 self.note(f"{name} it needs " + ("; ".join(needs) if needs else "no step of another task"))
 
@@ -141,7 +141,7 @@ class Comparing(Group):
             self.show_both(races[number - 1])
 
     def show_both(self, race: Race) -> None:
-        """Runs both orders to their ends in programs beside, and shows what differs."""
+        """Runs both orders to their ends in two other programs, and shows what differs."""
         first, second = copy_of(self.session), copy_of(self.session)
         try:
             why = flip(second, race, lambda: self.interrupted)
@@ -170,7 +170,7 @@ class Comparing(Group):
         if outs[0] != outs[1]:
             for column, out in zip(columns, outs):
                 column.append("out: " + (" ".join(out[:SHOWN]) if out else "nothing"))
-        lengths = [len(session.standing) for session in (first, second)]
+        lengths = [len(session.history) for session in (first, second)]
         if lengths[0] != lengths[1]:
             for column, length in zip(columns, lengths):
                 column.append(counted(length, "step"))

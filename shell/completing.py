@@ -68,7 +68,7 @@ class Completing:
         if name == "redo":
             return [line.split(" ")[0] for lines in session.taken_back for line in lines]
         if name in TAKES_STEP:
-            return list(session.standing) + (["now"] if name == "at" else [])
+            return list(session.history) + (["now"] if name == "at" else [])
         if name == "clear":
             return ["line"] + [f"s{number}" for number in self.shell.stops.there] + [line.split(" ")[0] for line in session.view("breaks")[1:]]
         return ()

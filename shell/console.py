@@ -1,4 +1,4 @@
-"""What commands write to: lines of replies, words beside them, progress, and questions; as text or as JSON."""
+"""What commands write to: lines of replies, the words that explain them, progress, and questions; as text or as JSON."""
 
 import contextlib
 import json
@@ -82,7 +82,7 @@ class Console:
         self.write(line)
 
     def reply(self, line: str, line_number: int | None = None, words: str = "") -> None:
-        """A line of the program's reply, with the source line of its first step, and words beside it."""
+        """A line of the program's reply, with the source line of its first step, and words to the right of it."""
         self.write(line if self.exact or not words else line + self.dim(" " * max(2, 32 - len(line)) + words))
 
     def note(self, text: str) -> None:

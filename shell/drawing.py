@@ -58,7 +58,7 @@ class Drawing(Writing):
         files = [word for word in names if word != chosen]
         if len(files) > 1:
             self.wrong("lanes")
-        elif chosen and chosen not in self.session.standing:
+        elif chosen and chosen not in self.session.history:
             self.refuse(f"step {chosen} isn't in the history")
         elif not files or self.may_write(files[0], force):
             self.draw_lanes(chosen, files[0] if files else None)
@@ -70,7 +70,7 @@ class Drawing(Writing):
         files = [word for word in names if word != chosen]
         if len(files) != 1:
             self.wrong("slide")
-        elif chosen and chosen not in self.session.standing:
+        elif chosen and chosen not in self.session.history:
             self.refuse(f"step {chosen} isn't in the history")
         elif self.may_write(files[0], force):
             lanes = self.drawn(lanes_of, chosen)

@@ -35,7 +35,7 @@ class Task:
 
 @dataclass
 class Step:
-    """A step that stands: its name, its task, what it did, and its line in the program."""
+    """A step of the history: its name, its task, what it did, and its line in the program."""
 
     name: str
     did: str
@@ -100,8 +100,8 @@ class Facts:
         return self.ask(command) or []
 
     def steps(self) -> list[Step]:
-        """The steps that stand, from the oldest."""
-        return [Step(name, did, self.session.places.line_of(name)) for name, did in self.session.standing.items()]
+        """The steps of the history, from the oldest."""
+        return [Step(name, did, self.session.places.line_of(name)) for name, did in self.session.history.items()]
 
     def ask_all(self, commands: Sequence[str]) -> Iterator[list[str] | None]:
         """The lines of many views after their counts, as `ask` has them."""
@@ -116,7 +116,7 @@ class Facts:
         return None if lines is None else causes_of(lines)
 
     def all_causes(self, steps: Sequence[Step], progress: Progress = lambda *told: None) -> dict[str, Causes] | None:
-        """The immediate needs of all steps that stand, by their names; None where the program doesn't show them."""
+        """The immediate needs of all steps of the history, by their names; None where the program doesn't show them."""
         names = [step.name for step in steps]
         if not steps or self.causes(names[0]) is None:
             return None if steps else {}
@@ -131,7 +131,7 @@ class Facts:
         return [line.split(" ")[0] for line in self.ask(f"why {step}") or ()]
 
     def taken_back(self, step: str) -> set[str] | None:
-        """The steps that a rollback of this one would take, itself among them; None where it doesn't stand."""
+        """The steps that a rollback of this one would take, itself among them; None where it isn't in the history."""
         reply = self.session.view(f"who {step}")
         if not reply[0].startswith("who "):
             return None

@@ -29,7 +29,7 @@ TYPES = ("in", "out", "inout", "mutexinoutset", "inoutset")
 # How many words follow each word, where it is one number.
 WANTED = {"cells": 1, "cell": 2, "body": 2, "load": 2, "store": 2, "print": 1, "taskgroup": 0, "if": 3, "while": 3, "else": 0, "end": 0}
 OPENERS = ("body", "if", "while", "taskgroup")
-# What stands for comparisons that the notation hasn't, of a line's words.
+# How the notation writes comparisons that it hasn't, from a line's words.
 COMPARED = {"=": "{0} {1} == {3}", ">": "{0} {3} < {1}", ">=": "{0} {3} <= {1}"}
 # Words of C and of other languages, and what the notation has in their place.
 FOREIGN = {
@@ -64,7 +64,7 @@ def first_where(words: Sequence[str], places: Iterable[int], wrong: Callable[[st
 
 
 def number_at_fault(words: Sequence[str]) -> int | None:
-    """Which word stands in a number's place and is none."""
+    """Which word should be a number and is none."""
     word = words[0]
     if word in ("cells", "cell", "body"):
         places = (2,) if word == "body" else (1, 2)
@@ -85,12 +85,12 @@ def items_at(words: Sequence[str]) -> list[int]:
 
 
 def item_at_fault(words: Sequence[str]) -> int | None:
-    """Which word stands in an address's place of a clause, and is none."""
+    """Which word should be the address of a clause, and is none."""
     return first_where(words, [at + 2 for at in items_at(words)], lambda given: not is_operand(given) and given != "all")
 
 
 def type_at_fault(words: Sequence[str]) -> int | None:
-    """Which word stands in a type's place and can't."""
+    """Which word should be the type of a clause, and isn't one that it may have."""
     types = types_of(words[0])
     found = first_where(words, [at + 1 for at in items_at(words)], lambda given: given not in types)
     if found is not None:
@@ -118,7 +118,7 @@ def register_at_fault(words: Sequence[str]) -> int | None:
 
 
 def word_at_fault(words: Sequence[str], kind: str) -> int | None:
-    """The place of the word at fault; None where that can't be told."""
+    """The place of the word at fault; None where that isn't known."""
     if not words:
         return None
     by_kind = {"BadNumber": number_at_fault, "UnknownWord": unknown_at_fault, "Register": register_at_fault, "DependType": type_at_fault}
@@ -144,7 +144,7 @@ def open_blocks(lines: Sequence[str], number: int) -> list[tuple[int, str]]:
 
 
 def nesting_words(lines: Sequence[str], number: int, words: Sequence[str]) -> str:
-    """Why a line can't stand where it is, or what is open at the end of the text."""
+    """Why a line can't be where it is, or what is open at the end of the text."""
     opened = open_blocks(lines, number)
     innermost = f"`{opened[-1][1]}` of line {opened[-1][0]}" if opened else ""
     if not words:
@@ -161,7 +161,7 @@ def nesting_words(lines: Sequence[str], number: int, words: Sequence[str]) -> st
 
 
 def parameters_of(lines: Sequence[str], name: str) -> int | None:
-    """How many parameters a body has; None where that can't be told."""
+    """How many parameters a body has; None where that isn't known."""
     for words in map(words_of, lines):
         if words[:2] == ["body", name] and len(words) == 3 and is_number(words[2]):
             return int(words[2])
@@ -213,7 +213,7 @@ def from_clauses(line: str) -> str | None:
 
 
 def from_other_languages(words: Sequence[str], line: str) -> str | None:
-    """What stands in the notation for words of C and of other languages."""
+    """What the notation has in place of words of C and of other languages."""
     clauses = from_clauses(line)
     if clauses:
         return clauses

@@ -1,4 +1,4 @@
-"""Writing files: beside the old one, and then in its place; and whether one may be replaced without asking."""
+"""Writes files under another name first, and renames them; and says whether one may be replaced without asking."""
 
 import os
 import stat
@@ -23,7 +23,7 @@ def is_foreign(path: str) -> bool:
 
 
 def replace_by(path: str, write: Callable[[str], None]) -> None:
-    """Has a new file written beside, and puts it in the place of the old one; what is no plain file is written to as it is.
+    """Has a new file written in the same folder, and renames it to the old one; what is no plain file is written to as it is.
 
     Raises OSError where it can't; then the old file is as it was.
     """

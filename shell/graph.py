@@ -15,7 +15,7 @@ from shell.files import write_bytes, write_text
 from shell.lanes import NO_CAUSES, NO_RACES
 from shell.session import Session
 
-# Each state: its fill, its outline, and the style of the outline, so that it can be told without colour.
+# Each state: its fill, its outline, and the style of the outline, so that it is seen without colour too.
 STATES = {
     "pending": ("#ffffff", "#5c5c5c", "dashed"),
     "running": ("#cfe3ff", "#0b5cad", "solid"),

@@ -8,7 +8,7 @@ UNPROVED = os.path.join(TOP, ".cache", "taskback")
 
 
 def version() -> str:
-    """The version, which stands in the file VERSION alone; the tests hold against it what the program was compiled with."""
+    """The version, from the file VERSION; the tests compare with it the one that the program was compiled with."""
     with open(os.path.join(TOP, "VERSION"), encoding="ascii") as file:
         return file.read().strip()
 

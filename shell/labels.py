@@ -1,4 +1,4 @@
-"""Labels of arrows: each at a place beside its arrow where it lies on no arrow, no words and no other label."""
+"""Labels of arrows: each near its arrow, where it covers no arrow, no words and no other label."""
 
 from __future__ import annotations
 
@@ -9,7 +9,7 @@ from dataclasses import dataclass
 from typing import NamedTuple
 
 Point = tuple[float, float]
-# The size of the squares by which what is near is found, and of letters.
+# The size of the squares by which close things are found, and of letters.
 SQUARE = 48
 WIDE, HIGH = 6.8, 13.0
 LEAST_SAMPLES, STEP = 24, 4
@@ -67,7 +67,7 @@ class Curve:
 
 
 class Labels:
-    """Finds places; what is taken is kept by squares, so that only what is near is looked at."""
+    """Finds places; what is taken is kept by squares, so that only the squares around are searched."""
 
     def __init__(self, curves: Sequence[Curve], taken: Iterable[Rect]) -> None:
         self._points: dict[tuple[int, int], list[Point]] = defaultdict(list)
@@ -91,7 +91,7 @@ class Labels:
                                       for square in rect.squares())
 
     def place(self, curve: Curve) -> Rect | None:
-        """A free place beside an arrow, which is taken then; None where there is none."""
+        """A free place next to an arrow, which is taken then; None where there is none."""
         wide = WIDE * len(curve.text)
         for part in PLACES:
             x, y = curve.at(part)

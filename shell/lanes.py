@@ -50,7 +50,7 @@ def lanes_of(session: Session, chosen: str | None = None, stop: Callable[[], boo
 
 
 def note_of(lanes: Lanes, step: Step, races: dict[str, list[Race]]) -> str:
-    """What stands beside a step: the causes in other lanes, and its race."""
+    """What is written to the right of a step: the causes in other lanes, and its race."""
     needed = [(kind, early) for kind, early in (lanes.causes or {}).get(step.name, ()) if kind != "task"]
     parts = [f"{kind}: {early}" for kind, early in needed]
     for race in races.get(step.name, ()):
@@ -84,7 +84,7 @@ def cut(text: str, width: int) -> str:
 
 
 def text_rows(lanes: Lanes, width: int, shade: Callable[[str], str] = lambda text: text) -> list[str]:
-    """The lines of the picture at a terminal of this width; `shade` marks a line beside its `*`."""
+    """The lines of the picture at a terminal of this width; `shade` marks a line that has a `*`."""
     names = [task.name for task in lanes.tasks]
     room = min([len(step.did) for step in lanes.steps] + [16])
     room = max([min(len(step.did), 16) for step in lanes.steps] + [room, 5]) + 2

@@ -1,4 +1,4 @@
-"""Lanes as SVG: shapes, dashes and words beside colours, which all have enough contrast on white."""
+"""Lanes as SVG: shapes, dashes and words besides colours, which all have enough contrast on white."""
 
 from __future__ import annotations
 
@@ -40,7 +40,7 @@ def cut(text: str) -> str:
 
 
 class Drawing:
-    """Where the steps of some lanes stand, and what is drawn there."""
+    """Where the steps of some lanes are, and what is drawn there."""
 
     def __init__(self, lanes: Lanes) -> None:
         self.lanes = lanes

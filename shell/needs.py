@@ -32,7 +32,7 @@ def number_of(name: str) -> int:
 
 
 class Needs:
-    """Takes the steps of a history in order. Of a task's own steps only the newest is told: it needs the others."""
+    """Takes the steps of a history in order. Of a task's own steps only the newest is returned: it needs the others."""
 
     def __init__(self) -> None:
         self.count = 0
@@ -110,7 +110,7 @@ class Needs:
 
     @staticmethod
     def orders(new_items: Sequence[str], old_items: Sequence[str]) -> set[str | None]:
-        """How items stand to those of an elder sibling."""
+        """Whether items order a task after an elder sibling, or exclude it, by that one's items."""
         return {needs_order(new, old) for new in new_items for old in old_items}
 
     def members(self, children: Iterable[str]) -> Iterator[str]:

@@ -13,7 +13,7 @@ from dataclasses import dataclass, field
 ALL = "all"
 # Types whose items in a row aren't ordered among each other.
 TOGETHER = ("in", "inoutset", "mutexinoutset")
-# Of a generation of more exclusive tasks each is told the one in front of it alone.
+# Of more tasks that exclude each other, each is paired with the one in front of it alone.
 MOST_EXCLUSIVE = 40
 
 
@@ -65,7 +65,7 @@ class Ordering:
         self.families: dict[str, Family] = {}
 
     def add(self, parent: str, child: str, items: Sequence[str]) -> Order:
-        """A child that was generated, and how it stands to its elders."""
+        """A child that was generated: returns which elders it comes after, and which it excludes."""
         order, family = Order(), self.families.setdefault(parent, Family())
         for cell, kind in types_by_cell(items).items():
             for generations in list(family.cells.values()) or [[]] if cell == ALL else [family.at(cell)]:

@@ -28,7 +28,7 @@ def as_json(data: object) -> str:
 
 def filled(data: dict[str, object], live: str = "", connect: str = "", scripts: tuple[str, ...] = ("start.js",)) -> str:
     """The page of some data; `live` is what a page has more that is served, `connect` what it may ask, `scripts` how it starts."""
-    # Bytes that are no text can't stand in a page.
+    # A page can't have bytes that are no text.
     title = str(data["title"]).replace("&", "&amp;").replace("<", "&lt;").encode("utf-8", "replace").decode("utf-8")
     page = part("page.html").replace("@title@", title)
     script = "".join(part(name) for name in SCRIPTS + scripts)

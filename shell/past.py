@@ -1,4 +1,4 @@
-"""A past state, looked at in a second program beside the session's own: nothing is taken back for it."""
+"""A past state, looked at in a second program: nothing is taken back for it."""
 
 from __future__ import annotations
 
@@ -14,17 +14,17 @@ FEW = 2000
 
 def prefix_of(session: Session, count: int) -> list[str]:
     """The oldest steps of the history."""
-    return [session.line_of(name) for name in list(session.standing)[:count]]
+    return [session.line_of(name) for name in list(session.history)[:count]]
 
 
 def move(past: Session, present: Session, count: int) -> None:
     """Brings a past state to so many of the oldest steps of the history."""
-    there = len(past.standing)
+    there = len(past.history)
     if count < there - FEW or past.room < FEW:
         past.start()
         there = 0
     wanted = prefix_of(present, count)
-    for line in reversed(list(past.standing)[count:]):
+    for line in reversed(list(past.history)[count:]):
         past.do(f"undo {line}")
     past.retake(wanted[min(there, count):])
 
@@ -39,7 +39,7 @@ class Looking(Group):
         elif words[0] == "now":
             self.come_back()
         elif "#" in words[0]:
-            names = list(self.shell.present.standing)
+            names = list(self.shell.present.history)
             if words[0] in names:
                 self.look(names.index(words[0]) + 1)
             else:
@@ -52,7 +52,7 @@ class Looking(Group):
     def look(self, count: int) -> None:
         """Looks at the state after so many steps."""
         present = self.shell.present
-        steps = len(present.standing)
+        steps = len(present.history)
         if count > steps:
             self.refuse(f"the history has {counted(steps, 'step')}")
             return
@@ -71,4 +71,4 @@ class Looking(Group):
         if self.shell.past is not None:
             self.shell.past.close()
             self.shell.past = None
-        self.say(f"at {len(self.shell.present.standing)}, now")
+        self.say(f"at {len(self.shell.present.history)}, now")

@@ -1,4 +1,4 @@
-"""The programs beside the shell: the page of a session, as a file or live, and pictures of its end."""
+"""The programs that ./run starts besides the shell: the page of a session, as a file or live, and pictures of its end."""
 
 from __future__ import annotations
 

@@ -117,7 +117,7 @@ class Program:
         """The replies to some commands, each of which has one; they are sent together, so there are few of them."""
         Program.awaited = self
         try:
-            # Where a faulty `cells` ends isn't told by a count; a faulty command after it does.
+            # No count says where the reply to a faulty `cells` ends, so a faulty command is sent after it, whose reply is known.
             self._write("".join(command + "\n" + "step\n" * self._is_cells(command) for command in commands))
             replies = [self._lines_of(command) for command in commands]
         finally:

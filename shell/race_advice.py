@@ -43,7 +43,7 @@ class Touched:
 
 @dataclass(frozen=True)
 class Clause:
-    """A clause that is missing on a task's line, or that should stand there in place of another one."""
+    """A clause that is missing on a task's line, or that should replace another one there."""
 
     line: int
     type: str
@@ -67,7 +67,7 @@ class Run:
         self._counts: Counter[int] = Counter()
         self.touched: dict[str, dict[str, Touched]] = defaultdict(lambda: defaultdict(Touched))
         self._registers: dict[str, list[int]] = {"0": [0] * 16}
-        for name, did in session.standing.items():
+        for name, did in session.history.items():
             self._read(name, did.split(" "))
 
     def _read(self, name: str, words: Sequence[str]) -> None:
@@ -149,7 +149,7 @@ class Kind:
 
 
 def clauses_in_words(clauses: Iterable[Clause]) -> str:
-    """Clauses with their lines: those that are alike are told together, and so are the cells of one line."""
+    """Clauses with their lines: those that are alike are named together, and so are the cells of one line."""
     by_kind: dict[tuple[int, str, str, bool], list[Clause]] = defaultdict(list)
     for clause in clauses:
         by_kind[clause.line, clause.type, clause.instead, clause.place.isdigit()].append(clause)

@@ -15,7 +15,7 @@ class Came(Exception):
 def copy_of(session: Session, lines: Sequence[str] | None = None) -> Session:
     """A second session with these steps, or with those of the history."""
     beside = session.beside()
-    wanted = [session.line_of(name) for name in session.standing] if lines is None else lines
+    wanted = [session.line_of(name) for name in session.history] if lines is None else lines
     beside.retake(wanted)
     return beside
 
@@ -24,8 +24,8 @@ def blame(beside: Session, line: str) -> str:
     """Which step keeps another from being what it was."""
     name, did = line.split(" ", 1)
     task, number = name.split("#")
-    if name in beside.standing:
-        return f"{name} was taken again otherwise: {beside.standing[name]}"
+    if name in beside.history:
+        return f"{name} was taken again otherwise: {beside.history[name]}"
     reply = beside.view(f"task {task}")
     if not reply[0].startswith("task "):
         return f"task {task} isn't generated now"
@@ -34,13 +34,13 @@ def blame(beside: Session, line: str) -> str:
         return f"{task} has taken {have} steps, and not {int(number) - 1}"
     words = did.split(" ")
     if words[0] in ("load", "store"):
-        stores = [other for other, what in beside.standing.items() if what.startswith(f"store {words[-2]} ")]
+        stores = [other for other, what in beside.history.items() if what.startswith(f"store {words[-2]} ")]
         if stores:
-            return f"{stores[-1]} {beside.standing[stores[-1]]} came between"
+            return f"{stores[-1]} {beside.history[stores[-1]]} came between"
     answer = beside.do(f"step {task}")[0]
     if answer.startswith("refused "):
         other = answer.split(" ")[3] if answer.count(" ") > 2 else ""
-        newest = next((told for told in reversed(beside.standing) if told.split("#")[0] == other), other)
+        newest = next((told for told in reversed(beside.history) if told.split("#")[0] == other), other)
         return f"{newest} came between: {answer}"
     return f"{answer} would be taken, and not {line}"
 
@@ -49,11 +49,11 @@ def try_again(beside: Session, lines: Sequence[str]) -> None:
     """Takes the steps in a second session; raises Came at the first that isn't what it was."""
     for line in lines:
         task = line.split("#")[0]
-        before = len(beside.standing)
+        before = len(beside.history)
         reply = beside.do(f"step {task}")
         if reply == [line]:
             continue
-        if len(beside.standing) > before and beside.newest is not None:
+        if len(beside.history) > before and beside.newest is not None:
             beside.do(f"undo {beside.newest}")
         raise Came(f"{line.split(' ')[0]} can't be taken again as it was: {blame(beside, line)}")
 

@@ -45,7 +45,7 @@ class Live:
         return filled(self.data(), part("live.html"), "; connect-src 'self'", ("live.js",))
 
     def do(self, command: str) -> dict[str, object]:
-        """Carries out a command, and tells what it said and what there is now; raises ValueError where it may not be asked for."""
+        """Carries out a command; returns what it said and what there is now; raises ValueError where it may not be asked for."""
         words = words_of(command)
         if not words or words[0] not in ALLOWED:
             raise ValueError("a page may ask for " + ", ".join(ALLOWED))

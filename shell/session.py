@@ -62,9 +62,9 @@ def gone(prefix: str, count: int, ended: str, steps: Steps | None) -> Done:
 
 
 class Session:
-    """The program, the commands it was given, the steps that are in its history, and where its tasks stand.
+    """The program, the commands it was given, the steps that are in its history, and where its tasks are.
 
-    `standing` has the history, the oldest step first: what each step did by its name. `taken_back` has what each undo
+    `history` has what each step of it did by its name, the oldest first. `taken_back` has what each undo
     or rollback took, the newest last, each as lines in the order of the history.
     """
 
@@ -74,7 +74,7 @@ class Session:
         self.limit = limit
         self.options = list(options)
         self.places = Places(source)
-        self.standing: dict[str, str] = {}
+        self.history: dict[str, str] = {}
         self.taken_back: list[list[str]] = []
         self.log: list[Done] = []
         self.entries = 1
@@ -93,7 +93,7 @@ class Session:
         self.program.close()
         self.program = program
         self.log = []
-        self.standing = {}
+        self.history = {}
         self.taken_back = []
         self.entries = 1
         self.places.forget()
@@ -111,7 +111,7 @@ class Session:
     @property
     def newest(self) -> str | None:
         """The newest step of the history; None where there is none."""
-        return next(reversed(self.standing), None)
+        return next(reversed(self.history), None)
 
     @property
     def room(self) -> int:
@@ -120,7 +120,7 @@ class Session:
 
     def line_of(self, name: str) -> str:
         """The line of a step of the history."""
-        return f"{name} {self.standing[name]}"
+        return f"{name} {self.history[name]}"
 
     def close(self) -> None:
         """Ends the program."""
@@ -147,14 +147,14 @@ class Session:
         self.entries += len(lines)
         for line in lines:
             name, _, did = line.partition(" ")
-            self.standing[name] = did
+            self.history[name] = did
             self.places.took(line)
 
     def lost(self, lines: Steps) -> None:
         """Notes steps that were just taken back, as lines in the order of the history."""
         self.entries += 1
         for line in reversed(lines):
-            del self.standing[line.split(" ")[0]]
+            del self.history[line.split(" ")[0]]
             self.places.took_back(line)
         self.taken_back.append(list(lines))
 
@@ -245,10 +245,10 @@ class Session:
 
     def replay(self, limit: int) -> bool:
         """Starts with another limit and does again what was done; returns whether all had room."""
-        before, wanted = (self.limit, self.log, self.taken_back), dict(self.standing)
+        before, wanted = (self.limit, self.log, self.taken_back), dict(self.history)
         self.limit = limit
         self.do_again(before[1])
-        fits = self.standing == wanted
+        fits = self.history == wanted
         if not fits:
             self.limit = before[0]
             self.do_again(before[1])

@@ -21,7 +21,7 @@ WIDE, HIGH = 1600, 900
 LETTER, LETTER_WIDE = 20, 12.1
 TOP, BOTTOM, MARGIN = 84, 110, 40
 FOLDED = ("let", "test")
-# Of more arrows of a kind nothing could be told.
+# More arrows of a kind than these could not be told apart.
 MOST_ARROWS = 120
 LONGEST_NAME, LONGEST_WORDS = 14, 16
 STYLE = (f"text{{font:{LETTER}px ui-monospace,Menlo,Consolas,'DejaVu Sans Mono',monospace;fill:{INK}}}.title{{font-size:30px;font-weight:bold}}"

@@ -1,4 +1,4 @@
-"""The program's text: which line a task stands at, and at which line each step was taken."""
+"""The program's text: which line a task is at, and at which line each step was taken."""
 
 import os
 import re
@@ -106,7 +106,7 @@ class Source:
         return (found[1], int(found[2])) if found else None
 
     def shown(self, number: int) -> str:
-        """A line as it is shown beside a step; that of a recorded run with what it was in C."""
+        """A line as it is shown with a step; that of a recorded run with what it was in C."""
         return self.line(number) + (f"  # {self.comment(number)}" if self.recorded(number) else "")
 
     def body_at(self, number: int) -> str | None:
@@ -126,7 +126,7 @@ class Source:
         return word not in ("", "cells", "cell", "else")
 
     def is_in_loop(self, number: int) -> bool:
-        """Whether a `while` stands around a line."""
+        """Whether a line is in a `while`."""
         return any(opener < number < end and self.line(opener).startswith("while ") for opener, end in self._end.items())
 
     def _settle(self, number: int) -> int | None:
@@ -145,7 +145,7 @@ class Source:
         return None
 
     def after(self, number: int | None, did: Sequence[str]) -> int | None:
-        """Where a task stands after a step at this line; None after its end."""
+        """Where a task is after a step at this line; None after its end."""
         if number is None or did[0] in ("end", "fault"):
             return None
         if list(did) == ["test", "no"]:
@@ -155,7 +155,7 @@ class Source:
 
 
 class Places:
-    """Where the tasks stand, and the lines of the steps that were taken."""
+    """Where the tasks are, and the lines of the steps that were taken."""
 
     def __init__(self, source: Source) -> None:
         self.source = source

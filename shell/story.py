@@ -1,4 +1,4 @@
-"""A session told step by step, for the page: what the history, the tasks, the cells and the output were at each moment.
+"""A session step by step, for the page: what the history, the tasks, the cells and the output were at each moment.
 
 The moment 0 is in front of the first step. Each step that was taken, and each undo and rollback, leads to the next one.
 What came at a moment `born` and went at `died` was there at the moments from the one up to the other, the other not
@@ -104,7 +104,7 @@ class Story:
         self.looks = self.total <= MOST_LOOKS
         self.commands: list[list[Any]] = []
         self.steps: list[ToldStep] = []
-        self.standing: dict[str, int] = {}
+        self.history: dict[str, int] = {}
         self.tasks: list[ToldTask] = []
         self.there: dict[str, ToldTask] = {}
         self.cells = Cells(session.source)
@@ -168,7 +168,7 @@ class Story:
         words, task = did.split(" "), name.split("#")[0]
         self.moment += 1
         self.progress(self.moment, "steps", self.total)
-        self.standing[name] = len(self.steps)
+        self.history[name] = len(self.steps)
         self.fresh.append(name)
         self.steps.append(ToldStep(name, did, self.session.places.line_of(name), self.moment))
         if words[0] == "store":
@@ -189,7 +189,7 @@ class Story:
         for line in reversed(lines):
             name, _, did = line.partition(" ")
             words, (task, _, number) = did.split(" "), name.partition("#")
-            self.steps[self.standing.pop(name)].died = self.moment
+            self.steps[self.history.pop(name)].died = self.moment
             if words[0] == "store":
                 changed.add(self.cells.lost(name, words))
             elif words[0] == "print":
@@ -273,15 +273,15 @@ class Story:
         if self.shows_causes and self.total <= MOST_ASKED:
             asked = self.facts.ask_all([f"causes {name}" for name in self.fresh])
             for name, lines in zip(self.fresh, asked):
-                self.steps[self.standing[name]].causes = [(kind, self.standing[early]) for kind, early in causes_of(lines or ())]
+                self.steps[self.history[name]].causes = [(kind, self.history[early]) for kind, early in causes_of(lines or ())]
         else:
             self.work_out_needs()
         self.fresh = []
 
     def work_out_needs(self) -> None:
         """The needs of the new steps from the lines of the history, without the program's help."""
-        places, fresh, needs = list(self.standing.values()), set(self.fresh), Needs()
-        for name, at in self.standing.items():
+        places, fresh, needs = list(self.history.values()), set(self.fresh), Needs()
+        for name, at in self.history.items():
             found = needs.direct(name, self.steps[at].did)
             if name in fresh:
                 self.steps[at].causes = [(kind, places[place]) for kind, place in found]
@@ -294,7 +294,7 @@ class Story:
                            for part in (*kind.lines, kind.example.over == "print", kind.example.apart))
             self.hints[key] = kind.advice().replace("`", "")
         for race in races or ():
-            self.steps[self.standing[race.second]].race = (self.standing[race.first], race.over, race.apart)
+            self.steps[self.history[race.second]].race = (self.history[race.first], race.over, race.apart)
 
     def data(self) -> dict[str, object]:
         """All of it, as the page takes it."""

@@ -38,7 +38,7 @@ def error_words(command: str, kind: str, workers: int, bodies: Sequence[str] = (
 
 
 def needs_order(new: str, old: str) -> str | None:
-    """How a new item stands to an earlier one: `after`, `apart`, or None where nothing follows."""
+    """What a new item makes of an earlier one: `after`, `apart`, or None where nothing follows."""
     (kind, cell), (other, place) = new.split(" "), old.split(" ")
     if cell != place and "all" not in (cell, place):
         return None

@@ -33,7 +33,7 @@ class Values:
         """A number with which a task was generated."""
         self._view(task)
         parent = task.rpartition(".")[0]
-        spawns = (did for name, did in self.session.standing.items() if name.startswith(parent + "#") and did.startswith(f"spawn {task} "))
+        spawns = (did for name, did in self.session.history.items() if name.startswith(parent + "#") and did.startswith(f"spawn {task} "))
         found = SPAWN.match(next(spawns, ""))
         given = found[1].split() if found else []
         if number >= len(given):

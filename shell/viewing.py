@@ -1,4 +1,4 @@
-"""The commands that look: races and causes with words beside them, any view by its name, and the source."""
+"""The commands that look: races and causes explained in words, any view by its name, and the source."""
 
 from __future__ import annotations
 
@@ -20,7 +20,7 @@ class Viewing(Group):
 
     def do_races(self, words: Words) -> None:
         """The races by pairs of lines, each with what would order the two steps."""
-        with self.console.waiting(f"races of {counted(len(self.session.standing), 'step')}"):
+        with self.console.waiting(f"races of {counted(len(self.session.history), 'step')}"):
             reply = self.session.do(" ".join(["races", *words]))
         if self.console.exact or not reply[0].startswith("races "):
             self.shell.show(reply)

@@ -78,7 +78,7 @@ class Walking(Group):
         self.shell.explain(prefix, f"ran {taken} {why}")
         if why == "break" and not self.console.exact:
             self.shell.breaking.tell_met(self.session.newest)
-        if not taken and why == "done" and self.session.standing:
+        if not taken and why == "done" and self.session.history:
             self.note("no task can step: `waits` says for whom they wait" if len(self.session.view("waits")) > 1 else
                       "all tasks are over; `restart` starts anew, and `rc` goes back")
         if self.interrupted:
@@ -172,11 +172,11 @@ class Walking(Group):
             self.wrong("until")
             return
         wanted = words[0]
-        if wanted in self.session.standing:
+        if wanted in self.session.history:
             self.refuse(f"{wanted} is in the history already; `roll {wanted}` takes it back")
             return
         self.walk("run", GREATEST_LIMIT, lambda steps: any(line.split(" ")[0] == wanted for line in steps), 1)
-        if wanted not in self.session.standing and not self.interrupted:
+        if wanted not in self.session.history and not self.interrupted:
             self.refuse(f"{wanted} was never reached")
 
     def do_random(self, words: Words) -> None:

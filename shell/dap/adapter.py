@@ -164,7 +164,7 @@ class Adapter:
 
     def on_exceptionInfo(self, arguments: Body) -> Body:
         newest = self.debuggee.session.newest
-        did = self.debuggee.session.standing[newest] if newest else ""
+        did = self.debuggee.session.history[newest] if newest else ""
         return {"exceptionId": did.split(" ")[0], "description": f"{newest} {did}", "breakMode": "always"}
 
     # Looking
@@ -190,9 +190,9 @@ class Adapter:
         in_console = arguments.get("context") == "repl"
         if in_console and self.runner.job is not None:
             raise Failed("the tasks are running; pause them first")
-        before = (self.debuggee.session.entries, shell.past is None, len(shell.session.standing))
+        before = (self.debuggee.session.entries, shell.past is None, len(shell.session.history))
         result, was_command = self.inspecting.evaluate(text, arguments.get("frameId"), in_console)
-        if was_command and before != (self.debuggee.session.entries, shell.past is None, len(shell.session.standing)):
+        if was_command and before != (self.debuggee.session.entries, shell.past is None, len(shell.session.history)):
             there = shell.focus if shell.focus in shell.session.places.position else "0"
             self.stopped(Stopped("step", there, f"after `{text.strip()}`"))
         return {"result": result, "variablesReference": 0}
@@ -264,7 +264,7 @@ class Adapter:
     def tell_races(self) -> None:
         """A custom event with the races so far, where they changed, and the new kinds of them in the console."""
         session = self.debuggee.session
-        if len(session.standing) > MOST_STEPS:
+        if len(session.history) > MOST_STEPS:
             return
         races = [race_of(line) for line in session.view("races")[1:] if is_step(line)]
         names = {f"{race.first} {race.second}" for race in races}

@@ -50,7 +50,7 @@ class Debuggee:
         try:
             for command in commands:
                 beside.do(command)
-            return list(beside.standing)
+            return list(beside.history)
         finally:
             beside.close()
 
@@ -91,7 +91,7 @@ class Debuggee:
 
     def recorded_next(self) -> str | None:
         """The task whose step comes next in the recorded order; None where it is at its end, or was left."""
-        while self._next < len(self.order) and self.order[self._next] in self.session.standing:
+        while self._next < len(self.order) and self.order[self._next] in self.session.history:
             self._next += 1
         return self.order[self._next].split("#")[0] if self._next < len(self.order) else None
 

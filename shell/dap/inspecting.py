@@ -36,7 +36,7 @@ class Inspecting:
         line = self.session.places.position.get(task)
         if line is not None:
             return line
-        newest = next((name for name in reversed(self.session.standing) if name.split("#")[0] == task), None)
+        newest = next((name for name in reversed(self.session.history) if name.split("#")[0] == task), None)
         return self.session.places.line_of(newest) if newest else None
 
     def frames(self, task: str) -> list[Body]:

@@ -74,7 +74,7 @@ class Runner:
 
     def over(self, task: str) -> Stopped:
         """How a job ends where no task can step."""
-        return Stopped("end", task, f"the run is over: no task can step, {len(self.session.standing)} steps are taken")
+        return Stopped("end", task, f"the run is over: no task can step, {len(self.session.history)} steps are taken")
 
     def pause(self) -> None:
         """Ends the job that is under way between two steps."""
@@ -144,7 +144,7 @@ class Runner:
 
     def back(self, task: str) -> Job:
         """The task's newest step back, with all that need it."""
-        newest = next((name for name in reversed(self.session.standing) if name.split("#")[0] == task), None)
+        newest = next((name for name in reversed(self.session.history) if name.split("#")[0] == task), None)
         if newest is None:
             raise Failed(f"{task} has taken no step")
         self.roll(f"roll {newest}", task)

@@ -89,7 +89,7 @@ class Server:
         self.send_event("terminated", {})
 
     def answer(self, message: Message) -> None:
-        """Answers one request; what it makes happen at once is told after the response."""
+        """Answers one request; events that it causes at once are sent after the response."""
         if message.get("type") != "request":
             return
         command, arguments = str(message.get("command")), message.get("arguments")

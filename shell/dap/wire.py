@@ -16,7 +16,7 @@ class Broken(Exception):
 
 
 def read_header(stream: BinaryIO) -> int | None:
-    """The length that a header tells; None at the end of the stream."""
+    """The length that a header gives; None at the end of the stream."""
     length, read = None, 0
     while True:
         line = stream.readline(LONGEST_HEADER)

@@ -91,9 +91,9 @@ class BackAndAgain(unittest.TestCase):
             shell = Typed(self, random_program(seed))
             choice = random.Random(seed)
             shell.ask(f"random {seed} 60")
-            if not shell.session.standing:
+            if not shell.session.history:
                 continue
-            name = choice.choice(list(shell.session.standing))
+            name = choice.choice(list(shell.session.history))
             for back in (f"roll {name}", "back 3", f"rolltask {name.split('#')[0]}"):
                 before = sorted(shell.session.view("hist")[1:]), *state(shell.session)[1:]
                 if "refused" in shell.ask(back)[0]:
@@ -132,7 +132,7 @@ class BackAndAgain(unittest.TestCase):
         self.assertEqual([name for name in shown if name.startswith("0.2#")], wanted)
         self.assertLess(len(shown), 8)
         for name in shown:
-            self.assertIn(name, shell.session.standing)
+            self.assertIn(name, shell.session.history)
 
     def test_redo_wants_room(self):
         shell = Typed(self, example("race.task"), limit=10)
@@ -149,7 +149,7 @@ class BackAndAgain(unittest.TestCase):
         shown = shell.ask("rs 0.2")
         self.assertEqual(shown[0], "3 steps need 0.2#5, and would go with it:")
         self.assertEqual(shown[-1], "nothing was taken back; `rs -f 0.2` doesn't ask")
-        self.assertIn("0.2#5", shell.session.standing)
+        self.assertIn("0.2#5", shell.session.history)
         self.assertEqual(shell.plain("rs -f 0.2")[0], "rolled 4")
         self.assertEqual(shell.plain("rs 0.9"), ["refused 1 NoSuchTask"])
         shell.ask("roll 0#1")
@@ -168,18 +168,18 @@ class BackAndAgain(unittest.TestCase):
         for seed in range(12):
             shell = Typed(self, random_program(seed))
             shell.ask(f"random {seed} 60")
-            names = list(shell.session.standing)
+            names = list(shell.session.history)
             if not names:
                 continue
             name = random.Random(seed).choice(names)
             wanted = {line.split(" ")[0] for line in shell.session.view(f"why {name}")[1:]} | {name}
-            before = dict(shell.session.standing)
+            before = dict(shell.session.history)
             told = shell.plain(f"keep {name}")[-1]
-            self.assertEqual(set(shell.session.standing), wanted)
+            self.assertEqual(set(shell.session.history), wanted)
             self.assertIn(f"{len(before) - len(wanted)} taken back", told)
             if len(before) > len(wanted):
                 shell.ask("redo")
-                self.assertEqual(shell.session.standing, before)
+                self.assertEqual(shell.session.history, before)
         self.assertEqual(shell.plain("keep 0#99"), ["refused 1 NoSuchStep"])
 
     def test_positions_are_the_programs_own(self):
@@ -191,7 +191,7 @@ class BackAndAgain(unittest.TestCase):
                 kept = {task: line for task, line in shell.session.places.position.items() if line}
                 shell.session.places.learn(shell.session.view("tasks"))
                 self.assertEqual(kept, {task: line for task, line in shell.session.places.position.items() if line})
-                self.assertEqual([f"{name} {did}" for name, did in shell.session.standing.items()], shell.session.view("hist")[1:])
+                self.assertEqual([f"{name} {did}" for name, did in shell.session.history.items()], shell.session.view("hist")[1:])
 
 
 @needs_program
@@ -274,7 +274,7 @@ class SideBySide(unittest.TestCase):
             difference = first_difference(one, two)
             found.add(difference is None)
             if one.view("races") == ["races 0"]:
-                apart = {line for name in one.standing for line in one.view(f"causes {name}")[1:] if line.startswith("apart")}
+                apart = {line for name in one.history for line in one.view(f"causes {name}")[1:] if line.startswith("apart")}
                 self.assertTrue(difference is None or apart, seed)
             if difference is None:
                 self.assertEqual((one.view("cells"), one.view("out")), (two.view("cells"), two.view("out")))

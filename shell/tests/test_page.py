@@ -173,7 +173,7 @@ class DataTest(unittest.TestCase):
                 session, _ = walked(self, seed)
                 told = self.data(session)["steps"]
                 there = {step[0]: at for at, step in enumerate(told) if step[4] is None}
-                self.assertEqual(list(there), list(session.standing))
+                self.assertEqual(list(there), list(session.history))
                 for name, at in there.items():
                     found, left = set(), [at]
                     while left:
@@ -188,12 +188,12 @@ class DataTest(unittest.TestCase):
         session = Session(PROGRAM, Source(text, "big.task"))
         self.addCleanup(session.close)
         session.do("run 1000000")
-        self.assertGreater(len(session.standing), 30000)
+        self.assertGreater(len(session.history), 30000)
         before, told = sum(os.times()[:4]), []
         page_of(session, progress=lambda done, what, total: told.append((done, total)))
         # Of the processor; 100,000 steps in 20 seconds allow 6 for these.
         self.assertLess(sum(os.times()[:4]) - before, 6)
-        self.assertEqual(told[-1], (len(session.standing), len(session.standing)))
+        self.assertEqual(told[-1], (len(session.history), len(session.history)))
 
     def test_command(self):
         shell = Terminal(self, [os.path.join(EXAMPLES, "race.task")], NO_COLOR="1")

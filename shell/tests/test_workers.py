@@ -68,7 +68,7 @@ class DoneAgain(unittest.TestCase):
     def test_a_story_has_the_same_steps(self):
         session = self.played()
         story = Story(session)
-        self.assertEqual(["hist " + str(len(story.standing))] + [f"{name} {story.steps[at].did}" for name, at in story.standing.items()],
+        self.assertEqual(["hist " + str(len(story.history))] + [f"{name} {story.steps[at].did}" for name, at in story.history.items()],
                          session.view("hist"))
         self.assertEqual([command for command, *_ in story.commands][1:4], ["go 4 9", "tasks", "go 3 100"])
         self.assertEqual(story.commands[1][1][-1], "ran 9 limit")
