@@ -83,14 +83,15 @@ const layoutOf = (function () {
     return next;
   }
 
-  // Gives the nodes the rows that are used, from 0 on; a row of more nodes outside of groups than fit goes on below.
-  // Which rows go on is told by the nodes: those that aren't in the first line of their row have `goesOn`.
+  // Gives the nodes the rows that are used, from 0 on. Where a row has more nodes of one group than fit side by side it
+  // goes on below; nodes that aren't in the first line of their row have `goesOn`.
   function denseRows(nodes, fit) {
     const counts = new Map(), lines = new Map();
     for (const node of nodes) {
-      const count = node.group === null ? counts.get(node.row) || 0 : 0;
-      if (node.group === null) counts.set(node.row, count + 1);
-      node.below = Math.floor(count / fit);
+      const key = node.row + "|" + node.group, count = counts.get(key) || 0;
+      counts.set(key, count + 1);
+      // The columns of a group are to the right of those of the task that opened it.
+      node.below = Math.floor(count / (node.group === null ? fit : fit - 1));
       node.goesOn = node.below > 0;
       lines.set(node.row, Math.max(lines.get(node.row) || 0, node.below));
     }

@@ -14,6 +14,7 @@ function showGraph() {
   const plan = layoutOf(view.steps, earlier, (name) => there.has(name), MOST_BOXES, Math.max(LEAST_FIT, Math.floor((svg.parentElement.clientWidth - 50) / WIDE)));
   const goesOn = new Set(plan.nodes.filter((node) => node.goesOn).map((node) => node.name));
   const place = new Map(plan.nodes.map((node) => [node.name, [24 + node.column * WIDE + (node.row % 2) * SLANT, 30 + node.row * HIGH]]));
+  coverBoxes(place);
   for (const box of plan.boxes) groupBox(box, plan.groups.get(box.name).line, parts);
   for (const task of shown) edgesOf(task, place, shown.length <= 40, goesOn.has(task.name), parts);
   raceEdges((step) => step.task, place, parts);
@@ -35,15 +36,31 @@ function groupBox(box, line, parts) {
 // An edge from one box down to another, or below both where they stand side by side.
 function edgeOf(place, one, two, name, label, text, parts) {
   if (!place.has(one) || !place.has(two)) return null;
-  const [x, y] = place.get(one), [toX, toY] = place.get(two), flat = y === toY;
-  const d = flat ? "M" + (x + 70) + " " + (y + 58) + " Q" + ((x + toX) / 2 + 70) + " " + (y + 90) + " " + (toX + 70) + " " + (toY + 58)
-    : "M" + (x + 70) + " " + (y + 58) + " C" + (x + 70) + " " + (y + 84) + " " + (toX + 70) + " " + (toY - 26) + " " + (toX + 70) + " " + toY;
-  const made = element("path", { class: "edge " + name, d, "data-from": one, "data-to": two });
+  const [x, y] = place.get(one), [toX, toY] = place.get(two), flat = y === toY, part = (toX - x) / 3;
+  const points = flat ? [[x + 70, y + 58], [x + 70 + part, y + 79], [toX + 70 - part, y + 79], [toX + 70, y + 58]]
+    : [[x + 70, y + 58], [x + 70, y + 84], [toX + 70, toY - 26], [toX + 70, toY]];
+  const made = element("path", { class: "edge " + name, d: "M" + points[0].join(" ") + " C" + points.slice(1).map((point) => point.join(" ")).join(" "), "data-from": one, "data-to": two });
   if (!/apart|racing/.test(name)) made.setAttribute("marker-end", "url(#head)");
   made.append(element("title", {}, label));
   parts.push(made);
-  if (text) parts.push(element("text", { class: "kind" + (name.startsWith("racing") ? " racing" : ""), x: (x + toX) / 2 + 70, y: flat ? y + 82 : (y + 58 + toY) / 2 + 4, "text-anchor": "middle" }, text));
+  const spot = text && spotOf(points, text);
+  if (spot) parts.push(element("text", { class: "kind" + (name.startsWith("racing") ? " racing" : ""), x: spot.x + spot.wide / 2, y: spot.y + 10, "text-anchor": "middle" }, text));
   return made;
+}
+
+// A place on an edge where its label covers no box and no other label, if there is one.
+const covered = { rects: [] };
+function spotOf(points, text) {
+  const wide = 6.8 * text.length + 4, high = 13;
+  const spots = [0.5, 0.4, 0.6, 0.3, 0.7, 0.2, 0.8].map((part) => { const [x, y] = pointOn(points, part); return { x: x - wide / 2, y: y - high / 2, wide, high }; });
+  const spot = spots.find((some) => !covered.rects.some((other) => meet(some, other)));
+  if (spot) covered.rects.push(spot);
+  return spot;
+}
+
+// The boxes that are drawn, which no label may cover.
+function coverBoxes(place) {
+  covered.rects = [...place.values()].map(([x, y]) => ({ x, y, wide: 140, high: 58 }));
 }
 
 // Of a row that goes on below, the first line alone has arrows from who generated its tasks: the names tell the rest.
@@ -58,12 +75,14 @@ function edgesOf(task, place, labelled, goesOn, parts) {
 function raceEdges(boxOfStep, place, parts) {
   const counts = new Map();
   for (const step of view.races) {
-    const key = boxOfStep(steps[step.race[0]]) + "|" + boxOfStep(step);
+    const key = boxOfStep(steps[step.race[0]]) + "\n" + boxOfStep(step);
+    // Of a cluster's own races its box has the count.
+    if (boxOfStep(steps[step.race[0]]) === boxOfStep(step)) continue;
     if (!counts.has(key)) counts.set(key, []);
     counts.get(key).push(step);
   }
   for (const [key, raced] of counts) {
-    const [one, two] = key.split("|"), first = raced[0];
+    const [one, two] = key.split("\n"), first = raced[0];
     const made = edgeOf(place, one, two, "racing" + (raced.every((step) => step.race[2]) ? " apart" : ""), counted(raced.length, "race") + ", as " + steps[first.race[0]].name + " and " + first.name + ", " + first.race[1], raced.length > 1 ? "✕ " + raced.length : "✕", parts);
     if (made) made.addEventListener("click", () => showRace(first));
   }
@@ -126,6 +145,7 @@ function drawClusters(svg, parts, shown) {
   }
   const across = Math.max(6, wide);
   shown.forEach((task, at) => place.set(task.name, [24 + (at % across) * WIDE, 30 + (high + Math.floor(at / across)) * HIGH]));
+  coverBoxes(place);
   clusterEdges(clusters, standing, place, parts);
   raceEdges((step) => clusterOf(standing.get(step.task)), place, parts);
   for (const cluster of clusters.values()) clusterBox(cluster, place.get(cluster.key), parts);
@@ -149,16 +169,20 @@ function clusterEdges(clusters, standing, place, parts) {
     if (one !== two) edgeOf(place, one, two, name, label, String(number), parts);
     else clusters.get(one)[name] = number;
   }
+  for (const step of view.races) {
+    const one = clusterOf(standing.get(steps[step.race[0]].task)), two = clusterOf(standing.get(step.task));
+    if (one === two) clusters.get(one).racing = (clusters.get(one).racing || 0) + 1;
+  }
 }
 
 function clusterBox(cluster, [x, y], parts) {
   const group = element("g", { class: "cluster" + (wish.opened.has(cluster.key) ? " opened" : ""), "data-cluster": cluster.key, tabindex: 0, role: "button" });
-  const inside = [["before", "ordered"], ["apart", "apart"]].filter(([name]) => cluster[name]).map(([name, word]) => cluster[name] + " " + word).join(", ");
+  const inside = [["racing", "racing"], ["before", "ordered"], ["apart", "apart"]].filter(([name]) => cluster[name]).map(([name, word]) => cluster[name] + " " + word).join(", ");
   group.append(element("rect", { class: "box", x, y, width: 140, height: 58, rx: 5 }), element("rect", { class: "stripe " + colourOf(cluster.body), x: x + 1, y: y + 1, width: 5, height: 56 }),
     element("text", { x: x + 10, y: y + 17, "font-weight": "bold" }, (cluster.tasks.length + " × " + cluster.body).slice(0, 16)),
     element("text", { x: x + 10, y: y + 34 }, cluster.line ? "of line " + cluster.line : "the root"),
-    element("text", { x: x + 10, y: y + 50 }, inside || [...cluster.states].map(([state, number]) => number + " " + state).join(", ").slice(0, 17)),
-    element("title", {}, counted(cluster.tasks.length, "task") + " of " + cluster.body + ": " + [...cluster.states].map(([state, number]) => number + " " + state).join(", ") + "; a click opens it"));
+    element("text", { x: x + 10, y: y + 50, class: cluster.racing ? "racing" : "" }, inside.slice(0, 16) || [...cluster.states].map(([state, number]) => number + " " + state).join(", ").slice(0, 17)),
+    element("title", {}, counted(cluster.tasks.length, "task") + " of " + cluster.body + ": " + [...cluster.states].map(([state, number]) => number + " " + state).join(", ") + (inside ? "; among them " + inside : "") + "; a click opens it"));
   const act = () => { if (!wish.opened.delete(cluster.key)) wish.opened.add(cluster.key); showGraph(); };
   group.addEventListener("click", act);
   group.addEventListener("keydown", (event) => { if (event.key === "Enter" || event.key === " ") { act(); event.preventDefault(); } });

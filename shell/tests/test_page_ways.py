@@ -119,9 +119,9 @@ class Ways(unittest.TestCase):
             self.assertGreater(told[0], 0, name)
             self.assertEqual(told[1], 0, name)
 
-    def looped(self):
+    def looped(self, text=LOOP):
         """The page of fifty tasks of one loop, of which the last ones ran before the root's end."""
-        session = Session(PROGRAM, Source(LOOP, "loop.task"))
+        session = Session(PROGRAM, Source(text, "loop.task"))
         self.addCleanup(session.close)
         session.do("run 20000")
         return page_file(self, session)
@@ -139,12 +139,14 @@ class Ways(unittest.TestCase):
         self.assertIn("wait: 50 steps", told[3])
 
     def test_a_long_row_of_tasks_goes_on_below(self):
-        told = self.tried(self.looped(), """
-          const boxes = [...document.querySelectorAll("#graph [data-task]")].map((task) => { const box = task.querySelector(".box"); return [Number(box.getAttribute("x")), Number(box.getAttribute("y"))]; });
-          const wide = find("graph").parentElement.clientWidth;
-          return [boxes.length, Math.max(...boxes.map(([x]) => x)) + 140 <= wide, new Set(boxes.map(String)).size, document.querySelectorAll("#graph .edge.spawn").length < 12,
-            document.querySelectorAll("#graph .edge.wait").length, texts("#graph [data-wait]")[0].split("0#")[0]];""", "1400,900")
-        self.assertEqual(told, [51, True, 51, True, 0, "line 7waits for 50"])
+        in_a_group = LOOP.replace("  while", "  taskgroup\n  while").replace("  taskwait\n", "  end\n")
+        for text, waits in ((LOOP, ["line 7waits for 50"]), (in_a_group, [])):
+            told = self.tried(self.looped(text), """
+              const boxes = [...document.querySelectorAll("#graph [data-task]")].map((task) => { const box = task.querySelector(".box"); return [Number(box.getAttribute("x")), Number(box.getAttribute("y"))]; });
+              const wide = find("graph").parentElement.clientWidth;
+              return [boxes.length, Math.max(...boxes.map(([x]) => x)) + 140 <= wide, new Set(boxes.map(String)).size, document.querySelectorAll("#graph .edge.spawn").length < 12,
+                document.querySelectorAll("#graph .edge.wait").length, texts("#graph [data-wait]").map((text) => text.split("0#")[0])];""", "1400,900")
+            self.assertEqual(told, [51, True, 51, True, 0, waits])
 
     def test_many_tasks_are_clusters(self):
         session = Session(PROGRAM, Source(MANY, "many.task"))
@@ -163,6 +165,21 @@ class Ways(unittest.TestCase):
         self.assertIn(["spawn", "110 generated"], told[1])
         self.assertIn("109 ordered", told[0][2])
         self.assertEqual(told[2:], [0, False, 110, True, 0])
+
+    def test_races_of_clusters(self):
+        text = "cells 1\nbody main 0\n  while r0 < 320\n    task one\n    if r0 == 9\n      task two\n    end\n    let r0 r0 + 1\n  end\nend\n" \
+               "body one 0\n  store 0 1\nend\nbody two 0\n  load r1 0\nend\n"
+        session = Session(PROGRAM, Source(text, "clusters.task"))
+        self.addCleanup(session.close)
+        session.do("run 20000")
+        line_of = session.places.line_of
+        kinds = [tuple(line_of(step) for step in line.split(" ")[:2]) for line in session.view("races")[1:]]
+        told = self.tried(page_file(self, session), """
+          return [texts(".cluster .racing"), [...document.querySelectorAll("#graph .edge.racing")].map((edge) => [edge.dataset.from, edge.dataset.to, edge.textContent.split(",")[0]])];""")
+        self.assertGreater(kinds.count((12, 12)), 300)
+        self.assertEqual(told[0], [f"{kinds.count((12, 12))} racing"])
+        self.assertEqual(sorted(told[1]), sorted([first, second, f"{count} race" + "s" * (count > 1)] for first, second, count in (
+            ("one|4", "two|6", kinds.count((12, 15))), ("two|6", "one|4", kinds.count((15, 12)))) if count))
 
     def test_dark_and_light_by_the_systems_choice(self):
         path = self.page("race.session")
