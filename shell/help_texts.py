@@ -72,6 +72,10 @@ HELP = {
     "quit": Help("quit", "ends the shell, as Ctrl-D does", "quit"),
 }
 
+# Where a section of the list of commands begins.
+SECTIONS = {"step": "Forwards", "back": "Backwards", "at": "The past", "break": "Stops and numbers", "list": "What there is",
+            "why": "Why, and how else", "graph": "Pictures and the page", "info": "The session and the shell"}
+
 ABBREVIATIONS = {"s": "step", "r": "run", "b": "break", "u": "undo", "i": "info", "l": "list", "c": "go", "p": "print",
                  "continue": "go", "q": "quit", "exit": "quit", "h": "help", "f": "finish"}
 
@@ -160,7 +164,9 @@ def help_list(columns: int) -> list[str]:
     """All commands, each with what it does beside it, in so many columns."""
     width = max(len(entry.usage) for name, entry in HELP.items() if name != "break")
     lines = []
-    for entry in HELP.values():
+    for name, entry in HELP.items():
+        if name in SECTIONS:
+            lines.append(SECTIONS[name])
         shown = entry.usage if len(entry.usage) <= width else entry.usage.split(" ")[0] + " ..."
         lines += textwrap.wrap(entry.text, max(columns, width + 24), initial_indent=f"  {shown:<{width}}  ", subsequent_indent=" " * (width + 4))
     return lines + ["Enter repeats the last step. `help COMMAND` gives an example."]

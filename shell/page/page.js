@@ -64,7 +64,7 @@ function showMarks() {
 function listenAtLanes() {
   const lanes = find("lanes"), stepAt = (event) => { const group = event.target.closest(".step"); return group ? Number(group.dataset.index) : null; };
   lanes.addEventListener("scroll", () => requestAnimationFrame(drawLanes));
-  window.addEventListener("resize", () => { sizeLanes(); showGraph(); showBusyLanes(); });
+  window.addEventListener("resize", () => { sizeLanes(); showGraph(); if (view.chosen === null) showBusyLanes(); else scrollTo(view.chosen); });
   lanes.addEventListener("pointerover", (event) => { const index = stepAt(event); if (index !== null && !view.pinned && index !== view.chosen) choose(index, false); });
   lanes.addEventListener("pointerleave", () => { if (!view.pinned) choose(null, false); });
   lanes.addEventListener("click", (event) => { const index = stepAt(event); choose(index, index !== null); });
