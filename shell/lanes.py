@@ -45,7 +45,7 @@ def lanes_of(session: Session, chosen: str | None = None, stop: Callable[[], boo
     tasks = sorted(facts.task_states().values(), key=lambda task: by_name(task.name))
     if shaded is None:
         return None
-    recorded = {step.name: f"{place[0]}:{place[1]}" for step in steps if (place := session.source.recorded(step.line))}
+    recorded = {step.name: session.source.place(step.line) for step in steps if session.source.recorded(step.line)}
     return Lanes(session.source.name, tasks, steps, causes, facts.races(), chosen, frozenset(shaded), recorded)
 
 

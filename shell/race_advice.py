@@ -6,7 +6,7 @@ from __future__ import annotations
 
 import re
 from collections import Counter, defaultdict
-from collections.abc import Iterable, Sequence
+from collections.abc import Callable, Iterable, Sequence
 from dataclasses import dataclass, field, replace
 
 from shell.facts import Race, by_name
@@ -125,20 +125,25 @@ class Run:
 
 @dataclass
 class Kind:
-    """The races of one pair of lines: the first of them with its number, how many there are, and what would order them."""
+    """The races of one pair of lines: the first of them with its number, how many there are, and what would order them.
+
+    Of a recorded run, `places` are lines of the C file.
+    """
 
     number: int
     example: Race
     lines: tuple[int | None, int | None]
+    places: tuple[str, str]
     count: int = 0
     clauses: list[Clause] = field(default_factory=list)
     others: list[str] = field(default_factory=list)
+    place_of: Callable[[int], str] = str
 
     def advice(self) -> str:
         """What would order them, in words."""
         if self.example.apart:
             return APART
-        parts = [clauses_in_words(self.clauses)] if self.clauses else []
+        parts = [clauses_in_words(self.clauses, self.place_of)] if self.clauses else []
         text = ", or ".join(parts + self.others[:2]) + " would order them"
         return text + (", or a `taskwait` between" if self.clauses else "")
 
@@ -148,8 +153,11 @@ class Kind:
         return f"{head}: {self.advice()}"
 
 
-def clauses_in_words(clauses: Iterable[Clause]) -> str:
-    """Clauses with their lines: those that are alike are named together, and so are the cells of one line."""
+def clauses_in_words(clauses: Iterable[Clause], place_of: Callable[[int], str] = str) -> str:
+    """Clauses with their lines: those that are alike are named together, and so are the cells of one line.
+
+    `place_of` is what names a line: of a recorded run its line of C.
+    """
     by_kind: dict[tuple[int, str, str, bool], list[Clause]] = defaultdict(list)
     for clause in clauses:
         by_kind[clause.line, clause.type, clause.instead, clause.place.isdigit()].append(clause)
@@ -158,7 +166,7 @@ def clauses_in_words(clauses: Iterable[Clause]) -> str:
         together = numbered and len({clause.place for clause in alike}) > 1
         for text in [cells_in_words(alike)] if together else map(str, alike):
             by_text[text].append(line)
-    return " and ".join(f"{text} on {lines_in_words(sorted(set(lines)))}" for text, lines in by_text.items())
+    return " and ".join(f"{text} on {lines_in_words(sorted(set(lines)), place_of)}" for text, lines in by_text.items())
 
 
 def cells_in_words(clauses: Sequence[Clause]) -> str:
@@ -169,11 +177,12 @@ def cells_in_words(clauses: Sequence[Clause]) -> str:
     return text + (f" in place of `depend {first.instead}`" if first.instead else "")
 
 
-def lines_in_words(lines: list[int]) -> str:
-    """Rising numbers of lines."""
+def lines_in_words(lines: list[int], place_of: Callable[[int], str]) -> str:
+    """Rising numbers of lines; few of a recorded run with their lines of C."""
     if len(lines) > MOST_LINES:
         return f"{len(lines)} lines, {numbers_in_words(lines)},"
-    return f"line{'s' if len(lines) > 1 else ''} {numbers_in_words(lines)}"
+    recorded = [place for place in dict.fromkeys(map(place_of, lines)) if not place.isdigit()]
+    return f"line{'s' if len(lines) > 1 else ''} {numbers_in_words(lines)}" + (f" ({', '.join(recorded)})" if recorded else "")
 
 
 def numbers_in_words(numbers: Sequence[int]) -> str:
@@ -234,7 +243,7 @@ def advise(run: Run, race: Race, kind: Kind) -> None:
     def other(text: str) -> None:
         if text not in kind.others:
             kind.others.append(text)
-    pair = siblings_of(race)
+    pair, numbered = siblings_of(race), run.session.source.numbered
     tasks = [step.split("#")[0] for step in (race.first, race.second)]
     if race.apart:
         return
@@ -242,7 +251,7 @@ def advise(run: Run, race: Race, kind: Kind) -> None:
         short, long = sorted(tasks, key=len)
         child = ".".join(long.split(".")[:short.count(".") + 2])
         word = below(race)
-        other(f"a `{word}` {'after' if word == 'taskwait' else 'around'} line {run.spawned[child].line}")
+        other(f"a `{word}` {'after' if word == 'taskwait' else 'around'} {numbered(run.spawned[child].line)}")
         return
     elder, younger = pair
     if elder not in tasks:
@@ -258,13 +267,14 @@ def advise(run: Run, race: Race, kind: Kind) -> None:
 
 def outliving(run: Run, elder: str, younger: str, task: str) -> str:
     """What orders the steps of a task that may outlive an ancestor of it, by which a sibling's clauses go."""
+    numbered = run.session.source.numbered
     ordered = any(needs_order(new, old) == "after" for new in run.spawned[younger].items for old in run.spawned[elder].items)
     child = ".".join(task.split(".")[:elder.count(".") + 2])
     if not ordered:
-        return f"a `taskgroup` around line {run.spawned[elder].line}"
+        return f"a `taskgroup` around {numbered(run.spawned[elder].line)}"
     if child == task:
-        return f"a `taskwait` after line {run.spawned[child].line}"
-    return f"a `taskgroup` around line {run.spawned[child].line}"
+        return f"a `taskwait` after {numbered(run.spawned[child].line)}"
+    return f"a `taskgroup` around {numbered(run.spawned[child].line)}"
 
 
 def add_clause(clauses: list[Clause], new: Clause) -> None:
@@ -284,7 +294,8 @@ def kinds_of(session: Session, races: Sequence[Race]) -> list[Kind]:
     line_of = session.places.line_of
     for number, race in enumerate(races, 1):
         lines = (line_of(race.first), line_of(race.second))
-        kind = found.setdefault((*lines, race.over == "print", race.apart), Kind(number, race, lines))
+        places = (session.source.place(lines[0]), session.source.place(lines[1]))
+        kind = found.setdefault((*places, race.over == "print", race.apart), Kind(number, race, lines, places, place_of=session.source.place))
         kind.count += 1
         advise(run, race, kind)
     return list(found.values())

@@ -105,6 +105,15 @@ class Source:
         found = RECORDED.match(self.comment(number))
         return (found[1], int(found[2])) if found else None
 
+    def place(self, number: int | None) -> str:
+        """The number of a line; of a recorded run, the C file and its line: lines that are one line of C have one place."""
+        found = self.recorded(number)
+        return f"{found[0]}:{found[1]}" if found else str(number)
+
+    def numbered(self, number: int) -> str:
+        """A line by its number: `line 4`; of a recorded run with the line of C, `line 4 (sum.c:12)`."""
+        return f"line {number}" + (f" ({self.place(number)})" if self.recorded(number) else "")
+
     def shown(self, number: int) -> str:
         """A line as it is shown with a step; that of a recorded run with what it was in C."""
         return self.line(number) + (f"  # {self.comment(number)}" if self.recorded(number) else "")

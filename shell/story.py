@@ -290,8 +290,7 @@ class Story:
         """The races of the history, and what would order them."""
         self.shows_races = races is not None
         for kind in kinds_of(self.session, races or ()):
-            key = "|".join(str(part).lower() if isinstance(part, bool) else str(part)
-                           for part in (*kind.lines, kind.example.over == "print", kind.example.apart))
+            key = "|".join([*kind.places, str(kind.example.over == "print").lower(), str(kind.example.apart).lower()])
             self.hints[key] = kind.advice().replace("`", "")
         for race in races or ():
             self.steps[self.history[race.second]].race = (self.history[race.first], race.over, race.apart)

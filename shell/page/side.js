@@ -44,23 +44,24 @@ function showCells() {
 
 // Races
 
-// Two lines of the program; of a recorded run, those of the C file that their comments name.
-function linesOf(...lines) {
-  const places = lines.map((line) => /#\s*([^\s:]+\.(?:c|cc|cpp|cxx|h|hpp):[0-9]+)\b/.exec(data.source[line - 1] || ""));
-  return places.every((place) => place) ? places.map((place) => place[1]).join(" and ") : "lines " + lines.join(" and ");
+// The number of a line; of a recorded run, the C file and its line that its comment names.
+function placeOfLine(line) {
+  const found = /#\s*([^\s:]+\.(?:c|cc|cpp|cxx|h|hpp):[0-9]+)\b/.exec(data.source[line - 1] || "");
+  return found ? found[1] : String(line);
 }
 
 function showRaces() {
   const list = find("race-list"), kinds = new Map();
   list.replaceChildren();
   for (const step of view.races) {
-    const [early, over, apart] = step.race, key = [steps[early].line, step.line, over === "print", apart].join("|");
+    const [early, over, apart] = step.race, key = [placeOfLine(steps[early].line), placeOfLine(step.line), over === "print", apart].join("|");
     if (!kinds.has(key)) kinds.set(key, []);
     kinds.get(key).push(step);
   }
   for (const [key, raced] of [...kinds].slice(0, 500)) {
     const step = raced[0], [early, over, apart] = step.race;
-    const made = button("✕ " + linesOf(steps[early].line, step.line) + (raced.length > 1 ? ", " + raced.length + " races, as " : ": ") + steps[early].name + " and " + step.name + ", " + over + (apart ? ", never at once but in either order" : ""), () => showRace(step));
+    const places = [steps[early].line, step.line].map(placeOfLine), inC = places.some((place) => place.includes(":"));
+    const made = button("✕ " + (inC ? "" : "lines ") + places.join(" and ") + (raced.length > 1 ? ", " + raced.length + " races, as " : ": ") + steps[early].name + " and " + step.name + ", " + over + (apart ? ", never at once but in either order" : ""), () => showRace(step));
     made.dataset.races = raced.map((some) => steps[some.race[0]].name + " " + some.name).join("; ");
     const row = item(list, "");
     row.append(made);

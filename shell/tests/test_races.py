@@ -159,6 +159,10 @@ class RaceWords(unittest.TestCase):
         typed.ask("run")
         self.assertIn("0.1#3 0.2#2 cell 0              9: store 0 1  # sum.c:5  |  12: load r1 0  # sum.c:7", typed.ask("races"))
         self.assertEqual(typed.session.source.shown(2), "body main 0")
+        # Both of its races are of the same two lines of C.
+        self.assertEqual(typed.ask("races")[2:], ["  race 1, one of 2 of these two lines: `depend inout 0` on lines 3 and 4 (sum.c:4, sum.c:6) "
+                                                  "would order them, or a `taskwait` between",
+                                                  "  2 races of 1 pair of lines; `flip N` shows both outcomes of race N"])
 
     def test_the_right_sum(self):
         if not has_views(self):
