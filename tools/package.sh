@@ -52,7 +52,7 @@ for pair in taskback=run taskback-dap=taskback-dap taskback-record=openmp/record
     printf '#!/bin/sh\nexec "$(dirname "$(readlink -f "$0")")/../lib/taskback/%s" "$@"\n' "${pair#*=}" > "$root/usr/bin/${pair%%=*}"
     chmod 755 "$root/usr/bin/${pair%%=*}"
 done
-sed 's|\./run|taskback|g' docs/taskback.1 | gzip -9n > "$share/man/man1/taskback.1.gz"
+sed -e 's|\./run|taskback|g' -e 's|openmp/|taskback\\-|g' docs/taskback.1 | gzip -9n > "$share/man/man1/taskback.1.gz"
 for other in taskback-dap taskback-record taskback-check taskback-session taskback-cc taskback-c++; do
     echo '.so man1/taskback.1' | gzip -9n > "$share/man/man1/$other.1.gz"
 done
