@@ -3,12 +3,9 @@
 from __future__ import annotations
 
 from collections import Counter
-from typing import TYPE_CHECKING
+from typing import Protocol
 
-from shell.facts import by_name
-
-if TYPE_CHECKING:
-    from shell.graph import Graph
+from shell.facts import Race, Task, by_name
 
 # A graph of more tasks is drawn as clusters.
 MOST_TASKS = 300
@@ -17,6 +14,17 @@ STYLES = {"spawn": 'color="#8c8c8c", arrowhead=open', "before": "penwidth=1.8", 
 WORDS = {"before": "ordered", "apart": "not together", "race": "races"}
 
 Key = tuple[str, int | None]
+
+
+class Graph(Protocol):
+    """What clusters show of a graph: its tasks, what each comes after, and by which line it was generated."""
+
+    tasks: dict[str, Task]
+    drawn: dict[str, list[str]]
+    spawned: dict[str, int | None]
+
+    def pairs_of_races(self) -> dict[tuple[str, str], list[Race]]:
+        """The races by the tasks of their steps."""
 
 
 def key_of(graph: Graph, name: str) -> Key:

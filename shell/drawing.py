@@ -99,6 +99,7 @@ class Drawing(Writing):
 
     def do_serve(self, words: Words) -> None:
         """All that was done, as a live page, until Ctrl-C."""
+        # The live page has a shell of its own, and so the module of this one.
         from shell.serving import Live, LiveServer
         port = count_in(words, 0, 0)
         if port is None or port > 65535:

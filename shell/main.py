@@ -52,6 +52,7 @@ def start_session(given: argparse.Namespace) -> tuple[Session, list[str]]:
 
 def set_history() -> Callable[[], None]:
     """History across runs, in ~/.taskback_history; returns what writes it."""
+    # It changes how the keyboard is read, so it is imported where there is one.
     import readline
     path = os.path.expanduser("~/.taskback_history")
     readline.set_completer_delims(" \t")
