@@ -4,6 +4,7 @@ from __future__ import annotations
 
 import re
 
+from shell.console import counted
 from shell.expressions import Unknown, Unreadable, parsed
 from shell.group import Group, Host, Words
 from shell.protocol import is_digits
@@ -11,6 +12,8 @@ from shell.stops import Breakpoint, Stop, Where, program_stops
 from shell.values import Values
 
 TASK = re.compile(r"0(\.[1-9][0-9]*)*")
+# A line of a C file, as `sum.c:12`.
+PLACE = re.compile(r"[^\s:]+:[0-9]+")
 SETTINGS = ("run-breaks", "pager")
 
 
@@ -32,6 +35,8 @@ class Breaking(Group):
             self.wrong("break")
         elif where[:1] == ["line"] and len(where) == 2 and is_digits(where[1]):
             self.break_line(int(where[1]), condition)
+        elif where[:1] == ["line"] and len(where) == 2 and PLACE.fullmatch(where[1]):
+            self.break_place(where[1], condition)
         elif condition:
             self.break_where(where, condition)
         else:
@@ -47,6 +52,14 @@ class Breaking(Group):
             self.add(Where("line", str(number)), condition, f"go stops after each step at {number}: {line}")
         else:
             self.refuse(f"no step is taken at line {number}")
+
+    def break_place(self, place: str, condition: str) -> None:
+        """A breakpoint at a line of the C file of a recorded run."""
+        numbers = self.session.source.steps_at(place)
+        if numbers:
+            self.add(Where("line", place), condition, f"go stops after each step at {counted(len(numbers), 'line')} of the session")
+        else:
+            self.refuse(f"no step is taken at {place}")
 
     def break_where(self, where: Words, condition: str) -> None:
         """A breakpoint with a condition: the program has none, so it isn't asked whether there can be one."""
@@ -90,7 +103,7 @@ class Breaking(Group):
     def do_clear(self, words: Words) -> None:
         """Takes a breakpoint away."""
         stops = self.shell.stops
-        if len(words) == 2 and words[0] == "line" and is_digits(words[1]):
+        if len(words) == 2 and words[0] == "line" and (is_digits(words[1]) or PLACE.fullmatch(words[1])):
             def is_there(number: int, stop: Stop) -> bool:
                 return isinstance(stop, Breakpoint) and stop.where == Where("line", words[1])
             gone, text = stops.clear(is_there), f"line {words[1]}"
@@ -109,7 +122,7 @@ class Breaking(Group):
         """The breakpoints of the program, and the shell's own."""
         self.shell.send(" ".join(["breaks", *words]))
         for number, stop in self.shell.stops.there.items():
-            line = int(stop.where.what) if isinstance(stop, Breakpoint) and stop.where.kind == "line" else None
+            line = int(stop.where.what) if isinstance(stop, Breakpoint) and stop.where.kind == "line" and is_digits(stop.where.what) else None
             self.console.reply(f"s{number} {stop}", line, f"{line}: {self.session.source.shown(line)}" if line else "")
 
     def tell_met(self, name: str | None) -> None:

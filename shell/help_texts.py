@@ -110,7 +110,7 @@ def break_meant(words: Sequence[str], bodies: Sequence[str]) -> str | None:
     if len(words) < 2:
         return None
     rest, word = " ".join(words[1:]), words[1]
-    if re.fullmatch(r"[0-9]+(:[0-9]+)?", word):
+    if re.fullmatch(r"[0-9]+(:[0-9]+)?|[^\s:]+\.[a-z]+:[0-9]+", word):
         return f"break line {rest}"
     if re.fullmatch(r"[0-9]+(\.[0-9]+)+", word):
         return f"break task {rest}"

@@ -110,6 +110,10 @@ class Source:
         found = self.recorded(number)
         return f"{found[0]}:{found[1]}" if found else str(number)
 
+    def steps_at(self, place: str) -> list[int]:
+        """The lines that a step is taken at, and that have this number, or this place of a C file."""
+        return [number for number in range(1, len(self.lines) + 1) if place in (str(number), self.place(number)) and self.is_step(number)]
+
     def numbered(self, number: int) -> str:
         """A line by its number: `line 4`; of a recorded run with the line of C, `line 4 (sum.c:12)`."""
         return f"line {number}" + (f" ({self.place(number)})" if self.recorded(number) else "")

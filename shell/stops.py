@@ -5,7 +5,7 @@ from dataclasses import dataclass
 
 from shell.expressions import Expression, Unknown, parsed
 from shell.session import Session
-from shell.source import Places
+from shell.source import Places, Source
 from shell.values import Values
 
 
@@ -24,7 +24,8 @@ class Where:
         name, *did = line.split(" ")
         task = name.split("#")[0]
         if self.kind == "line":
-            return str(places.line_of(name)) == self.what
+            number = places.line_of(name)
+            return self.what in (str(number), places.source.place(number))
         if self.kind == "task":
             return task == self.what
         if self.kind == "cell":
@@ -140,9 +141,10 @@ class Stops:
             del self.there[number]
         return len(gone)
 
-    def lines(self) -> set[int]:
+    def lines(self, source: Source) -> set[int]:
         """The lines at which one stops."""
-        return {int(stop.where.what) for stop in self.there.values() if isinstance(stop, Breakpoint) and stop.where.kind == "line"}
+        wanted = [stop.where.what for stop in self.there.values() if isinstance(stop, Breakpoint) and stop.where.kind == "line"]
+        return {number for place in wanted for number in source.steps_at(place)}
 
     def refresh(self, session: Session) -> None:
         """Looks at what is watched, as it is before a run begins."""

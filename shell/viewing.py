@@ -87,7 +87,7 @@ class Viewing(Group):
         for task, number in places.position.items():
             if number is not None:
                 at.setdefault(number, []).append(task)
-        stops = self.shell.stops.lines()
+        stops = self.shell.stops.lines(source)
         for number in range(first, last + 1):
             mark = "=>" if number in at else "  "
             tasks = "   <- " + ", ".join(at[number]) if number in at else ""

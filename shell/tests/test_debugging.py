@@ -8,11 +8,11 @@ import termios
 import unittest
 
 from programs import random_program
-from support import EXAMPLES, Terminal, Typed, example, needs_program, write_file
+from support import EXAMPLES, PROGRAM, Terminal, Typed, example, needs_program, write_file
 from shell.comparing import first_difference
 from shell.session import Session
 from shell.source import Source
-from support import PROGRAM
+from test_dap import RECORDED
 
 LOOP = "cells 2\nbody main 0\n  while r0 < 20\n    let r0 r0 + 1\n    store 0 r0\n  end\nend\n"
 BIG = "cells 1\nbody main 0\n  while 0 == 0\n    store 0 1\n  end\nend\n"
@@ -82,6 +82,19 @@ class Stopping(unittest.TestCase):
         self.assertEqual(shell.plain("rc")[-1], "went back 6 start")
         self.assertEqual(len(shell.plain("redo")), 7)
         self.assertTrue(shell.ask("rc x")[0].startswith("rc, for example"))
+
+    def test_lines_of_the_c_file_of_a_recorded_run(self):
+        shell = Typed(self, RECORDED.split("---\n")[0], "sum.session")
+        for typed, wanted in (
+                ("break sum.c:5", ["error word", "  did you mean `break line sum.c:5`?"]), ("break line sum.c:99", ["no step is taken at sum.c:99"]),
+                ("break line sum.c:5", ["break s1 line sum.c:5", "  go stops after each step at 2 lines of the session"]),
+                ("go", ["0.1#2 load r1 0 0", "ran 5 limit", "  breakpoint s1: line sum.c:5"]), ("go", ["0.1#3 store 0 1", "ran 1 limit", "  breakpoint s1: line sum.c:5"]),
+                ("breaks", ["breaks 0", "s1 line sum.c:5"]), ("clear line sum.c:6", ["no breakpoint is at line sum.c:6"])):
+            self.assertEqual([line if line.startswith("  ") else line.split("   ")[0] for line in shell.ask(typed)][-len(wanted):], wanted, typed)
+        self.assertEqual([line.split()[1 - line.startswith("*")] for line in shell.ask("list 8") if "*" in line[:3]], ["8", "9"])
+        self.assertIn("# shell: break line sum.c:5\n", shell.session.text(shell.shell.stops.commands()))
+        self.assertEqual(shell.ask("clear line sum.c:5"), ["cleared line sum.c:5"])
+        self.assertEqual(shell.ask("breaks"), ["breaks 0"])
 
 
 @needs_program
