@@ -61,7 +61,8 @@ for command in taskback taskback-dap; do
 done
 sed -e 's/^#compdef run /#compdef /' -e 's/^    run)$/    run | taskback)/' completions/_taskback > "$share/zsh/vendor-completions/_taskback"
 cp -R editors/vim/. "$share/vim/vimfiles/"
-cp -R README.md CHANGELOG.md docs examples "$share/doc/taskback/"
+cp -R README.md docs examples "$share/doc/taskback/"
+gzip -9nc CHANGELOG.md > "$share/doc/taskback/changelog.gz"
 cp LICENSE "$share/doc/taskback/copyright"
 editors/vscode/build.py "$share/doc/taskback" > /dev/null
 find "$root" -type d -exec chmod 755 {} +
@@ -69,7 +70,7 @@ cat > "$root/DEBIAN/control" << CONTROL
 Package: taskback
 Version: $version
 Architecture: $(dpkg --print-architecture)
-Maintainer: Taskback
+Maintainer: Taskback <taskback@localhost>
 Installed-Size: $(du -sk --exclude=DEBIAN "$root" | cut -f1)
 Depends: libc6, python3 (>= 3.10)
 Recommends: clang-14 | clang, libomp-14-dev | libomp-dev, graphviz
@@ -77,8 +78,9 @@ Suggests: elpa-dap-mode, chromium
 Section: devel
 Priority: optional
 Description: reversible debugger for OpenMP task programs
- Takes back any step you choose, together with exactly the later steps that need it.
- A shell, pictures, a page for a browser, a server for editors, and a recorder of C programs.
+ Takes back any step you choose, with exactly the later steps that need it.
+ A shell, pictures, a page for a browser, a server for editors, and a recorder
+ of C programs.
 CONTROL
 # What Python keeps beside the modules goes with them.
 printf '#!/bin/sh\nset -e\nfind /usr/lib/taskback -name __pycache__ -prune -exec rm -rf {} +\n' > "$root/DEBIAN/prerm"
