@@ -120,14 +120,14 @@ class Shell(cmd.Cmd):
         elif told[0] == "ran" and told[-1] == "full":
             self.console.note(texts.full_words(self.session))
 
+    def items_of(self, task: str) -> list[str]:
+        """The items of a task's clauses."""
+        reply = self.session.view(f"task {task}")
+        return reply[next(at for at, line in enumerate(reply) if line.startswith("items ")) + 1:]
+
     def clauses(self, task: str, other: str) -> str:
         """The clauses for which one task waits for another, and the lines that generated the two."""
-        items = []
-        for name in (task, other):
-            reply = self.session.view(f"task {name}")
-            start = next(at for at, line in enumerate(reply) if line.startswith("items "))
-            items.append(reply[start + 1:])
-        pair = texts.matching_items(*items)
+        pair = texts.matching_items(self.items_of(task), self.items_of(other))
         if pair is None:
             return ""
         new, old = (f"depend {item}" for item in pair)

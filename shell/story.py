@@ -29,7 +29,7 @@ SHOWN_LINES = 60
 
 
 @dataclass
-class ToldStep:
+class StoryStep:
     """A step, when it was in the history, what it needed, and its race: the earlier step, over what, and whether apart."""
 
     name: str
@@ -46,7 +46,7 @@ class ToldStep:
 
 
 @dataclass
-class ToldTask:
+class StoryTask:
     """A task: by which step it was generated, when it was there, and what it did from which moment on."""
 
     task: Task
@@ -103,10 +103,10 @@ class Story:
         self.total = max(0, session.entries - 1)
         self.looks = self.total <= MOST_LOOKS
         self.commands: list[list[Any]] = []
-        self.steps: list[ToldStep] = []
+        self.steps: list[StoryStep] = []
         self.history: dict[str, int] = {}
-        self.tasks: list[ToldTask] = []
-        self.there: dict[str, ToldTask] = {}
+        self.tasks: list[StoryTask] = []
+        self.there: dict[str, StoryTask] = {}
         self.cells = Cells(session.source)
         self.prints: dict[str, str] = {}
         self.out: list[list[Any]] = []
@@ -170,7 +170,7 @@ class Story:
         self.progress(self.moment, "steps", self.total)
         self.history[name] = len(self.steps)
         self.fresh.append(name)
-        self.steps.append(ToldStep(name, did, self.session.places.line_of(name), self.moment))
+        self.steps.append(StoryStep(name, did, self.session.places.line_of(name), self.moment))
         if words[0] == "store":
             self.cells.took(name, words, self.moment)
         elif words[0] == "print":
@@ -212,7 +212,7 @@ class Story:
         """A task that was generated; its order doesn't change while it is there."""
         parent = name.rpartition(".")[0]
         order = self.ordering.add(parent, name, items) if parent else Order()
-        told = ToldTask(Task(name, body, "pending", None, order.before, order.apart, items), len(self.tasks), step, self.moment)
+        told = StoryTask(Task(name, body, "pending", None, order.before, order.apart, items), len(self.tasks), step, self.moment)
         told.states.append([self.moment, "pending", None, ""])
         self.there[name] = told
         self.tasks.append(told)
@@ -243,10 +243,10 @@ class Story:
 
     def orders(self) -> None:
         """For each task the dependences that no other implies, and its exclusions, with their clauses."""
-        named: dict[str, list[ToldTask]] = {}
+        named: dict[str, list[StoryTask]] = {}
         reach: list[int] = []
         for told in self.tasks:
-            def meets(name: str, at: int = told.born) -> ToldTask:
+            def meets(name: str, at: int = told.born) -> StoryTask:
                 """The task of this name that is there at the same time."""
                 return next(other for other in reversed(named[name]) if other.born <= at and (other.died is None or other.died > at))
             named.setdefault(told.task.name, []).append(told)
