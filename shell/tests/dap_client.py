@@ -4,6 +4,8 @@ import json
 import os
 import subprocess
 import threading
+import unittest
+from typing import Any
 
 from support import PROGRAM, SECONDS, TOP
 
@@ -13,10 +15,10 @@ ADAPTER = os.path.join(TOP, "taskback-dap")
 class Client:
     """One server as a child, over its standard streams or over others that are given."""
 
-    def __init__(self, test, streams=None):
+    def __init__(self, test: unittest.TestCase, streams: Any = None) -> None:
         self.test = test
-        self.events = []
-        self.messages = []
+        self.events: list[Any] = []
+        self.messages: list[Any] = []
         self.sequence = 0
         self.child = None
         self.said = ""
@@ -31,7 +33,7 @@ class Client:
             test.addCleanup(self.close)
         self.source, self.sink = streams
 
-    def close(self):
+    def close(self) -> Any:
         """Ends the server where it hasn't ended; returns its status and what it said."""
         if not self.child.stdout.closed:
             self.child.stdin.close()
@@ -41,7 +43,7 @@ class Client:
             self.child.stderr.close()
         return self.child.returncode, self.said
 
-    def receive(self):
+    def receive(self) -> Any:
         """The next message."""
         length = None
         while (line := self.source.readline().strip()):
@@ -55,11 +57,11 @@ class Client:
         self.messages.append(message)
         return message
 
-    def sequence_of_server(self):
+    def sequence_of_server(self) -> int:
         """The number of the newest message of the server."""
         return getattr(self, "_seen", 0)
 
-    def send(self, command, **arguments):
+    def send(self, command: str, **arguments: Any) -> Any:
         """Sends a request; returns its number."""
         self.sequence += 1
         data = json.dumps({"seq": self.sequence, "type": "request", "command": command, "arguments": arguments}).encode()
@@ -67,7 +69,7 @@ class Client:
         self.sink.flush()
         return self.sequence
 
-    def ask(self, command, **arguments):
+    def ask(self, command: str, **arguments: Any) -> Any:
         """The response to a request."""
         number = self.send(command, **arguments)
         while True:
@@ -77,19 +79,19 @@ class Client:
                 return message
             self.events.append(message)
 
-    def do(self, command, **arguments):
+    def do(self, command: str, **arguments: Any) -> Any:
         """The body of the response to a request, which succeeds."""
         response = self.ask(command, **arguments)
         self.test.assertTrue(response["success"], response)
         return response["body"]
 
-    def refused(self, command, **arguments):
+    def refused(self, command: str, **arguments: Any) -> str:
         """Why a request fails."""
         response = self.ask(command, **arguments)
         self.test.assertFalse(response["success"], response)
-        return response["message"]
+        return str(response["message"])
 
-    def event(self, name):
+    def event(self, name: str) -> Any:
         """The body of the next event of this name."""
         while True:
             found = next((at for at, message in enumerate(self.events) if message["event"] == name), None)
@@ -97,33 +99,33 @@ class Client:
                 return self.events.pop(found)["body"]
             self.events.append(self.receive())
 
-    def stopped(self, command, **arguments):
+    def stopped(self, command: str, **arguments: Any) -> Any:
         """The body of the `stopped` event after a request."""
         self.events = [message for message in self.events if message["event"] != "stopped"]
         self.do(command, **arguments)
         return self.event("stopped")
 
-    def launch(self, path, **more):
+    def launch(self, path: str, **more: Any) -> "Client":
         """Launches a program and stops at its entry, with no breakpoints."""
         self.do("initialize", adapterID="taskback", linesStartAt1=True)
         self.do("launch", program=path, **more)
         self.event("initialized")
         return self
 
-    def begin(self):
+    def begin(self) -> Any:
         """Says that all breakpoints are set."""
         self.do("configurationDone")
         return self.event("stopped")
 
-    def threads(self):
+    def threads(self) -> Any:
         """The threads by their tasks' names."""
         return {thread["name"].split(" ")[0]: thread["id"] for thread in self.do("threads")["threads"]}
 
-    def frame(self, task):
+    def frame(self, task: str) -> Any:
         """The first frame of a task."""
         return self.do("stackTrace", threadId=self.threads()[task])["stackFrames"][0]
 
-    def variables(self, task, scope):
+    def variables(self, task: str, scope: str) -> Any:
         """The variables of a scope by their names."""
         scopes = {told["name"]: told["variablesReference"] for told in self.do("scopes", frameId=self.frame(task)["id"])["scopes"]}
         return {told["name"]: told["value"] for told in self.do("variables", variablesReference=scopes[scope])["variables"]}

@@ -1,6 +1,7 @@
 """Random programs whose control flow doesn't hang on what their tasks read, so every order has the same tasks."""
 
 import random
+from collections.abc import Sequence
 
 TYPES = ("in", "out", "inout", "mutexinoutset", "inoutset")
 
@@ -8,26 +9,26 @@ TYPES = ("in", "out", "inout", "mutexinoutset", "inoutset")
 class Maker:
     """Makes one program; a body generates tasks of later bodies alone, so each run ends."""
 
-    def __init__(self, seed, bodies=4, cells=3):
+    def __init__(self, seed: int, bodies: int = 4, cells: int = 3) -> None:
         self.choice = random.Random(seed)
         self.bodies = bodies
         self.cells = cells
-        self.lines = []
+        self.lines: list[str] = []
 
-    def cell(self):
+    def cell(self) -> int:
         """Some cell."""
         return self.choice.randrange(self.cells)
 
-    def clauses(self, types, most=2):
+    def clauses(self, types: Sequence[str], most: int = 2) -> str:
         """Some depend clauses."""
         return "".join(f" depend {self.choice.choice(types)} {self.cell()}" for _ in range(self.choice.randrange(most + 1)))
 
-    def task(self, body, pad):
+    def task(self, body: int, pad: str) -> None:
         """A line that generates a task, deferred most times."""
         line = f"{pad}task b{self.choice.randrange(body + 1, self.bodies)}{self.clauses(TYPES)}"
         self.lines.append(line + (" if 0 == 1" if self.choice.random() < 0.1 else ""))
 
-    def statement(self, body, pad, deep):
+    def statement(self, body: int, pad: str, deep: int) -> None:
         """One statement, or a block of some."""
         kind = self.choice.choice(("load", "store", "print", "task", "task", "wait", "group", "loop"))
         if kind == "task" and body + 1 < self.bodies:
@@ -50,12 +51,12 @@ class Maker:
         else:
             self.lines.append(f"{pad}store {self.cell()} r{self.choice.randrange(4)}")
 
-    def block(self, body, pad, deep, most):
+    def block(self, body: int, pad: str, deep: int, most: int) -> None:
         """A few statements."""
         for _ in range(self.choice.randrange(1, most + 1)):
             self.statement(body, pad, deep)
 
-    def program(self):
+    def program(self) -> str:
         """The text."""
         self.lines = [f"cells {self.cells}"]
         for body in range(self.bodies):
@@ -65,6 +66,6 @@ class Maker:
         return "".join(line + "\n" for line in self.lines)
 
 
-def random_program(seed, bodies=4, cells=3):
+def random_program(seed: int, bodies: int = 4, cells: int = 3) -> str:
     """The text of a program, the same for the same seed."""
     return Maker(seed, bodies, cells).program()

@@ -9,6 +9,8 @@ import sys
 import tempfile
 import time
 import unittest
+from collections.abc import Sequence
+from typing import Any
 
 TOP = os.path.dirname(os.path.dirname(os.path.dirname(os.path.abspath(__file__))))
 EXAMPLES = os.path.join(TOP, "examples")
@@ -23,13 +25,13 @@ SECONDS = float(os.environ.get("TASKBACK_TEST_SECONDS", "120"))
 LOOP = "cells 1\nbody main 0\n  while 0 == 0\n    store 0 1\n  end\nend\n"
 
 
-def example(name):
+def example(name: str) -> str:
     """The text of a file in examples/."""
     with open(os.path.join(EXAMPLES, name), encoding="utf-8") as file:
         return file.read()
 
 
-def write_file(test, text, name="loop.task"):
+def write_file(test: unittest.TestCase, text: str, name: str = "loop.task") -> str:
     """A file with this text, for the time of the test."""
     folder = tempfile.TemporaryDirectory()
     test.addCleanup(folder.cleanup)
@@ -39,11 +41,11 @@ def write_file(test, text, name="loop.task"):
     return path
 
 
-def contrast(dark, light):
+def contrast(dark: str, light: str) -> float:
     """How much lighter one of two colours is than the other, as the web's accessibility guidelines count it."""
-    def luminance(colour):
+    def luminance(colour: str) -> float:
         parts = [int(colour[at:at + 2], 16) / 255 for at in (1, 3, 5)]
-        red, green, blue = (part / 12.92 if part <= 0.03928 else ((part + 0.055) / 1.055) ** 2.4 for part in parts)
+        red, green, blue = (float(part / 12.92 if part <= 0.03928 else ((part + 0.055) / 1.055) ** 2.4) for part in parts)
         return 0.2126 * red + 0.7152 * green + 0.0722 * blue
     low, high = sorted((luminance(dark), luminance(light)))
     return (high + 0.05) / (low + 0.05)
@@ -52,7 +54,7 @@ def contrast(dark, light):
 class Terminal:
     """A shell on a terminal of its own, with a home of its own."""
 
-    def __init__(self, test, words, start=(sys.executable, MAIN), **changes):
+    def __init__(self, test: unittest.TestCase, words: Sequence[str], start: Sequence[str] = (sys.executable, MAIN), **changes: Any) -> None:
         if "HOME" not in changes:
             home = tempfile.TemporaryDirectory()
             test.addCleanup(home.cleanup)
@@ -63,14 +65,14 @@ class Terminal:
         if self.child == 0:
             os.execve(start[0], [*start, *words], environment)
         self.seen = ""
-        self.status = None
+        self.status: int | None = None
         test.addCleanup(self.close)
 
-    def send(self, text):
+    def send(self, text: str) -> None:
         """Types this."""
         os.write(self.end, text.encode())
 
-    def read_until(self, wanted, seconds=SECONDS):
+    def read_until(self, wanted: str, seconds: float = SECONDS) -> str:
         """What is shown up to and with `wanted`; fails where it doesn't come."""
         limit = time.monotonic() + seconds
         while wanted not in self.seen:
@@ -87,12 +89,12 @@ class Terminal:
         shown, self.seen = self.seen[:at], self.seen[at:]
         return shown
 
-    def type(self, line):
+    def type(self, line: str) -> str:
         """Types a line at the prompt, and returns what is shown up to the next prompt."""
         self.send(line + "\n")
         return self.read_until("(taskback) ").replace("\r\n", "\n")
 
-    def ask(self, line):
+    def ask(self, line: str) -> list[str]:
         """Types a line at the prompt, and returns what is shown in front of the next prompt, without the echo.
 
         A prompt that is shown in front of a played command isn't the last thing that is shown.
@@ -105,7 +107,7 @@ class Terminal:
         lines = shown.replace("\r\n", "\n")[:-len(PROMPT)].split("\n")
         return [text for text in lines[1:] if text]
 
-    def stopped(self, line, shown):
+    def stopped(self, line: str, shown: str) -> int:
         """Types a long run, and presses Ctrl-C once this is shown; how many steps it took."""
         self.send(line + "\n")
         self.read_until(shown)
@@ -114,13 +116,13 @@ class Terminal:
         self.read_until("(taskback) ")
         return int(told.rsplit("ran ", 1)[1].split(" ")[0])
 
-    def interrupt(self):
+    def interrupt(self) -> None:
         """Presses Ctrl-C once the shell waits for a key: readline doesn't see one that comes just before."""
         while not self.sleeps():
             time.sleep(0.01)
         self.send("\x03")
 
-    def sleeps(self):
+    def sleeps(self) -> bool:
         """Whether the shell's process waits, as seen twice."""
         for _ in range(2):
             with open(f"/proc/{self.child}/stat", encoding="ascii") as file:
@@ -129,7 +131,7 @@ class Terminal:
             time.sleep(0.02)
         return True
 
-    def wait(self):
+    def wait(self) -> int:
         """Reads to the end; returns the status."""
         while self.status is None:
             try:
@@ -141,7 +143,7 @@ class Terminal:
             self.status = os.waitstatus_to_exitcode(os.waitpid(self.child, 0)[1])
         return self.status
 
-    def close(self):
+    def close(self) -> None:
         """Ends the shell where it hasn't ended."""
         if self.status is None:
             os.kill(self.child, signal.SIGKILL)
@@ -152,7 +154,7 @@ class Terminal:
 class Typed:
     """A shell in this process: what each line says, without a terminal."""
 
-    def __init__(self, test, text, name="race.task", limit=None, exact=False):
+    def __init__(self, test: unittest.TestCase, text: str, name: str = "race.task", limit: int | None = None, exact: bool = False) -> None:
         from shell.commands import Shell
         from shell.console import Console
         from shell.session import Session
@@ -162,13 +164,13 @@ class Typed:
         self.out = io.StringIO()
         self.shell = Shell(self.session, Console(self.out, exact))
 
-    def ask(self, line):
+    def ask(self, line: str) -> list[str]:
         """The lines that a line says."""
         self.out.seek(0)
         self.out.truncate()
         self.shell.onecmd(line)
         return self.out.getvalue().split("\n")[:-1]
 
-    def plain(self, line):
+    def plain(self, line: str) -> list[str]:
         """The lines that a line says, without source lines and words."""
         return [text.split("   ")[0] for text in self.ask(line) if not text.startswith("  ")]

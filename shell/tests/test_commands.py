@@ -3,13 +3,16 @@
 import os
 import re
 import unittest
+from collections.abc import Iterable
+from typing import Any
 
 from support import EXAMPLES, LOOP, TOP, Terminal, needs_program, write_file
 from shell import faults, help_texts, texts
 from shell.protocol import words_of
 
+Rows = tuple[tuple[str, list[str]], ...]
 # What is typed, and lines that have to be shown, each by its beginning.
-RACE = (
+RACE: Rows = (
     ("# a comment", []),
     ("ready", ["ready 1", "0"]),
     ("step", ["0#1 start", ]),
@@ -114,7 +117,7 @@ RACE = (
     ("save /no/file", ["can't write /no/file: No such file or directory"]),
 )
 
-FULL = (
+FULL: Rows = (
     ("run", ["0#1 start", "ran 3 full", "  the journal is full; `limit N` gives it more room"]),
     ("step 0.1", ["refused 7 Full", "  the journal is full; `limit N` gives it more room"]),
     ("undo 0#3", ["refused 3 Full"]),
@@ -126,7 +129,7 @@ FULL = (
     ("step 0.1", ["refused 7 Full"]),
 )
 
-WAITING = {
+WAITING: dict[str, Rows] = {
     "order.task": (("run 3", []), ("deps 0.2", ["deps 1", "0.1 before"]),
                    ("step 0.2", ["refused 3 Waiting 0.1", "  0.2 waits for 0.1: depend inout 0 on lines 4 and 5"])),
     "exclusion.task": (("run 3", []), ("step 0.2", ["0.2#1 start"]), ("deps 0.2", ["deps 1", "0.1 apart"]),
@@ -148,7 +151,7 @@ FAULTS = (
 )
 
 
-def typed_names(rows):
+def typed_names(rows: Iterable[tuple[str, list[str]]]) -> set[str]:
     """The commands that these rows type, by their whole names."""
     words = [line.split(" ")[0] for line, _ in rows if line]
     return {help_texts.ABBREVIATIONS.get(word, word) for word in words}
@@ -156,12 +159,12 @@ def typed_names(rows):
 
 @needs_program
 class EachCommand(unittest.TestCase):
-    def open(self, *words):
+    def open(self, *words: str) -> Any:
         shell = Terminal(self, words, NO_COLOR="1")
         shell.read_until("(taskback) ")
         return shell
 
-    def talk(self, shell, rows):
+    def talk(self, shell: Terminal, rows: Iterable[tuple[str, list[str]]]) -> None:
         """Types each row; all lines that it names are shown, in this order."""
         for typed, wanted in rows:
             shown = shell.ask(typed)
@@ -171,26 +174,26 @@ class EachCommand(unittest.TestCase):
             if not wanted:
                 self.assertFalse([text for text in shown if text.startswith(("error", "refused"))], (typed, shown))
 
-    def test_each_command_and_each_of_its_errors(self):
+    def test_each_command_and_each_of_its_errors(self) -> None:
         self.talk(self.open(os.path.join(EXAMPLES, "race.task")), RACE)
         # The others are tried where they are: test_races.py, test_debugging.py and test_serving.py.
         self.assertEqual(set(help_texts.HELP) - typed_names(RACE), {"quit", "races", "causes", "at", "serve"})
 
-    def test_a_full_journal(self):
+    def test_a_full_journal(self) -> None:
         self.talk(self.open("--limit", "4", os.path.join(EXAMPLES, "race.task")), FULL)
 
-    def test_each_wait(self):
+    def test_each_wait(self) -> None:
         for name, rows in WAITING.items():
             with self.subTest(name=name):
                 self.talk(self.open(os.path.join(EXAMPLES, name)), rows)
 
-    def test_too_many_breakpoints(self):
+    def test_too_many_breakpoints(self) -> None:
         shell = self.open(os.path.join(EXAMPLES, "first.task"))
         text = "".join("break print\n" for _ in range(65))
         shown = shell.ask("source " + write_file(self, text, "many"))
         self.assertEqual(shown[-2:], ["refused 1 TooMany", "  64 breakpoints are there already"])
 
-    def test_every_refusal_and_error_is_tried(self):
+    def test_every_refusal_and_error_is_tried(self) -> None:
         rows = [row for group in (RACE, FULL, *WAITING.values()) for row in group]
         seen = {line.split(" ")[2] for _, wanted in rows for line in wanted if line.startswith("refused ")} | {"TooMany"}
         with open(os.path.join(TOP, "docs", "COMMANDS.md"), encoding="utf-8") as file:
@@ -199,14 +202,14 @@ class EachCommand(unittest.TestCase):
         errors = {line.split(" ")[1] for _, wanted in rows for line in wanted if line.startswith("error ")}
         self.assertEqual(errors, set(texts.ERRORS))
 
-    def test_played_files(self):
+    def test_played_files(self) -> None:
         shell = self.open(os.path.join(EXAMPLES, "race.task"))
         path = write_file(self, "run 3\nsource other\nstep 0.2\n", "play")
         shown = shell.ask("source " + path)
         self.assertIn("a played file plays no other", shown)
         self.assertTrue(shown[-1].startswith("0.2#1 start"))
 
-    def test_each_fault_of_a_program(self):
+    def test_each_fault_of_a_program(self) -> None:
         self.assertEqual({kind for kind, _, _ in FAULTS}, set(faults.FAULTS))
         for kind, text, line in FAULTS:
             shell = Terminal(self, [write_file(self, text, "bad.task")], NO_COLOR="1")
@@ -218,7 +221,7 @@ class EachCommand(unittest.TestCase):
 
 @needs_program
 class Interrupts(unittest.TestCase):
-    def test_each_long_command_stops_and_the_session_stays(self):
+    def test_each_long_command_stops_and_the_session_stays(self) -> None:
         shell = Terminal(self, ["--limit", "1000000", write_file(self, LOOP)], NO_COLOR="1")
         shell.read_until("(taskback) ")
         shell.ask("b line 6")
@@ -237,7 +240,7 @@ class Interrupts(unittest.TestCase):
         shell.read_until("(taskback) ")
         self.assertTrue(shell.ask("hist")[0] > "hist 0")
 
-    def test_a_million_steps_late(self):
+    def test_a_million_steps_late(self) -> None:
         shell = Terminal(self, ["--limit", "1000000", write_file(self, LOOP)], NO_COLOR="1")
         shell.read_until("(taskback) ")
         shell.send("run -v 1000000\n")

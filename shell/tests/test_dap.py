@@ -6,6 +6,7 @@ import socket
 import subprocess
 import time
 import unittest
+from typing import Any
 
 from dap_client import ADAPTER, Client
 from support import EXAMPLES, LOOP, PROGRAM, TOP, example, needs_program, write_file
@@ -42,12 +43,12 @@ run 99
 
 @needs_program
 class Requests(unittest.TestCase):
-    def open(self, path=RACE, **more):
+    def open(self, path: str = RACE, **more: Any) -> Any:
         client = Client(self).launch(path, **more)
         self.assertEqual(client.begin()["reason"], "entry")
         return client
 
-    def test_launch_threads_frames_and_variables(self):
+    def test_launch_threads_frames_and_variables(self) -> None:
         client = self.open()
         self.assertEqual(client.do("threads")["threads"], [{"id": 1, "name": "0 main"}])
         frame = client.frame("0")
@@ -64,7 +65,7 @@ class Requests(unittest.TestCase):
         self.assertEqual(client.variables("0.1", "Groups"), {"open groups": "0"})
         self.assertEqual(client.variables("0.1", "Items"), {})
 
-    def test_items_and_dependences(self):
+    def test_items_and_dependences(self) -> None:
         client = self.open(os.path.join(EXAMPLES, "order.task"))
         for _ in range(3):
             client.stopped("next", threadId=1)
@@ -75,7 +76,7 @@ class Requests(unittest.TestCase):
         self.assertEqual(client.stopped("next", threadId=client.threads()["0.2"])["reason"], "step")
         self.assertEqual(client.frame("0.2")["line"], 11)
 
-    def test_breakpoints_at_lines_with_conditions(self):
+    def test_breakpoints_at_lines_with_conditions(self) -> None:
         client = Client(self).launch(RACE)
         told = client.do("setBreakpoints", source={"path": RACE}, breakpoints=[{"line": 13, "condition": "r0 == 2"}, {"line": 2}, {"line": 99}, {"line": 12, "condition": "1 +"}])
         self.assertEqual([point["verified"] for point in told["breakpoints"]], [True, True, False, False])
@@ -89,7 +90,7 @@ class Requests(unittest.TestCase):
         self.assertEqual(client.do("setBreakpoints", source={"path": RACE}, breakpoints=[])["breakpoints"], [])
         self.assertEqual(client.stopped("continue", threadId=1)["reason"], "end")
 
-    def test_function_data_and_exception_breakpoints(self):
+    def test_function_data_and_exception_breakpoints(self) -> None:
         client = self.open()
         told = client.do("setFunctionBreakpoints", breakpoints=[{"name": "add", "condition": "r0 == 2"}, {"name": "zebra"}])["breakpoints"]
         self.assertEqual([point["verified"] for point in told], [True, False])
@@ -111,7 +112,7 @@ class Requests(unittest.TestCase):
         self.assertEqual([point["verified"] for point in client.do("setExceptionBreakpoints", filters=["print", "zebra"])["breakpoints"]], [True, False])
         self.assertEqual(client.stopped("continue", threadId=1)["reason"], "exception")
 
-    def test_into_a_task_and_out(self):
+    def test_into_a_task_and_out(self) -> None:
         client = self.open()
         client.stopped("stepIn", threadId=1)
         stopped = client.stopped("stepIn", threadId=1)
@@ -120,7 +121,7 @@ class Requests(unittest.TestCase):
         self.assertIn("add (ended)", [told["name"].split(" ", 1)[1] for told in client.do("threads")["threads"]])
         self.assertEqual(client.refused("stepOut", threadId=client.threads()["0.1"]), "0.1 has ended")
 
-    def test_backwards(self):
+    def test_backwards(self) -> None:
         client = self.open(SUM)
         client.stopped("continue", threadId=1)
         self.assertEqual(client.do("evaluate", expression="c[0]")["result"], "3")
@@ -142,7 +143,7 @@ class Requests(unittest.TestCase):
         self.assertEqual(client.stopped("restart")["reason"], "entry")
         self.assertEqual(client.frame("0")["line"], 3)
 
-    def test_evaluate_and_the_console(self):
+    def test_evaluate_and_the_console(self) -> None:
         client = self.open()
         client.stopped("continue", threadId=1)
         frame = client.frame("0.2")["id"]
@@ -166,7 +167,7 @@ class Requests(unittest.TestCase):
         self.assertEqual(labels, ["rolltask"])
         self.assertIn("0.1", [told["label"] for told in client.do("completions", text="step 0.", column=8)["targets"]])
 
-    def test_races_are_told(self):
+    def test_races_are_told(self) -> None:
         client = self.open(SUM)
         client.stopped("continue", threadId=1)
         races = client.event("taskback.races")["races"]
@@ -175,7 +176,7 @@ class Requests(unittest.TestCase):
         self.assertEqual(races[0]["lines"], [{"path": SUM, "number": 13}, {"path": SUM, "number": 11}])
         self.assertTrue(any("would order them" in event["body"]["output"] for event in client.events if event["event"] == "output"))
 
-    def test_pause(self):
+    def test_pause(self) -> None:
         client = self.open(write_file(self, LOOP))
         client.do("continue", threadId=1)
         self.assertIn("the tasks are running", client.refused("next", threadId=1))
@@ -186,12 +187,12 @@ class Requests(unittest.TestCase):
         self.assertEqual(client.refused("pause", threadId=1), "no task is running")
         self.assertEqual(client.stopped("next", threadId=1)["reason"], "step")
 
-    def test_a_program_without_a_stop_at_its_entry(self):
+    def test_a_program_without_a_stop_at_its_entry(self) -> None:
         client = Client(self).launch(RACE, stopOnEntry=False)
         client.do("configurationDone")
         self.assertEqual(client.event("stopped")["reason"], "end")
 
-    def test_lines_from_0(self):
+    def test_lines_from_0(self) -> None:
         client = Client(self)
         client.do("initialize", linesStartAt1=False)
         client.do("launch", program=RACE)
@@ -201,7 +202,7 @@ class Requests(unittest.TestCase):
         client.stopped("continue", threadId=1)
         self.assertEqual(client.frame("0.1")["line"], 13)
 
-    def test_what_fails(self):
+    def test_what_fails(self) -> None:
         client = Client(self)
         for command in ("threads", "continue", "stackTrace", "setBreakpoints", "evaluate", "configurationDone"):
             self.assertEqual(client.refused(command, expression="1"), "nothing was launched", command)
@@ -213,17 +214,18 @@ class Requests(unittest.TestCase):
         client.do("launch", program=RACE)
         self.assertIn("launched already", client.refused("launch", program=RACE))
         client.begin()
-        for command, arguments, wanted in (
-                ("next", {"threadId": 99}, "there is no thread 99"), ("next", {}, "there is no thread None"), ("stackTrace", {"threadId": "x"}, "there is no thread x"),
-                ("scopes", {"frameId": 999999}, "there is no thread 999"), ("scopes", {"frameId": 1005}, "there is no such frame"),
-                ("variables", {"variablesReference": 1}, "there is no such scope"), ("variables", {"variablesReference": 400}, "there is no thread 80"),
-                ("gotoTargets", {}, "the request gotoTargets isn't supported"), ("goto", {}, "the request goto isn't supported"),
-                ("attach", {}, "there is nothing to attach to"), ("source", {}, "sources are files"), ("restartFrame", {"frameId": 1000}, "task 0 hasn't started"),
-                ("setBreakpoints", {"breakpoints": [{"line": "x"}]}, "the arguments of setBreakpoints are wrong"),
-                ("stackTrace", {"threadId": 1, "startFrame": "x"}, "the arguments of stackTrace are wrong"), ("__init__", {}, "the request __init__")):
+        wrong: tuple[tuple[str, dict[str, Any], str], ...] = (
+            ("next", {"threadId": 99}, "there is no thread 99"), ("next", {}, "there is no thread None"), ("stackTrace", {"threadId": "x"}, "there is no thread x"),
+            ("scopes", {"frameId": 999999}, "there is no thread 999"), ("scopes", {"frameId": 1005}, "there is no such frame"),
+            ("variables", {"variablesReference": 1}, "there is no such scope"), ("variables", {"variablesReference": 400}, "there is no thread 80"),
+            ("gotoTargets", {}, "the request gotoTargets isn't supported"), ("goto", {}, "the request goto isn't supported"),
+            ("attach", {}, "there is nothing to attach to"), ("source", {}, "sources are files"), ("restartFrame", {"frameId": 1000}, "task 0 hasn't started"),
+            ("setBreakpoints", {"breakpoints": [{"line": "x"}]}, "the arguments of setBreakpoints are wrong"),
+            ("stackTrace", {"threadId": 1, "startFrame": "x"}, "the arguments of stackTrace are wrong"), ("__init__", {}, "the request __init__"))
+        for command, arguments, wanted in wrong:
             self.assertIn(wanted, client.refused(command, **arguments), command)
 
-    def test_the_ends(self):
+    def test_the_ends(self) -> None:
         client = self.open()
         client.do("terminate")
         client.event("terminated")
@@ -238,14 +240,14 @@ class Requests(unittest.TestCase):
 class RecordedRun(unittest.TestCase):
     """A recorded C program: its lines are those of the C file, and its steps come in the order of the run."""
 
-    def setUp(self):
+    def setUp(self) -> None:
         self.path = write_file(self, RECORDED, "sum.session")
         self.c_file = os.path.realpath(os.path.join(os.path.dirname(self.path), "sum.c"))
         with open(self.c_file, "w", encoding="ascii") as file:
             file.write("\n" * 9)
         self.client = Client(self).launch(self.path)
 
-    def test_forwards_and_backwards_by_lines_of_the_c_file(self):
+    def test_forwards_and_backwards_by_lines_of_the_c_file(self) -> None:
         told = self.client.do("setBreakpoints", source={"path": self.c_file}, breakpoints=[{"line": 7}, {"line": 1}])["breakpoints"]
         self.assertEqual([(point["verified"], point["line"]) for point in told], [(True, 7), (True, 4)])
         self.client.do("setBreakpoints", source={"path": self.c_file}, breakpoints=[{"line": 7}])
@@ -259,20 +261,20 @@ class RecordedRun(unittest.TestCase):
         self.client.stopped("continue", threadId=1)
         self.assertEqual(self.client.stopped("reverseContinue", threadId=1)["reason"], "breakpoint")
 
-    def test_a_breakpoint_is_one_for_the_client(self):
+    def test_a_breakpoint_is_one_for_the_client(self) -> None:
         told = self.client.do("setBreakpoints", source={"path": self.c_file}, breakpoints=[{"line": 5}, {"line": 7}])["breakpoints"]
         self.client.begin()
         for point, line in ((0, 5), (0, 5), (1, 7), (1, 7)):
             stopped = self.client.stopped("continue", threadId=1)
             self.assertEqual((stopped["hitBreakpointIds"], stopped["description"]), ([told[point]["id"]], f"line {line}"))
 
-    def test_the_recorded_order(self):
+    def test_the_recorded_order(self) -> None:
         self.client.begin()
         self.client.stopped("continue", threadId=1)
         shown = self.client.do("evaluate", expression="hist", context="repl")["result"].split("\n")[1:]
         self.assertEqual([line.split(" ")[0] for line in shown[:8]], ["0#1", "0#2", "0.1#1", "0.1#2", "0#3", "0.1#3", "0.1#4", "0.2#1"])
 
-    def test_another_folder(self):
+    def test_another_folder(self) -> None:
         folder = os.path.dirname(write_file(self, "", "sum.c"))
         os.unlink(self.c_file)
         client = Client(self).launch(self.path, sourceFolders=[folder])
@@ -280,7 +282,7 @@ class RecordedRun(unittest.TestCase):
         self.assertEqual(client.frame("0")["source"]["path"], os.path.realpath(os.path.join(folder, "sum.c")))
 
 
-def spoken(data):
+def spoken(data: bytes) -> Any:
     """What the server says to these bytes, and its status."""
     done = subprocess.run([ADAPTER], input=data, capture_output=True, timeout=60, check=False, env={**os.environ, "TASKBACK_PROGRAM": PROGRAM})
     return done.stdout, done.stderr.decode(), done.returncode
@@ -288,7 +290,7 @@ def spoken(data):
 
 @needs_program
 class Hostile(unittest.TestCase):
-    def test_each_ends_it_with_a_message(self):
+    def test_each_ends_it_with_a_message(self) -> None:
         for data, wanted in (
                 (b"Content-Length: 10\r\n\r\n{}", "a message of 10 bytes ends after 2"),
                 (b"Content-Length: 2\r\n\r\n{\"seq\":1}", "a message isn't JSON, or its length is wrong"),
@@ -303,13 +305,13 @@ class Hostile(unittest.TestCase):
             self.assertRegex(told, "^taskback-dap: " + re.escape(wanted))
             self.assertEqual(told.count("\n"), 1)
 
-    def test_what_is_no_request_is_passed_over(self):
+    def test_what_is_no_request_is_passed_over(self) -> None:
         self.assertEqual(spoken(b"Content-Length: 2\r\n\r\n{}"), (b"", "", 0))
         out, told, status = spoken(b"Content-Length: 32\r\n\r\n" + b'{"type":"request","arguments":3}')
         self.assertEqual((told, status), ("", 0))
         self.assertIn(b"the request None isn't supported", out)
 
-    def test_a_message_that_is_cut_at_any_byte(self):
+    def test_a_message_that_is_cut_at_any_byte(self) -> None:
         data = b'Content-Length: 60\r\n\r\n{"seq":1,"type":"request","command":"threads","arguments":{}}'
         for at in (1, 15, 19, 22, 30, len(data) - 1):
             _, told, status = spoken(data[:at])
@@ -318,7 +320,7 @@ class Hostile(unittest.TestCase):
 
 @needs_program
 class Port(unittest.TestCase):
-    def test_this_machine_alone(self):
+    def test_this_machine_alone(self) -> None:
         child = subprocess.Popen([ADAPTER, "--port", "0"], stdin=subprocess.DEVNULL, stderr=subprocess.PIPE, text=True,
                                  env={**os.environ, "TASKBACK_PROGRAM": PROGRAM})
         self.addCleanup(child.stderr.close)
@@ -336,7 +338,7 @@ class Port(unittest.TestCase):
         self.assertEqual(child.wait(timeout=20), 0)
         time.sleep(0)
 
-    def test_wrong_words(self):
+    def test_wrong_words(self) -> None:
         done = subprocess.run([ADAPTER, "--port", "x"], capture_output=True, text=True, timeout=60, check=False)
         self.assertEqual(done.returncode, 2)
         self.assertIn("invalid int value", done.stderr)
@@ -344,7 +346,7 @@ class Port(unittest.TestCase):
 
 @needs_program
 class Stream(unittest.TestCase):
-    def test_lines_of_the_stored_program_are_those_of_its_file(self):
+    def test_lines_of_the_stored_program_are_those_of_its_file(self) -> None:
         client = Client(self).launch(os.path.join(EXAMPLES, "tasks.session"))
         client.begin()
         self.assertEqual(client.frame("0")["source"]["path"], os.path.join(TOP, "examples", "tasks.session"))

@@ -5,16 +5,17 @@ import inspect
 import os
 import sys
 import unittest
+from typing import Any
 
 from dap_client import Client
 from support import EXAMPLES, needs_program
 
 PACKAGES = "/usr/lib/python3/dist-packages"
 SUM = os.path.join(EXAMPLES, "right_sum.task")
-KINDS = {"string": str, "integer": int, "boolean": bool, "array": list, "object": dict, "number": (int, float), "null": type(None)}
+KINDS: dict[str, Any] = {"string": str, "integer": int, "boolean": bool, "array": list, "object": dict, "number": (int, float), "null": type(None)}
 
 
-def schema_of_the_protocol():
+def schema_of_the_protocol() -> Any:
     """The module that was made from the schema; None where there is none."""
     sys.path.append(PACKAGES)
     try:
@@ -28,18 +29,18 @@ def schema_of_the_protocol():
 SCHEMA = schema_of_the_protocol()
 
 
-def named(reference):
+def named(reference: str) -> Any:
     """The class that a reference names."""
     return getattr(SCHEMA, reference.rpartition("/")[2])
 
 
-def required(kind):
+def required(kind: Any) -> Any:
     """What an object of a class has to have."""
     parameters = list(inspect.signature(kind.__init__).parameters.values())[1:]
     return [one.name for one in parameters if one.default is inspect.Parameter.empty and one.kind is not inspect.Parameter.VAR_KEYWORD and one.name != "seq"]
 
 
-def faults(value, told, where):
+def faults(value: Any, told: Any, where: str) -> list[str]:
     """What is wrong with a value by its part of the schema."""
     reference = told.get("$ref") or told.get("type")
     if isinstance(reference, str) and reference not in KINDS:
@@ -58,14 +59,14 @@ def faults(value, told, where):
     return []
 
 
-def faults_of_object(value, kind, where):
+def faults_of_object(value: Any, kind: Any, where: str) -> list[str]:
     """What is wrong with an object of a class."""
     found = [f"{where}: {name} lacks" for name in required(kind) if name not in value]
     found += [f"{where}: the schema has no {name}" for name in value if name not in kind.__props__]
     return found + [fault for name, part in value.items() if name in kind.__props__ for fault in faults(part, kind.__props__[name], f"{where}.{name}")]
 
 
-def class_of(message):
+def class_of(message: Any) -> Any:
     """The class of a message."""
     base = sys.modules["_pydevd_bundle._debug_adapter.pydevd_base_schema"]
     if message["type"] == "event":
@@ -76,7 +77,7 @@ def class_of(message):
 @needs_program
 @unittest.skipUnless(SCHEMA, "left out: no python3-pydevd is here, which has the protocol's schema")
 class EachMessage(unittest.TestCase):
-    def session(self):
+    def session(self) -> Any:
         """A session with each request, and what fails; the messages of the server."""
         client = Client(self).launch(SUM)
         client.do("setBreakpoints", source={"path": SUM}, breakpoints=[{"line": 13}, {"line": 99}])
@@ -104,7 +105,7 @@ class EachMessage(unittest.TestCase):
         client.do("disconnect")
         return client.messages
 
-    def test_each_message_is_as_the_schema_says(self):
+    def test_each_message_is_as_the_schema_says(self) -> None:
         seen = set()
         for message in self.session():
             kind = class_of(message)
@@ -122,8 +123,8 @@ class EachMessage(unittest.TestCase):
         self.assertGreaterEqual(seen, {"initialize", "launch", "initialized", "stopped", "output", "threads", "stackTrace", "scopes", "variables", "evaluate", "terminated"})
         self.assertGreater(len(seen), 25)
 
-    def test_the_check_finds_what_is_wrong(self):
-        right = {"reason": "step", "threadId": 1}
+    def test_the_check_finds_what_is_wrong(self) -> None:
+        right: dict[str, Any] = {"reason": "step", "threadId": 1}
         self.assertEqual(faults_of_object(right, SCHEMA.StoppedEventBody, "x"), [])
         for wrong in ({"threadId": 1}, {**right, "threadId": "1"}, {**right, "thread": 1}, {**right, "hitBreakpointIds": ["a"]}):
             self.assertNotEqual(faults_of_object(wrong, SCHEMA.StoppedEventBody, "x"), [], wrong)

@@ -13,19 +13,21 @@ from shell.comparing import first_difference
 from shell.session import Session
 from shell.source import Source
 from test_dap import RECORDED
+from collections.abc import Sequence
+from typing import Any
 
 LOOP = "cells 2\nbody main 0\n  while r0 < 20\n    let r0 r0 + 1\n    store 0 r0\n  end\nend\n"
 BIG = "cells 1\nbody main 0\n  while 0 == 0\n    store 0 1\n  end\nend\n"
 
 
-def state(session):
+def state(session: Session) -> Any:
     """What a session shows."""
     return [session.view(view) for view in ("hist", "cells", "out", "tasks")]
 
 
 @needs_program
 class Stopping(unittest.TestCase):
-    def test_conditions_and_watched_numbers(self):
+    def test_conditions_and_watched_numbers(self) -> None:
         for stop, wanted in (("break line 4 if r0 > 3", "0#12 let r0 4"), ("break cell 0 if value == 5", "0#16 store 0 5"),
                              ("break cell 0 if value == 5 and cell == 0", "0#16 store 0 5"), ("break task 0 if steps(0) == 7", "0#7 store 0 2"),
                              ("watch c[0] > 6", "0#22 store 0 7"), ("watch r0 of 0", "0#3 let r0 1"), ("watch c[0]", "0#4 store 0 1")):
@@ -35,7 +37,7 @@ class Stopping(unittest.TestCase):
             self.assertEqual(shown[-2], wanted, stop)
             self.assertEqual(shown[-1].split(" ")[2], "limit", stop)
 
-    def test_how_they_are_told(self):
+    def test_how_they_are_told(self) -> None:
         shell = Typed(self, LOOP)
         self.assertEqual(shell.plain("break line 5 if r0 == 2"), ["break s1 line 5 if r0 == 2"])
         self.assertEqual(shell.plain("watch c[1] + r0"), ["watch s2 c[1] + r0 = 0"])
@@ -48,7 +50,7 @@ class Stopping(unittest.TestCase):
                          [["cleared s2"], ["no breakpoint s2; `breaks` shows them"], ["cleared line 5"], ["no breakpoint s9; `breaks` shows them"]])
         self.assertEqual(shell.plain("go")[-1], "ran 60 done")
 
-    def test_what_can_not_be_a_breakpoint(self):
+    def test_what_can_not_be_a_breakpoint(self) -> None:
         shell = Typed(self, LOOP)
         for typed, wanted in (("break cell 7 if 1", "the program has no cell 7"), ("break body x if 1", "no body of the program is named x"),
                               ("break task x if 1", "a task is written 0.1"), ("break line 5 if x", "`x` is no number"), ("break line 5 if", "break task T"),
@@ -56,7 +58,7 @@ class Stopping(unittest.TestCase):
             self.assertTrue(shell.ask(typed)[0].startswith(wanted), (typed, shell.ask(typed)))
         self.assertEqual(shell.plain("breaks"), ["breaks 0"])
 
-    def test_run_stops_where_it_is_set(self):
+    def test_run_stops_where_it_is_set(self) -> None:
         shell = Typed(self, LOOP)
         shell.ask("break line 5 if r0 == 2")
         self.assertEqual(shell.ask("set"), ["run-breaks off", "pager on"])
@@ -66,7 +68,7 @@ class Stopping(unittest.TestCase):
         self.assertEqual(shell.plain("run 20")[-1], "ran 20 limit")
         self.assertTrue(shell.ask("set zebra on")[0].startswith("set [NAME on|off]"))
 
-    def test_a_watched_number_stops_backwards_too(self):
+    def test_a_watched_number_stops_backwards_too(self) -> None:
         shell = Typed(self, LOOP)
         shell.ask("run 20")
         shell.ask("watch c[0] > 3")
@@ -83,7 +85,7 @@ class Stopping(unittest.TestCase):
         self.assertEqual(len(shell.plain("redo")), 7)
         self.assertTrue(shell.ask("rc x")[0].startswith("rc, for example"))
 
-    def test_lines_of_the_c_file_of_a_recorded_run(self):
+    def test_lines_of_the_c_file_of_a_recorded_run(self) -> None:
         shell = Typed(self, RECORDED.split("---\n")[0], "sum.session")
         for typed, wanted in (
                 ("break sum.c:5", ["error word", "  did you mean `break line sum.c:5`?"]), ("break line sum.c:99", ["no step is taken at sum.c:99"]),
@@ -99,7 +101,7 @@ class Stopping(unittest.TestCase):
 
 @needs_program
 class BackAndAgain(unittest.TestCase):
-    def test_redo_of_each_way_back(self):
+    def test_redo_of_each_way_back(self) -> None:
         for seed in range(12):
             shell = Typed(self, random_program(seed))
             choice = random.Random(seed)
@@ -115,7 +117,7 @@ class BackAndAgain(unittest.TestCase):
                 self.assertEqual(shell.plain("redo")[-1], f"redone {gone}")
                 self.assertEqual((sorted(shell.session.view("hist")[1:]), *state(shell.session)[1:]), before)
 
-    def test_redo_is_refused_with_what_came_between(self):
+    def test_redo_is_refused_with_what_came_between(self) -> None:
         shell = Typed(self, example("race.task"))
         shell.ask("run")
         shell.ask("roll 0.1#4")
@@ -130,13 +132,13 @@ class BackAndAgain(unittest.TestCase):
         self.assertEqual(shell.ask("redo 0.1#4"), ["0.1#4 wasn't taken back"])
         self.assertIn("redo [T#K]", shell.ask("redo x")[0])
 
-    def test_a_store_between_is_named(self):
+    def test_a_store_between_is_named(self) -> None:
         shell = Typed(self, example("race.task"))
         for line in ("run 3", "step 0.1 2", "roll 0.1#2", "finish 0.2"):
             shell.ask(line)
         self.assertEqual(shell.ask("redo"), ["0.1#2 can't be taken again as it was: 0.2#4 store 0 2 came between"])
 
-    def test_redo_of_one_step_takes_what_it_needs(self):
+    def test_redo_of_one_step_takes_what_it_needs(self) -> None:
         shell = Typed(self, example("unrelated.task"))
         shell.ask("run")
         shell.ask("roll 0#3")
@@ -147,7 +149,7 @@ class BackAndAgain(unittest.TestCase):
         for name in shown:
             self.assertIn(name, shell.session.history)
 
-    def test_redo_wants_room(self):
+    def test_redo_wants_room(self) -> None:
         shell = Typed(self, example("race.task"), limit=10)
         shell.ask("run 7")
         shell.ask("roll 0.1#1")
@@ -155,7 +157,7 @@ class BackAndAgain(unittest.TestCase):
         self.assertEqual(shell.plain("redo"), ["refused 7 Full"])
         self.assertEqual(state(shell.session), before)
 
-    def test_rs(self):
+    def test_rs(self) -> None:
         shell = Typed(self, example("race.task"))
         shell.ask("run")
         self.assertEqual(shell.plain("rs 0"), ["undone 0#7"])
@@ -168,7 +170,7 @@ class BackAndAgain(unittest.TestCase):
         shell.ask("roll 0#1")
         self.assertEqual(shell.ask("rs 0"), ["task 0 has taken no step"])
 
-    def test_rs_asks_at_a_terminal(self):
+    def test_rs_asks_at_a_terminal(self) -> None:
         shell = Terminal(self, [os.path.join(EXAMPLES, "race.task")], NO_COLOR="1")
         shell.read_until("(taskback) ")
         shell.ask("run")
@@ -177,7 +179,7 @@ class BackAndAgain(unittest.TestCase):
         shell.send("y\n")
         shell.read_until("rolled 5")
 
-    def test_keep(self):
+    def test_keep(self) -> None:
         for seed in range(12):
             shell = Typed(self, random_program(seed))
             shell.ask(f"random {seed} 60")
@@ -195,7 +197,7 @@ class BackAndAgain(unittest.TestCase):
                 self.assertEqual(shell.session.history, before)
         self.assertEqual(shell.plain("keep 0#99"), ["refused 1 NoSuchStep"])
 
-    def test_positions_are_the_programs_own(self):
+    def test_positions_are_the_programs_own(self) -> None:
         for seed in range(8):
             shell = Typed(self, random_program(seed))
             choice = random.Random(seed)
@@ -209,7 +211,7 @@ class BackAndAgain(unittest.TestCase):
 
 @needs_program
 class Past(unittest.TestCase):
-    def test_a_past_state_is_what_stood_then(self):
+    def test_a_past_state_is_what_stood_then(self) -> None:
         shell = Typed(self, example("race.task"))
         told = []
         for _ in range(17):
@@ -226,7 +228,7 @@ class Past(unittest.TestCase):
         self.assertEqual(shell.plain("at now"), ["at 17, now"])
         self.assertEqual((state(shell.session), shell.session.entries), now)
 
-    def test_nothing_is_changed_there(self):
+    def test_nothing_is_changed_there(self) -> None:
         shell = Typed(self, example("race.task"))
         shell.ask("run 9")
         shell.ask("at 4")
@@ -239,7 +241,7 @@ class Past(unittest.TestCase):
         shell.ask("at now")
         self.assertEqual(shell.plain("step 0.2"), ["0.2#2 load r1 0 1"])
 
-    def test_the_prompt_says_so(self):
+    def test_the_prompt_says_so(self) -> None:
         shell = Terminal(self, [os.path.join(EXAMPLES, "race.task")], NO_COLOR="1")
         shell.read_until("(taskback) ")
         shell.ask("run 9")
@@ -251,14 +253,14 @@ class Past(unittest.TestCase):
 
 @needs_program
 class SideBySide(unittest.TestCase):
-    def session(self, text, commands):
+    def session(self, text: str, commands: Sequence[str]) -> Any:
         session = Session(PROGRAM, Source(text, "a.task"))
         self.addCleanup(session.close)
         for command in commands:
             session.do(command)
         return session
 
-    def test_compare(self):
+    def test_compare(self) -> None:
         text = example("race.task")
         files = {name: write_file(self, text + "---\n" + commands, name) for name, commands in (
             ("same", "run 99\n"), ("order", "run 3\nstep 0.2\nstep 0.1\nrun 99\n"), ("other", "run 3\nstep 0.2\nstep 0.2\nrun 99\n"), ("short", "run 5\n"))}
@@ -274,7 +276,7 @@ class SideBySide(unittest.TestCase):
         self.assertIn("line 1: NoCells", shell.ask("compare " + write_file(self, "x\n---\n", "bad"))[0])
         self.assertIn("compare FILE", shell.ask("compare")[0])
 
-    def test_random_orders_of_independent_steps(self):
+    def test_random_orders_of_independent_steps(self) -> None:
         """Two walks are equal exactly where each step's needs are, and that is where each of one's prefixes is reached by swaps."""
         found = set()
         for seed in range(25):
@@ -293,7 +295,7 @@ class SideBySide(unittest.TestCase):
                 self.assertEqual((one.view("cells"), one.view("out")), (two.view("cells"), two.view("out")))
         self.assertEqual(found, {True, False})
 
-    def test_flip(self):
+    def test_flip(self) -> None:
         shell = Typed(self, example("right_sum.task"))
         self.assertEqual(shell.ask("flip"), ["the run has no race so far"])
         shell.ask("run")
@@ -305,18 +307,18 @@ class SideBySide(unittest.TestCase):
         self.assertEqual(shell.ask("flip 9"), ["the run has 2 races: `flip 1` to `flip 2`"])
         self.assertIn("flip [N]", shell.ask("flip x")[0])
 
-    def test_flip_of_exclusive_tasks(self):
+    def test_flip_of_exclusive_tasks(self) -> None:
         shell = Typed(self, example("apart.task"))
         shell.ask("run")
         self.assertEqual(shell.ask("flip")[-2:], ["  cell 0: 2                           cell 0: 1", "  out: 2                              out: 1"])
 
-    def test_flip_of_stores_that_come_out_alike(self):
+    def test_flip_of_stores_that_come_out_alike(self) -> None:
         text = "cells 1\nbody main 0\n  task f\n  task f\nend\nbody f 0\n  store 0 7\nend\n"
         shell = Typed(self, text)
         shell.ask("run")
         self.assertEqual(shell.ask("flip")[-1], "  both leave the same cells and output")
 
-    def test_each_race_of_random_runs_can_be_flipped(self):
+    def test_each_race_of_random_runs_can_be_flipped(self) -> None:
         """The first race that isn't apart is real; after it the runs may part."""
         flipped = 0
         for seed in range(20):
@@ -331,7 +333,7 @@ class SideBySide(unittest.TestCase):
 
 @needs_program
 class Long(unittest.TestCase):
-    def test_a_long_run_is_a_count_with_its_last_lines(self):
+    def test_a_long_run_is_a_count_with_its_last_lines(self) -> None:
         shell = Typed(self, BIG, limit=20000)
         shown = shell.plain("run 5000")
         self.assertEqual(len(shown), 100 + 1 + 12 + 1)
@@ -341,13 +343,13 @@ class Long(unittest.TestCase):
         exact = Typed(self, BIG, limit=20000, exact=True)
         self.assertEqual(len(exact.ask("run 5000")), 5001)
 
-    def terminal(self, rows):
+    def terminal(self, rows: int) -> Any:
         shell = Terminal(self, ["--limit", "1000000", write_file(self, BIG)], NO_COLOR="1")
         fcntl.ioctl(shell.end, termios.TIOCSWINSZ, struct.pack("HHHH", rows, 80, 0, 0))
         shell.read_until("(taskback) ")
         return shell
 
-    def test_a_pager(self):
+    def test_a_pager(self) -> None:
         shell = self.terminal(10)
         shell.ask("run 30")
         shell.send("hist\n")
@@ -365,7 +367,7 @@ class Long(unittest.TestCase):
         shell.ask("set pager off")
         self.assertEqual(len(shell.ask("hist")), 31)
 
-    def test_progress_with_a_speed(self):
+    def test_progress_with_a_speed(self) -> None:
         shell = self.terminal(24)
         shell.send("run 400000\n")
         self.assertRegex(shell.read_until(" a second"), r"[0-9,]+ steps, [0-9,]+ a second")

@@ -12,19 +12,19 @@ from shell import help_texts
 PAGES = ["README.md", "CHANGELOG.md"] + [os.path.join("docs", name) for name in sorted(os.listdir(os.path.join(TOP, "docs"))) if name.endswith(".md")]
 
 
-def text_of(name):
+def text_of(name: str) -> str:
     """The text of a file of the repository."""
     with open(os.path.join(TOP, name), encoding="utf-8") as file:
         return file.read()
 
 
-def anchors(name):
+def anchors(name: str) -> set[str]:
     """The names that a page's headings can be linked by."""
     heads = re.findall(r"^#+ (.*)$", text_of(name), re.M)
     return {re.sub(r"[^\w\- ]", "", re.sub(r"\]\([^)]*\)", "]", head).lower()).replace(" ", "-") for head in heads}
 
 
-def commands_of_sessions():
+def commands_of_sessions() -> list[str]:
     """The commands that COMMANDS.md has in its tables."""
     text = text_of("docs/COMMANDS.md").split("## Refusals")[0]
     return sorted({words.split(" ")[0] for words in re.findall(r"^\| `([a-z]+(?: [^`]*)?)` \|", text, re.M)
@@ -32,10 +32,10 @@ def commands_of_sessions():
 
 
 class Pages(unittest.TestCase):
-    def test_the_readme_is_short(self):
+    def test_the_readme_is_short(self) -> None:
         self.assertLessEqual(len(text_of("README.md").split()), 700)
 
-    def test_links_lead_somewhere(self):
+    def test_links_lead_somewhere(self) -> None:
         for page in PAGES:
             for link in re.findall(r"\]\(([^)\s]+)\)", text_of(page)):
                 path, _, anchor = link.partition("#")
@@ -46,13 +46,13 @@ class Pages(unittest.TestCase):
                     if anchor:
                         self.assertIn(anchor, anchors(aim))
 
-    def test_each_command_is_in_the_man_page(self):
+    def test_each_command_is_in_the_man_page(self) -> None:
         there = re.findall(r"[a-z]+", text_of("docs/taskback.1"))
         wanted = commands_of_sessions()
         self.assertGreater(len(wanted), 20)
         self.assertEqual([word for word in wanted if word not in there], [])
 
-    def test_each_command_of_the_shell_is_in_the_man_page_as_it_is_written(self):
+    def test_each_command_of_the_shell_is_in_the_man_page_as_it_is_written(self) -> None:
         page = text_of("docs/taskback.1").replace("\\-", "-")
         for name, entry in help_texts.HELP.items():
             if name not in help_texts.OF_THE_PROGRAM:
@@ -61,14 +61,14 @@ class Pages(unittest.TestCase):
         for option in ("--check", "--json", "-x"):
             self.assertIn(option, page)
 
-    def test_each_command_of_the_shell_is_in_its_page(self):
+    def test_each_command_of_the_shell_is_in_its_page(self) -> None:
         there = text_of("docs/SHELL.md")
         for name in help_texts.HELP:
             if name not in help_texts.OF_THE_PROGRAM:
                 self.assertRegex(there, rf"`{name}\b", name)
 
     @unittest.skipUnless(shutil.which("groff"), "left out: no groff is here")
-    def test_the_man_page_is_well_formed(self):
+    def test_the_man_page_is_well_formed(self) -> None:
         done = subprocess.run(["groff", "-man", "-Tutf8", "-ww", os.path.join(TOP, "docs", "taskback.1")],
                               capture_output=True, text=True, check=False)
         self.assertEqual((done.returncode, done.stderr), (0, ""))

@@ -13,6 +13,7 @@ import xml.etree.ElementTree as tree
 
 from support import EXAMPLES, PROGRAM, TOP, example, needs_program, write_file
 from test_dap import RECORDED
+from typing import Any
 
 EDITORS = os.path.join(TOP, "editors")
 CLIENT = os.path.join(TOP, "shell", "tests", "emacs_client.el")
@@ -42,7 +43,7 @@ const timer = setInterval(() => { if (shown.length) { clearInterval(timer); proc
 """
 
 
-def has_dap_mode():
+def has_dap_mode() -> bool:
     """Whether Emacs has dap-mode."""
     if not shutil.which("emacs"):
         return False
@@ -50,7 +51,7 @@ def has_dap_mode():
     return done.returncode == 0
 
 
-def recorded(folder):
+def recorded(folder: str) -> tuple[str, str] | None:
     """A C program recorded in a folder: its session and its C file; None where it can't be."""
     for name in ("sum.c", "sum.session"):
         if os.path.exists(os.path.join(folder, name)):
@@ -68,7 +69,7 @@ def recorded(folder):
 @needs_program
 @unittest.skipUnless(has_dap_mode(), "left out: no Emacs with dap-mode (elpa-dap-mode) is here")
 class Emacs(unittest.TestCase):
-    def seen(self, file, program, line):
+    def seen(self, file: str, program: str, line: int) -> dict[str, str]:
         """What Emacs sees, as its client script says it."""
         with tempfile.TemporaryDirectory() as home:
             done = subprocess.run(["emacs", "--batch", "-l", CLIENT, os.path.join(EDITORS, "emacs", "taskback.el"), file, program, str(line)],
@@ -76,13 +77,13 @@ class Emacs(unittest.TestCase):
         self.assertEqual(done.returncode, 0, done.stderr)
         return dict(line.split(" ", 1) for line in done.stdout.split("\n") if " " in line)
 
-    def test_a_program_forwards_and_backwards(self):
+    def test_a_program_forwards_and_backwards(self) -> None:
         path = write_file(self, example("right_sum.task"), "right_sum.task")
         self.assertEqual(self.seen(path, path, 13), {
             "mode": "taskback-mode", "keys": "t taskback-step-back taskback-reverse-continue dap-next", "entry": "main:3", "breakpoint": "add:14 (r0=1 r1=1)", "threads": "(0 main 0.1 add 0.2 add)", "back": "add:13",
             "again": "add:14 (r0=1 r1=1)", "second": "add:14", "reverse": "add:14", "races": "0", "evaluate": "2"})
 
-    def test_a_recorded_run_by_lines_of_its_c_file(self):
+    def test_a_recorded_run_by_lines_of_its_c_file(self) -> None:
         path = write_file(self, RECORDED, "sum.session")
         c_file = os.path.join(os.path.dirname(path), "sum.c")
         with open(c_file, "w", encoding="ascii") as file:
@@ -90,7 +91,7 @@ class Emacs(unittest.TestCase):
         seen = self.seen(c_file, path, 5)
         self.assertEqual((seen["entry"], seen["breakpoint"], seen["back"], seen["again"]), ("main:4", "task4:5 (r0=0 r1=0)", "task4:5", "task4:5 (r0=0 r1=0)"))
 
-    def test_a_c_program_that_is_recorded_now(self):
+    def test_a_c_program_that_is_recorded_now(self) -> None:
         made = recorded(os.path.dirname(write_file(self, "", "sum.c")))
         if made is None:
             self.skipTest("left out: no clang with its OpenMP runtime is here")
@@ -103,11 +104,11 @@ class Emacs(unittest.TestCase):
 
 
 class VsCode(unittest.TestCase):
-    def package(self):
+    def package(self) -> Any:
         with open(os.path.join(EDITORS, "vscode", "package.json"), encoding="utf-8") as file:
             return json.load(file)
 
-    def test_the_extension_is_built_without_a_network(self):
+    def test_the_extension_is_built_without_a_network(self) -> None:
         with tempfile.TemporaryDirectory() as folder:
             build = [sys.executable, os.path.join(EDITORS, "vscode", "build.py"), folder]
             path = subprocess.run(build, capture_output=True, text=True, timeout=60, check=True).stdout.strip()
@@ -129,7 +130,7 @@ class VsCode(unittest.TestCase):
         endings = {os.path.splitext(name)[1] for name in names if name != "[Content_Types].xml"}
         self.assertLessEqual(endings, {part.get("Extension") for part in types})
 
-    def test_what_it_says_it_has_is_there(self):
+    def test_what_it_says_it_has_is_there(self) -> None:
         contributes = self.package()["contributes"]
         for path in (contributes["languages"][0]["configuration"], contributes["grammars"][0]["path"], self.package()["main"]):
             self.assertTrue(os.path.exists(os.path.join(EDITORS, "vscode", path)), path)
@@ -137,7 +138,7 @@ class VsCode(unittest.TestCase):
 
     @needs_program
     @unittest.skipUnless(NODE, "left out: no node is here")
-    def test_the_extension_starts_the_server_and_shows_the_page(self):
+    def test_the_extension_starts_the_server_and_shows_the_page(self) -> None:
         session = os.path.join(EXAMPLES, "race.session")
         done = subprocess.run([NODE, "-e", STUB], capture_output=True, text=True, timeout=60, check=False, env={
             **os.environ, "FOLDER": TOP, "PYTHON": sys.executable, "SESSION": session, "TASKBACK_PROGRAM": PROGRAM,
@@ -149,7 +150,7 @@ class VsCode(unittest.TestCase):
         self.assertTrue(told["page"].startswith("<!DOCTYPE html>"))
         self.assertEqual((told["title"], told["scripts"]), ("race.session", True))
 
-    def test_the_grammar(self):
+    def test_the_grammar(self) -> None:
         """Each word of a line has the scope that it should have; the patterns are tried in order, as the editor does."""
         with open(os.path.join(EDITORS, "vscode", "syntaxes", "taskback.tmLanguage.json"), encoding="utf-8") as file:
             grammar = json.load(file)
@@ -161,7 +162,7 @@ class VsCode(unittest.TestCase):
             self.assertIn(scope, self.scope_of(patterns, line, word), (line, word))
 
     @staticmethod
-    def scope_of(patterns, line, word):
+    def scope_of(patterns: Any, line: str, word: str) -> Any:
         """The scope of a word of a line."""
         wanted, at = line.index(word), 0
         while at < len(line):
@@ -181,7 +182,7 @@ class VsCode(unittest.TestCase):
 
 @unittest.skipUnless(VIM, "left out: no vim is here")
 class Vim(unittest.TestCase):
-    def test_the_grammar(self):
+    def test_the_grammar(self) -> None:
         path = write_file(self, "cells 1\nbody main 0\n  task add 1 depend inout 0 # why\n  let r1 r1 + 2\nend\n---\nroll 0.1#4\n", "a.task")
         wanted = [(1, 1, "taskbackCells"), (2, 6, "taskbackName"), (3, 3, "taskbackBlock"), (3, 14, "taskbackDepend"), (3, 21, "taskbackType"),
                   (3, 29, "taskbackComment"), (4, 3, "taskbackStatement"), (4, 7, "taskbackRegister"), (4, 15, "taskbackNumber"), (6, 1, "taskbackLine"),

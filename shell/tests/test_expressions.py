@@ -12,21 +12,21 @@ NUMBERS = {("0", 0): 3, ("0", 1): -2, ("0.1", 0): 7}
 class Fixed:
     """Numbers that are given."""
 
-    def register(self, task, number):
+    def register(self, task: str, number: int) -> int | None:
         return NUMBERS.get((task, number), 0)
 
-    def argument(self, task, number):
+    def argument(self, task: str, number: int) -> int | None:
         return 100 + number
 
-    def cell(self, number):
+    def cell(self, number: int) -> int | None:
         if not 0 <= number < 5:
             raise Unknown(f"the program has no cell {number}")
         return 10 * number
 
-    def steps(self, task):
+    def steps(self, task: str) -> int | None:
         return len(task)
 
-    def named(self, name):
+    def named(self, name: str) -> int | None:
         return 5 if name == "value" else 1
 
 
@@ -41,23 +41,23 @@ UNREADABLE = ("", "1 +", "r16", "arg16", "c[1", "c 1", "1 2", "x", "steps(7)", "
 
 
 class Parsing(unittest.TestCase):
-    def test_each(self):
+    def test_each(self) -> None:
         for text, wanted in GIVEN:
             self.assertEqual(parsed(text).evaluate(Fixed(), "0"), wanted, text)
 
-    def test_what_is_no_expression(self):
+    def test_what_is_no_expression(self) -> None:
         for text in UNREADABLE:
             with self.assertRaises(Unreadable, msg=text):
                 parsed(text)
 
-    def test_a_number_that_is_not_there(self):
+    def test_a_number_that_is_not_there(self) -> None:
         with self.assertRaises(Unknown):
             parsed("c[9]").evaluate(Fixed(), "0")
 
-    def test_random_sums_are_pythons(self):
+    def test_random_sums_are_pythons(self) -> None:
         choice = random.Random(5)
 
-        def made(deep):
+        def made(deep: int) -> str:
             if deep == 0 or choice.random() < 0.2:
                 return str(choice.randrange(20))
             sign = choice.choice(("+", "-", "*", "==", "!=", "<", "<=", ">", ">=", "and", "or"))
@@ -68,7 +68,7 @@ class Parsing(unittest.TestCase):
             if wanted is not None:
                 self.assertEqual(parsed(text).evaluate(Fixed(), "0"), int(wanted), text)
 
-    def test_what_a_number_hangs_on(self):
+    def test_what_a_number_hangs_on(self) -> None:
         for text, tasks, cells in (("1", (), False), ("r0", ("0",), False), ("c[1]", (), True), ("c[r0] + r1 of 0.1", ("0", "0.1"), True),
                                    ("steps(0.2)", ("0.2",), False), ("arg0", (), False), ("r0 == 1 and c[0] == 1", ("0",), True)):
             reads = parsed(text).reads("0")
@@ -77,7 +77,7 @@ class Parsing(unittest.TestCase):
 
 @needs_program
 class Printed(unittest.TestCase):
-    def test_numbers_of_a_session(self):
+    def test_numbers_of_a_session(self) -> None:
         shell = Typed(self, example("race.task"))
         shell.ask("until 0.2#3")
         for typed, wanted in (("print r0", "r0 of 0.2 = 2"), ("p r1 of 0.1", "r1 of 0.1 = 1"), ("p c[0]", "c[0] = 1"), ("p arg0 of 0.1", "arg0 of 0.1 = 1"),
@@ -87,7 +87,7 @@ class Printed(unittest.TestCase):
                               ("p", "print EXPR, for example: print r0 + c[3]")):
             self.assertTrue(shell.ask(typed)[0].startswith(wanted), (typed, shell.ask(typed)))
 
-    def test_display_after_each_step(self):
+    def test_display_after_each_step(self) -> None:
         shell = Typed(self, example("race.task"))
         self.assertEqual(shell.ask("display"), ["no expression is displayed"])
         self.assertEqual(shell.ask("display c[0]"), ["1: c[0] = 0"])

@@ -14,17 +14,19 @@ from shell.graph import dot_of, graph_of, tree_of, write_graph
 from shell.lanes import NO_CAUSES
 from test_lanes import walked
 from test_races import has_views
+from collections.abc import Iterable
+from typing import Any
 
 EDGE = re.compile(r'^\s*"([^"]+)" -> "([^"]+)" \[class=(\w+)', re.M)
 needs_dot = unittest.skipUnless(shutil.which("dot"), "left out: Graphviz isn't here")
 
 
-def edges(dot, kind):
+def edges(dot: str, kind: str) -> Any:
     """The arrows of this class in a text of the dot language."""
     return {(early, late) for early, late, found in EDGE.findall(dot) if found == kind}
 
 
-def closure(pairs):
+def closure(pairs: Iterable[tuple[str, str]]) -> Any:
     """All pairs that a chain of these joins."""
     found = set(pairs)
     while True:
@@ -34,7 +36,7 @@ def closure(pairs):
         found |= more
 
 
-def boxes(dot):
+def boxes(dot: str) -> Any:
     """The boxes around each task, from the outermost."""
     stack, found = [], {}
     for line in dot.split("\n"):
@@ -51,7 +53,7 @@ def boxes(dot):
 
 @needs_program
 class GraphTest(unittest.TestCase):
-    def test_arrows(self):
+    def test_arrows(self) -> None:
         views = has_views(self)
         implied = 0
         for seed in range(40):
@@ -82,7 +84,7 @@ class GraphTest(unittest.TestCase):
             self.assertEqual(edges(dot, "wait"), waits)
         self.assertGreater(implied, 0)
 
-    def test_a_long_chain_of_siblings(self):
+    def test_a_long_chain_of_siblings(self) -> None:
         path = write_file(self, "cells 1\nbody main 0\n  while r0 < 300\n    task t depend inout 0\n    let r0 r0 + 1\n  end\nend\n"
                           "body t 0\nend\n---\nrun 900\n", "chain.session")
         session = play_file(path, PROGRAM)
@@ -91,7 +93,7 @@ class GraphTest(unittest.TestCase):
         self.assertEqual(len(drawn), 301)
         self.assertEqual(sum(map(len, drawn.values())), len(drawn) - 2)
 
-    def test_boxes_labels_and_states(self):
+    def test_boxes_labels_and_states(self) -> None:
         session = play_file(os.path.join(EXAMPLES, "waits.session"), PROGRAM)
         self.addCleanup(session.close)
         dot = dot_of(graph_of(session))
@@ -105,7 +107,7 @@ class GraphTest(unittest.TestCase):
         self.addCleanup(session.close)
         self.assertIn("not together\\ncell 0: mutexinoutset, mutexinoutset", dot_of(graph_of(session)))
 
-    def test_races_are_red(self):
+    def test_races_are_red(self) -> None:
         session = play_file(os.path.join(EXAMPLES, "luck.session"), PROGRAM)
         self.addCleanup(session.close)
         session.do("run 99")
@@ -117,7 +119,7 @@ class GraphTest(unittest.TestCase):
         for first, _ in wanted:
             self.assertTrue(any(line.strip().startswith(f"races with {first}, ") for line in tree_of(graph)))
 
-    def many(self, count):
+    def many(self, count: int) -> Any:
         """A run of so many tasks, each after one of eight."""
         text = (f"cells 8\nbody main 0\n  while r1 < {count}\n    task writer r2 depend inout r2\n    let r1 r1 + 1\n    let r2 r2 + 1\n    if r2 == 8\n      let r2 0\n"
                 "    end\n  end\n  task reader\n  taskwait\nend\nbody writer 1\n  load r1 r0\n  store r0 r1\nend\nbody reader 0\n  load r0 0\nend\n---\nrun 1000000\n")
@@ -126,7 +128,7 @@ class GraphTest(unittest.TestCase):
         return session
 
     @needs_dot
-    def test_a_thousand_tasks_are_clusters(self):
+    def test_a_thousand_tasks_are_clusters(self) -> None:
         session = self.many(1000)
         path = write_file(self, "", "many.svg")
         before = os.times()
@@ -136,16 +138,16 @@ class GraphTest(unittest.TestCase):
         self.assertLess(taken, 5)
         dot = dot_of(graph_of(session))
         self.assertIn("1000 x writer\\nof line 4\\n1000 ended\\n992 ordered among them", dot)
-        told = re.findall(r'^  (c\d) -> (c\d) \[class=(\w+).*label="(\d+)"\]', dot, re.M)
-        self.assertEqual(sorted(told), [("c0", "c1", "spawn", "1000"), ("c0", "c2", "spawn", "1"), ("c1", "c2", "race", "1")])
+        edges = re.findall(r'^  (c\d) -> (c\d) \[class=(\w+).*label="(\d+)"\]', dot, re.M)
+        self.assertEqual(sorted(edges), [("c0", "c1", "spawn", "1000"), ("c0", "c2", "spawn", "1"), ("c1", "c2", "race", "1")])
 
-    def test_few_tasks_are_drawn_one_by_one(self):
+    def test_few_tasks_are_drawn_one_by_one(self) -> None:
         dot = dot_of(graph_of(self.many(50)))
         self.assertEqual(len(boxes(dot)), 52)
         self.assertNotIn("among them", dot)
 
     @needs_dot
-    def test_graphviz_draws_it(self):
+    def test_graphviz_draws_it(self) -> None:
         for seed in range(4):
             session, _ = walked(self, seed)
             dot = dot_of(graph_of(session))
@@ -155,7 +157,7 @@ class GraphTest(unittest.TestCase):
             self.assertEqual(len(drawn), len(EDGE.findall(dot)))
             self.assertEqual(done.stderr, "")
 
-    def test_commands(self):
+    def test_commands(self) -> None:
         shell = Terminal(self, [os.path.join(EXAMPLES, "order.task")], NO_COLOR="1")
         shell.read_until("(taskback) ")
         shell.ask("run 3")
@@ -167,7 +169,7 @@ class GraphTest(unittest.TestCase):
         self.assertEqual(shell.ask("graph a b"), ["graph [-f] [FILE], for example: graph tasks.svg"])
         self.assertEqual(shell.ask("graph /no/file.dot"), ["can't write /no/file.dot: No such file or directory"])
 
-    def test_without_graphviz_the_text_is_written(self):
+    def test_without_graphviz_the_text_is_written(self) -> None:
         path = write_file(self, "", "a.svg")
         done = subprocess.run([sys.executable, MAIN, "--graph", os.path.join(EXAMPLES, "order.session"), path],
                               capture_output=True, text=True, check=True, env={"TASKBACK_PROGRAM": PROGRAM, "PATH": "/nowhere"})

@@ -11,7 +11,7 @@ BASH = os.path.join(TOP, "completions", "taskback.bash")
 ZSH = shutil.which("zsh")
 
 
-def completed(words, folder=TOP):
+def completed(words: list[str], folder: str = TOP) -> list[str]:
     """What bash completes the last of these words to."""
     typed = " ".join(f"'{word}'" for word in words)
     text = (f"source '{BASH}'; COMP_WORDS=({typed}); COMP_CWORD={len(words) - 1}; "
@@ -21,14 +21,14 @@ def completed(words, folder=TOP):
 
 
 class Bash(unittest.TestCase):
-    def test_options(self):
+    def test_options(self) -> None:
         self.assertEqual(completed(["./run", "--"]), ["--check", "--graph", "--help", "--json", "--lanes", "--limit", "--page", "--plain", "--prove", "--serve", "--version", "--workers"])
         self.assertEqual(completed(["./run", "--limit", "1"]), ["1000", "100000", "1000000"])
         self.assertEqual(completed(["./run", "--workers", "6"]), ["64"])
         self.assertEqual(completed(["taskback", "--v"]), ["--version"])
         self.assertEqual(completed(["taskback-dap", "--po"]), ["--port"])
 
-    def test_files(self):
+    def test_files(self) -> None:
         self.assertEqual(completed(["./run", "examples/rac"]), ["examples/race.session", "examples/race.task"])
         self.assertEqual(completed(["./run", "--plain", "examp"]), ["examples/"])
         self.assertEqual(completed(["./run", "-x", "docs/taskback"]), ["docs/taskback.1"])
@@ -36,7 +36,7 @@ class Bash(unittest.TestCase):
         self.assertEqual(completed(["./run", "a"], folder), ["a b.task"])
 
     @needs_program
-    def test_each_option_is_one(self):
+    def test_each_option_is_one(self) -> None:
         helped = subprocess.run([os.path.join(TOP, "run"), "--help"], capture_output=True, text=True, timeout=120, check=True).stdout
         for option in completed(["./run", "-"]):
             self.assertIn(option, helped, option)
@@ -44,7 +44,7 @@ class Bash(unittest.TestCase):
 
 @unittest.skipUnless(ZSH, "left out: no zsh is here")
 class Zsh(unittest.TestCase):
-    def test_options_and_files(self):
+    def test_options_and_files(self) -> None:
         shell = Terminal(self, ["-f"], (ZSH,), PS1="> ", TERM="dumb")
         shell.send(f"cd {TOP}; fpath=({TOP}/completions $fpath); autoload -Uz compinit; compinit -u -D; PS1='ready> '\n")
         shell.read_until("ready> ")
@@ -57,7 +57,7 @@ class Zsh(unittest.TestCase):
 
 @needs_program
 class Version(unittest.TestCase):
-    def test_it_is_the_programs(self):
+    def test_it_is_the_programs(self) -> None:
         with open(os.path.join(TOP, "VERSION"), encoding="ascii") as file:
             version = file.read().strip()
         self.assertRegex(version, r"^\d+\.\d+\.\d+$")

@@ -15,11 +15,12 @@ from shell.lanes_svg import svg_of
 from shell.session import Session
 from shell.source import Source
 from test_races import has_views
+from typing import Any
 
 SVG = "{http://www.w3.org/2000/svg}"
 
 
-def walked(test, seed, steps=40):
+def walked(test: unittest.TestCase, seed: int, steps: int = 40) -> tuple[Session, random.Random]:
     """A session of a random program, after random steps and some rollbacks."""
     session = Session(PROGRAM, Source(random_program(seed), f"random{seed}.task"))
     test.addCleanup(session.close)
@@ -34,7 +35,7 @@ def walked(test, seed, steps=40):
     return session, choice
 
 
-def drawn(svg, name, *keys):
+def drawn(svg: Any, name: str, *keys: str) -> list[tuple[str | None, ...]]:
     """The attributes of each path or group of this class."""
     root = tree.fromstring(svg)
     return [tuple(found.get(f"data-{key}") for key in keys) for found in root.iter() if found.get("class") == name]
@@ -42,7 +43,7 @@ def drawn(svg, name, *keys):
 
 @needs_program
 class LanesTest(unittest.TestCase):
-    def test_arrows_are_the_causes_and_the_shade_is_the_rollback(self):
+    def test_arrows_are_the_causes_and_the_shade_is_the_rollback(self) -> None:
         views = has_views(self)
         kinds = set()
         for seed in range(25):
@@ -61,20 +62,20 @@ class LanesTest(unittest.TestCase):
                 self.assertIn(NO_RACES, svg)
                 continue
             svg = svg_of(lanes_of(session))
-            wanted = []
+            arrows = []
             for line in session.view("hist")[1:]:
                 for cause in session.view("causes " + line.split(" ")[0])[1:]:
                     kind, early = cause.split("#")[0].split(": ")[0], cause.split(": ", 1)[1].split(" ")[0]
                     if kind != "task":
-                        wanted.append((early, line.split(" ")[0], kind))
+                        arrows.append((early, line.split(" ")[0], kind))
                         kinds.add(kind.split(" ")[0])
-            self.assertEqual(drawn(svg, "cause", "from", "to", "kind"), wanted)
+            self.assertEqual(drawn(svg, "cause", "from", "to", "kind"), arrows)
             races = [tuple(line.split(" ")[:2]) for line in session.view("races")[1:]]
             self.assertEqual(drawn(svg, "race", "from", "to"), races)
         if views:
             self.assertTrue(kinds >= {"spawn", "cell", "print", "before"}, kinds)
 
-    def test_text_fits_the_screen_and_has_each_step(self):
+    def test_text_fits_the_screen_and_has_each_step(self) -> None:
         for seed in range(8):
             session, _ = walked(self, seed)
             picture = lanes_of(session)
@@ -83,16 +84,16 @@ class LanesTest(unittest.TestCase):
                 self.assertTrue(all(len(row) <= width for row in rows))
                 self.assertGreaterEqual(len(rows), len(picture.steps) + 2)
 
-    def test_a_step_that_does_not_stand(self):
+    def test_a_step_that_does_not_stand(self) -> None:
         session, _ = walked(self, 3)
         self.assertIsNone(lanes_of(session, "0.9.9#9"))
 
-    def test_contrast(self):
+    def test_contrast(self) -> None:
         for colour in [lanes_svg.INK, lanes_svg.RED] + [colour for colour, _, _ in lanes_svg.KINDS.values()]:
             for ground in ("#ffffff", "#ffe7a3"):
                 self.assertGreaterEqual(contrast(colour, ground), 4.5, (colour, ground))
 
-    def test_commands(self):
+    def test_commands(self) -> None:
         shell = Terminal(self, [os.path.join(EXAMPLES, "race.task")], NO_COLOR="1")
         shell.read_until("(taskback) ")
         shell.ask("run")
@@ -107,7 +108,7 @@ class LanesTest(unittest.TestCase):
         self.assertEqual(shell.ask("lanes a b"), ["lanes [-f] [T#K] [FILE], for example: lanes 0.1#4"])
         self.assertEqual(shell.ask("lanes /no/file"), ["can't write /no/file: No such file or directory"])
 
-    def test_labels_lie_on_nothing(self):
+    def test_labels_lie_on_nothing(self) -> None:
         placed = 0
         for seed in range(25):
             session, _ = walked(self, seed)
@@ -124,7 +125,7 @@ class LanesTest(unittest.TestCase):
             placed += len(found)
         self.assertGreater(placed, 30)
 
-    def test_many_tasks_are_pages_with_an_overview(self):
+    def test_many_tasks_are_pages_with_an_overview(self) -> None:
         text = "cells 1\nbody main 0\n  while r0 < 299\n    task t depend inout 0\n    let r0 r0 + 1\n  end\nend\nbody t 0\n  load r1 0\n  store 0 r1\nend\n"
         session = Session(PROGRAM, Source(text, "many.task"))
         self.addCleanup(session.close)
@@ -145,14 +146,14 @@ class LanesTest(unittest.TestCase):
         # A slide has fifty lanes on one page.
         self.assertEqual(len(parts_of(lanes)[0].tasks), 50)
 
-    def test_bodies_have_colours(self):
+    def test_bodies_have_colours(self) -> None:
         session, _ = walked(self, 1)
         lanes = lanes_of(session)
         self.assertEqual(len(set(lanes_svg.Drawing(lanes).colour.values())), len({task.body for task in lanes.tasks}))
         for colour in lanes_svg.BODIES:
             self.assertGreaterEqual(contrast(colour, "#ffffff"), 4.5)
 
-    def test_names_are_escaped(self):
+    def test_names_are_escaped(self) -> None:
         session = Session(PROGRAM, Source(example("race.task"), "<a&b>.task"))
         self.addCleanup(session.close)
         session.do("run 3")

@@ -12,6 +12,7 @@ from shell.session import Session
 from shell.source import Source
 from test_lanes import walked
 from test_races import has_views
+from typing import Any
 
 # All memory, exclusion of elder and younger siblings, groups in groups, waits with items.
 MANY = """cells 2
@@ -78,7 +79,7 @@ end
 """
 
 
-def schedule(test, text, seed):
+def schedule(test: unittest.TestCase, text: str, seed: int) -> Any:
     """A session of this program, its steps in a random order."""
     session = Session(PROGRAM, Source(text, "x.task"))
     test.addCleanup(session.close)
@@ -93,7 +94,7 @@ def schedule(test, text, seed):
 
 @needs_program
 class NeedsTest(unittest.TestCase):
-    def test_they_are_the_causes(self):
+    def test_they_are_the_causes(self) -> None:
         if not has_views(self):
             return
         kinds = set()
@@ -107,7 +108,7 @@ class NeedsTest(unittest.TestCase):
             kinds |= {kind.split(":")[0].split(" ")[0] for lines in wanted for kind in lines}
         self.assertEqual(kinds, {"task", "spawn", "cell", "print", "before", "apart", "wait", "group", "undeferred"})
 
-    def test_a_picture_of_a_long_history_is_drawn_from_replies(self):
+    def test_a_picture_of_a_long_history_is_drawn_from_replies(self) -> None:
         if not has_views(self):
             return
         session = Session(PROGRAM, Source(LONG, "x.task"))
@@ -119,7 +120,7 @@ class NeedsTest(unittest.TestCase):
         self.assertEqual(lanes.causes, {step.name: [(kind, names[place]) for kind, place in needs.add(step.name, step.did)]
                                         for step in lanes.steps})
 
-    def test_replies_that_are_asked_for_together(self):
+    def test_replies_that_are_asked_for_together(self) -> None:
         session, _ = walked(self, 3)
         commands = [word for _ in range(40) for word in ("tasks", "cells", "hist", "causes 0#1", "why 0#99", "cells 1", "ready", "fly")]
         self.assertEqual(list(session.views(commands)), [session.view(command) for command in commands])

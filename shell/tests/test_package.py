@@ -11,6 +11,7 @@ import unittest
 
 from support import EXAMPLES, PROGRAM, PROMPT, TOP, Terminal, needs_program
 from test_docs import PAGES, text_of
+from typing import Any
 
 BARE = {"PATH": "/usr/bin:/bin"}
 
@@ -18,25 +19,25 @@ BARE = {"PATH": "/usr/bin:/bin"}
 class Copied(unittest.TestCase):
     """A copy of the repository, in which the program that the tests use is the built one."""
 
-    def setUp(self):
+    def setUp(self) -> None:
         folder = tempfile.TemporaryDirectory()
         self.addCleanup(folder.cleanup)
         self.folder = folder.name
         self.top = os.path.join(self.folder, "top")
         for part in ("README.md", "CHANGELOG.md", "LICENSE", "VERSION", "run", "taskback-shell", "taskback-dap", "shell", "editors", "completions", "openmp", "docs", "examples", "tools"):
-            copy = shutil.copytree if os.path.isdir(os.path.join(TOP, part)) else shutil.copy2
+            copy: Any = shutil.copytree if os.path.isdir(os.path.join(TOP, part)) else shutil.copy2
             os.makedirs(self.top, exist_ok=True)
             copy(os.path.join(TOP, part), os.path.join(self.top, part))
         os.makedirs(os.path.join(self.top, "crates", "taskback", "out"))
         self.built = os.path.join(self.top, "crates", "taskback", "out", "taskback")
 
-    def package(self):
+    def package(self) -> Any:
         return subprocess.run([os.path.join(self.top, "tools", "package.sh"), self.folder], env=BARE, capture_output=True, text=True, check=False)
 
 
 @needs_program
 class Archive(Copied):
-    def unpacked(self):
+    def unpacked(self) -> Any:
         """The archive's folder, elsewhere; the copy it was made of is gone."""
         shutil.copy2(PROGRAM, self.built)
         made = self.package()
@@ -46,7 +47,7 @@ class Archive(Copied):
         subprocess.run(["tar", "-C", self.folder, "-xzf", archive], check=True)
         return archive.removesuffix(".tar.gz")
 
-    def test_without_a_program_of_these_sources_there_is_none(self):
+    def test_without_a_program_of_these_sources_there_is_none(self) -> None:
         self.assertIn("./run --prove makes it", self.package().stderr)
         shutil.copy2(PROGRAM, self.built)
         source = os.path.join(self.top, "crates", "taskback", "main.rt")
@@ -56,7 +57,7 @@ class Archive(Copied):
         self.assertEqual((refused.returncode, refused.stdout), (2, ""))
         self.assertIn("no proved program of these sources", refused.stderr)
 
-    def test_it_runs_alone(self):
+    def test_it_runs_alone(self) -> None:
         there = self.unpacked()
         for name in sorted(os.listdir(EXAMPLES)):
             if name.endswith(".session"):
@@ -66,7 +67,7 @@ class Archive(Copied):
         self.assertEqual((drawn.returncode, drawn.stderr), (0, ""))
         self.assertIn("digraph tasks {", drawn.stdout)
 
-    def test_its_shell_runs_alone(self):
+    def test_its_shell_runs_alone(self) -> None:
         there = self.unpacked()
         shell = Terminal(self, [os.path.join(there, "examples", "right_sum.session")], (os.path.join(there, "run"),),
                          NO_COLOR="1", PATH=BARE["PATH"], TASKBACK_PROGRAM="")
@@ -74,7 +75,7 @@ class Archive(Copied):
         self.assertIn("ran 17 done", shell.ask("source"))
         self.assertEqual(shell.ask("back")[0].split("  ")[0], "undone 0#7")
 
-    def test_its_links_lead_somewhere(self):
+    def test_its_links_lead_somewhere(self) -> None:
         there = self.unpacked()
         for page in PAGES:
             for link in re.findall(r"\]\(([^)\s#]+)[^)]*\)", text_of(page)):
@@ -84,7 +85,7 @@ class Archive(Copied):
 @needs_program
 @unittest.skipUnless(shutil.which("dpkg-deb"), "left out: no dpkg-deb is here")
 class Debian(Copied):
-    def unpacked(self):
+    def unpacked(self) -> Any:
         """The folder that the package would be laid into the system from; the copy it was made of is gone."""
         shutil.copy2(PROGRAM, self.built)
         made = self.package()
@@ -96,13 +97,15 @@ class Debian(Copied):
         subprocess.run(["dpkg-deb", "-x", package, root], check=True)
         return root, package
 
-    def ran(self, root, *words, **given):
+    def ran(self, root: str, *words: str, **given: Any) -> tuple[str, str, int]:
         """What an installed program writes, where nothing but Debian's own programs is beside it."""
+        if "input" not in given:
+            given["stdin"] = subprocess.DEVNULL
         done = subprocess.run([os.path.join(root, "usr", "bin", words[0]), *words[1:]], cwd=self.folder, env={**BARE, "HOME": self.folder},
-                              capture_output=True, text=True, timeout=120, check=False, **{"stdin": subprocess.DEVNULL} if "input" not in given else {}, **given)
+                              capture_output=True, text=True, timeout=120, check=False, **given)
         return done.stdout, done.stderr, done.returncode
 
-    def test_its_programs_run(self):
+    def test_its_programs_run(self) -> None:
         root, _ = self.unpacked()
         version = f"taskback {text_of('VERSION').strip()}\n"
         examples = os.path.join(root, "usr", "share", "doc", "taskback", "examples")
@@ -114,7 +117,7 @@ class Debian(Copied):
         for name in ("taskback-record", "taskback-session", "taskback-check"):
             self.assertIn("openmp/", "".join(self.ran(root, name)[:2]), name)
 
-    def test_what_it_lays_where(self):
+    def test_what_it_lays_where(self) -> None:
         root, package = self.unpacked()
         share = os.path.join(root, "usr", "share")
         for name in ("bash-completion/completions/taskback", "bash-completion/completions/taskback-dap", "zsh/vendor-completions/_taskback",
@@ -128,7 +131,7 @@ class Debian(Copied):
         listed = subprocess.run(["dpkg-deb", "-c", package], capture_output=True, text=True, check=True).stdout
         self.assertNotRegex(listed, r"/tests/|__pycache__|_cache|(?m:^-\S+ (?!root/root))")
 
-    def test_bash_completes_its_name(self):
+    def test_bash_completes_its_name(self) -> None:
         root, _ = self.unpacked()
         script = "source usr/share/bash-completion/completions/taskback; complete -p taskback; complete -p run"
         done = subprocess.run(["bash", "-c", script], cwd=root, capture_output=True, text=True, check=False)

@@ -22,18 +22,19 @@ from shell.session import Session
 from shell.source import Source
 from test_lanes import walked
 from test_races import has_views
+from typing import Any
 
 BROWSER = shutil.which("chromium") or shutil.which("chromium-browser") or shutil.which("google-chrome")
 
 
-def shown_by_browser(address, size="1400,4000", *more):
+def shown_by_browser(address: str, size: str = "1400,4000", *more: str) -> str:
     """The document of a page once the browser has shown it and run its scripts."""
     with tempfile.TemporaryDirectory() as home:
         return subprocess.run([BROWSER, "--headless", "--no-sandbox", "--disable-gpu", "--disable-dev-shm-usage", f"--user-data-dir={home}",
                                f"--window-size={size}", *more, "--dump-dom", address], capture_output=True, text=True, timeout=600, check=True).stdout
 
 
-def why_no_browser():
+def why_no_browser() -> str:
     """Why there are no tests in a browser, or nothing."""
     if not BROWSER:
         return "left out: no Chromium is here"
@@ -103,12 +104,12 @@ end
 """
 
 
-def page_file(test, session):
+def page_file(test: unittest.TestCase, session: Session) -> str:
     """The page of a session, as a file."""
     return write_file(test, page_of(session)[0], "page.html")
 
 
-def in_browser(path, script, size="1400,4000", *more):
+def in_browser(path: str, script: str, size: str = "1400,4000", *more: str) -> Any:
     """What a script that is added to the page returns, and the errors that came up."""
     with open(path, encoding="utf-8") as file:
         page = file.read()
@@ -123,11 +124,11 @@ def in_browser(path, script, size="1400,4000", *more):
     return json.loads(text)
 
 
-def views_of(session):
+def views_of(session: Session) -> dict[str, Any]:
     """What the views show: the steps with what each needs and who needs it, the cells, the output, where tasks stand."""
     steps = [line.split(" ")[0] for line in session.view("hist")[1:]]
     lit = {step: [[line.split(" ")[0] for line in session.view(f"{view} {step}")[1:]] for view in ("why", "who")] for step in steps}
-    stand = {}
+    stand: dict[int, list[str]] = {}
     for line in session.view("tasks")[1:]:
         name, _, state, *at = line.split(" ")
         if state == "running":
@@ -139,35 +140,35 @@ def views_of(session):
 
 @needs_program
 class DataTest(unittest.TestCase):
-    def data(self, session):
+    def data(self, session: Session) -> Any:
         found = re.search(r'<script type="application/json" id="data">(.*?)</script>', page_of(session)[0], re.S)
         return json.loads(found[1])
 
-    def test_the_page_needs_nothing_else(self):
+    def test_the_page_needs_nothing_else(self) -> None:
         session, _ = walked(self, 1)
         page = page_of(session)[0]
         for word in ("http:", "https:", "src=", "@import", "url(http", "fetch(", "XMLHttpRequest"):
             self.assertNotIn(word, page.replace("http://www.w3.org/2000/svg", ""))
 
-    def test_what_was_left_out_is_told(self):
+    def test_what_was_left_out_is_told(self) -> None:
         session, _ = walked(self, 2)
         told = " ".join(self.data(session)["leftOut"])
         self.assertEqual(has_views(self), "causes" not in told and "races" not in told)
 
-    def test_names_can_not_end_the_script(self):
+    def test_names_can_not_end_the_script(self) -> None:
         session = Session(PROGRAM, Source("# </script><script>alert(1)</script>\n" + example("first.task"), "</script>.task"))
         self.addCleanup(session.close)
         session.do("step 0 # </script>")
         self.assertEqual(self.data(session)["commands"][0][0], "step 0 # </script>")
         self.assertEqual(page_of(session)[0].count("</script>"), 2)
 
-    def test_the_session_that_is_used_stays(self):
+    def test_the_session_that_is_used_stays(self) -> None:
         session, _ = walked(self, 3)
         before = session.view("hist"), list(session.log)
         page_of(session)
         self.assertEqual((session.view("hist"), session.log), before)
 
-    def test_needs_from_the_lines_are_those_of_the_program(self):
+    def test_needs_from_the_lines_are_those_of_the_program(self) -> None:
         with unittest.mock.patch.multiple(story, MOST_ASKED=0, MOST_LOOKS=0):
             for seed in range(12):
                 session, _ = walked(self, seed)
@@ -182,7 +183,7 @@ class DataTest(unittest.TestCase):
                         left += fresh
                     self.assertEqual({told[early][0] for early in found}, {line.split(" ")[0] for line in session.view(f"why {name}")[1:]}, (seed, name))
 
-    def test_thirty_thousand_steps(self):
+    def test_thirty_thousand_steps(self) -> None:
         text = "cells 8\nbody main 0\n  while r1 < 300\n    task writer r2 depend inout r2\n    let r1 r1 + 1\n    let r2 r2 + 1\n    if r2 == 8\n      let r2 0\n" \
                "    end\n  end\n  taskwait\nend\nbody writer 1\n  while r3 < 19\n    load r1 r0\n    let r1 r1 + 1\n    store r0 r1\n    let r3 r3 + 1\n  end\nend\n"
         session = Session(PROGRAM, Source(text, "big.task"))
@@ -195,7 +196,7 @@ class DataTest(unittest.TestCase):
         self.assertLess(sum(os.times()[:4]) - before, 6)
         self.assertEqual(told[-1], (len(session.history), len(session.history)))
 
-    def test_command(self):
+    def test_command(self) -> None:
         shell = Terminal(self, [os.path.join(EXAMPLES, "race.task")], NO_COLOR="1")
         shell.read_until("(taskback) ")
         shell.ask("run")
@@ -204,22 +205,23 @@ class DataTest(unittest.TestCase):
         self.assertEqual(shell.ask("page"), ["page [-f] FILE, for example: page race.html"])
         self.assertEqual(shell.ask("page /no/file"), ["can't write /no/file: No such file or directory"])
 
-    def test_ctrl_c_stops_each_picture(self):
+    def test_ctrl_c_stops_each_picture(self) -> None:
         session, _ = walked(self, 1)
         out = io.StringIO()
         shell = Shell(session, Console(out))
         # As the handler of Ctrl-C sets it while a command is carried out.
         shell.interrupted = True
         path = write_file(self, "as before", "a.html")
-        for act, words in [(shell.methods[name], words) for name, words in (("lanes", []), ("graph", ["-f", path]), ("page", ["-f", path]))]:
-            act(words)
+        asked: tuple[tuple[str, list[str]], ...] = (("lanes", []), ("graph", ["-f", path]), ("page", ["-f", path]))
+        for name, words in asked:
+            shell.methods[name](words)
         self.assertEqual(out.getvalue(), "  stopped by Ctrl-C; nothing is drawn\n" * 3)
         with open(path, encoding="utf-8") as file:
             self.assertEqual(file.read(), "as before")
 
 
 class ContrastTest(unittest.TestCase):
-    def check(self, style, colour):
+    def check(self, style: str, colour: dict[str, str]) -> None:
         """Words can be read on each ground, and lines that carry a meaning can be seen."""
         for ground in ("paper", "pale", "chosen", "needs", "needers", "ended", "faulted"):
             self.assertGreaterEqual(contrast(colour["ink"], colour[ground]), 4.5, ground)
@@ -231,7 +233,7 @@ class ContrastTest(unittest.TestCase):
                 self.assertGreaterEqual(contrast(colour.get(stroke[6:-1], stroke), colour["paper"]), 3, stroke)
         self.assertGreaterEqual(contrast(colour["line"], colour["paper"]), 3)
 
-    def test_light_and_dark(self):
+    def test_light_and_dark(self) -> None:
         with open(os.path.join(TOP, "shell", "page", "page.css"), encoding="utf-8") as file:
             style = file.read()
         light, dark = (dict(re.findall(r"--(\w+): (#\w+);", line)) for line in style.split("\n")[:2])
@@ -245,7 +247,7 @@ class ContrastTest(unittest.TestCase):
 @needs_program
 @needs_browser
 class BrowserTest(unittest.TestCase):
-    def agree(self, session):
+    def agree(self, session: Session) -> None:
         """The page at each command against the views after it."""
         faults, moments = in_browser(page_file(self, session), EACH_MOMENT)
         self.assertEqual(faults, [])
@@ -268,12 +270,12 @@ class BrowserTest(unittest.TestCase):
             self.agree_arrows(again, shown)
             self.agree_graph(again, shown)
 
-    def agree_graph(self, session, shown):
+    def agree_graph(self, session: Session, shown: Any) -> None:
         """Each task stands in the boxes of its groups and in no other; each wait that is over has its children."""
         facts = Facts(session)
         steps = facts.steps()
         inside, outer = groups_of(steps)
-        members = {}
+        members: dict[str, list[str]] = {}
         for name in shown["boxes"]:
             group = inside[name]
             while group:
@@ -288,7 +290,7 @@ class BrowserTest(unittest.TestCase):
         if waits is not None:
             self.assertEqual(sorted(shown["waited"]), sorted([child, wait.step] for wait in waits for child in wait.children))
 
-    def agree_arrows(self, session, shown):
+    def agree_arrows(self, session: Session, shown: Any) -> None:
         """The arrows between lanes are the causes of each kind, where the program shows them."""
         if session.view("causes 0#1") == ["error word"]:
             return
@@ -300,14 +302,14 @@ class BrowserTest(unittest.TestCase):
                     wanted.append([early, step, kind])
         self.assertEqual(sorted(shown["arrows"]), sorted(wanted))
 
-    def test_the_slider_reaches_each_command_and_a_step_lights_what_the_views_list(self):
+    def test_the_slider_reaches_each_command_and_a_step_lights_what_the_views_list(self) -> None:
         has_views(self)
         for name in ("race", "exclusion", "tasks", "waits"):
             session = play_file(os.path.join(EXAMPLES, name + ".session"), PROGRAM)
             self.addCleanup(session.close)
             self.agree(session)
 
-    def test_groups_stand_in_boxes_and_waits_below_their_children(self):
+    def test_groups_stand_in_boxes_and_waits_below_their_children(self) -> None:
         has_views(self)
         session = Session(PROGRAM, Source(NESTED, "nested.task"))
         self.addCleanup(session.close)
@@ -315,11 +317,11 @@ class BrowserTest(unittest.TestCase):
             session.do(command)
         self.agree(session)
 
-    def test_random_sessions(self):
+    def test_random_sessions(self) -> None:
         for seed in (1, 4):
             self.agree(walked(self, seed, 25)[0])
 
-    def test_keys_and_races(self):
+    def test_keys_and_races(self) -> None:
         session = play_file(os.path.join(EXAMPLES, "race.session"), PROGRAM)
         self.addCleanup(session.close)
         faults, told = in_browser(page_file(self, session), """
@@ -336,7 +338,7 @@ class BrowserTest(unittest.TestCase):
         if has_views(self):
             self.assertEqual(told[8:], [["load r1 0", "store 0 r1"], ["0.2#2"]])
 
-    def test_all_is_reached_by_keys(self):
+    def test_all_is_reached_by_keys(self) -> None:
         """What scrolls can have the focus, each control has a name, and a chosen step is told as the list's active one."""
         session = play_file(os.path.join(EXAMPLES, "race.session"), PROGRAM)
         self.addCleanup(session.close)
@@ -351,7 +353,7 @@ class BrowserTest(unittest.TestCase):
           return [unreached, unnamed, active && active.dataset.step, find("lanes").hasAttribute("aria-activedescendant")];""")
         self.assertEqual((faults, told), ([], [[], [], "0#1", False]))
 
-    def test_three_sizes(self):
+    def test_three_sizes(self) -> None:
         session = play_file(os.path.join(EXAMPLES, "tasks.session"), PROGRAM)
         self.addCleanup(session.close)
         path = page_file(self, session)
@@ -362,13 +364,13 @@ class BrowserTest(unittest.TestCase):
             self.assertGreater(told[2], 5)
             self.assertGreater(told[3], 250)
 
-    def test_needs_that_are_left_out_are_not_counted(self):
+    def test_needs_that_are_left_out_are_not_counted(self) -> None:
         session, _ = walked(self, 1)
         page = re.sub(r'"leftOut":\[[^]]*\]', '"leftOut":["needs: for a try"]', page_of(session)[0])
         faults, told = in_browser(write_file(self, page, "page.html"), "point('0#1'); return find('told').textContent;")
         self.assertEqual((faults, told.split(": ")[1]), ([], "what it needs is left out"))
 
-    def test_ten_thousand_steps_stay_fluent(self):
+    def test_ten_thousand_steps_stay_fluent(self) -> None:
         text = "cells 8\nbody main 0\n  while r0 < 90\n    task t r0\n    let r0 r0 + 1\n  end\nend\nbody t 1\n  while r1 < 26\n" \
                "    let r1 r1 + 1\n    load r2 0\n    let r4 r1\n    let r3 r2\n  end\nend\n"
         many = Session(PROGRAM, Source(text, "many.task"))

@@ -5,6 +5,7 @@ import unittest
 
 from support import EXAMPLES, PROGRAM, needs_program
 from test_page import in_browser, needs_browser, page_file
+from typing import Any
 from shell.opening import play_file
 from shell.session import Session
 from shell.source import Source
@@ -44,19 +45,19 @@ LABELS = """
 @needs_program
 @needs_browser
 class Ways(unittest.TestCase):
-    def page(self, name):
+    def page(self, name: str) -> str:
         """The page of a stored session."""
         session = play_file(os.path.join(EXAMPLES, name), PROGRAM)
         self.addCleanup(session.close)
         return page_file(self, session)
 
-    def tried(self, path, script, *more):
+    def tried(self, path: str, script: str, *more: str) -> Any:
         """What a script returns, on a page where nothing goes wrong."""
         faults, told = in_browser(path, script, *more)
         self.assertEqual(faults, [])
         return told
 
-    def test_the_slider_goes_by_steps(self):
+    def test_the_slider_goes_by_steps(self) -> None:
         told = self.tried(self.page("race.session"), """
           const where = () => find("where").textContent, box = find("lanes").getBoundingClientRect(), told = [];
           const newest = [...document.querySelectorAll(".step")].pop();
@@ -76,7 +77,7 @@ class Ways(unittest.TestCase):
             "9 of 28: 0.1#4 store 0 1  |  command 6 of 12: run 100", "0 of 28, in front of the first step", True])
         self.assertEqual(told[11:], ["2", "pause", "play"])
 
-    def test_races_in_the_graph_and_side_by_side(self):
+    def test_races_in_the_graph_and_side_by_side(self) -> None:
         told = self.tried(self.page("right_sum.session"), """
           const told = [[...document.querySelectorAll("#graph .edge.racing")].map((edge) => [edge.dataset.from, edge.dataset.to]), texts(".hint")];
           document.querySelector("#race-list button").click();
@@ -88,7 +89,7 @@ class Ways(unittest.TestCase):
         self.assertIn("depend inout 0 on lines 4 and 5 would order them, or a taskwait between", told[1])
         self.assertEqual(told[2:], [["0.2#2 load r1 0 0", "0.1#4 store 0 1"], ["11    load r1 0", "13    store 0 r1"], ["load r1 0", "store 0 r1"], 2, ["0.1#4"]])
 
-    def test_filters_folding_and_search(self):
+    def test_filters_folding_and_search(self) -> None:
         told = self.tried(self.page("race.session"), """
           const told = [], all = names(".step");
           document.querySelectorAll("#program li")[12].click(); told.push(names(".step"), texts("#chips .chip"));
@@ -113,20 +114,20 @@ class Ways(unittest.TestCase):
         self.assertEqual(told[13:17], [["0.1#4", "false"], ["0.2#4", "false"], ["0#4", "false"], ["0#4", "true"]])
         self.assertEqual(told[17:], [True, 2])
 
-    def test_labels_lie_on_nothing(self):
+    def test_labels_lie_on_nothing(self) -> None:
         for name in ("tasks.session", "right_sum.session", "waits.session"):
             told = self.tried(self.page(name), LABELS + "return [labels.length, clash.length];", "1400,2400")
             self.assertGreater(told[0], 0, name)
             self.assertEqual(told[1], 0, name)
 
-    def looped(self, text=LOOP):
+    def looped(self, text: str = LOOP) -> str:
         """The page of fifty tasks of one loop, of which the last ones ran before the root's end."""
         session = Session(PROGRAM, Source(text, "loop.task"))
         self.addCleanup(session.close)
         session.do("run 20000")
         return page_file(self, session)
 
-    def test_opens_at_the_lanes_that_work(self):
+    def test_opens_at_the_lanes_that_work(self) -> None:
         told = self.tried(self.looped(), LABELS + """
           const lanes = () => [...document.querySelectorAll(".lane-name")].map((lane) => lane.dataset.lane), told = [lanes(), texts("#where").join("").split(" ")[0]];
           const step = document.querySelector('.step[data-step="0.50#5"]').getBoundingClientRect(), box = find("lanes").getBoundingClientRect();
@@ -138,7 +139,7 @@ class Ways(unittest.TestCase):
         self.assertEqual((told[2], told[4]), (True, 0))
         self.assertIn("wait: 50 steps", told[3])
 
-    def test_a_long_row_of_tasks_goes_on_below(self):
+    def test_a_long_row_of_tasks_goes_on_below(self) -> None:
         in_a_group = LOOP.replace("  while", "  taskgroup\n  while").replace("  taskwait\n", "  end\n")
         for text, waits in ((LOOP, ["line 7waits for 50"]), (in_a_group, [])):
             told = self.tried(self.looped(text), """
@@ -148,7 +149,7 @@ class Ways(unittest.TestCase):
                 document.querySelectorAll("#graph .edge.wait").length, texts("#graph [data-wait]").map((text) => text.split("0#")[0])];""", "1400,900")
             self.assertEqual(told, [51, True, 51, True, 0, waits])
 
-    def test_many_tasks_are_clusters(self):
+    def test_many_tasks_are_clusters(self) -> None:
         session = Session(PROGRAM, Source(MANY, "many.task"))
         self.addCleanup(session.close)
         session.do("run 20000")
@@ -166,7 +167,7 @@ class Ways(unittest.TestCase):
         self.assertIn("109 ordered", told[0][2])
         self.assertEqual(told[2:], [0, False, 110, True, 0])
 
-    def test_races_of_clusters(self):
+    def test_races_of_clusters(self) -> None:
         text = "cells 1\nbody main 0\n  while r0 < 320\n    task one\n    if r0 == 9\n      task two\n    end\n    let r0 r0 + 1\n  end\nend\n" \
                "body one 0\n  store 0 1\nend\nbody two 0\n  load r1 0\nend\n"
         session = Session(PROGRAM, Source(text, "clusters.task"))
@@ -181,7 +182,7 @@ class Ways(unittest.TestCase):
         self.assertEqual(sorted(told[1]), sorted([first, second, f"{count} race" + "s" * (count > 1)] for first, second, count in (
             ("one|4", "two|6", kinds.count((12, 15))), ("two|6", "one|4", kinds.count((15, 12)))) if count))
 
-    def test_dark_and_light_by_the_systems_choice(self):
+    def test_dark_and_light_by_the_systems_choice(self) -> None:
         path = self.page("race.session")
         script = "return [getComputedStyle(document.body).backgroundColor, matchMedia('(prefers-color-scheme: dark)').matches];"
         self.assertEqual(self.tried(path, script), ["rgb(255, 255, 255)", False])

@@ -16,19 +16,19 @@ FOLDER = os.path.join(TOP, "docs", "pictures")
 
 @needs_program
 class PicturesTest(unittest.TestCase):
-    def test_they_are_up_to_date(self):
+    def test_they_are_up_to_date(self) -> None:
         self.assertEqual({name + ".svg" for name in PICTURES}, set(os.listdir(FOLDER)))
         for name in PICTURES:
             with open(os.path.join(FOLDER, name + ".svg"), encoding="utf-8") as file:
                 self.assertEqual(file.read(), picture(name, PROGRAM), f"{name}: python3 -m tools.draw_pictures draws it anew")
 
-    def run_script(self, name, *words):
+    def run_script(self, name: str, *words: str) -> tuple[str, str, int]:
         """What a program of the front end says, and its status."""
         done = subprocess.run([sys.executable, MAIN, f"--{name}", *words], capture_output=True, text=True, timeout=60,
                               env={**os.environ, "TASKBACK_PROGRAM": PROGRAM}, check=False)
         return done.stdout, done.stderr, done.returncode
 
-    def test_scripts(self):
+    def test_scripts(self) -> None:
         session, path = os.path.join(TOP, "examples", "race.session"), write_file(self, "", "out")
         for name in ("graph", "lanes", "page"):
             out, told, status = self.run_script(name)
@@ -48,12 +48,12 @@ class PicturesTest(unittest.TestCase):
 
 
 class PlacesTest(unittest.TestCase):
-    def test_each_section_has_its_picture(self):
+    def test_each_section_has_its_picture(self) -> None:
         for name, text in sections():
             self.assertEqual(re.findall(r"!\[[^\]]+\]\(pictures/(\w+)\.svg\)", text), [name])
         self.assertRegex(page("README.md"), r"!\[[^\]]+\]\(docs/pictures/right_sum\.svg\)")
 
-    def test_they_are_pictures(self):
+    def test_they_are_pictures(self) -> None:
         for name in os.listdir(FOLDER):
             root = tree.parse(os.path.join(FOLDER, name)).getroot()
             self.assertEqual(root.tag, "{http://www.w3.org/2000/svg}svg")

@@ -9,6 +9,8 @@ import unittest
 from programs import random_program
 from support import EXAMPLES, PROGRAM, Terminal, Typed, example, needs_program, write_file
 from test_dap import RECORDED
+from collections.abc import Iterable
+from typing import Any
 from shell import race_advice
 from shell.commands import Shell
 from shell.console import Console
@@ -17,14 +19,14 @@ from shell.session import Session
 from shell.source import Source
 
 
-def open_session(test, text):
+def open_session(test: unittest.TestCase, text: str) -> Session:
     """A session of this program."""
     session = Session(PROGRAM, Source(text, "x.task"))
     test.addCleanup(session.close)
     return session
 
 
-def has_views(test):
+def has_views(test: unittest.TestCase) -> bool:
     """Whether the program answers the two views; where it doesn't, says so."""
     session = open_session(test, example("race.task"))
     session.do("run 99")
@@ -55,13 +57,13 @@ ADVISED = {
 }
 
 
-def texts_tried(count):
+def texts_tried(count: int) -> list[str]:
     """Random programs, and some of the examples."""
     return [random_program(seed) for seed in range(count)] + [
         example(name + ".task") for name in ("exclusion", "race", "partial_wait", "waits", "undeferred")]
 
 
-def told_races(session):
+def told_races(session: Session) -> dict[Any, str]:
     """The races of a finished run, each as its tasks, its lines and its cell."""
     found = {}
     for line in session.view("races")[1:]:
@@ -71,7 +73,7 @@ def told_races(session):
     return found
 
 
-def mended(text, kind):
+def mended(text: str, kind: race_advice.Kind) -> tuple[str, dict[int, int]]:
     """The program with the first thing that is advised, and the new numbers of its lines."""
     lines = text.split("\n")[:-1]
     moved = {number: number for number in range(1, len(lines) + 1)}
@@ -94,12 +96,12 @@ def mended(text, kind):
     return "".join(line + "\n" for line in lines), moved
 
 
-def advised(session, line):
+def advised(session: Session, line: str) -> race_advice.Kind:
     """What is advised for one race."""
     return race_advice.kinds_of(session, [race_of(line)])[0]
 
 
-def run_to_end(test, text):
+def run_to_end(test: unittest.TestCase, text: str) -> Session:
     """A session of this program, run to its end."""
     session = open_session(test, text)
     test.assertEqual(session.do("run 900")[-1].split(" ")[2], "done")
@@ -108,7 +110,7 @@ def run_to_end(test, text):
 
 @needs_program
 class RaceWords(unittest.TestCase):
-    def test_what_is_advised_orders_the_two_steps(self):
+    def test_what_is_advised_orders_the_two_steps(self) -> None:
         if not has_views(self):
             return
         tried = set()
@@ -130,13 +132,13 @@ class RaceWords(unittest.TestCase):
                 self.no_clause_twice(session, kind, seed)
         self.assertEqual(tried, {"depend", "taskwait", "taskgroup", "apart"})
 
-    def no_clause_twice(self, session, kind, seed):
+    def no_clause_twice(self, session: Session, kind: race_advice.Kind, seed: int) -> None:
         """What is advised isn't there already."""
         for clause in kind.clauses:
             if clause.place:
                 self.assertNotRegex(session.source.line(clause.line) + " ", f"depend {clause.type} {clause.place} ", seed)
 
-    def test_clauses_in_terms_of_the_task_line(self):
+    def test_clauses_in_terms_of_the_task_line(self) -> None:
         for name, (body, wanted) in ADVISED.items():
             with self.subTest(name=name):
                 session = run_to_end(self, "cells 4\nbody main 0\n" + body)
@@ -147,13 +149,13 @@ class RaceWords(unittest.TestCase):
                 left = [race_of(line) for line in run_to_end(self, better).view("races")[1:]]
                 self.assertLess(len(left), len(races))
 
-    def test_the_missing_clause_alone_is_named(self):
+    def test_the_missing_clause_alone_is_named(self) -> None:
         session = run_to_end(self, example("luck.task"))
         races = [race_of(line) for line in session.view("races")[1:]]
         self.assertEqual([kind.told() for kind in race_advice.kinds_of(session, races)],
                          ["race 1: `depend in 1` on line 6 would order them, or a `taskwait` between"])
 
-    def test_a_recorded_run_shows_its_lines_of_c(self):
+    def test_a_recorded_run_shows_its_lines_of_c(self) -> None:
         typed = Typed(self, RECORDED.split("---\n")[0].replace(" depend inout 0", ""), "sum.session")
         self.assertEqual(typed.ask("run 3")[1], "0#2 spawn 0.1 task4             3: task task4  # sum.c:4")
         typed.ask("run")
@@ -164,7 +166,7 @@ class RaceWords(unittest.TestCase):
                                                   "would order them, or a `taskwait` between",
                                                   "  2 races of 1 pair of lines; `flip N` shows both outcomes of race N"])
 
-    def test_the_right_sum(self):
+    def test_the_right_sum(self) -> None:
         if not has_views(self):
             return
         shell = Terminal(self, [EXAMPLES + "/right_sum.task"], NO_COLOR="1")
@@ -177,8 +179,8 @@ class RaceWords(unittest.TestCase):
             "0.1#4 0.2#4 cell 0              13: store 0 r1  |  13: store 0 r1",
             "  race 2: `depend inout 0` on lines 4 and 5 would order them, or a `taskwait` between"])
 
-    def test_many_lines_are_told_by_the_first_and_the_last(self):
-        def words(lines):
+    def test_many_lines_are_told_by_the_first_and_the_last(self) -> None:
+        def words(lines: Iterable[int]) -> str:
             return race_advice.clauses_in_words([race_advice.Clause(line, "inout", "0") for line in lines])
         self.assertEqual(words([4, 4]), "`depend inout 0` on line 4")
         self.assertEqual(words([9, 2, 4, 3]), "`depend inout 0` on lines 2, 3, 4 and 9")
@@ -186,8 +188,8 @@ class RaceWords(unittest.TestCase):
         self.assertEqual(words(range(101, 200)), "`depend inout 0` on 99 lines, 101 to 199,")
         self.assertEqual(words(range(101, 300, 2)), "`depend inout 0` on 100 lines, 101, 103, 105, 107, 109, 111, .. and 299,")
 
-    def test_many_cells_of_a_line_are_told_together(self):
-        def words(repeated, *cells, instead=""):
+    def test_many_cells_of_a_line_are_told_together(self) -> None:
+        def words(repeated: bool, *cells: str, instead: str = "") -> str:
             return race_advice.clauses_in_words([race_advice.Clause(5, "inout", cell, instead, repeated) for cell in cells])
         self.assertEqual(words(False, "3"), "`depend inout 3` on line 5")
         self.assertEqual(words(False, "3", "0", "3"), "`depend inout` of cells 0 and 3 on line 5")
@@ -195,7 +197,7 @@ class RaceWords(unittest.TestCase):
         self.assertEqual(words(True, "r2", "1", "4", instead="in"),
                          "`depend inout r2` in place of `depend in r2` on line 5 and `depend inout` of each task's own cell (1 and 4) in place of `depend in` on line 5")
 
-    def test_a_loop_whose_tasks_read_the_next_ones_cell(self):
+    def test_a_loop_whose_tasks_read_the_next_ones_cell(self) -> None:
         text = "cells 9\nbody main 0\n  while r0 < 8\n    task work r0 depend inout r0\n    let r0 r0 + 1\n  end\nend\n" \
                "body work 1\n  let r2 r0 + 1\n  load r3 r2\n  store r0 r3\nend\n"
         session = run_to_end(self, text)
@@ -203,7 +205,7 @@ class RaceWords(unittest.TestCase):
         self.assertEqual([kind.advice() for kind in race_advice.kinds_of(session, races)],
                          ["`depend in` of each task's own cell (1 to 7) on line 4 would order them, or a `taskwait` between"])
 
-    def test_many_races_are_told_by_pairs_of_lines(self):
+    def test_many_races_are_told_by_pairs_of_lines(self) -> None:
         text = "cells 1\nbody main 0\n  while r1 < 30\n    task add\n    let r1 r1 + 1\n  end\nend\nbody add 0\n  load r1 0\n  store 0 r1\nend\n"
         session = run_to_end(self, text)
         out = io.StringIO()
@@ -219,7 +221,7 @@ class RaceWords(unittest.TestCase):
 
 @needs_program
 class CauseWords(unittest.TestCase):
-    def test_each_cause_has_words_and_both_lines(self):
+    def test_each_cause_has_words_and_both_lines(self) -> None:
         if not has_views(self):
             return
         kinds = set()
@@ -243,7 +245,7 @@ class CauseWords(unittest.TestCase):
                         self.assertRegex(words, r"depend \w+ \d.* on lines? \d")
         self.assertEqual(kinds, {"task", "spawn", "cell", "print", "before", "apart", "wait", "group", "undeferred"})
 
-    def test_refusals(self):
+    def test_refusals(self) -> None:
         if not has_views(self):
             return
         shell = Terminal(self, [write_file(self, example("race.task"), "race.task")], NO_COLOR="1")
@@ -255,9 +257,9 @@ class CauseWords(unittest.TestCase):
 
 @needs_program
 class WithoutTheViews(unittest.TestCase):
-    def test_a_program_without_them_is_told(self):
+    def test_a_program_without_them_is_told(self) -> None:
         session = open_session(self, example("race.task"))
-        session.program.ask = lambda command: ["error word"]
+        setattr(session.program, "ask", lambda command: ["error word"])
         out = io.StringIO()
         shell = Shell(session, Console(out))
         for typed in ("races", "causes 0#1"):

@@ -15,13 +15,13 @@ MADE = ("editors/vscode/build.py", "tools/draw_pictures.py")
 MOST_LINES, MOST_OF_A_FUNCTION, MOST_PARAMETERS = 500, 40, 6
 
 
-def files():
+def files() -> list[str]:
     """All Python of the front end, tests among it."""
     found = glob.glob(os.path.join(TOP, "shell", "**", "*.py"), recursive=True)
     return found + [os.path.join(TOP, name) for name in (*PROGRAMS, *MADE)]
 
 
-def ran(*words):
+def ran(*words: str) -> tuple[str, int]:
     """What a program says of our files, and its status."""
     done = subprocess.run(words, cwd=TOP, capture_output=True, text=True, timeout=600, check=False)
     return done.stdout + done.stderr, done.returncode
@@ -29,17 +29,17 @@ def ran(*words):
 
 class Rules(unittest.TestCase):
     @unittest.skipUnless(shutil.which("mypy"), "left out: no mypy is here")
-    def test_types(self):
+    def test_types(self) -> None:
         with tempfile.TemporaryDirectory() as cache:
-            for words in ((), PROGRAMS):
+            for words in ((), PROGRAMS, ("--config-file", os.path.join("shell", "tests", "mypy.ini"))):
                 told, status = ran("mypy", "--cache-dir", cache, *words)
                 self.assertEqual(status, 0, told)
 
     @unittest.skipUnless(shutil.which("flake8"), "left out: no flake8 is here")
-    def test_style(self):
+    def test_style(self) -> None:
         self.assertEqual(ran("flake8", "shell", *PROGRAMS, *MADE), ("", 0))
 
-    def test_sizes(self):
+    def test_sizes(self) -> None:
         for path in files():
             with open(path, encoding="utf-8") as file:
                 text = file.read()
@@ -50,7 +50,7 @@ class Rules(unittest.TestCase):
                     self.assertLessEqual(node.end_lineno - node.lineno + 1, MOST_OF_A_FUNCTION, place)
                     self.assertLessEqual(len([word for word in node.args.args + node.args.kwonlyargs if word.arg not in ("self", "cls")]), MOST_PARAMETERS, place)
 
-    def test_packages_are_found_without_changing_the_path(self):
+    def test_packages_are_found_without_changing_the_path(self) -> None:
         for path in files():
             with open(path, encoding="utf-8") as file:
                 self.assertNotIn("sys.path." + "insert", file.read(), path)

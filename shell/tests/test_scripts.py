@@ -4,6 +4,7 @@ import json
 import os
 import subprocess
 import unittest
+from typing import Any
 
 from support import EXAMPLES, TOP, example, needs_program, write_file
 
@@ -12,14 +13,14 @@ RACE = os.path.join(EXAMPLES, "race.task")
 TYPES = {"integer": int, "string": str, "array": list, "object": dict, "null": type(None)}
 
 
-def ran(*words, typed=None):
+def ran(*words: str, typed: str | None = None) -> tuple[str, str, int]:
     """What ./run writes, and its status; `typed` is piped in."""
-    given = {"input": typed} if typed is not None else {"stdin": subprocess.DEVNULL}
+    given: dict[str, Any] = {"input": typed} if typed is not None else {"stdin": subprocess.DEVNULL}
     done = subprocess.run([RUN, *words], capture_output=True, text=True, timeout=120, check=False, **given)
     return done.stdout, done.stderr, done.returncode
 
 
-def fits(value, schema):
+def fits(value: Any, schema: Any) -> bool:
     """Whether a value is as a schema says, by the words that ours uses."""
     kinds = schema.get("type", [])
     kinds = [kinds] if isinstance(kinds, str) else kinds
@@ -37,26 +38,26 @@ def fits(value, schema):
 
 @needs_program
 class Piped(unittest.TestCase):
-    def test_commands_are_played_with_the_shells_own(self):
+    def test_commands_are_played_with_the_shells_own(self) -> None:
         out, told, status = ran(RACE, typed="r 3\nbreak line 13\nfinish 0.1\n\n# a comment\nstep 0\n")
         self.assertEqual((told, status), ("", 0))
         self.assertEqual(out.split("\n")[3:], ["ran 3 limit", "break s1 line 13", "0.1#1 start", "0.1#2 load r1 0 0", "0.1#3 let r1 1",
                                                "0.1#4 store 0 1", "0.1#5 end", "refused 5 Children 0.2", ""])
 
-    def test_a_session_is_played_as_it_is(self):
+    def test_a_session_is_played_as_it_is(self) -> None:
         path = os.path.join(EXAMPLES, "race.session")
         self.assertEqual(ran(path, typed="tasks\n"), (example("race.out"), "", 0))
 
-    def test_a_program_without_anything_piped_says_nothing(self):
+    def test_a_program_without_anything_piped_says_nothing(self) -> None:
         self.assertEqual(ran(RACE), ("", "", 0))
 
-    def test_a_file_may_be_read_in_its_place(self):
+    def test_a_file_may_be_read_in_its_place(self) -> None:
         path = write_file(self, "step 0\n", "script")
         with open(path, encoding="utf-8") as file:
             done = subprocess.run([RUN, RACE], stdin=file, capture_output=True, text=True, timeout=120, check=False)
         self.assertEqual((done.stdout, done.returncode), ("0#1 start\n", 0))
 
-    def test_each_line_is_answered_as_it_comes(self):
+    def test_each_line_is_answered_as_it_comes(self) -> None:
         child = subprocess.Popen([RUN, "--json", RACE], stdin=subprocess.PIPE, stdout=subprocess.PIPE, text=True, bufsize=1)
         self.addCleanup(child.stdout.close)
         self.addCleanup(child.kill)
@@ -66,12 +67,12 @@ class Piped(unittest.TestCase):
         child.stdin.close()
         self.assertEqual(child.wait(timeout=60), 0)
 
-    def test_a_session_may_be_piped_in(self):
+    def test_a_session_may_be_piped_in(self) -> None:
         for text in (example("race.session"), "\ufeff\n# a comment\n" + example("race.session")):
             self.assertEqual(ran(RACE, typed=text), (example("race.out"), "", 0))
         self.assertEqual(ran("--check", RACE, typed="\n\nstep 0\nstep 0.1")[0].split("\n")[-2], "-:4: step 0.1: task 0.1 hasn't been generated")
 
-    def test_a_pipe_that_is_left_open_is_told(self):
+    def test_a_pipe_that_is_left_open_is_told(self) -> None:
         child = subprocess.Popen([RUN, RACE], stdin=subprocess.PIPE, stdout=subprocess.PIPE, stderr=subprocess.PIPE, text=True)
         for stream in (child.stdin, child.stdout, child.stderr):
             self.addCleanup(stream.close)
@@ -80,7 +81,7 @@ class Piped(unittest.TestCase):
         child.stdin.close()
         self.assertEqual((child.wait(timeout=60), child.stdout.read()), (0, ""))
 
-    def test_a_byte_order_mark_is_passed_over(self):
+    def test_a_byte_order_mark_is_passed_over(self) -> None:
         text = "\ufeff" + example("race.task")
         path = write_file(self, text, "marked.task")
         self.assertEqual(ran(path, typed="step 0\n"), ("0#1 start\n", "", 0))
@@ -92,46 +93,46 @@ class Piped(unittest.TestCase):
 
 @needs_program
 class Checked(unittest.TestCase):
-    def script(self, text):
+    def script(self, text: str) -> str:
         return write_file(self, text, "a.script")
 
-    def test_all_taken_is_0(self):
+    def test_all_taken_is_0(self) -> None:
         out, told, status = ran("--check", "-x", self.script("run 99\nraces\n"), RACE)
         self.assertEqual((out.split("\n")[-4:], told, status), (["races 2", "0.1#4 0.2#2 cell 0", "0.1#4 0.2#4 cell 0", ""], "", 0))
 
-    def test_a_refused_step_is_1_with_its_line_and_reason(self):
+    def test_a_refused_step_is_1_with_its_line_and_reason(self) -> None:
         out, told, status = ran("--check", "-x", self.script("# first\nrun 3\nstep 0\nrun 99\n"), RACE)
         self.assertEqual((out.split("\n")[4:], told, status), (
             ["refused 5 Children 0.1", "a.script:3: step 0: 0 stands at a taskwait, and its child 0.1 hasn't ended", ""][-len(out.split("\n")[4:]):], "", 1))
 
-    def test_what_the_shell_refuses_is_1_and_no_command_is_2(self):
+    def test_what_the_shell_refuses_is_1_and_no_command_is_2(self) -> None:
         for line, status, reason in (("until 0.9#1", 1, "0.9#1 was never reached"), ("fly", 2, "no such command; `help` lists them"),
                                      ("finish 0 0", 2, "finish [T], for example: finish 0.1"), ("redo", 1, "nothing was taken back")):
             out, _, found = ran("--check", "-x", self.script(line + "\nstep 0\n"), RACE)
             self.assertEqual(found, status, line)
             self.assertTrue(out.split("\n")[-2].startswith(f"a.script:1: {line}: {reason}"), out)
 
-    def test_without_check_it_goes_on(self):
+    def test_without_check_it_goes_on(self) -> None:
         out, _, status = ran("-x", self.script("step 0.7\nstep 0\n"), RACE)
         self.assertEqual((out, status), ("refused 1 NoSuchTask\n0#1 start\n", 0))
 
-    def test_a_session_plays_its_commands_first(self):
+    def test_a_session_plays_its_commands_first(self) -> None:
         out, _, status = ran("--check", "-x", self.script("hist\n"), os.path.join(EXAMPLES, "right_sum.session"))
         self.assertEqual(status, 0)
         self.assertTrue(out.startswith(example("right_sum.out")))
         self.assertRegex(out, r"\nhist \d+\n")
 
-    def test_a_saved_session_is_a_script(self):
+    def test_a_saved_session_is_a_script(self) -> None:
         self.assertEqual(ran("-x", os.path.join(EXAMPLES, "race.session"), RACE)[0], example("race.out"))
 
-    def test_lines_of_a_session_are_counted_from_its_first(self):
+    def test_lines_of_a_session_are_counted_from_its_first(self) -> None:
         path = self.script("# --- a comment\n" + example("race.task") + "---  # now\nstep 0\n# shell: break line 13\nstep 0.7\n")
         out, _, status = ran("--check", "-x", path, RACE)
         self.assertEqual(status, 1)
         last = 3 + len(("# --- a comment\n" + example("race.task") + "---").split("\n"))
         self.assertEqual(out.split("\n")[-4:-1], ["break s1 line 13", "refused 1 NoSuchTask", f"a.script:{last}: step 0.7: task 0.7 hasn't been generated"])
 
-    def test_usage_and_files(self):
+    def test_usage_and_files(self) -> None:
         for words in (["-x"], ["-x", "/no/script", RACE], ["-x", self.script("step 0\n")], ["-x", self.script(""), "/no/file"]):
             out, told, status = ran(*words)
             self.assertEqual((out, told.count("\n"), status), ("", 1, 2), words)
@@ -140,7 +141,7 @@ class Checked(unittest.TestCase):
         self.assertEqual((out, status), ("", 1))
         self.assertIn("main takes no parameters", told)
 
-    def test_a_full_disk_is_no_crash(self):
+    def test_a_full_disk_is_no_crash(self) -> None:
         with open("/dev/full", "wb") as full:
             done = subprocess.run([RUN, "-x", self.script("run 99\n"), RACE], stdin=subprocess.DEVNULL, stdout=full, stderr=subprocess.PIPE,
                                   text=True, timeout=120, check=False)
@@ -149,7 +150,7 @@ class Checked(unittest.TestCase):
 
 @needs_program
 class Json(unittest.TestCase):
-    def test_each_reply_is_a_line_by_the_schema(self):
+    def test_each_reply_is_a_line_by_the_schema(self) -> None:
         with open(os.path.join(TOP, "docs", "replies.schema.json"), encoding="utf-8") as file:
             schema = json.load(file)
         commands = "run 3\nstep 0\nfly\nraces\ncells\nprint r0\nsource /no/file\nback\n"
@@ -166,18 +167,18 @@ class Json(unittest.TestCase):
         self.assertEqual(records[5]["lines"], ["r0 of 0 = 0"])
         self.assertFalse(fits({**records[0], "version": 2}, schema))
 
-    def test_the_lines_are_the_exact_ones(self):
+    def test_the_lines_are_the_exact_ones(self) -> None:
         path = os.path.join(EXAMPLES, "race.session")
         out = ran("--json", "-x", path, RACE)[0]
         self.assertEqual("".join(text + "\n" for line in out.split("\n")[:-1] for text in json.loads(line)["lines"]), example("race.out"))
 
-    def test_a_played_file_has_a_record_for_each_command(self):
+    def test_a_played_file_has_a_record_for_each_command(self) -> None:
         path = write_file(self, "run 2\nstep 0.7\n", "played")
         records = [json.loads(line) for line in ran("--json", RACE, typed=f"source {path}\n")[0].split("\n")[:-1]]
         self.assertEqual([(record["command"], record["outcome"]) for record in records],
                          [("run 2", "done"), ("step 0.7", "refused"), (f"source {path}", "refused")])
 
-    def test_a_check_ends_with_a_record(self):
+    def test_a_check_ends_with_a_record(self) -> None:
         out, _, status = ran("--json", "--check", RACE, typed="step 0.7\nstep 0\n")
         records = [json.loads(line) for line in out.split("\n")[:-1]]
         self.assertEqual((status, len(records), records[1]["lines"]), (1, 2, ["-:1: step 0.7: task 0.7 hasn't been generated"]))

@@ -12,6 +12,7 @@ import unittest
 
 from support import EXAMPLES, MAIN, PROGRAM, TOP, Terminal, example, needs_program, write_file
 from test_page import needs_browser, shown_by_browser
+from typing import Any
 from shell.serving import ALLOWED, LONGEST, Live, LiveServer
 from shell.session import Session
 from shell.source import Source
@@ -45,13 +46,13 @@ CLICKS = """<script>(async () => {
 class Clicked(Live):
     """A session whose page has a hand at it."""
 
-    def page(self):
+    def page(self) -> Any:
         return super().page().replace("</body>", CLICKS)
 
 
 @needs_program
 class Served(unittest.TestCase):
-    def serve(self, kind=Live, name="race.task"):
+    def serve(self, kind: type[Live] = Live, name: str = "race.task") -> LiveServer:
         """A server of this program, for the time of the test."""
         session = Session(PROGRAM, Source(example(name), name))
         server = LiveServer(kind(session), 0)
@@ -59,7 +60,7 @@ class Served(unittest.TestCase):
         thread = threading.Thread(target=server.serve_until, args=(ended.is_set,))
         thread.start()
 
-        def end():
+        def end() -> None:
             ended.set()
             thread.join()
             server.server_close()
@@ -67,7 +68,7 @@ class Served(unittest.TestCase):
         self.addCleanup(end)
         return server
 
-    def ask(self, server, method, path, body=None, **headers):
+    def ask(self, server: LiveServer, method: str, path: str, body: str | None = None, **headers: Any) -> tuple[int, str]:
         """The status and the body of an answer."""
         connection = http.client.HTTPConnection("127.0.0.1", server.server_port, timeout=30)
         self.addCleanup(connection.close)
@@ -79,13 +80,13 @@ class Served(unittest.TestCase):
         self.assertIsNone(answer.getheader("Access-Control-Allow-Origin"))
         return answer.status, answer.read().decode()
 
-    def do(self, server, command):
+    def do(self, server: LiveServer, command: str) -> Any:
         """What a command says."""
         status, body = self.ask(server, "POST", f"/{server.token}/do", json.dumps({"command": command}))
         self.assertEqual(status, 200, body)
         return json.loads(body)
 
-    def test_commands(self):
+    def test_commands(self) -> None:
         server = self.serve()
         self.assertRegex(server.address, r"^http://127\.0\.0\.1:\d+/[\w-]{20,}/$")
         status, page = self.ask(server, "GET", f"/{server.token}/")
@@ -100,15 +101,16 @@ class Served(unittest.TestCase):
         self.assertEqual(self.do(server, "redo")["lines"][-1], "redone 10")
         self.assertEqual(json.loads(self.ask(server, "GET", f"/{server.token}/state")[1])["moments"], 28)
 
-    def test_who_may_not_ask(self):
+    def test_who_may_not_ask(self) -> None:
         server = self.serve()
         port, token = server.server_port, server.token
-        for method, path, headers, wanted in (
-                ("GET", "/", {}, 404), ("GET", "/x/", {}, 404), ("GET", f"/{token[:-1]}/", {}, 404), ("GET", f"/{token}", {}, 404), ("GET", f"/{token}/../", {}, 404),
-                ("GET", f"/{token}/", {"Host": "evil.example"}, 403), ("GET", f"/{token}/", {"Host": f"evil.example:{port}"}, 403),
-                ("GET", f"/{token}/", {"Origin": "http://evil.example"}, 403), ("GET", f"/{token}/", {"Origin": "null"}, 403),
-                ("GET", f"/{token}/", {"Host": f"localhost:{port}"}, 200), ("GET", f"/{token}/", {"Origin": f"http://127.0.0.1:{port}"}, 200),
-                ("GET", f"/{token}/do", {}, 404), ("DELETE", f"/{token}/", {}, 501)):
+        wrong: tuple[tuple[str, str, dict[str, str], int], ...] = (
+            ("GET", "/", {}, 404), ("GET", "/x/", {}, 404), ("GET", f"/{token[:-1]}/", {}, 404), ("GET", f"/{token}", {}, 404), ("GET", f"/{token}/../", {}, 404),
+            ("GET", f"/{token}/", {"Host": "evil.example"}, 403), ("GET", f"/{token}/", {"Host": f"evil.example:{port}"}, 403),
+            ("GET", f"/{token}/", {"Origin": "http://evil.example"}, 403), ("GET", f"/{token}/", {"Origin": "null"}, 403),
+            ("GET", f"/{token}/", {"Host": f"localhost:{port}"}, 200), ("GET", f"/{token}/", {"Origin": f"http://127.0.0.1:{port}"}, 200),
+            ("GET", f"/{token}/do", {}, 404), ("DELETE", f"/{token}/", {}, 501))
+        for method, path, headers, wanted in wrong:
             if wanted == 501:
                 connection = http.client.HTTPConnection("127.0.0.1", port, timeout=30)
                 self.addCleanup(connection.close)
@@ -117,26 +119,28 @@ class Served(unittest.TestCase):
                 continue
             self.assertEqual(self.ask(server, method, path, **headers)[0], wanted, (path, headers))
 
-    def test_what_may_not_be_asked_for(self):
+    def test_what_may_not_be_asked_for(self) -> None:
         server = self.serve()
         path = f"/{server.token}/do"
-        for body, headers, wanted in (
-                ('{"command": "save /tmp/x"}', {}, 403), ('{"command": "source /etc/passwd"}', {}, 403), ('{"command": "page x"}', {}, 403), ('{"command": ""}', {}, 403),
-                ('{"command": "quit"}', {}, 403), ('{"command": "step 0\\nsave x"}', {}, 400), ('{"command": 3}', {}, 400), ("[]", {}, 400), ("{", {}, 400),
-                ("[" * 4000, {}, 400), (" " * (LONGEST + 1), {}, 400), ('{"command": "step 0"}', {"Content-Type": "text/plain"}, 400)):
+        wrong: tuple[tuple[str, dict[str, str], int], ...] = (
+            ('{"command": "save /tmp/x"}', {}, 403), ('{"command": "source /etc/passwd"}', {}, 403), ('{"command": "page x"}', {}, 403), ('{"command": ""}', {}, 403),
+            ('{"command": "quit"}', {}, 403), ('{"command": "step 0\\nsave x"}', {}, 400), ('{"command": 3}', {}, 400), ("[]", {}, 400), ("{", {}, 400),
+            ("[" * 4000, {}, 400), (" " * (LONGEST + 1), {}, 400), ('{"command": "step 0"}', {"Content-Type": "text/plain"}, 400))
+        for body, headers, wanted in wrong:
             self.assertEqual(self.ask(server, "POST", path, body, **headers)[0], wanted, body[:60])
         self.assertEqual(self.ask(server, "POST", f"/{server.token}/x", '{"command": "step 0"}')[0], 404)
         self.assertEqual(json.loads(self.ask(server, "GET", f"/{server.token}/state")[1])["moments"], 0)
         self.assertFalse({"save", "source", "page", "graph", "lanes", "compare", "quit", "serve"} & set(ALLOWED))
 
-    def test_a_run_without_an_end_is_short(self):
+    def test_a_run_without_an_end_is_short(self) -> None:
         session = Session(PROGRAM, Source("cells 1\nbody main 0\n  while 0 == 0\n    store 0 1\n  end\nend\n", "loop.task"))
         self.addCleanup(session.close)
-        self.assertEqual(Live(session).do("run")["lines"][-1], "ran 1000 limit")
-        self.assertEqual(Live(session).do("run 999999")["lines"][-1], "ran 1000 limit")
+        for command in ("run", "run 999999"):
+            told: dict[str, Any] = Live(session).do(command)
+            self.assertEqual(told["lines"][-1], "ran 1000 limit")
 
     @needs_browser
-    def test_clicks(self):
+    def test_clicks(self) -> None:
         server = self.serve(Clicked)
         page = shown_by_browser(server.address, "1400,2000", "--virtual-time-budget=60000")
         told = json.loads(re.search(r"<body>(.*)</body>", page, re.S)[1].replace("&gt;", ">").replace("&lt;", "<").replace("&amp;", "&"))
@@ -153,7 +157,7 @@ class Served(unittest.TestCase):
 
 @needs_program
 class Commands(unittest.TestCase):
-    def test_a_file_is_served_until_it_is_ended(self):
+    def test_a_file_is_served_until_it_is_ended(self) -> None:
         for ending in (signal.SIGINT, signal.SIGTERM):
             child = subprocess.Popen([os.path.join(TOP, "run"), "--serve", os.path.join(EXAMPLES, "race.session")], stdout=subprocess.PIPE, text=True,
                                      env={**os.environ, "TASKBACK_PROGRAM": PROGRAM})
@@ -167,7 +171,7 @@ class Commands(unittest.TestCase):
             child.send_signal(ending)
             self.assertEqual(child.wait(timeout=30), 0)
 
-    def test_a_script_that_serves_says_where_at_once(self):
+    def test_a_script_that_serves_says_where_at_once(self) -> None:
         script = write_file(self, "run 3\nserve\nout\n", "a.script")
         child = subprocess.Popen([os.path.join(TOP, "run"), "--json", "-x", script, os.path.join(EXAMPLES, "race.task")], stdout=subprocess.PIPE, text=True,
                                  env={**os.environ, "TASKBACK_PROGRAM": PROGRAM})
@@ -179,9 +183,11 @@ class Commands(unittest.TestCase):
         child.send_signal(signal.SIGINT)
         self.assertEqual((child.wait(timeout=30), child.stdout.read()), (130, ""))
 
-    def test_wrong_words(self):
-        for words, wanted in (([], "--serve FILE [PORT]"), (["/no/file"], "can't read /no/file"), ([os.path.join(EXAMPLES, "race.task"), "x"], "--serve FILE [PORT]"),
-                              ([os.path.join(EXAMPLES, "race.task"), "1"], None)):
+    def test_wrong_words(self) -> None:
+        race = os.path.join(EXAMPLES, "race.task")
+        wrong: tuple[tuple[list[str], str | None], ...] = (
+            ([], "--serve FILE [PORT]"), (["/no/file"], "can't read /no/file"), ([race, "x"], "--serve FILE [PORT]"), ([race, "1"], None))
+        for words, wanted in wrong:
             if wanted is None and os.geteuid() == 0:
                 continue
             done = subprocess.run([MAIN, "--serve", *words], capture_output=True, text=True, timeout=60, check=False,
@@ -189,7 +195,7 @@ class Commands(unittest.TestCase):
             self.assertEqual(done.returncode, 2)
             self.assertIn(wanted or "can't serve", done.stderr)
 
-    def test_in_the_shell(self):
+    def test_in_the_shell(self) -> None:
         shell = Terminal(self, [os.path.join(EXAMPLES, "race.task")], NO_COLOR="1")
         shell.read_until("(taskback) ")
         shell.ask("run 3")

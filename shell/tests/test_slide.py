@@ -8,6 +8,8 @@ import xml.etree.ElementTree as tree
 from support import PROGRAM, Typed, contrast, example, needs_program
 from test_dap import RECORDED
 from test_lanes import SVG, drawn, walked
+from collections.abc import Iterator
+from typing import Any
 from shell import slide
 from shell.labels import Rect
 from shell.lanes import lanes_of
@@ -20,7 +22,7 @@ LOOP = "cells 60\nbody main 0\n  while r0 < {count}\n    task work r0 depend ino
        "body work 1\n  let r2 r0 + 1\n  load r3 r2\n  store r0 r3\nend\n"
 
 
-def rects(root):
+def rects(root: Any) -> Iterator[Rect]:
     """Where the names of tasks and the words of steps are."""
     for text in root.iter(SVG + "text"):
         if text.get("class") in ("name", "word"):
@@ -30,14 +32,14 @@ def rects(root):
 
 @needs_program
 class SlideTest(unittest.TestCase):
-    def looped(self, count):
+    def looped(self, count: int) -> tuple[Session, str]:
         """The slide of a loop of so many tasks."""
         session = Session(PROGRAM, Source(LOOP.replace("{count}", str(count)), "loop.task"))
         self.addCleanup(session.close)
         session.do("run 9000")
         return session, slide_of(lanes_of(session, "0.2#3"))
 
-    def test_sixteen_to_nine_with_large_letters_that_lie_on_no_others(self):
+    def test_sixteen_to_nine_with_large_letters_that_lie_on_no_others(self) -> None:
         for count in (9, 30, 49):
             session, svg = self.looped(count)
             root = tree.fromstring(svg)
@@ -50,7 +52,7 @@ class SlideTest(unittest.TestCase):
                 self.assertTrue(0 <= one.x and one.x + one.wide <= slide.WIDE and 0 < one.y < slide.HIGH)
                 self.assertFalse([other for other in there[:at] if one.meets(other)], count)
 
-    def test_what_is_shown_is_what_happened(self):
+    def test_what_is_shown_is_what_happened(self) -> None:
         session, svg = self.looped(9)
         self.assertIn("<text class=\"title\" x=\"40\" y=\"48\">loop.task: 10 tasks, 77 steps, 8 races</text>", svg)
         self.assertIn("✕ lines 12 and 13: 8 races", svg)
@@ -59,22 +61,22 @@ class SlideTest(unittest.TestCase):
         self.assertEqual(drawn(svg, "race", "from", "to")[:8], [tuple(line.split(" ")[:2]) for line in session.view("races")[1:]])
         self.assertEqual(len(drawn(svg, "step")), 77 - sum(" let " in line or " test " in line for line in session.view("hist")[1:]))
 
-    def test_races_of_a_recorded_run_are_told_by_lines_of_c(self):
+    def test_races_of_a_recorded_run_are_told_by_lines_of_c(self) -> None:
         text = RECORDED.split("---\n")[0].replace(" depend inout 0", "")
         session = Session(PROGRAM, Source(text, "sum.session"))
         self.addCleanup(session.close)
         session.do("run 99")
         self.assertIn("✕ sum.c:5 and sum.c:7: 2 races", slide_of(lanes_of(session)))
 
-    def test_any_session(self):
+    def test_any_session(self) -> None:
         for seed in range(15):
             session, _ = walked(self, seed)
             tree.fromstring(slide_of(lanes_of(session)))
 
-    def test_colours_can_be_told_from_white(self):
+    def test_colours_can_be_told_from_white(self) -> None:
         self.assertGreater(min(contrast(colour, "#ffffff") for colour in BODIES), 4.5)
 
-    def test_command(self):
+    def test_command(self) -> None:
         typed = Typed(self, example("race.task"))
         typed.ask("run 99")
         with tempfile.TemporaryDirectory() as folder:

@@ -6,16 +6,16 @@ from shell import faults, help_texts, texts
 
 
 class FaultTest(unittest.TestCase):
-    def show(self, line, kind):
+    def show(self, line: str, kind: str) -> list[str]:
         return faults.fault_lines("a.task", f"cells 1\n  {line}\n", 2, kind)
 
-    def test_mark_and_form(self):
+    def test_mark_and_form(self) -> None:
         shown = self.show("let r1 = r0 + 1", "BadNumber")
         self.assertEqual(shown[0], "a.task:2: let r1 = r0 + 1")
         self.assertEqual(shown[1].index("^"), shown[0].index("="))
         self.assertEqual(shown[3], "  it should look like: let r1 r0 + 1")
 
-    def test_word_at_fault(self):
+    def test_word_at_fault(self) -> None:
         for line, kind, word in (("stroe 0 1", "UnknownWord", "stroe"), ("store x 1", "BadNumber", "x"),
                                  ("task nobody", "UnknownBody", "nobody"), ("print r16", "Register", "r16"),
                                  ("task t depend readonly 0", "DependType", "readonly"), ("cell 7 1", "CellRange", "7"),
@@ -26,7 +26,7 @@ class FaultTest(unittest.TestCase):
             self.assertEqual(None if place is None else words[place], word, line)
         self.assertIsNone(faults.word_at_fault(["print"], "Arity"))
 
-    def test_forms(self):
+    def test_forms(self) -> None:
         self.assertEqual(faults.should_be(["stroe", "0", "1"]), "store ADDR VAL")
         self.assertIn("print VAL", self.show("print", "Arity")[-1])
         for line, kind, wanted in (("if r0 = 1", "UnknownWord", "if r0 == 1"), ("while r0 >= r1", "UnknownWord", "while r1 <= r0"),
@@ -40,18 +40,18 @@ class FaultTest(unittest.TestCase):
 
 
 class WordsTest(unittest.TestCase):
-    def test_items(self):
+    def test_items(self) -> None:
         for new, old, wanted in (("in 0", "in 0", None), ("in 0", "out 0", "after"), ("in 0", "out 1", None),
                                  ("inout all", "in 5", "after"), ("mutexinoutset 0", "mutexinoutset 0", "apart"),
                                  ("inoutset 0", "inoutset 0", None), ("in 0", "inoutset 0", "after")):
             self.assertEqual(texts.needs_order(new, old), wanted, (new, old))
 
-    def test_the_list_of_commands_keeps_to_the_screen(self):
+    def test_the_list_of_commands_keeps_to_the_screen(self) -> None:
         for columns in (80, 100, 200):
             self.assertLessEqual(max(map(len, help_texts.help_list(columns))), columns)
         self.assertEqual(" ".join(" ".join(help_texts.help_list(80)).split()), " ".join(" ".join(help_texts.help_list(200)).split()))
 
-    def test_every_command_has_help(self):
+    def test_every_command_has_help(self) -> None:
         for name in help_texts.HELP:
             self.assertIn("for example: ", help_texts.help_of(name)[2])
 

@@ -3,32 +3,33 @@
 import os
 import re
 import unittest
+from typing import Any
 
 from support import EXAMPLES, TOP, Terminal, needs_program
 
 COLUMN = 16
 
 
-def page(name):
+def page(name: str) -> str:
     """The text of a page."""
     with open(os.path.join(TOP, name), encoding="utf-8") as file:
         return file.read()
 
 
-def sections():
+def sections() -> Any:
     """The sections of the tutorial: the example of each, and its text."""
     parts = re.split(r"^## \d+\. .*`(\w+)\.session`$", page("docs/TUTORIAL.md"), flags=re.M)
     return [(name, text.split("\n## ")[0]) for name, text in zip(parts[1::2], parts[2::2])]
 
 
-def blocks(text, kind="text"):
+def blocks(text: str, kind: str = "text") -> Any:
     """The blocks of this kind in a text, each as its lines."""
     return [block.split("\n") for block in re.findall(rf"^```{kind}\n(.*?)\n```$", text, re.M | re.S)]
 
 
-def rows(lines):
+def rows(lines: list[str]) -> Any:
     """What is typed, each with the lines of its reply: on the left the one, from the 17th column the other."""
-    found = []
+    found: list[Any] = []
     for line in lines:
         typed, reply = line[:COLUMN].strip(), line[COLUMN:].split("  <- ")[0].strip()
         if typed:
@@ -37,7 +38,7 @@ def rows(lines):
     return found
 
 
-def agrees(wanted, shown):
+def agrees(wanted: list[str], shown: list[str]) -> bool:
     """Whether the lines are the ones that are wanted; `...` stands for any."""
     if not wanted:
         return not shown
@@ -46,14 +47,14 @@ def agrees(wanted, shown):
     return bool(shown) and wanted[0] == shown[0] and agrees(wanted[1:], shown[1:])
 
 
-def replies(shell, typed):
+def replies(shell: Terminal, typed: str) -> Any:
     """The program's own lines after a command: without source lines, and without the shell's words."""
     return [line.split("  ")[0] for line in shell.ask(typed) if not line.startswith("  ")]
 
 
 @needs_program
 class Typed(unittest.TestCase):
-    def play(self, name, lines):
+    def play(self, name: str, lines: list[str]) -> None:
         """Types a block's commands at a shell on this file."""
         shell = Terminal(self, [os.path.join(EXAMPLES, name)], NO_COLOR="1")
         shell.read_until("(taskback) ")
@@ -61,7 +62,7 @@ class Typed(unittest.TestCase):
             shown = replies(shell, typed)
             self.assertTrue(agrees(wanted, shown), (name, typed, wanted, shown))
 
-    def test_each_section_of_the_tutorial(self):
+    def test_each_section_of_the_tutorial(self) -> None:
         names = [name for name, _ in sections()]
         self.assertEqual(len(names), page("docs/TUTORIAL.md").count(".session`\n"))
         for name, text in sections():
@@ -70,20 +71,20 @@ class Typed(unittest.TestCase):
                 self.assertTrue(lines)
                 self.play(name + ".task", lines)
 
-    def test_programs_in_the_tutorial_are_those_of_the_files(self):
+    def test_programs_in_the_tutorial_are_those_of_the_files(self) -> None:
         for name, text in sections():
             program = {" ".join(line.split()) for line in page(f"examples/{name}.task").split("\n")}
             for line in (line for block in blocks(text, "task") for line in block):
                 for part in re.split(r"\s{4,}", line.strip()):
                     self.assertIn(" ".join(part.split()), program, name)
 
-    def test_the_readme(self):
+    def test_the_readme(self) -> None:
         self.play("right_sum.task", blocks(page("README.md"))[0])
 
 
 @needs_program
 class FirstMinute(unittest.TestCase):
-    def test_the_readme_alone_leads_to_the_race_and_back(self):
+    def test_the_readme_alone_leads_to_the_race_and_back(self) -> None:
         command = re.search(r"^\./run (\S+\.session) .*`source`", page("README.md"), re.M)
         shell = Terminal(self, [os.path.join(TOP, command[1])], (os.path.join(TOP, "run"),), NO_COLOR="1")
         self.assertIn("`source` plays the next, Enter goes on", shell.read_until("(taskback) ", 300))
@@ -97,7 +98,7 @@ class FirstMinute(unittest.TestCase):
 
 
 class Rows(unittest.TestCase):
-    def test_agrees(self):
+    def test_agrees(self) -> None:
         self.assertEqual(rows(["run 3           a", "                b  <- why", "out             c"]), [("run 3", ["a", "b"]), ("out", ["c"])])
         self.assertTrue(agrees(["a", "...", "d"], ["a", "b", "c", "d"]))
         self.assertTrue(agrees(["a", "..."], ["a"]))

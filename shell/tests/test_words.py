@@ -61,7 +61,7 @@ FOREIGN = (
 
 @needs_program
 class Meant(unittest.TestCase):
-    def test_each(self):
+    def test_each(self) -> None:
         shell = Typed(self, example("race.task"))
         shell.ask("run 3")
         for typed, wanted in MEANT:
@@ -69,35 +69,35 @@ class Meant(unittest.TestCase):
                 shell.ask("run")
             self.assertIn(wanted, "\n".join(shell.ask(typed)), typed)
 
-    def test_nothing_is_made_of_what_was_meant(self):
+    def test_nothing_is_made_of_what_was_meant(self) -> None:
         shell = Typed(self, example("race.task"))
         self.assertEqual(shell.plain("break 5"), ["error word"])
         self.assertEqual(shell.plain("breaks"), ["breaks 0"])
 
-    def test_info_has_breakpoints_at_lines_too(self):
+    def test_info_has_breakpoints_at_lines_too(self) -> None:
         shell = Typed(self, example("race.task"))
         shell.ask("break line 13")
         self.assertEqual(shell.plain("info breaks"), ["breaks 0", "s1 line 13"])
 
-    def test_a_stop_says_which_it_met(self):
+    def test_a_stop_says_which_it_met(self) -> None:
         shell = Typed(self, example("race.task"))
         shell.ask("break body add")
         shell.ask("break cell 0")
         self.assertEqual(shell.ask("go")[-1], "  breakpoint 1: body add")
         self.assertEqual(shell.ask("go")[-1], "  breakpoint 2: cell 0")
 
-    def test_counts(self):
+    def test_counts(self) -> None:
         self.assertEqual([counted(1, "task"), counted(2, "task"), counted(0, "branch"), counted(12345, "step")],
                          ["1 task", "2 tasks", "0 branches", "12,345 steps"])
 
 
 class Faulty(unittest.TestCase):
-    def test_each_is_told(self):
+    def test_each_is_told(self) -> None:
         for text, line, kind, wanted in FAULTY:
             self.assertIn(f"{wanted} ({kind})", "\n".join(faults.fault_lines("a.task", text, line, kind)), text)
 
     @needs_program
-    def test_the_program_finds_them_there(self):
+    def test_the_program_finds_them_there(self) -> None:
         from shell.protocol import Program, Refused
         from support import PROGRAM
         for text, line, kind, _ in FAULTY:
@@ -105,14 +105,14 @@ class Faulty(unittest.TestCase):
                 Program(PROGRAM, text)
             self.assertEqual((caught.exception.line, caught.exception.kind), (line, kind), text)
 
-    def test_words_of_other_languages(self):
+    def test_words_of_other_languages(self) -> None:
         for line, wanted in FOREIGN:
             self.assertEqual(faults.should_be(line.split(" "), line), wanted)
 
 
 @needs_program
 class FullJournal(unittest.TestCase):
-    def test_the_greatest_limit(self):
+    def test_the_greatest_limit(self) -> None:
         # As if no journal could have more entries than this one.
         with unittest.mock.patch.object(texts, "GREATEST_LIMIT", 500):
             shell = Typed(self, LOOP, limit=500)
@@ -122,7 +122,7 @@ class FullJournal(unittest.TestCase):
             self.assertEqual(shell.ask("trim 9"), ["started anew with 490 steps: the journal has room for 9 more"])
             self.assertEqual(shell.plain("back"), ["undone 0#490"])
 
-    def test_trim_leaves_out_what_was_taken_back(self):
+    def test_trim_leaves_out_what_was_taken_back(self) -> None:
         shell = Typed(self, example("race.task"), limit=20)
         shell.ask("break cell 0")
         for line in ("run 9", "roll 0.1#1", "run 5"):
@@ -137,12 +137,12 @@ class FullJournal(unittest.TestCase):
 
 @needs_program
 class Files(unittest.TestCase):
-    def folder(self):
+    def folder(self) -> str:
         folder = tempfile.TemporaryDirectory()
         self.addCleanup(folder.cleanup)
         return folder.name
 
-    def test_print_makes_no_file(self):
+    def test_print_makes_no_file(self) -> None:
         folder = self.folder()
         before = os.getcwd()
         self.addCleanup(os.chdir, before)
@@ -151,7 +151,7 @@ class Files(unittest.TestCase):
         self.assertEqual(shell.ask("p r0"), ["r0 of 0 = 0"])
         self.assertEqual(os.listdir(folder), [])
 
-    def test_a_file_that_was_not_written_is_kept(self):
+    def test_a_file_that_was_not_written_is_kept(self) -> None:
         shell = Typed(self, example("race.task"))
         shell.ask("run")
         for command in ("save", "page", "lanes", "graph"):
@@ -165,7 +165,7 @@ class Files(unittest.TestCase):
             self.assertNotIn("not written", shell.ask(f"{command} {path}")[0])
             self.assertEqual(os.listdir(os.path.dirname(path)), ["mine.dot"])
 
-    def test_at_a_terminal_it_is_asked(self):
+    def test_at_a_terminal_it_is_asked(self) -> None:
         path = write_file(self, "mine", "mine.session")
         shell = Terminal(self, [write_file(self, example("race.task"))], NO_COLOR="1")
         shell.read_until("(taskback) ")
@@ -176,7 +176,7 @@ class Files(unittest.TestCase):
             shell.read_until(wanted)
             shell.read_until("(taskback) ")
 
-    def test_what_the_shell_drew_is_known_again(self):
+    def test_what_the_shell_drew_is_known_again(self) -> None:
         folder = self.folder()
         shell = Typed(self, example("race.task"))
         for name, command in (("a.html", "page"), ("a.svg", "lanes"), ("a.dot", "graph")):
@@ -186,7 +186,7 @@ class Files(unittest.TestCase):
         shell.ask(f"save {folder}/a.session")
         self.assertTrue(files.is_foreign(os.path.join(folder, "a.session")))
 
-    def test_a_file_is_replaced_whole_or_not_at_all(self):
+    def test_a_file_is_replaced_whole_or_not_at_all(self) -> None:
         path = os.path.join(self.folder(), "a")
         files.write_text(path, "one")
         os.chmod(path, 0o640)
@@ -196,7 +196,7 @@ class Files(unittest.TestCase):
         self.assertTrue(os.path.islink(link))
         self.assertEqual(stat.S_IMODE(os.stat(path).st_mode), 0o640)
 
-        def fail(there):
+        def fail(there: str) -> None:
             with open(there, "w", encoding="ascii") as file:
                 file.write("half")
             raise OSError(28, "No space left on device")
@@ -207,7 +207,7 @@ class Files(unittest.TestCase):
         self.assertEqual(sorted(os.listdir(os.path.dirname(path))), ["a", "link"])
         files.write_text("/dev/null", "to nobody")
 
-    def test_breakpoints_at_lines_are_saved(self):
+    def test_breakpoints_at_lines_are_saved(self) -> None:
         path = os.path.join(self.folder(), "a.session")
         shell = Typed(self, example("race.task"))
         for line in ("b line 13", "b line 12 if r1 > 0", "b cell 0", "watch c[0]", "go"):
@@ -221,7 +221,7 @@ class Files(unittest.TestCase):
         self.assertEqual([line.split("   ")[0] for line in again.ask("breaks")],
                          ["breaks 1", "1 cell 0", "s1 line 13", "s2 line 12 if r1 > 0", "s3 watch c[0]"])
 
-    def test_names_of_files_complete(self):
+    def test_names_of_files_complete(self) -> None:
         folder = self.folder()
         for name in ("first.session", "second.session", ".hidden"):
             files.write_text(os.path.join(folder, name), "")
