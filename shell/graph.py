@@ -23,6 +23,11 @@ STATES = {
     "faulted": ("#ffd6d6", "#b00020", "diagonals"),
 }
 READY = "#11693d"
+# Of more tasks Graphviz is asked for a quick layout with straight arrows, since its best takes minutes.
+MANY = 100
+QUICK = ("-Gnslimit=1", "-Gnslimit1=1", "-Gmclimit=0.1", "-Gsplines=line")
+# What takes longer, in seconds, is drawn as clusters.
+PATIENCE = 20.0
 RACE = "#b00020"
 
 
@@ -181,8 +186,8 @@ def arrows(graph: Graph) -> list[str]:
     return lines
 
 
-def dot_of(graph: Graph) -> str:
-    """The graph in the dot language; many tasks as clusters."""
+def dot_of(graph: Graph, clustered: bool = False) -> str:
+    """The graph in the dot language; many tasks as clusters, and others where that is asked for."""
     members: dict[str | None, list[str]] = {}
     for name in graph.tasks:
         members.setdefault(graph.inside.get(name), []).append(name)
@@ -190,7 +195,7 @@ def dot_of(graph: Graph) -> str:
     lines = ["digraph tasks {", f'  graph [fontname="monospace", bgcolor=white, labelloc=t, label={quoted(title)}]',
              '  node [shape=box, fontname="monospace", fontsize=11, fontcolor="#1b1b1b"]',
              '  edge [fontname="monospace", fontsize=9, fontcolor="#1b1b1b", color="#1b1b1b"]',
-             *(clusters_in_dot(graph) if len(graph.tasks) > MOST_TASKS else
+             *(clusters_in_dot(graph) if clustered or len(graph.tasks) > MOST_TASKS else
                [*cluster(graph, None, boxes(graph), members, "  "), *("  " + line for line in arrows(graph))]), "}"]
     return "\n".join(lines) + "\n"
 
@@ -210,16 +215,28 @@ def tree_of(graph: Graph) -> list[str]:
     return lines + graph.left_out
 
 
+def drawn_by(program: str, words: list[str], text: str, seconds: float | None) -> bytes | str:
+    """What Graphviz makes of a text in the dot language, or what it says against it; raises TimeoutExpired."""
+    done = subprocess.run([program, *words], input=text.encode("utf-8", "surrogateescape"), capture_output=True, check=False, timeout=seconds)
+    return done.stdout if not done.returncode else f"dot: {done.stderr.decode('utf-8', 'replace').strip()}"
+
+
 def write_graph(path: str, graph: Graph) -> str:
     """Writes the picture, by Graphviz where the file isn't a `.dot`; returns what to say of it."""
     base, kind = os.path.splitext(path)
     program = shutil.which("dot")
+    tasks = counted(len(graph.tasks), "task")
     if kind != ".dot" and program:
-        done = subprocess.run([program, f"-T{kind[1:] or 'svg'}"], input=dot_of(graph).encode("utf-8", "surrogateescape"), capture_output=True, check=False)
-        if done.returncode:
-            return f"dot: {done.stderr.decode('utf-8', 'replace').strip()}"
-        write_bytes(path, done.stdout)
-        return f"drawn to {path}, {counted(len(graph.tasks), 'task')}"
+        words, said = [f"-T{kind[1:] or 'svg'}"], f"drawn to {path}, {tasks}"
+        try:
+            drawn = drawn_by(program, words + list(QUICK) * (len(graph.tasks) > MANY), dot_of(graph), PATIENCE)
+        except subprocess.TimeoutExpired:
+            drawn = drawn_by(program, words, dot_of(graph, True), None)
+            said += f" as clusters: Graphviz took more than {PATIENCE:g} s for each of its own"
+        if isinstance(drawn, str):
+            return drawn
+        write_bytes(path, drawn)
+        return said
     path = path if kind == ".dot" else base + ".dot"
     write_text(path, dot_of(graph))
-    return f"written to {path}, {counted(len(graph.tasks), 'task')}" + ("" if kind == ".dot" else "; Graphviz, which would draw it, isn't here")
+    return f"written to {path}, {tasks}" + ("" if kind == ".dot" else "; Graphviz, which would draw it, isn't here")

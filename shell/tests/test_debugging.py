@@ -6,6 +6,8 @@ import random
 import struct
 import termios
 import unittest
+from collections.abc import Sequence
+from typing import Any
 
 from programs import random_program
 from support import EXAMPLES, PROGRAM, Terminal, Typed, example, needs_program, write_file
@@ -13,8 +15,6 @@ from shell.comparing import first_difference
 from shell.session import Session
 from shell.source import Source
 from test_dap import RECORDED
-from collections.abc import Sequence
-from typing import Any
 
 LOOP = "cells 2\nbody main 0\n  while r0 < 20\n    let r0 r0 + 1\n    store 0 r0\n  end\nend\n"
 BIG = "cells 1\nbody main 0\n  while 0 == 0\n    store 0 1\n  end\nend\n"

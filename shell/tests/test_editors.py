@@ -10,10 +10,10 @@ import tempfile
 import unittest
 import zipfile
 import xml.etree.ElementTree as tree
+from typing import Any
 
 from support import EXAMPLES, PROGRAM, TOP, example, needs_program, write_file
 from test_dap import RECORDED
-from typing import Any
 
 EDITORS = os.path.join(TOP, "editors")
 CLIENT = os.path.join(TOP, "shell", "tests", "emacs_client.el")

@@ -6,16 +6,18 @@ import shutil
 import subprocess
 import sys
 import unittest
+import unittest.mock
 import xml.etree.ElementTree as tree
+from collections.abc import Iterable
+from typing import Any
 
 from support import EXAMPLES, MAIN, PROGRAM, Terminal, needs_program, write_file
+from shell import graph
 from shell.opening import play_file
 from shell.graph import dot_of, graph_of, tree_of, write_graph
 from shell.lanes import NO_CAUSES
 from test_lanes import walked
 from test_races import has_views
-from collections.abc import Iterable
-from typing import Any
 
 EDGE = re.compile(r'^\s*"([^"]+)" -> "([^"]+)" \[class=(\w+)', re.M)
 needs_dot = unittest.skipUnless(shutil.which("dot"), "left out: Graphviz isn't here")
@@ -140,6 +142,19 @@ class GraphTest(unittest.TestCase):
         self.assertIn("1000 x writer\\nof line 4\\n1000 ended\\n992 ordered among them", dot)
         edges = re.findall(r'^  (c\d) -> (c\d) \[class=(\w+).*label="(\d+)"\]', dot, re.M)
         self.assertEqual(sorted(edges), [("c0", "c1", "spawn", "1000"), ("c0", "c2", "spawn", "1"), ("c1", "c2", "race", "1")])
+
+    @needs_dot
+    def test_hundreds_of_tasks_with_many_dependences_are_drawn_in_time(self) -> None:
+        text = ("cells 40\nbody main 0\n  while r3 < 9\n    let r0 0\n    while r0 < 30\n      let r1 r0 + 1\n      task w r0 r1 depend inout r0 depend in r1\n"
+                "      let r0 r0 + 1\n    end\n    let r3 r3 + 1\n  end\nend\nbody w 2\n  store r0 r1\nend\n---\nrun 100000\n")
+        session = play_file(write_file(self, text, "stencil.session"), PROGRAM)
+        self.addCleanup(session.close)
+        drawn, path = graph_of(session), write_file(self, "", "stencil.svg")
+        self.assertEqual(write_graph(path, drawn), f"drawn to {path}, 271 tasks")
+        with unittest.mock.patch.object(graph, "PATIENCE", 0.01):
+            self.assertEqual(write_graph(path, drawn), f"drawn to {path}, 271 tasks as clusters: Graphviz took more than 0.01 s for each of its own")
+        with open(path, encoding="utf-8") as file:
+            self.assertIn("270 x w", file.read())
 
     def test_few_tasks_are_drawn_one_by_one(self) -> None:
         dot = dot_of(graph_of(self.many(50)))

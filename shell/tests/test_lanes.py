@@ -4,6 +4,7 @@ import os
 import random
 import unittest
 import xml.etree.ElementTree as tree
+from typing import Any
 
 from programs import random_program
 from support import EXAMPLES, PROGRAM, Terminal, contrast, example, needs_program, write_file
@@ -15,7 +16,6 @@ from shell.lanes_svg import svg_of
 from shell.session import Session
 from shell.source import Source
 from test_races import has_views
-from typing import Any
 
 SVG = "{http://www.w3.org/2000/svg}"
 

@@ -2,6 +2,7 @@
 
 import random
 import unittest
+from typing import Any
 
 from programs import random_program
 from support import PROGRAM, needs_program
@@ -12,7 +13,6 @@ from shell.session import Session
 from shell.source import Source
 from test_lanes import walked
 from test_races import has_views
-from typing import Any
 
 # All memory, exclusion of elder and younger siblings, groups in groups, waits with items.
 MANY = """cells 2

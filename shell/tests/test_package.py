@@ -8,10 +8,10 @@ import subprocess
 import tempfile
 import time
 import unittest
+from typing import Any
 
 from support import EXAMPLES, PROGRAM, PROMPT, TOP, Terminal, needs_program
 from test_docs import PAGES, text_of
-from typing import Any
 
 BARE = {"PATH": "/usr/bin:/bin"}
 

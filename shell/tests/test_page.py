@@ -9,6 +9,7 @@ import subprocess
 import tempfile
 import unittest
 import unittest.mock
+from typing import Any
 
 from support import EXAMPLES, PROGRAM, TOP, Terminal, contrast, example, needs_program, write_file
 from shell import story
@@ -22,7 +23,6 @@ from shell.session import Session
 from shell.source import Source
 from test_lanes import walked
 from test_races import has_views
-from typing import Any
 
 BROWSER = shutil.which("chromium") or shutil.which("chromium-browser") or shutil.which("google-chrome")
 

@@ -2,10 +2,10 @@
 
 import os
 import unittest
+from typing import Any
 
 from support import EXAMPLES, PROGRAM, needs_program
 from test_page import in_browser, needs_browser, page_file
-from typing import Any
 from shell.opening import play_file
 from shell.session import Session
 from shell.source import Source

@@ -5,12 +5,12 @@ import io
 import re
 import sys
 import unittest
+from collections.abc import Iterable
+from typing import Any
 
 from programs import random_program
 from support import EXAMPLES, PROGRAM, Terminal, Typed, example, needs_program, write_file
 from test_dap import RECORDED
-from collections.abc import Iterable
-from typing import Any
 from shell import race_advice
 from shell.commands import Shell
 from shell.console import Console

@@ -9,10 +9,10 @@ import subprocess
 import threading
 import time
 import unittest
+from typing import Any
 
 from support import EXAMPLES, MAIN, PROGRAM, TOP, Terminal, example, needs_program, write_file
 from test_page import needs_browser, shown_by_browser
-from typing import Any
 from shell.serving import ALLOWED, LONGEST, Live, LiveServer
 from shell.session import Session
 from shell.source import Source

@@ -4,12 +4,12 @@ import re
 import tempfile
 import unittest
 import xml.etree.ElementTree as tree
+from collections.abc import Iterator
+from typing import Any
 
 from support import PROGRAM, Typed, contrast, example, needs_program
 from test_dap import RECORDED
 from test_lanes import SVG, drawn, walked
-from collections.abc import Iterator
-from typing import Any
 from shell import slide
 from shell.labels import Rect
 from shell.lanes import lanes_of

@@ -5,11 +5,11 @@ import re
 import subprocess
 import sys
 import unittest
+from typing import Any
 
 from support import LOOP, MAIN, PROGRAM, TOP, Terminal, example, needs_program, write_file
 from test_interrupts import Stalling
 from test_tutorial import agrees, blocks, rows
-from typing import Any
 from shell.page import page_of
 from shell.protocol import Program
 from shell.session import Session
