@@ -12,11 +12,13 @@ function showGraph() {
     children: (step) => step.causes.filter(([kind]) => kind === "wait").map(([, early]) => steps[early].task),
   };
   const plan = layoutOf(view.steps, earlier, (name) => there.has(name), MOST_BOXES, Math.max(LEAST_FIT, Math.floor((svg.parentElement.clientWidth - 50) / WIDE)));
-  const goesOn = new Set(plan.nodes.filter((node) => node.goesOn).map((node) => node.name));
+  const below = new Set(plan.nodes.filter((node) => node.goesOn).map((node) => node.name)), children = new Map();
+  for (const task of shown) children.set(parentOf(task), (children.get(parentOf(task)) || 0) + 1);
+  const isPlain = (task) => !below.has(task.name) && (children.get(parentOf(task)) <= MOST_ARROWS || !task.before.length);
   const place = new Map(plan.nodes.map((node) => [node.name, [24 + node.column * WIDE + (node.row % 2) * SLANT, 30 + node.row * HIGH]]));
   coverBoxes(place);
   for (const box of plan.boxes) groupBox(box, plan.groups.get(box.name).line, parts);
-  for (const task of shown) edgesOf(task, place, shown.length <= 40, goesOn.has(task.name), parts);
+  for (const task of shown) edgesOf(task, place, shown.length <= 40, isPlain(task), parts);
   raceEdges((step) => step.task, place, parts);
   for (const node of plan.nodes.filter((some) => some.isWait)) waitOf(node, place, parts);
   for (const task of shown) boxOf(task, place.get(task.name), plan.inside.get(task.name), parts);
@@ -63,10 +65,13 @@ function coverBoxes(place) {
   covered.rects = [...place.values()].map(([x, y]) => ({ x, y, wide: 140, high: 58 }));
 }
 
-// Of a row that goes on below, the first line alone has arrows from who generated its tasks: the names tell the rest.
-function edgesOf(task, place, labelled, goesOn, parts) {
-  const parent = task.name.split(".").slice(0, -1).join(".");
-  if (parent && wish.spawns && !goesOn) edgeOf(place, parent, task.name, "spawn", parent + " generates " + task.name, "", parts);
+const parentOf = (task) => task.name.split(".").slice(0, -1).join(".");
+
+// An arrow from who generated a task is left out where that one generated many and this one comes after another, and in a
+// row that goes on below: the names tell who it was.
+function edgesOf(task, place, labelled, isPlain, parts) {
+  const parent = parentOf(task);
+  if (parent && wish.spawns && isPlain) edgeOf(place, parent, task.name, "spawn", parent + " generates " + task.name, "", parts);
   for (const [other, label] of task.before) edgeOf(place, tasks[other].name, task.name, "before", label.join("; "), labelled ? label[0] : "", parts);
   for (const [other, label] of task.apart) edgeOf(place, tasks[other].name, task.name, "apart", label.join("; "), labelled ? label[0] : "", parts);
 }
