@@ -66,12 +66,9 @@ module _ (s : Tables) (t : Name) (o : Option ℕ) (n : ℕ) (c : IsCount s t o) 
   next_made a (Ok b) is = next_found a b is
   next_made a (Err w) is = tt
 
-  -- a spare spawn that isn't the nth child's isn't the next child's
-  pub not_next : (spare : Option TheSpawn) (a x y : TheSpawn) (b : Bool) → IsRunOf s t → spare ≡ Some x → IsTrue b ↔ (x ≡ record a { child = child t (n + 1) }) → b ≡ false → IsNextSpawn s t a y → spare ≡ Some y → ⊥
-  not_next spare a x y b r is w f next h =
-      let same : x ≡ y = ap (λ m. unwrap_or m y) (sym is ∙ h) in
-      let made = next_found a (record a { child = child t (n + 1) }) refl r.first r.root_line r.steps r.state r.spawned in
-      true≢false (sym (w.1 (same ∙ next r.first r.root_line r.steps r.state r.spawned ∙ sym made)) ∙ f)
+  pub next_is : (a b : TheSpawn) → IsRunOf s t → IsNextSpawn s t a b → b ≡ record a { child = child t (n + 1) }
+  next_is a b r next =
+      next r.first r.root_line r.steps r.state r.spawned ∙ sym (next_found a (record a { child = child t (n + 1) }) refl r.first r.root_line r.steps r.state r.spawned)
 
 -- ---- the nth child of a task
 
@@ -108,12 +105,36 @@ module _ (s : Tables) (t : Name) (a : Action) (p : TheSpawn) (is : a ≡ Spawn p
   spawn_named v f first root_line D k h =
       ap (λ (w : Event). spawn_in w.action) (f first root_line D k h) ∙ ap (λ b. spawn_in (completed first (events_of D) t b)) is
 
-  -- so the spawn of its event is that
-  pub next_of_event : (R : Type 0) (v : Event) (spare : Option TheSpawn) → IsRunOf s t → Fills s t a v → spare ≡ spawn_in v.action → ((q : TheSpawn) → IsNextSpawn s t p q → spare ≡ Some q → R) → R
-  next_of_event R v spare r f e use_it =
-      let q : TheSpawn = record p { child = child t (suc (spawn_count (own t (events_of r.steps)))) } in
-      let named = spawn_named v f r.first r.root_line r.steps r.state r.spawned in
-      use_it q (λ first root_line D k h. ap (λ o. unwrap_or o q) (sym named ∙ spawn_named v f first root_line D k h)) (e ∙ named)
+  -- so its event has a spawn
+  pub spawn_there : (v : Event) → IsRunOf s t → Fills s t a v → spawn_in v.action ≡ None → ⊥
+  spawn_there v r f none = clash (sym none ∙ spawn_named v f r.first r.root_line r.steps r.state r.spawned)
+    where
+      clash : {x : TheSpawn} → ◌≡◌ {A = Option TheSpawn} None (Some x) → ⊥
+      clash z = cc
+
+  -- an event is that of the action exactly where its spawn is the next
+  pub spawn_found : (v : Event) (q : TheSpawn) → v.task ≡ t → v.action ≡ Spawn q → IsNextSpawn s t p q → Fills s t a v
+  spawn_found v q same made next first root_line D k h = ap (λ u. event u v.action) same ∙ spawn_filled v.action q next made first root_line D k h
+
+  pub spawn_next : (v : Event) (q : TheSpawn) → v.action ≡ Spawn q → Fills s t a v → IsNextSpawn s t p q
+  spawn_next v q made f first root_line D k h = ap (λ o. unwrap_or o q) (sym (ap spawn_in made) ∙ spawn_named v f first root_line D k h)
+
+pub its_task : (s : Tables) (t : Name) (a : Action) (v : Event) → IsRunOf s t → Fills s t a v → v.task ≡ t
+its_task s t a v r f = ap (λ (w : Event). w.task) (f r.first r.root_line r.steps r.state r.spawned)
+
+pub none_in : (a : Action) → ((q : TheSpawn) → a ≢ Spawn q) → spawn_in a ≡ None
+none_in (Spawn q) s = absurd (s q refl)
+none_in _ s = refl
+
+-- an action that generates no task has an event that generates none
+pub no_spawn : (s : Tables) (t : Name) (a : Action) (v : Event) → IsRunOf s t → ((q : TheSpawn) → a ≢ Spawn q) → Fills s t a v → spawn_in v.action ≡ None
+no_spawn s t a v r other f =
+    ap (λ (w : Event). spawn_in w.action) (f r.first r.root_line r.steps r.state r.spawned) ∙ completed_none r.first (events_of r.steps) a other
+  where
+    completed_none : (first : Cells) (H : History) (a : Action) → ((q : TheSpawn) → a ≢ Spawn q) → spawn_in (completed first H t a) ≡ None
+    completed_none first H (Spawn q) other = absurd (other q refl)
+    completed_none first H (Load r c x) other = refl
+    completed_none first H _ other = refl
 
 -- any other action is as it was planned
 pub completed_other : (first : Cells) (H : History) (t : Name) (a : Action) → ((r c : ℕ) (x : ℤ) → a ≢ Load r c x) → ((q : TheSpawn) → a ≢ Spawn q) → completed first H t a ≡ a

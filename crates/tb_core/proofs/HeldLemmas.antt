@@ -1,11 +1,12 @@
 -- What holds of a core that stores these entries, where the history that they say is known otherwise.
-use Rattle.std.proofs.Common.{◌≡◌, ◌<◌, ◌≤◌, ℕ, List, [], ◌∷◌, ◌++◌, Some, length, map, reverse, get_or, slice_get, refl, sym, ap, ◌∙◌, subst, arith}
+use Rattle.std.proofs.Common.{◌≡◌, ◌<◌, ◌≤◌, ℕ, List, [], ◌∷◌, ◌++◌, Option, Some, length, map, reverse, get_or, slice_get, refl, sym, ap, ◌∙◌, subst, arith}
 use Rattle.std.specs.Prelude.{Result, Ok, Err, OnErr}
 use Rattle.std.specs.List.{AllZip}
 use Rattle.std.proofs.lemmas.List.{length-map, length-reverse}
 use Rattle.std.proofs.lemmas.List.Quantifiers.{position-Some}
 use Rattle.std.proofs.lemmas.Option.{slice_get-get_or}
 use Rattle.std.proofs.lemmas.Slice.Zip.{AllZip-long, all_zipped_more}
+use Rattle.tb_model.specs.declared.action.Action.{Action}
 use Rattle.tb_model.specs.declared.event.Event.{Event}
 use Rattle.tb_model.specs.Names.{Name, same_name}
 use Rattle.tb_model.specs.Legal.{Cells, MayFollow}
@@ -13,22 +14,23 @@ use Rattle.tb_model.proofs.TestLemmas.{same_true}
 use Rattle.tb_store.specs.declared.replaced.Replaced.{Replaced}
 use Rattle.tb_wait.specs.Kin.{KeepsNames, place}
 use Rattle.tb_undo.specs.State.{Seen as Tables}
-use Rattle.tb_undo.specs.Changes.{AreSame}
+use Rattle.tb_undo.specs.Changes.{AreSame, KeepsRoom}
 use Rattle.tb_undo.specs.Steps.{IsBehind, IsRecord}
+use Rattle.tb_undo.proofs.RoomLemmas.{room_kept}
 use Rattle.tb_places.specs.declared.places.Places.{Places}
-use Rattle.tb_places.specs.Places.{IsIndexOf, IsNamed, event_number}
+use Rattle.tb_places.specs.Places.{IsIndexOf, IsNamed, HasRoomAs, event_number}
 use Rattle.tb_places.specs.Numbers.{number_of}
 use Rattle.tb_core.specs.declared.entry.Entry.{Entry as Stored}
 use Rattle.tb_core.specs.Entries.{Entry}
 use Rattle.tb_core.specs.Packing.{packed}
 use Rattle.tb_core.specs.Renumbering.{events_in}
 use Rattle.tb_core.specs.Outcomes.{grown_by}
-use Rattle.tb_core.specs.Seen.{Seen, history}
-use Rattle.tb_core.specs.Soundness.{departure, names_in, seen, IsSound}
+use Rattle.tb_core.specs.Seen.{Seen, Held, history}
+use Rattle.tb_core.specs.Soundness.{departure, names_in, seen, IsSound, HasReserved}
 use Rattle.tb_core.specs.Storing.{IsStored, stored, entries_in}
 use Rattle.tb_core.proofs.StoringLemmas.{all_kept, entries_are}
 use Rattle.tb_core.proofs.NumberLemmas.{named_next}
-use Rattle.tb_core.proofs.TakenLemmas.{sound_same, index_same, index_added, appended}
+use Rattle.tb_core.proofs.TakenLemmas.{sound_same, index_same, index_added, appended, reserved_kept}
 
 -- there are as many as are stored
 pub as_many : (names : List Name) (ss : List Stored) (es : List Entry) → AllZip (IsStored names) ss es → length (map departure (reverse es)) ≡ length ss
@@ -71,6 +73,49 @@ held_same first root_line limit ss left was now old new kept same keeps index_ke
 pub shown_run : (first : Cells) (root_line limit : ℕ) (ss : List Stored) (es : List Entry) (tables : Tables) (p : Places) → Holds first root_line limit ss es tables p
     → seen first root_line limit (reverse (entries_in tables ss)) ≡ seen first root_line limit (reverse es)
 shown_run first root_line limit ss es tables p h = ap (λ l. seen first root_line limit (reverse l)) h.say
+
+-- ---- only rooms have grown, and what is reserved has its own
+
+module _ (first : Cells) (root_line limit : ℕ) (ss : List Stored) (was : Tables) (old : Places) (reserved : Option Event) (room : ℕ)
+    (sound : IsSound first root_line limit (reverse (entries_in was ss)) was) (has : HasReserved reserved room was old)
+    (index : IsIndexOf (names_in was) (events_in (entries_in was ss)) old) (z : AllZip (IsStored (names_in was)) ss (entries_in was ss)) where
+  abbrev shown : List Stored → Tables → Held
+  shown left now = record { run = seen first root_line limit (reverse (entries_in now left)); reserved = reserved }
+
+  pub record Stays (left : List Stored) (more : ℕ) (now : Tables) (new : Places) : Type 0 where
+    pub sound' : IsSound first root_line limit (reverse (entries_in now left)) now
+    pub has' : HasReserved reserved more now new
+    pub index' : IsIndexOf (names_in now) (events_in (entries_in now left)) new
+    pub stored' : AllZip (IsStored (names_in now)) left (entries_in now left)
+    pub same : shown left now ≡ shown ss was
+
+  pub stays : (left : List Stored) (more : ℕ) (now : Tables) (new : Places) → left ≡ ss → room ≤ more → AreSame was now → KeepsNames was.waits.tasks now.waits.tasks → KeepsRoom was now
+      → ((names : List Name) (events : List Event) → IsIndexOf names events old → IsIndexOf names events new)
+      → ((n : Option ℕ) (a : Action) → HasRoomAs old n a → HasRoomAs new n a) → Stays left more now new
+  stays left more now new kept grows same names keeps index_kept places_kept =
+      let h = held_same first root_line limit ss left was now old new kept same names index_kept sound index z in
+      record {
+        sound' = h.sound;
+        has' = reserved_kept reserved room more was now old new grows keeps.waits.names (room_kept was now keeps) places_kept has;
+        index' = h.index;
+        stored' = h.stored;
+        same = ap (λ (x : Seen). held_with x reserved) (shown_run first root_line limit left (entries_in was ss) now new h);
+      }
+    where
+      held_with : Seen → Option Event → Held
+      held_with x o = record { run = x; reserved = o }
+
+  -- the tables' own too
+  pub stays_so : (left : List Stored) (more : ℕ) (new : Places) → left ≡ ss → room ≤ more
+      → ((names : List Name) (events : List Event) → IsIndexOf names events old → IsIndexOf names events new)
+      → ((n : Option ℕ) (a : Action) → HasRoomAs old n a → HasRoomAs new n a) → Stays left more was new
+  stays_so left more new kept grows index_kept places_kept = record {
+    sound' = subst (λ l. IsSound first root_line limit (reverse (entries_in was l)) was) (sym kept) sound;
+    has' = reserved_kept reserved room more was was old new grows refl (λ v h. h) places_kept has;
+    index' = subst (λ l. IsIndexOf (names_in was) (events_in (entries_in was l)) new) (sym kept) (index_kept (names_in was) (events_in (entries_in was ss)) index);
+    stored' = subst (λ l. AllZip (IsStored (names_in was)) l (entries_in was l)) (sym kept) z;
+    same = ap (λ l. shown l was) kept;
+  }
 
 -- ---- one entry more
 

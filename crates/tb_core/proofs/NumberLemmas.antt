@@ -14,8 +14,9 @@ use Rattle.tb_wait.specs.Kin.{Kin, Slot, Tasks, kin, kin_in, slot, place, KeepsN
 use Rattle.tb_wait.proofs.HistoryLemmas.{kin_stands}
 use Rattle.tb_undo.specs.State.{Seen as Tables}
 use Rattle.tb_places.specs.declared.places.Places.{Places}
-use Rattle.tb_places.specs.Places.{IsIndexOf, IsNamed}
+use Rattle.tb_places.specs.Places.{IsIndexOf, IsNamed, HasRoomAs, HasRoomFor}
 use Rattle.tb_places.proofs.PlacesLemmas.{index_grown}
+use Rattle.tb_places.proofs.NameLemmas.{number_grown}
 use Rattle.tb_core.specs.Entries.{Entry}
 use Rattle.tb_core.specs.Seen.{Seen, history}
 use Rattle.tb_core.specs.Soundness.{departure, names_in, seen, IsSound}
@@ -56,3 +57,8 @@ named_next first root_line limit es tables sound s is v may =
 
 pub index_kept : (old new : Tables) (es : List Event) (p : Places) → KeepsNames old.waits.tasks new.waits.tasks → IsIndexOf (names_in old) es p → IsIndexOf (names_in new) es p
 index_kept old new es p keeps index = subst (λ names. IsIndexOf names es p) (sym keeps.1) (index_grown (names_in old) keeps.0 es p index)
+
+-- so the room for its place serves where more names have come
+pub room_along : (old new : Tables) (p : Places) (v : Event) → KeepsNames old.waits.tasks new.waits.tasks → IsNamed (names_in old) v → HasRoomFor (names_in old) p v → HasRoomFor (names_in new) p v
+room_along old new p v keeps named room =
+    subst (λ names. HasRoomFor names p v) (sym keeps.1) (subst (λ n. HasRoomAs p n v.action) (sym (number_grown (names_in old) keeps.0 v.task named)) room)

@@ -1,9 +1,12 @@
 -- What is in the way of a plan is a task, and tasks are numbered from 1.
-use Rattle.std.proofs.Common.{◌≡◌, ◌<◌, ◌↔◌, List, [], ◌∷◌, Bool, true, false, ◌&&◌, not, cond, sym, ap₂, subst, arith, Option, Some, None, option_map, IsTrue}
+use Rattle.std.specs.Prelude.{Result, Ok, Err, nat_lt}
+use Rattle.std.proofs.Common.{◌≡◌, ◌<◌, ◌≤◌, ◌↔◌, ℕ, refl, List, [], ◌∷◌, Bool, true, false, ◌&&◌, not, cond, sym, ap₂, subst, arith, Option, Some, None, option_map, IsTrue}
 use Rattle.std.specs.Bool.{⊤}
 use Rattle.std.specs.List.{AllByRecursion, list_any}
 use Rattle.std.specs.Option.{option_or}
-use Rattle.std.proofs.lemmas.Bool.{both_ways}
+use Rattle.std.specs.Result.{IsErr, IsOk}
+use Rattle.std.proofs.lemmas.Bool.{both_ways, false≢true}
+use Rattle.std.proofs.lemmas.Bool.Decides.{nat_tests}
 use Rattle.std.specs.declared.cmp.Ordering.{Ordering}
 use Rattle.std.specs.declared.cmp.Ordering.TheVariants.{Less, Equal, Greater}
 use Rattle.tb_model.specs.declared.action.Action.{Action}
@@ -108,3 +111,16 @@ unended H t there going = ap₂ (λ b c. b && not c) there going
 -- what a test denies isn't so
 pub elsewhere : (b : Bool) (P : Type 0) → (b ≡ true) ↔ P → b ≡ false → P → ⊥
 elsewhere b P d e h = both_ways b e (d.1 h)
+
+-- ---- a name that is refused is long
+
+no_both : {A E : Type 0} (r : Result A E) → IsErr r → IsOk r → ⊥
+no_both (Ok x) e o = false≢true e
+no_both (Err x) e o = false≢true o
+
+pub refused_long : {A E : Type 0} (r : Result A E) (n m : ℕ) → IsErr r → (n < m → IsOk r) → m ≤ n
+refused_long r n m e ok = at (nat_lt n m) refl
+  where
+    at : (b : Bool) → nat_lt n m ≡ b → m ≤ n
+    at true h = absurd (no_both r e (ok (grind (arith, nat_tests))))
+    at false h = grind (arith, nat_tests)

@@ -229,7 +229,7 @@ told_refuses s p (Stale now) k e w = absurd (none e)
 told_refuses s p _ k e w = subst (IsTold s p) (sym e) w
 
 pub hindered_refuses : (s : Seen) (p : Plan) (h : Hindrance) (r : StepRefusal) → IsCurrent s p → hindrance_of s p ≡ Some h → IsNamed h r → IsKept s p r
-hindered_refuses s p h Memory c e n = inr (h, record { current = c; hindrance = e })
+hindered_refuses s p h Memory c e n = inr (h, record { current = c; hindrance = e }, n)
 hindered_refuses s p h r c e n = told_refuses s p r (By h) n (record { current = c; hindrance = e })
 
 pub kept_by : (s : Seen) (p : Plan) (r : StepRefusal) → IsCurrent s p → IsKeptBy s p.config.task p.action r → IsKept s p r

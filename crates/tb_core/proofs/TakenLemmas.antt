@@ -32,7 +32,7 @@ use Rattle.tb_core.specs.Outcomes.{MayTake, Takes, event_for, grown_by}
 use Rattle.tb_core.specs.Soundness.{seen, names_in, IsSound, HasReserved}
 use Rattle.tb_core.specs.Renumbering.{events_in}
 use Rattle.tb_places.specs.declared.places.Places.{Places}
-use Rattle.tb_places.specs.Places.{event_number, IsIndexOf, IsNamed, HasRoomFor as HasRoomForPlaces}
+use Rattle.tb_places.specs.Places.{event_number, IsIndexOf, IsNamed, HasRoomAs, HasRoomFor as HasRoomForPlaces}
 use Rattle.tb_wait.specs.Kin.{KeepsNames}
 use Rattle.tb_core.proofs.NumberLemmas.{index_kept}
 use Rattle.tb_core.proofs.ShownLemmas.{may_take}
@@ -211,6 +211,15 @@ some_reserved copy v room s p e some has place = record {
   entry = λ w h. some;
   tables = λ w h. subst (λ (x : Event). HasRoomFor s x) (sym e ∙ ap (λ o. unwrap_or o copy) h) has;
   places = λ w h. subst (λ (x : Event). HasRoomForPlaces (names_in s) p x) (sym e ∙ ap (λ o. unwrap_or o copy) h) place;
+}
+
+-- what was reserved has its room yet
+pub reserved_kept : (o : Option Event) (room more : ℕ) (s now : Tables) (p new : Places) → room ≤ more → names_in now ≡ names_in s → ((v : Event) → HasRoomFor s v → HasRoomFor now v)
+    → ((n : Option ℕ) (a : Action) → HasRoomAs p n a → HasRoomAs new n a) → HasReserved o room s p → HasReserved o more now new
+reserved_kept o room more s now p new grows names tables places h = record {
+  entry = λ v e. omega (arith, h.entry v e, grows);
+  tables = λ v e. tables v (h.tables v e);
+  places = λ v e. subst (λ ns. HasRoomAs new (event_number ns v) v.action) (sym names) (places (event_number (names_in s) v) v.action (h.places v e));
 }
 
 -- ---- the places

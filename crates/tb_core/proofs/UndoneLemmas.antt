@@ -22,6 +22,7 @@ use Rattle.tb_undo.specs.State.{Seen as Tables, IsState}
 use Rattle.tb_undo.specs.Steps.{Precedes, Stands, IsWithout}
 use Rattle.tb_undo.proofs.TieLemmas.{map_events}
 use Rattle.tb_undo.proofs.MiddleLemmas.{lines_kept}
+use Rattle.tb_core.specs.Naming.{IsLongName}
 use Rattle.tb_core.specs.Entries.{Entry}
 use Rattle.tb_core.specs.Packing.{replaced_in}
 use Rattle.tb_core.specs.Soundness.{departure}
@@ -241,12 +242,12 @@ place_within first root_line limit es i at s view place =
 
 -- a step that is needed stands, and what needs it has a name
 pub needed : (first : Cells) (root_line limit : ℕ) (es xs ys : List Entry) (i : StepId) (at by : ℕ) (s : Seen) → seen first root_line limit (reverse es) ≡ s → Legal first (history_of es) → xs ≡ es → ys ≡ es
-    → IsTrue (stands i (history_of xs)) → step_at xs at ≡ Some i → ((j : StepId) → AreLegal ys → step_at ys at ≡ Some j → step_at ys by ≡ first_needer j (history_of ys)) → by < length ys
-    → IsTrue (stands i (history s)) × ((j : StepId) × (first_needer i (history s) ≡ Some j))
-needed first root_line limit es xs ys i at by s view legal ex ey there told needer within =
+    → IsTrue (stands i (history_of xs)) → step_at xs at ≡ Some i → ((j : StepId) → AreLegal ys → step_at ys at ≡ Some j → step_at ys by ≡ first_needer j (history_of ys)) → by < length ys → ((j : StepId) → step_at ys by ≡ Some j → IsLongName j.task)
+    → IsTrue (stands i (history s)) × ((j : StepId) × (first_needer i (history s) ≡ Some j) × IsLongName j.task)
+needed first root_line limit es xs ys i at by s view legal ex ey there told needer within long =
     let some = some_step es by (omega (arith, within, ap length ey)) in
     let found = subst (λ l. (j : StepId) → AreLegal l → step_at l at ≡ Some j → step_at l by ≡ first_needer j (history_of l)) ey needer in
     let here = subst (λ l. step_at l at ≡ Some i) ex told in (
       subst (λ z. IsTrue (stands i (history z))) view (subst (λ l. IsTrue (stands i (history_of l))) ex there),
-      (some.0, subst (λ z. first_needer i (history z) ≡ Some some.0) view (sym (found i (record { cells = first; legal = legal }) here) ∙ some.1)),
+      (some.0, subst (λ z. first_needer i (history z) ≡ Some some.0) view (sym (found i (record { cells = first; legal = legal }) here) ∙ some.1), long some.0 (subst (λ l. step_at l by ≡ Some some.0) (sym ey) some.1)),
     )

@@ -1,7 +1,7 @@
 -- What a refusal names.
-use Rattle.std.specs.Prelude.{◌≡◌, ◌<◌, ⊤, Some}
+use Rattle.std.specs.Prelude.{◌≡◌, ◌<◌, ⊤, Some, length}
 use Rattle.tb_model.specs.Names.{Name}
-use Rattle.tb_model.specs.Hindrances.{Hindrance, By}
+use Rattle.tb_model.specs.Hindrances.{Hindrance, By, Undeferred, Waiting, Excluded, Children, Group}
 use Rattle.tb_plan.specs.declared.config.Config.{Config}
 use Rattle.tb_undo.specs.Standings.{Standing}
 use Rattle.tb_undo.specs.declared.obstacle.Obstacle.{Obstacle}
@@ -19,9 +19,21 @@ IsStaleAnswer now (Stale c) = c ≡ now
 IsStaleAnswer now Memory = ⊤
 IsStaleAnswer now _ = ⊥
 
--- it names what keeps the task, or tells that there was no memory for the name
+-- a copy of the name may be refused: it has more than three numbers
+abbrev pub IsLongName : Name → Type 0
+IsLongName t = 3 < length t
+
+-- what keeps a task has such a name
+abbrev pub IsLong : Hindrance → Type 0
+IsLong (Undeferred u) = IsLongName u
+IsLong (Waiting u) = IsLongName u
+IsLong (Excluded u) = IsLongName u
+IsLong (Children u) = IsLongName u
+IsLong (Group u) = IsLongName u
+
+-- it names what keeps the task, or tells that there was no memory for the name, which is long
 abbrev pub IsNamed : Hindrance → StepRefusal → Type 0
-IsNamed h Memory = ⊤
+IsNamed h Memory = IsLong h
 IsNamed h r = told_by r ≡ Some (By h)
 
 -- children are counted from 1

@@ -27,7 +27,7 @@ use Rattle.tb_core.specs.Seen.{Seen, history}
 use Rattle.tb_core.specs.Situation.{config_of}
 use Rattle.tb_core.specs.Filling.{completed}
 use Rattle.tb_core.specs.Refusals.{told_by}
-use Rattle.tb_core.specs.Naming.{IsNamed}
+use Rattle.tb_core.specs.Naming.{IsLong, IsLongName, IsNamed}
 
 -- the event of an action of the task
 abbrev pub event_for : Seen → Name → Action → Event
@@ -122,9 +122,13 @@ pub record IsHindered (s : Seen) (p : Plan) (h : Hindrance) : Type 0 where
   pub current : IsCurrent s p
   pub hindrance : hindrance_of s p ≡ Some h
 
--- memory is wanted for the step, or for what a refusal would name
+-- memory is wanted for what a refusal would tell: where the task stands now, or a name of more than three numbers
+abbrev pub WantsToTell : Seen → Plan → Type 0
+WantsToTell s p = ((now : Config) × IsStale s p now) ⊎ ((h : Hindrance) × IsHindered s p h × IsLong h)
+
+-- memory is wanted for the step, or for what a refusal would tell
 abbrev pub WantsMemory : Seen → Plan → Type 0
-WantsMemory s p = IsOpen s p ⊎ (((now : Config) × IsStale s p now) ⊎ ((h : Hindrance) × IsHindered s p h))
+WantsMemory s p = IsOpen s p ⊎ WantsToTell s p
 
 -- what is so where a refusal tells this of the plan's task
 abbrev pub IsTold : Seen → Plan → Option Refusal → Type 0
@@ -142,7 +146,7 @@ Refuses s p r = IsTold s p (told_by r)
 
 -- why a plan isn't taken, where memory may be wanted for what the refusal names, but not for the step
 abbrev pub IsKept : Seen → Plan → StepRefusal → Type 0
-IsKept s p Memory = ((now : Config) × IsStale s p now) ⊎ ((h : Hindrance) × IsHindered s p h)
+IsKept s p Memory = WantsToTell s p
 IsKept s p r = Refuses s p r
 
 -- a step by its answer; a refusal leaves the core as it was
@@ -180,11 +184,11 @@ pub record TakesBack (s : Seen) (i : StepId) (new : Seen) (removed : Removed) : 
   pub line : ℕ
   pub lines : (body : ℕ) (t : Name) → line_of body t s.steps ≡ line_of body t (record { event = record { task = i.task; action = removed.action }; to = line } ∷ new.steps)
 
--- when a step stays: memory is wanted for the name of what needs it alone
+-- when a step stays: memory is wanted for the name of what needs it alone, where that is long
 abbrev pub Keeps : Seen → StepId → UndoRefusal → Type 0
 Keeps s i NoSuchStep = IsFalse (stands i (history s))
 Keeps s i (Needed by) = IsTrue (stands i (history s)) × (first_needer i (history s) ≡ Some by)
-Keeps s i NoMemory = IsTrue (stands i (history s)) × ((by : StepId) × (first_needer i (history s) ≡ Some by))
+Keeps s i NoMemory = IsTrue (stands i (history s)) × ((by : StepId) × (first_needer i (history s) ≡ Some by) × IsLongName by.task)
 Keeps s i JournalFull = ⊥
 
 -- an undo by its answer; a refusal leaves the core as it was

@@ -1,8 +1,8 @@
 //! What a refusal names.
 
-ghost use Rattle.std.specs.Prelude.{◌≡◌, ◌<◌, ◌↔◌, IfOk, IsTrue};
+ghost use Rattle.std.specs.Prelude.{◌≡◌, ◌<◌, ◌↔◌, IfOk, IsErr, IsTrue};
 ghost use Rattle.tb_undo.specs.Obstacles.{hindrance_by, sibling};
-ghost use Rattle.tb_core.specs.Naming.{config_with, IsStaleAnswer, IsNamed, IsNumbered};
+ghost use Rattle.tb_core.specs.Naming.{config_with, IsLongName, IsStaleAnswer, IsNamed, IsNumbered};
 
 use crate::elsewhere::Elsewhere;
 use crate::step_refusal::StepRefusal;
@@ -60,7 +60,7 @@ fn elsewhere(
     Elsewhere::new(alloc, config(task.clone()?, standing))
 }
 
-/// What keeps the task from its action, by name.
+/// What keeps the task from its action, by name. Memory is wanted at most for a name of more than three numbers.
 pub fn named(task: &TaskName, obstacle: Obstacle<'_>) -> StepRefusal
     requires { IsNumbered obstacle }
     ensures { IsNamed (hindrance_by task.now obstacle.entry) result }
@@ -92,7 +92,8 @@ pub fn named(task: &TaskName, obstacle: Obstacle<'_>) -> StepRefusal
 /// The child of the task's parent with this number.
 fn sibling_of(task: &TaskName, number: u32) -> Result<TaskName, AllocError>
     requires { 0 < number }
-    ensures { IfOk result (λ name. name ≡ sibling task.now number) }
+    ensures name { IfOk result (λ name. name ≡ sibling task.now number) }
+    ensures long { IsErr result → IsLongName (sibling task.now number) }
 {
     match task.parent()? {
         Some(parent) => parent.child(number),

@@ -1,8 +1,7 @@
 //! What a step fills in: the number that a load reads, and the name of a child.
 
-ghost use Rattle.std.specs.Prelude.{◌≡◌, ◌<◌, ◌↔◌, ℕ, List, IfOk, IsOk, IsTrue, Some, None, length};
+ghost use Rattle.std.specs.Prelude.{◌≡◌, ◌<◌, ◌↔◌, ℕ, List, IfOk, IsOk, IsTrue, IsFalse, Some, None, length};
 ghost use Rattle.tb_model.specs.declared.event.Event.{Event as AnEvent};
-ghost use Rattle.tb_model.specs.declared.spawn.Spawn.{Spawn as ASpawn};
 ghost use Rattle.tb_model.specs.Names.{child};
 ghost use Rattle.tb_plan.specs.Plans.{names_allowed};
 ghost use Rattle.tb_core.specs.Filling.{spare_spawn, Fills, IsNextSpawn, IsRunOf, IsWhole};
@@ -11,19 +10,6 @@ use std::alloc::AllocError;
 use tb_model::{Action, Event, Spawned, TaskName};
 use tb_plan::Plan;
 use tb_undo::Tables;
-
-/// What can be used again of an event that isn't wanted any longer: its spawn.
-pub fn spare_spawn(event: Option<Event>) -> Option<Spawned>
-    ensures { result ≡ spare_spawn event }
-{
-    match event {
-        Some(Event { task: _, action }) => match action {
-            Action::Spawn(spawned) => Some(spawned),
-            _ => None,
-        },
-        None => None,
-    }
-}
 
 /// The action of an event whose task's name isn't wanted any longer.
 #[inline(always)]
@@ -73,7 +59,7 @@ pub fn event_for(tables: &Tables, task: &TaskName, action: Action) -> Result<Eve
     if is_whole(&action) {
         return Ok(Event { task, action });
     }
-    fill_in(tables, task, action, None)
+    fill_in(tables, task, action)
 }
 
 /// Whether nothing is filled in of the action.
@@ -98,16 +84,11 @@ pub fn copy_event(event: &Event) -> Result<Event, AllocError>
 /// The event of an action that was planned for the task. It stands apart, so that a step of which nothing
 /// is filled in doesn't pay for its room.
 #[inline(never)]
-pub fn fill_in(
-    tables: &Tables,
-    task: TaskName,
-    action: Action,
-    spare: Option<Spawned>,
-) -> Result<Event, AllocError>
+pub fn fill_in(tables: &Tables, task: TaskName, action: Action) -> Result<Event, AllocError>
     requires allowed { IsTrue (names_allowed (length tables.now.store.cells) action) }
     requires run { IsRunOf tables.now task }
     ensures ok { IfOk result (Fills tables.now task action) }
-    ensures room { (v : AnEvent) → Fills tables.now task action v → spare ≡ spare_spawn (Some v) → IsOk result }
+    ensures room { (v : AnEvent) → Fills tables.now task action v → spare_spawn (Some v) ≡ None → IsOk result }
 {
     let action = match action {
         Action::Load {
@@ -119,34 +100,43 @@ pub fn fill_in(
             cell,
             value: tables.get(cell),
         },
-        Action::Spawn(spawned) => Action::Spawn(next_spawn(tables, &task, spawned, spare)?),
+        Action::Spawn(spawned) => Action::Spawn(next_spawn(tables, &task, spawned)?),
         other => other,
     };
     Ok(Event { task, action })
 }
 
-/// The spawn with the name of the task's next child: the spare one, where that is the same.
-fn next_spawn(
-    tables: &Tables,
-    task: &TaskName,
-    spawned: Spawned,
-    spare: Option<Spawned>,
-) -> Result<Spawned, AllocError>
+/// The spawn with the name of the task's next child.
+fn next_spawn(tables: &Tables, task: &TaskName, spawned: Spawned) -> Result<Spawned, AllocError>
     requires { IsRunOf tables.now task.now }
-    ensures ok { IfOk result (IsNextSpawn tables.now task.now spawned) }
-    ensures room { (s : ASpawn) → IsNextSpawn tables.now task.now spawned s → spare ≡ Some s → IsOk result }
+    ensures { IfOk result (IsNextSpawn tables.now task.now spawned) }
 {
     let n = tables.children(task).unwrap_or(0) + 1;
-    match spare {
-        Some(spare) => {
-            if is_nth_spawn(&spare, &spawned, task, n) {
-                Ok(spare)
-            } else {
-                with_nth_child(spawned, task, n)
-            }
-        }
-        None => with_nth_child(spawned, task, n),
-    }
+    with_nth_child(spawned, task, n)
+}
+
+/// Whether the event is that of the action, and generates a task.
+pub fn is_spawn_of(event: &Event, tables: &Tables, task: &TaskName, action: &Action) -> bool
+    requires { IsRunOf tables.now task.now }
+    ensures yes { IsTrue result → Fills tables.now task.now action.now event.now }
+    ensures no { IsFalse result → Fills tables.now task.now action.now event.now → spare_spawn (Some event.now) ≡ None }
+{
+    let Action::Spawn(spawned) = action else {
+        return false;
+    };
+    let Action::Spawn(spare) = &event.action else {
+        return false;
+    };
+    event.task == *task && is_next_spawn(tables, task, spawned, spare)
+}
+
+/// Whether the spare spawn is the spawn with the name of the task's next child.
+fn is_next_spawn(tables: &Tables, task: &TaskName, spawned: &Spawned, spare: &Spawned) -> bool
+    requires { IsRunOf tables.now task.now }
+    ensures { IsTrue result ↔ IsNextSpawn tables.now task.now spawned.now spare.now }
+{
+    let n = tables.children(task).unwrap_or(0) + 1;
+    is_nth_spawn(spare, spawned, task, n)
 }
 
 /// The spawn with the name of the task's nth child.

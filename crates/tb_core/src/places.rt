@@ -1,10 +1,11 @@
 //! Where the steps of a history stand among its entries, which come from the oldest.
 
-ghost use Rattle.std.specs.Prelude.{◌≡◌, ◌<◌, ◌≤◌, ◌↔◌, IfOk, IfSome, IsSome, IsTrue, Some, length, slice_get};
-ghost use Rattle.tb_model.specs.declared.step_id.StepId.{StepId};
+ghost use Rattle.std.specs.Prelude.{◌≡◌, ◌<◌, ◌≤◌, ◌↔◌, IfOk, IfSome, IsErr, IsSome, IsTrue, Some, length, slice_get};
+ghost use Rattle.tb_model.specs.declared.step_id.StepId.{StepId as AStepId};
 ghost use Rattle.tb_core.specs.Entries.{Entry as AnEntry};
 ghost use Rattle.tb_model.specs.Facts.{History as Events, own, is_of};
 ghost use Rattle.tb_model.specs.Equivalent.{stands};
+ghost use Rattle.tb_core.specs.Naming.{IsLongName};
 ghost use Rattle.tb_core.specs.Scans.{history_of, step_at};
 ghost use Rattle.tb_places.specs.Where.{places_where};
 ghost use Rattle.tb_core.specs.Renumbering.{events_in};
@@ -75,7 +76,8 @@ pub fn step_among(own: &[u32], entries: &History<'_>, at: usize) -> Result<StepI
     requires bound { length entries.now ≤ 1000000 }
     requires own { (e : AnEntry) → slice_get entries.now at ≡ Some e →
         own.now ≡ places_where (is_of e.event.task) (events_in entries.now) }
-    ensures { IfOk result (λ id. step_at entries.now at ≡ Some id) }
+    ensures step { IfOk result (λ id. step_at entries.now at ≡ Some id) }
+    ensures long { (id : AStepId) → IsErr result → step_at entries.now at ≡ Some id → IsLongName id.task }
 {
     let task = entries.task(at).clone()?;
     let k = ordinal_among(own, entries, at);
@@ -89,7 +91,7 @@ fn ordinal_among(own: &[u32], entries: &History<'_>, at: usize) -> u32
     requires bound { length entries.now ≤ 1000000 }
     requires own { (e : AnEntry) → slice_get entries.now at ≡ Some e →
         own.now ≡ places_where (is_of e.event.task) (events_in entries.now) }
-    ensures { (id : StepId) → step_at entries.now at ≡ Some id → result ≡ id.k }
+    ensures { (id : AStepId) → step_at entries.now at ≡ Some id → result ≡ id.k }
 {
     match own.binary_search(&(at as u32)) {
         Ok(before) => before as u32 + 1,
@@ -101,7 +103,7 @@ fn ordinal_among(own: &[u32], entries: &History<'_>, at: usize) -> u32
 pub fn ordinal_of(entries: &History<'_>, at: usize) -> u32
     requires within { at < length entries.now }
     requires bound { length entries.now ≤ 1000000 }
-    ensures { (id : StepId) → step_at entries.now at ≡ Some id → result ≡ id.k }
+    ensures { (id : AStepId) → step_at entries.now at ≡ Some id → result ≡ id.k }
 {
     steps_of(&entries.front(at), entries.task(at)) as u32 + 1
 }

@@ -1,6 +1,7 @@
 //! The history, step by step.
 
 mod clear;
+mod planned;
 mod reading;
 mod state;
 mod undoing;
@@ -17,12 +18,11 @@ ghost use Rattle.tb_core.specs.Seen.{history};
 ghost use Rattle.tb_core.specs.Situation.{config_of};
 ghost use Rattle.tb_core.specs.Outcomes.{event_of, has_ended, Fits, IsOpen, IsKept, IsKeptBy, Takes, grown_by, Refuses, Steps, Stepped};
 ghost use Rattle.tb_core.specs.Soundness.{AreRecords, seen};
-ghost use Rattle.tb_core.specs.declared.step_refusal.StepRefusal.TheVariants.{Memory};
 ghost use Rattle.tb_core.specs.Scans.{AreLegal};
 
 use crate::answers::{config, named, stale, stands_so};
 use crate::entry::Entry;
-use crate::filling::{action_of, copy_event, fill_in, forget, planned, spare_spawn};
+use crate::filling::{action_of, forget};
 use crate::history::History;
 use crate::numbers::number_in;
 use crate::places::is_number_of;
@@ -253,52 +253,44 @@ impl Core {
         None
     }
 
-    /// Makes the room that `step` needs for this plan, and tells the event to come.
-    pub fn reserve_step(&mut self, plan: &Plan) -> Result<Event, StepRefusal>
+    /// Makes the room that `step` needs for this plan, and tells the event to come, twice, since who keeps it beside the
+    /// journal needs it twice. At a refusal, for want of memory too, nothing has changed: what was reserved stays so.
+    pub fn reserve_step(&mut self, plan: &Plan) -> Result<(Event, Event), StepRefusal>
         requires { Fits self.old.run plan.now }
         ensures run { self.new.run ≡ self.old.run }
-        ensures event { IfOk result (λ v. v ≡ event_of self.old.run plan.now) }
+        ensures event { IfOk result (λ p. (p.0 ≡ event_of self.old.run plan.now) × (p.1 ≡ event_of self.old.run plan.now)) }
         ensures reserved { OnOk result (self.new.reserved ≡ Some (event_of self.old.run plan.now)) }
         ensures ready { OnOk result (IsOpen self.old.run plan.now) }
         ensures refused { IfErr result (Refuses self.old.run plan.now) }
-        ensures err { IfErr result (λ e. e ≢ Memory → self.new ≡ self.old) }
+        ensures err { OnErr result (self.new ≡ self.old) }
     {
         if let Some(refusal) = self.refusal(plan) {
             return Err(refusal);
         }
         match self.prepare(plan) {
-            Ok(event) => Ok(event),
+            Ok(events) => Ok(events),
             Err(_) => Err(StepRefusal::Memory),
         }
     }
 
-    /// Takes the step that was planned. What can fail comes first, and a refusal changes nothing.
-    /// Right behind a `reserve_step` of the same plan that answered Ok it takes no memory.
+    /// Takes the step that was planned. What can fail comes first: at a refusal, for want of memory too, nothing has
+    /// changed, and what is reserved stays so. Right after a `reserve_step` of the same plan that answered Ok it takes no
+    /// memory.
     pub fn step(&mut self, plan: Plan) -> Result<StepId, StepRefusal>
         requires { Fits self.old.run plan }
         ensures stepped { Stepped self.old.run plan self.new.run result }
-        ensures err { IfErr result (λ e. e ≢ Memory → self.new ≡ self.old) }
+        ensures err { OnErr result (self.new ≡ self.old) }
         ensures room { IsOpen self.old.run plan → self.old.reserved ≡ Some (event_of self.old.run plan) → IsOk result }
     {
         if let Some(refusal) = self.refusal(&plan) {
             return Err(refusal);
         }
+        if self.has_spawn_of(&plan) {
+            return Ok(self.step_reserved(plan));
+        }
         match self.take(plan) {
             Ok(id) => Ok(id),
             Err(_) => Err(StepRefusal::Memory),
-        }
-    }
-
-    /// The same right after a `reserve_step` of the plan that answered Ok: nothing is asked again.
-    pub fn step_reserved(&mut self, plan: Plan) -> StepId
-        requires fits { Fits self.old.run plan }
-        requires open { IsOpen self.old.run plan }
-        requires reserved { self.old.reserved ≡ Some (event_of self.old.run plan) }
-        ensures { Steps self.old.run plan self.new.run result }
-    {
-        match self.take(plan) {
-            Ok(id) => id,
-            Err(_) => unreachable!(),
         }
     }
 
@@ -308,70 +300,19 @@ impl Core {
         requires may { MayFollow self.old.run.cells (history self.old.run) event }
         requires room { length self.old.run.steps < self.old.run.limit }
         ensures ok { OnOk result (self.new.run ≡ grown_by event to self.old.run) }
-        ensures err { OnErr result (self.new.run ≡ self.old.run) }
+        ensures err { OnErr result (self.new ≡ self.old) }
     {
         let at = self.count();
         reserve_one(&mut self.entries)?;
-        forget(&mut self.reserved);
         let task = number_in(&self.tables, &event.task);
         self.places.reserve(Some(task as usize), &event.action)?;
         let replaced = self.tables.apply(&event, to)?;
+        forget(&mut self.reserved);
         self.places
             .push_reserved(Some(task as usize), &event.action, at);
         self.entries
             .push_reserved(Entry::new(task, action_of(event), replaced));
         Ok(())
-    }
-
-    /// The event of the plan, for which all room is made.
-    fn prepare(&mut self, plan: &Plan) -> Result<Event, AllocError>
-        requires fits { Fits self.old.run plan.now }
-        requires ready { IsOpen self.old.run plan.now }
-        ensures run { self.new.run ≡ self.old.run }
-        ensures event { IfOk result (λ v. v ≡ event_of self.old.run plan.now) }
-        ensures reserved { OnOk result (self.new.reserved ≡ Some (event_of self.old.run plan.now)) }
-    {
-        let event = planned(&self.tables, plan)?;
-        let copy = copy_event(&event)?;
-        self.entries.reserve(1)?;
-        self.reserved = None;
-        self.tables.reserve_apply(&event)?;
-        let task = number_in(&self.tables, &event.task);
-        self.places.reserve(Some(task as usize), &event.action)?;
-        self.reserved = Some(copy);
-        Ok(event)
-    }
-
-    /// Takes the step of a plan that isn't refused.
-    fn take(&mut self, plan: Plan) -> Result<StepId, AllocError>
-        requires fits { Fits self.old.run plan }
-        requires ready { IsOpen self.old.run plan }
-        ensures ok { IfOk result (Steps self.old.run plan self.new.run) }
-        ensures err { OnErr result (self.new.run ≡ self.old.run) }
-        ensures room { self.old.reserved ≡ Some (event_of self.old.run plan) → IsOk result }
-    {
-        let to = plan.to();
-        let at = self.count();
-        let Plan {
-            instr: _,
-            config,
-            action,
-        } = plan;
-        let spare = spare_spawn(self.reserved.take());
-        let event = fill_in(&self.tables, config.task, action, spare)?;
-        self.entries.reserve(1)?;
-        let number = number_in(&self.tables, &event.task);
-        self.places.reserve(Some(number as usize), &event.action)?;
-        let replaced = self.tables.apply(&event, to)?;
-        self.places
-            .push_reserved(Some(number as usize), &event.action, at);
-        let Event { task, action } = event;
-        self.entries
-            .push_reserved(Entry::new(number, action, replaced));
-        Ok(StepId {
-            task,
-            k: config.steps + 1,
-        })
     }
 
     /// The steps that stand, from the oldest to the newest, each with the line at which it left its
@@ -411,6 +352,7 @@ fn name_every_field(core: &Core, entry: &Entry) {
 #[inline(always)]
 fn reserve_one(entries: &mut Vec<Entry>) -> Result<(), AllocError>
     ensures items { entries.new.items ≡ entries.old.items }
+    ensures keeps { vec_capacity entries.old ≤ vec_capacity entries.new }
     ensures ok { OnOk result (vec_len entries.new + 1 ≤ vec_capacity entries.new) }
     ensures succeeds { vec_len entries.old + 1 ≤ vec_capacity entries.old → IsOk result }
 {

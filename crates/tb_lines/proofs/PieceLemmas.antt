@@ -1,7 +1,8 @@
 -- What is held of a source, cut at its first line feed.
 use Rattle.std.proofs.Common.{◌≡◌, ℕ, suc, ◌+◌, ◌-◌, ◌<◌, ◌≤◌, Bool, true, false, not, cond, List, [], ◌∷◌, ◌++◌, take, drop, length, refl, sym, ap, ◌∙◌, subst, arith}
 use Rattle.std.specs.List.{position_or_len}
-use Rattle.std.proofs.lemmas.List.{drop-take, length-take, append-nil, drop-drop}
+use Rattle.std.proofs.lemmas.List.{drop-take, length-take, length-drop, append-nil, drop-drop}
+use Rattle.std.proofs.Math.Nat.{min-le_left}
 use Rattle.std.proofs.Math.Seq.{take-length}
 use Rattle.std.proofs.Math.ListN.{drop_of_length-le}
 use Rattle.std.proofs.lemmas.Bool.{eqb-true}
@@ -78,3 +79,10 @@ takes_all s e n buffer line line' h at most least grown =
 
     append_none : (l : List ℕ) → l ++ [] ≡ l
     append_none l = append-nil l
+
+-- a buffer of 8,192 bytes holds no more
+pub few_held : (s e : ℕ) (buffer : List ℕ) → e ≤ 8192 → length (drop s (take e buffer)) ≤ 8192
+few_held s e buffer h = rw (length-drop s (take e buffer), length-take e buffer) (few (min-le_left e (length buffer)))
+  where
+    few : {n : ℕ} → n ≤ e → n - s ≤ 8192
+    few {n} k = omega arith

@@ -24,6 +24,10 @@ spelled (line ∷ more) = line ++ 10 ∷ spelled more
 abbrev pub AreUnbroken : List (List ℕ) → Type 0
 AreUnbroken lines = AllByRecursion IsUnbroken lines
 
+-- as many bytes as one read hands out at most
+abbrev pub most_ahead : ℕ
+most_ahead = 8192
+
 -- behind the piece stands its line feed, or nothing
 abbrev pub rest_behind : Bool → List ℕ → List ℕ
 rest_behind true rest = 10 ∷ rest

@@ -4,7 +4,7 @@ ghost use Rattle.std.specs.Prelude.{ℕ, List, [], ◌∷◌, ◌++◌, ◌≡�
 ghost use Rattle.std.specs.Io.KnownBytes.{Keeps, IsAtEnd, prepend_known};
 ghost use Rattle.std.specs.List.{position_or_len};
 ghost use Rattle.tb_read.specs.Text.{is_line_feed};
-ghost use Rattle.tb_lines.specs.Lines.{IsUnbroken, GaveLine, TakesPiece};
+ghost use Rattle.tb_lines.specs.Lines.{IsUnbroken, GaveLine, TakesPiece, most_ahead};
 
 use crate::ports::{Failed, Source};
 use std::alloc::AllocError;
@@ -69,6 +69,7 @@ impl LineReader {
     }
 
     /// Reads more where nothing is held, and tells whether anything is held then.
+    #[tactic(auto, using(crate::proofs::PieceLemmas::few_held))]
     fn fill<S: Source>(&mut self, source: &mut S) -> Result<bool, Failed>
         requires { S.failures source.old < 2 ^ 64 - 1 }
         ensures unread { Keeps (prepend_known self.old (S.left source.old))
@@ -79,6 +80,7 @@ impl LineReader {
         ensures ok { OnOk result (S.failures source.new ≡ S.failures source.old) }
         ensures err { OnErr result ((S.failures source.new ≡ S.failures source.old + 1)
             × (self.new ≡ [])) }
+        ensures ahead { length self.new ≤ most_ahead }
     {
         if self.start < self.end {
             return Ok(true);
@@ -91,10 +93,12 @@ impl LineReader {
 
     /// Moves what is held, up to the first line feed, to the end of the line, and tells whether
     /// there was one.
+    #[tactic(auto, using(crate::proofs::PieceLemmas::few_held))]
     fn take_piece(&mut self, line: &mut Vec<u8>) -> Result<bool, AllocError>
         ensures ok { IfOk result
             (λ found. TakesPiece self.old self.new line.old.items line.new.items found) }
         ensures err { OnErr result ((self.new ≡ self.old) × (line.new.items ≡ line.old.items)) }
+        ensures ahead { length self.new ≤ most_ahead }
     {
         let held = &self.buffer[self.start..self.end];
         let len = line_len(held);
@@ -122,6 +126,7 @@ impl LineReader {
             → S.failures source.new ≡ S.failures source.old }
         ensures read { IsErrOf result LineFault.Read
             → (S.failures source.new ≡ S.failures source.old + 1) × (self.new ≡ []) }
+        ensures ahead { length self.new ≤ most_ahead }
     {
         line.clear();
         'pieces: for _ in rt.forever() {

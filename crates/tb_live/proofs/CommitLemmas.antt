@@ -1,6 +1,6 @@
 -- A plan that was made at some time, and is taken now.
-use Rattle.std.proofs.Common.{◌≡◌, ◌<◌, ◌≤◌, ◌↔◌, ℕ, List, Bool, true, false, nat_le, length, reverse, sym, ap, ◌∙◌, subst, Some, None, option_map, arith, inl, inr}
-use Rattle.std.specs.Prelude.{Result, Ok, Err}
+use Rattle.std.proofs.Common.{◌≡◌, ◌<◌, ◌≤◌, ◌↔◌, ℕ, List, Bool, true, false, nat_le, length, reverse, sym, ap, ◌∙◌, subst, Option, Some, None, unwrap_or, option_map, arith, inl, inr}
+use Rattle.std.specs.Prelude.{Result, Ok, Err, IfSome, IfNone}
 use Rattle.std.specs.List.{list_any}
 use Rattle.std.proofs.lemmas.Bool.{both_ways}
 use Rattle.std.proofs.lemmas.Bool.Decides.{nat_tests}
@@ -13,14 +13,16 @@ use Rattle.tb_model.specs.Names.{Name}
 use Rattle.tb_model.specs.Facts.{is_spawned, ends}
 use Rattle.tb_model.specs.Journal.{hist}
 use Rattle.tb_model.specs.Program.{Program}
-use Rattle.tb_model.specs.Hindrances.{By, refusal_of, next_event}
+use Rattle.tb_model.specs.Hindrances.{By, Hindrance, refusal_of, next_event}
 use Rattle.tb_plan.specs.declared.planned.Plan.{Plan}
 use Rattle.tb_core.specs.declared.step_refusal.StepRefusal.{StepRefusal}
 use Rattle.tb_core.specs.declared.step_refusal.StepRefusal.TheVariants.{Memory, NoSuchTask, Ended, Full, Stale}
 use Rattle.tb_core.specs.Seen.{Seen, Held as HeldCore}
 use Rattle.tb_core.specs.Seen as core
 use Rattle.tb_core.specs.Situation.{config_of}
-use Rattle.tb_core.specs.Outcomes.{event_of, has_ended, hindrance_of, IsOpen, IsCurrent, IsKept}
+use Rattle.tb_core.specs.Outcomes.{event_of, has_ended, hindrance_of, IsOpen, IsCurrent, IsHindered, IsKept}
+use Rattle.tb_core.specs.Outcomes as core_outcomes
+use Rattle.tb_core.specs.Naming.{IsLong}
 use Rattle.tb_control.specs.declared.control.Control.{Control}
 use Rattle.tb_live.specs.declared.commit_refusal.CommitRefusal.{CommitRefusal}
 use Rattle.tb_live.specs.declared.commit_refusal.CommitRefusal.TheVariants.{Step as NotTaken}
@@ -39,18 +41,44 @@ use Rattle.tb_live.specs.Working.{configuration}
 use Rattle.tb_next.proofs.NativeLemmas.{native_plan, native_next}
 use Rattle.tb_next.proofs.PlanLemmas.{nothing_by, refusal_of_plan}
 use Rattle.tb_live.proofs.RunLemmas.{shown, has_place}
-use Rattle.tb_live.proofs.StepLemmas.{Keeps, entered, refused, stays, no_plan}
+use Rattle.tb_live.proofs.StepLemmas.{Keeps, by_some, entered, refused, stays, no_plan}
 use Rattle.tb_live.proofs.WorkLemmas.{config_so}
 
 -- what the core finds in the way keeps the task from its action
 pub kept_from : (run : Seen) (p : Plan) (full : Bool) (e : StepRefusal) → IsKept run p e → (run.limit ≤ length run.steps → full ≡ true) → IsKeptFrom run p full e
 kept_from run p full Full k h = (k.0, k.1, h k.2)
-kept_from run p full Memory k h = λ current clear. absurd (named k current clear)
+kept_from run p full Memory k h = (λ current clear. absurd (named k current clear), λ g hindered. long k g hindered)
   where
+    long : IsKept run p Memory → (g : Hindrance) → IsHindered run p g → IsLong g
+    long (inl (now, stale)) g hindered = absurd (stale.elsewhere (hindered.current.here ∙ sym stale.now_is))
+    long (inr (h, other, l)) g hindered = subst IsLong (ap (λ o. unwrap_or o g) (sym other.hindrance ∙ hindered.hindrance)) l
+
     named : IsKept run p Memory → IsCurrent run p → hindrance_of run p ≡ None → ⊥
     named (inl (now, stale)) current clear = stale.elsewhere (current.here ∙ sym stale.now_is)
-    named (inr (h, hindered)) current clear = cc (clear, hindered.hindrance)
+    named (inr (h, hindered, long)) current clear = cc (clear, hindered.hindrance)
 kept_from run p full _ k h = k
+
+-- nothing keeps a plan that is open
+pub open_wants : (run : Seen) (p : Plan) (full : Bool) → IsOpen run p → full ≡ false → IsKeptFrom run p full Memory
+open_wants run p full o f = (λ current clear. f, λ h hindered. absurd (clash h (sym o.clear ∙ hindered.hindrance)))
+  where
+    clash : (h : Hindrance) → ◌≡◌ {A = Option Hindrance} None (Some h) → ⊥
+    clash h z = cc
+
+pub open_full : (run : Seen) (p : Plan) (full : Bool) → IsOpen run p → full ≡ true → IsKeptFrom run p full Full
+open_full run p full o f = (o.current, o.clear, f)
+
+-- so the journal does, or want of memory
+pub refusal_from : (run : Seen) (p : Plan) (full : Bool) (o : Option StepRefusal) (e r : StepRefusal) → r ≡ unwrap_or o e → IfSome o (IsKept run p) → IfNone o (IsOpen run p) → (run.limit ≤ length run.steps → full ≡ true) → (IsOpen run p → IsKeptFrom run p full e) → IsKeptFrom run p full r
+refusal_from run p full (Some q) e r is some none few whole = subst (IsKeptFrom run p full) (sym is) (kept_from run p full q some few)
+refusal_from run p full None e r is some none few whole = subst (IsKeptFrom run p full) (sym is) (whole none)
+
+-- the core refuses the step, where the journal has a place
+pub refuses_from : (run : Seen) (p : Plan) (full : Bool) (e : StepRefusal) → full ≡ false → (run.limit ≤ length run.steps → ⊥) → core_outcomes.Refuses run p e → IsKeptFrom run p full e
+refuses_from run p full Full f few k = absurd (few k.2)
+refuses_from run p full Memory f few (inl o) = open_wants run p full o f
+refuses_from run p full Memory f few (inr wants) = kept_from run p full Memory wants (λ z. absurd (few z))
+refuses_from run p full _ f few k = k
 
 -- what is prepared for the task is the plan's event
 pub readied_so : (limit : ℕ) (P : Program) (c : HeldCore) (entries : List Entry) (spare : ℕ) (p : Plan) (v : Event) → Fits P c.run → IsNative P c.run p → v.task ≡ p.config.task
@@ -124,7 +152,7 @@ module _ (P : Program) (limit : ℕ) (entries : List Entry) (before : Control) (
   foreign_refused NoSuchTask k = no_plan P limit entries before run s shows sound t NoSuchTask (λ z. cc) k
   foreign_refused Ended k = no_plan P limit entries before run s shows sound t Ended (λ z. cc) k
   foreign_refused (Stale now) k = (spawned_so true k.0, ended_so false k.1, k.2 ∙ configuration_so, (λ u. k.3 (program_back u.program)))
-  foreign_refused Memory k = (spawned_so true k.0, ended_so false k.1, (λ u n. absurd (k.2 (program_back u.program))))
+  foreign_refused Memory k = (spawned_so true k.0, ended_so false k.1, (λ u n. absurd (k.2 (program_back u.program))), (λ h u n. absurd (k.2 (program_back u.program))))
   foreign_refused _ k = absurd k
 
   -- a plan that isn't native may not be committed
@@ -153,6 +181,11 @@ module _ (P : Program) (limit : ℕ) (entries : List Entry) (before : Control) (
         nothing_by (hindrance_of run p)
         (sym (refusal_of_plan P run t p sound.fits (plan_so (current_at u))) ∙ ap (λ H. refusal_of P H t) sound.leaves ∙ ap (λ (z : Session). refusal_for z t) shows ∙ n)
 
+    hindered_at : (h : Hindrance) → IsUpToDate s p → refusal_for s t ≡ Some (By h) → hindrance_of run p ≡ Some h
+    hindered_at h u n =
+        by_some h (hindrance_of run p)
+        (sym (refusal_of_plan P run t p sound.fits (plan_so (current_at u))) ∙ ap (λ H. refusal_of P H t) sound.leaves ∙ ap (λ (z : Session). refusal_for z t) shows ∙ n)
+
     pub native_refused : (e : StepRefusal) → IsKeptFrom run p (has_no_place limit entries) e → RefusesPlan s p e
     native_refused NoSuchTask k = absurd (both_ways (is_spawned (core.history run) t) k native.spawned)
     native_refused Ended k = absurd (both_ways (has_ended run t) native.going k.1)
@@ -160,7 +193,8 @@ module _ (P : Program) (limit : ℕ) (entries : List Entry) (before : Control) (
     native_refused Memory k = (
       spawned_so true native.spawned,
       ended_so false native.going,
-      λ u n. ap is_full (sym shows) ∙ ap (nat_le limit) (length-reverse entries) ∙ k (current_at u) (clear_at u n),
+      λ u n. ap is_full (sym shows) ∙ ap (nat_le limit) (length-reverse entries) ∙ k.0 (current_at u) (clear_at u n),
+      λ h u n. k.1 h (record { current = current_at u; hindrance = hindered_at h u n }),
     )
     native_refused Full k = (up_to_date k.0, refused_so k.0 Full k)
     native_refused e k = (up_to_date k.current, refused_so k.current e k)

@@ -1,5 +1,5 @@
 -- What a task does next is taken and entered, or refused.
-use Rattle.std.proofs.Common.{◌≡◌, ◌<◌, ◌≤◌, ◌+◌, ◌++◌, ℕ, List, [], ◌∷◌, Bool, true, false, length, refl, sym, ap, ap₂, ◌∙◌, subst, arith, Option, Some, None}
+use Rattle.std.proofs.Common.{◌≡◌, ◌<◌, ◌≤◌, ◌+◌, ◌++◌, ℕ, List, [], ◌∷◌, Bool, true, false, length, refl, sym, ap, ap₂, ◌∙◌, subst, arith, Option, Some, None, unwrap_or}
 use Rattle.std.specs.Prelude.{Ok, Err}
 use Rattle.std.proofs.lemmas.Bool.Decides.{nat_tests}
 use Rattle.tb_model.specs.declared.entry.Entry.{Entry}
@@ -12,6 +12,7 @@ use Rattle.tb_core.specs.declared.step_refusal.StepRefusal.{StepRefusal}
 use Rattle.tb_core.specs.declared.step_refusal.StepRefusal.TheVariants.{Memory, Full}
 use Rattle.tb_core.specs.Seen.{Seen, history}
 use Rattle.tb_core.specs.Refusals.{told_by}
+use Rattle.tb_core.specs.Naming.{IsLong}
 use Rattle.tb_core.specs.Outcomes.{IsCurrent, IsKeptBy, Takes, event_of}
 use Rattle.tb_core.proofs.ShownLemmas.{takes_steps}
 use Rattle.tb_next.specs.declared.coming.Coming.{Coming}
@@ -49,9 +50,12 @@ pub full_enters : (limit seat : ℕ) (run : Seen) (t : Name) (m : Coming) (p : P
     → Enters limit seat run p run entries entries control control (Err Full)
 full_enters limit seat run t m p entries control says current clear full = (refl, refl, refl, (current, way_so run t m p says ∙ clear, full))
 
-pub memory_enters : (limit seat : ℕ) (run new : Seen) (p : Plan) (entries pushed : List Entry) (before after : Control) → new ≡ run → pushed ≡ entries → after ≡ before → has_no_place limit entries ≡ false
+pub memory_enters : (limit seat : ℕ) (run new : Seen) (t : Name) (m : Coming) (p : Plan) (entries pushed : List Entry) (before after : Control) → IsStepOf t m p → in_the_way (history run) t m.action ≡ None → new ≡ run → pushed ≡ entries → after ≡ before → has_no_place limit entries ≡ false
     → Enters limit seat run p new entries pushed before after (Err Memory)
-memory_enters limit seat run new p entries pushed before after same kept left place = (same, kept, left, (λ c h. place))
+memory_enters limit seat run new t m p entries pushed before after says clear same kept left place = (same, kept, left, ((λ c h. place), (λ h hindered. absurd (clash h (sym clear ∙ sym (way_so run t m p says) ∙ hindered.hindrance)))))
+  where
+    clash : (h : Hindrance) → ◌≡◌ {A = Option Hindrance} None (Some h) → ⊥
+    clash h z = cc
 
 -- what keeps the task comes before a full journal
 pub kept_from : (run : Seen) (t : Name) (m : Coming) (p : Plan) (full : Bool) (e : StepRefusal) → IsStepOf t m p → IsCurrent run p → IsKeptBy run t m.action e → IsKeptFrom run p full e
@@ -59,7 +63,10 @@ kept_from run t m p full Full says current k = absurd (none k.named)
   where
     none : told_by Full ≡ Some (By k.hindrance) → ⊥
     none z = cc
-kept_from run t m p full Memory says current k = λ c h. absurd (none (sym h ∙ way_so run t m p says ∙ k.found))
+kept_from run t m p full Memory says current k = (
+  λ c h. absurd (none (sym h ∙ way_so run t m p says ∙ k.found)),
+  λ h hindered. subst IsLong (ap (λ o. unwrap_or o h) (sym k.found ∙ sym (way_so run t m p says) ∙ hindered.hindrance)) k.named,
+)
   where
     none : ◌≡◌ {A = Option Hindrance} None (Some k.hindrance) → ⊥
     none z = cc

@@ -1,6 +1,6 @@
 -- What a Live answers to a step, and what it leaves.
 use Rattle.std.proofs.Common.{◌≡◌, ◌<◌, arith, ap₂, ℕ, List, [], ◌∷◌, Bool, true, false, nat_le, length, reverse, refl, sym, ap, ◌∙◌, subst, Option, Some, None, option_map, not, cond}
-use Rattle.std.specs.Prelude.{◌≢◌, is_none, is_some, Result, Ok, Err, IfErr}
+use Rattle.std.specs.Prelude.{◌≢◌, is_none, is_some, Result, Ok, Err, OnErr}
 use Rattle.std.specs.List.{list_any}
 use Rattle.std.proofs.lemmas.List.{reverse-append, length-reverse, length-map}
 use Rattle.std.proofs.lemmas.Bool.{false≢true, both_ways}
@@ -13,14 +13,14 @@ use Rattle.tb_model.specs.Facts.{History, is_spawned, ends}
 use Rattle.tb_model.specs.Needs.{step_of, without}
 use Rattle.tb_model.specs.Journal.{hist}
 use Rattle.tb_model.specs.Program.{Program, IsNext, LegalFor, planned, situation, zero_ℤ}
-use Rattle.tb_model.specs.Hindrances.{Refusal, By, refusal_of, can_step, least_ready, next_event, in_the_way}
+use Rattle.tb_model.specs.Hindrances.{Hindrance, Refusal, By, refusal_of, can_step, least_ready, next_event, in_the_way}
 use Rattle.tb_model.specs.Hindrances.{NoSuchTask as IsMissing, Ended as IsOver}
 use Rattle.tb_model.proofs.LeastNameLemmas.{least_found}
 use Rattle.tb_laws.proofs.NextStepLemmas.{next_computed, next_isnt_refused}
 use Rattle.tb_plan.specs.declared.config.Config.{Config}
 use Rattle.tb_plan.specs.declared.planned.Plan.{Plan}
 use Rattle.tb_core.specs.declared.step_refusal.StepRefusal.{StepRefusal}
-use Rattle.tb_core.specs.declared.step_refusal.StepRefusal.TheVariants.{Memory, NoSuchTask, Ended, Full, Stale}
+use Rattle.tb_core.specs.declared.step_refusal.StepRefusal.TheVariants.{Memory, NoSuchTask, Ended, Undeferred, Waiting, Excluded, Children, Group, Full, Stale}
 use Rattle.tb_core.specs.Seen.{Seen}
 use Rattle.tb_core.specs.Seen as core
 use Rattle.tb_core.specs.Situation.{config_of}
@@ -51,6 +51,10 @@ longer P limit entries run sound =
 unrefused : (o : Option Refusal) → is_none o ≡ true → o ≡ None
 unrefused None h = refl
 unrefused (Some r) h = absurd (false≢true h)
+
+pub by_some : (h : Hindrance) (o : Option Hindrance) → option_map By o ≡ Some (By h) → o ≡ Some h
+by_some h None e = cc
+by_some h (Some g) e = cc
 
 -- ---- a planned step
 
@@ -131,7 +135,8 @@ module _ (P : Program) (limit : ℕ) (entries : List Entry) (before : Control) (
         (subst (λ H. is_spawned H t ≡ true) sound.leaves (subst (λ u. is_spawned (core.history run) u ≡ true) plan.of_task plan.current.spawned)),
     subst (λ (z : Session). list_any (ends t) (hist z.journal) ≡ false) shows
         (subst (λ H. list_any (ends t) H ≡ false) sound.leaves (subst (λ u. list_any (ends u) (core.history run) ≡ false) plan.of_task plan.current.going)),
-    λ n. sym full_so ∙ k plan.current (nothing_by (hindrance_of run p) (sym refusal_so ∙ n)),
+    λ n. sym full_so ∙ k.0 plan.current (nothing_by (hindrance_of run p) (sym refusal_so ∙ n)),
+    λ h n. k.1 h (record { current = plan.current; hindrance = by_some h (hindrance_of run p) (sym refusal_so ∙ n) }),
   )
   refused _ k = refusal_so ∙ ap (option_map By) k.hindrance
 
@@ -174,9 +179,9 @@ same_held P limit entries pushed before after kept now h is same left holds = ap
 -- a refusal that keeps what is prepared changes nothing
 pub enters_held : (P : Program) (limit : ℕ) (entries pushed : List Entry) (before after : Control) (kept now : Option Prepared) (h : Held) → held P limit entries before kept ≡ h
     → (seat : ℕ) (run new : Seen) (p : Plan) (result : Result StepId StepRefusal) → Enters limit seat run p new entries pushed before after result
-    → IfErr result (λ e. e ≢ Memory → now ≡ kept) → IfErr result (λ e. e ≢ Memory → held P limit pushed after now ≡ h)
+    → OnErr result (now ≡ kept) → OnErr result (held P limit pushed after now ≡ h)
 enters_held P limit entries pushed before after kept now h is seat run new p (Ok i) e k = tt
-enters_held P limit entries pushed before after kept now h is seat run new p (Err r) e k = λ n. same_held P limit entries pushed before after kept now h is e.1 e.2 (k n)
+enters_held P limit entries pushed before after kept now h is seat run new p (Err r) e k = same_held P limit entries pushed before after kept now h is e.1 e.2 k
 
 pub record LiveAnswers (P : Program) (limit : ℕ) (s : Session) (t : Name) (pushed : List Entry) (after : Control) (new : Seen) (result : Result StepId StepRefusal) : Type 0 where
   pub keeps : Keeps P limit pushed after new
@@ -224,9 +229,17 @@ module _ (P : Program) (limit : ℕ) (entries : List Entry) (before : Control) (
   wanting_so t full Memory f k w = (
     ap (λ (z : Session). is_spawned (hist z.journal) t) (sym shows) ∙ ap (λ H. is_spawned H t) (sym sound.leaves) ∙ k.0,
     ap (λ (z : Session). list_any (ends t) (hist z.journal)) (sym shows) ∙ ap (λ H. list_any (ends t) H) (sym sound.leaves) ∙ k.1,
-    λ n. sym f ∙ w (ap is_none (sym (refusal_at t) ∙ n)),
+    λ n. sym f ∙ w.0 (ap is_none (sym (refusal_at t) ∙ n)),
+    λ h n. w.1 h (sym (refusal_at t) ∙ n),
   )
-  wanting_so t full _ f k w = absurd w
+  wanting_so t full NoSuchTask f k w = refusal_at t ∙ w
+  wanting_so t full Ended f k w = refusal_at t ∙ w
+  wanting_so t full (Stale now) f k w = absurd w
+  wanting_so t full (Undeferred u) f k w = refusal_at t ∙ w
+  wanting_so t full (Waiting u) f k w = refusal_at t ∙ w
+  wanting_so t full (Excluded u) f k w = refusal_at t ∙ w
+  wanting_so t full (Children u) f k w = refusal_at t ∙ w
+  wanting_so t full (Group u) f k w = refusal_at t ∙ w
 
   least_at : least_task s ≡ least_ready P (core.history run)
   least_at = ap least_task (sym shows) ∙ ap (least_ready P) (sym sound.leaves)

@@ -1,11 +1,11 @@
 -- What a claim leaves, and what it answers.
-use Rattle.std.proofs.Common.{◌≡◌, ℕ, List, Bool, true, false, ◌||◌, length, reverse, refl, sym, ap, ap₂, ◌∙◌, subst, ℤ, Option, Some, None}
+use Rattle.std.proofs.Common.{◌≡◌, ◌↔◌, IsTrue, ℕ, List, Bool, true, false, ◌||◌, length, reverse, refl, sym, ap, ap₂, ◌∙◌, subst, ℤ, Option, Some, None}
 use Rattle.tb_model.specs.declared.entry.Entry.{Entry}
 use Rattle.tb_model.specs.Names.{Name}
-use Rattle.tb_model.specs.Facts.{History, own, is_spawned, ends}
+use Rattle.tb_model.specs.Facts.{History, HasEnded, IsSpawned, own, is_spawned, ends}
 use Rattle.tb_model.specs.Journal.{hist}
 use Rattle.tb_model.specs.LeastNames.{IsLeastName}
-use Rattle.tb_model.specs.Hindrances.{least_ready}
+use Rattle.tb_model.specs.Hindrances.{can_step, least_ready}
 use Rattle.tb_model.specs.Program.{Program}
 use Rattle.tb_plan.specs.declared.config.Config.{Config}
 use Rattle.tb_core.specs.Seen.{Seen}
@@ -24,7 +24,9 @@ use Rattle.tb_live.specs.Session.{Session, history, is_full, with_seat}
 use Rattle.tb_live.specs.Moves.{has_ended, least_task}
 use Rattle.tb_next.specs.Fitting.{Fits}
 use Rattle.tb_live.specs.Soundness.{IsSound}
-use Rattle.tb_live.specs.Working.{configuration, IsWork, IsFree, RefusesClaim, ClaimsWork, is_stopped}
+use Rattle.tb_live.specs.Working.{configuration, IsWork, IsFree, RefusesClaim, ClaimsWork, HaveAllEnded, SaysDone, is_stopped}
+use Rattle.std.proofs.lemmas.Bool.{false≢true}
+use Rattle.tb_laws.proofs.NextStepLemmas.{can_next, done_ended, least_next}
 use Rattle.tb_next.proofs.PlanLemmas.{stands_at, holds_registers}
 use Rattle.tb_next.proofs.ReadyLemmas.{can_spawned}
 use Rattle.tb_control.proofs.ControlLemmas.{lawful_given, lawful_let_go}
@@ -117,3 +119,34 @@ module _ (P : Program) (limit : ℕ) (entries : List Entry) (control : Control) 
       at Later f e = (on, least_name_so seat None f.0, (λ h. f.1 (sym least_task_so ∙ h)), shown_so claims seat None e)
       at Done f e = (on, least_task_so ∙ f, shown_so claims seat None e)
       at Stopped f e = absurd f
+
+-- ---- all is done
+
+module _ (P : Program) (limit : ℕ) (entries : List Entry) (control : Control) (run : Seen) (s : Session) (shows : shown P limit entries control ≡ s) (sound : IsSound P limit (reverse entries) run) where
+  -- no task can step exactly where all have ended
+  done_so : (least_task s ≡ None) ↔ HaveAllEnded s
+  done_so =
+      subst (λ (z : Session). (least_task z ≡ None) ↔ HaveAllEnded z) shows
+      (subst (λ H. (least_ready P H ≡ None) ↔ ((t : Name) → IsSpawned H t → HasEnded H t)) sound.leaves (done_ended P (core.history run) sound.fits.well_formed sound.fits.legal))
+
+  none_can : least_task s ≡ None → (t : Name) → IsTrue (can_step s.program (history s) t) → ⊥
+  none_can =
+      subst (λ (z : Session). least_task z ≡ None → (t : Name) → IsTrue (can_step z.program (history z) t) → ⊥) shows
+      (subst (λ H. least_ready P H ≡ None → (t : Name) → IsTrue (can_step P H t) → ⊥) sound.leaves there)
+    where
+      there : least_ready P (core.history run) ≡ None → (t : Name) → IsTrue (can_step P (core.history run) t) → ⊥
+      there none t can =
+          let m = (least_next P (core.history run) sound.fits.well_formed sound.fits.legal).least t ((can_next P (core.history run) t sound.fits.well_formed sound.fits.legal).0 can) in
+          cc
+
+  pub says_done : (seat : ℕ) (new : Session) (claim : Claim) → ClaimsWork s seat new claim → SaysDone s claim
+  says_done seat new (Works w) k going = (λ z. absurd (clash z), λ all. absurd (none_can (done_so.1 all) w.config.task (k.1.found w.config.task refl).0))
+    where
+      clash : ◌≡◌ {A = Claim} (Works w) Done → ⊥
+      clash z = cc
+  says_done seat new Later k going = (λ z. absurd (clash z), λ all. absurd (k.2 (done_so.1 all)))
+    where
+      clash : ◌≡◌ {A = Claim} Later Done → ⊥
+      clash z = cc
+  says_done seat new Done k going = (λ z. done_so.0 k.1, λ all. refl)
+  says_done seat new Stopped k going = absurd (false≢true (sym going ∙ k.0))

@@ -4,9 +4,11 @@ use Rattle.tb_model.specs.declared.entry.Entry.{Entry}
 use Rattle.tb_model.specs.declared.entry.Entry.TheVariants.{Stepped}
 use Rattle.tb_model.specs.declared.step_id.StepId.{StepId}
 use Rattle.tb_model.specs.Facts.{is_spawned}
+use Rattle.tb_model.specs.Hindrances.{Hindrance, By}
 use Rattle.tb_plan.specs.declared.planned.Plan.{Plan}
 use Rattle.tb_core.specs.declared.step_refusal.StepRefusal.{StepRefusal}
 use Rattle.tb_core.specs.declared.step_refusal.StepRefusal.TheVariants.{Memory, NoSuchTask, Ended, Stale}
+use Rattle.tb_core.specs.Naming.{IsLong}
 use Rattle.tb_live.specs.declared.commit_refusal.CommitRefusal.{CommitRefusal}
 use Rattle.tb_live.specs.declared.commit_refusal.CommitRefusal.TheVariants.{Paused, Withdrawn, Step}
 use Rattle.tb_control.specs.Claims.{claim_of}
@@ -44,7 +46,8 @@ abbrev pub entry_to_come : ℕ → Session → Plan → Entry
 entry_to_come seat s p = Stepped seat (coming s p.config.task)
 
 -- what keeps the task from the plan's step; a plan that isn't up to date is stale, before anything is in the task's way;
--- memory may be wanted for what names a task, and else only where the journal has a place
+-- memory may be wanted for the situation of a stale plan and for a name of more than three numbers, and else only where the
+-- journal has a place
 abbrev pub RefusesPlan : Session → Plan → StepRefusal → Type 0
 RefusesPlan s p NoSuchTask = Refuses s p.config.task NoSuchTask
 RefusesPlan s p Ended = Refuses s p.config.task Ended
@@ -54,6 +57,7 @@ RefusesPlan s p (Stale now) =
 RefusesPlan s p Memory =
     IsTrue (is_spawned (history s) p.config.task) × IsFalse (has_ended s p.config.task)
     × (IsUpToDate s p → refusal_for s p.config.task ≡ None → IsFalse (is_full s))
+    × ((h : Hindrance) → IsUpToDate s p → refusal_for s p.config.task ≡ Some (By h) → IsLong h)
 RefusesPlan s p e = IsUpToDate s p × Refuses s p.config.task e
 
 -- why a plan isn't committed: a pause comes first, then a claim that isn't there

@@ -5,13 +5,15 @@ use Rattle.tb_model.specs.declared.entry.Entry.{Entry}
 use Rattle.tb_model.specs.declared.entry.Entry.TheVariants.{Stepped}
 use Rattle.tb_model.specs.declared.step_id.StepId.{StepId}
 use Rattle.tb_model.specs.Names.{Name}
+use Rattle.tb_model.specs.Hindrances.{Hindrance}
 use Rattle.tb_plan.specs.declared.planned.Plan.{Plan}
 use Rattle.tb_core.specs.declared.step_refusal.StepRefusal.{StepRefusal}
 use Rattle.tb_core.specs.declared.step_refusal.StepRefusal.TheVariants.{Memory, Full}
 use Rattle.tb_core.specs.Seen.{Seen}
 use Rattle.tb_control.specs.declared.control.Control.{Control}
 use Rattle.tb_control.specs.Controls.{behind_step, claimed_by}
-use Rattle.tb_core.specs.Outcomes.{IsCurrent, IsKept, Steps, Takes, event_for, event_of, hindrance_of}
+use Rattle.tb_core.specs.Outcomes.{IsCurrent, IsHindered, IsKept, Steps, Takes, event_for, event_of, hindrance_of}
+use Rattle.tb_core.specs.Naming.{IsLong}
 
 -- the journal is so long that it has no place
 abbrev pub has_no_place : ℕ → List Entry → Bool
@@ -28,10 +30,10 @@ pub record IsTaken (seat : ℕ) (run : Seen) (t : Name) (a : Action) (to : ℕ) 
   pub grows : entries ≡ old ++ Stepped seat (event_for run t a) ∷ []
 
 -- what keeps the task from its action comes before a full journal, and want of memory last: at a full journal it takes the
--- place of a name alone
+-- place of a name alone, and only of a long one
 abbrev pub IsKeptFrom : Seen → Plan → Bool → StepRefusal → Type 0
 IsKeptFrom run p full Full = IsCurrent run p × (hindrance_of run p ≡ None) × IsTrue full
-IsKeptFrom run p full Memory = IsCurrent run p → hindrance_of run p ≡ None → IsFalse full
+IsKeptFrom run p full Memory = (IsCurrent run p → hindrance_of run p ≡ None → IsFalse full) × ((h : Hindrance) → IsHindered run p h → IsLong h)
 IsKeptFrom run p full e = IsKept run p e
 
 -- a planned step by its answer

@@ -12,12 +12,13 @@ use Rattle.tb_model.specs.Needs.{step_of, without}
 use Rattle.tb_model.specs.Needers.{first_needer}
 use Rattle.tb_model.specs.Equivalent.{Equivalent, stands}
 use Rattle.tb_model.specs.Program.{IsNext, situation}
-use Rattle.tb_model.specs.Hindrances.{Refusal, refusal_of, least_ready, next_event}
+use Rattle.tb_model.specs.Hindrances.{Hindrance, Refusal, By, refusal_of, least_ready, next_event}
 use Rattle.tb_core.specs.declared.removed.Removed.{Removed}
 use Rattle.tb_core.specs.declared.step_refusal.StepRefusal.{StepRefusal}
 use Rattle.tb_core.specs.declared.step_refusal.StepRefusal.TheVariants.{Memory, Full}
 use Rattle.tb_core.specs.declared.undo_refusal.UndoRefusal.{UndoRefusal}
 use Rattle.tb_core.specs.declared.undo_refusal.UndoRefusal.TheVariants.{Memory as NoMemory, NoSuchStep, Needed, Full as JournalFull}
+use Rattle.tb_core.specs.Naming.{IsLong, IsLongName}
 use Rattle.tb_core.specs.Refusals.{told_by}
 use Rattle.tb_core.specs.Rolled.{removals}
 use Rattle.tb_roll.specs.declared.roll_refusal.RollRefusal.{RollRefusal}
@@ -59,10 +60,13 @@ Steps = StepsFor 0
 abbrev pub Hinders : Session → Name → StepRefusal → Type 0
 Hinders s t e = IsSomeAnd (told_by e) (λ told. refusal_for s t ≡ Some told)
 
--- when a task takes no step; want of memory comes last: at a full journal it takes the place of a name alone
+-- when a task takes no step; want of memory comes last: it takes the place of a name of more than three numbers, and else it
+-- comes only where the journal has a place
 abbrev pub Refuses : Session → Name → StepRefusal → Type 0
 Refuses s t Full = (refusal_for s t ≡ None) × IsTrue (is_full s)
-Refuses s t Memory = IsTrue (is_spawned (history s) t) × IsFalse (has_ended s t) × (refusal_for s t ≡ None → IsFalse (is_full s))
+Refuses s t Memory =
+    IsTrue (is_spawned (history s) t) × IsFalse (has_ended s t) × (refusal_for s t ≡ None → IsFalse (is_full s))
+    × ((h : Hindrance) → refusal_for s t ≡ Some (By h) → IsLong h)
 Refuses s t e = Hinders s t e
 
 -- a step by its answer: the first refusal that holds; a refusal changes nothing
@@ -110,13 +114,16 @@ pub record UndoesFor (seat : ℕ) (s : Session) (i : StepId) (new : Session) (re
 abbrev pub Undoes : Session → StepId → Session → Removed → Type 0
 Undoes = UndoesFor 0
 
--- an undo by its answer; memory may be wanted for the name of what needs the step, and else only where the journal has a place
+-- an undo by its answer; memory may be wanted for the name of what needs the step, where it has more than three numbers, and
+-- else only where the journal has a place
 abbrev pub UndoneFor : ℕ → Session → StepId → Session → Result Removed UndoRefusal → Type 0
 UndoneFor seat s i new (Ok removed) = UndoesFor seat s i new removed
 UndoneFor seat s i new (Err NoSuchStep) = (new ≡ s) × IsFalse (stands i (history s))
 UndoneFor seat s i new (Err (Needed by)) = (new ≡ s) × IsTrue (stands i (history s)) × (first_needer i (history s) ≡ Some by)
 UndoneFor seat s i new (Err JournalFull) = (new ≡ s) × IsTrue (stands i (history s)) × (first_needer i (history s) ≡ None) × IsTrue (is_full s)
-UndoneFor seat s i new (Err NoMemory) = (new ≡ s) × IsTrue (stands i (history s)) × (first_needer i (history s) ≡ None → IsFalse (is_full s))
+UndoneFor seat s i new (Err NoMemory) =
+    (new ≡ s) × IsTrue (stands i (history s)) × (first_needer i (history s) ≡ None → IsFalse (is_full s))
+    × ((by : StepId) → first_needer i (history s) ≡ Some by → IsLongName by.task)
 
 abbrev pub UndoneBy : Session → StepId → Session → Result Removed UndoRefusal → Type 0
 UndoneBy = UndoneFor 0

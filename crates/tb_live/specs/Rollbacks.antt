@@ -1,12 +1,14 @@
 -- A rollback and its entry, and the same for the undo of one step.
-use Rattle.std.specs.Prelude.{◌≡◌, ◌++◌, ℕ, List, [], ◌∷◌, IsTrue, IsFalse}
+use Rattle.std.specs.Prelude.{◌≡◌, ◌++◌, ℕ, List, [], ◌∷◌, Some, IsTrue, IsFalse}
 use Rattle.tb_model.specs.declared.entry.Entry.{Entry}
 use Rattle.tb_model.specs.declared.entry.Entry.TheVariants.{Rolled}
 use Rattle.tb_model.specs.declared.step_id.StepId.{StepId}
 use Rattle.tb_model.specs.Equivalent.{stands}
+use Rattle.tb_model.specs.Needers.{first_needer}
 use Rattle.tb_core.specs.declared.removed.Removed.{Removed}
 use Rattle.tb_core.specs.declared.undo_refusal.UndoRefusal.{UndoRefusal}
 use Rattle.tb_core.specs.declared.undo_refusal.UndoRefusal.TheVariants.{Memory as NoMemory}
+use Rattle.tb_core.specs.Naming.{IsLongName}
 use Rattle.tb_core.specs.Outcomes.{TakesBack, Keeps}
 use Rattle.tb_core.specs.Rolled.{RollsBack}
 use Rattle.tb_core.specs.Seen.{Seen, history}
@@ -32,7 +34,7 @@ pub record EntersUndo (seat : ℕ) (run : Seen) (i : StepId) (new : Seen) (old e
   pub takes : TakesBack run i new removed
   pub grows : entries ≡ old ++ Rolled seat i ∷ []
 
--- why it stays; want of memory comes last
+-- why it stays; want of memory comes last, or in place of a name of more than three numbers
 abbrev pub RefusesUndo : Seen → StepId → UndoRefusal → Type 0
-RefusesUndo run i NoMemory = IsTrue (stands i (history run))
+RefusesUndo run i NoMemory = IsTrue (stands i (history run)) × ((by : StepId) → first_needer i (history run) ≡ Some by → IsLongName by.task)
 RefusesUndo run i e = Keeps run i e

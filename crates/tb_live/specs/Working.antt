@@ -1,7 +1,7 @@
 -- What a claim answers, and what it leaves.
-use Rattle.std.specs.Prelude.{◌≡◌, ◌≢◌, ℕ, length, ◌||◌, Bool, Some, None, Result, Ok, Err, IsTrue, IsFalse}
+use Rattle.std.specs.Prelude.{◌≡◌, ◌≢◌, ◌↔◌, ℕ, length, ◌||◌, Bool, Some, None, Result, Ok, Err, IsTrue, IsFalse}
 use Rattle.tb_model.specs.Names.{Name}
-use Rattle.tb_model.specs.Facts.{History, own, is_spawned}
+use Rattle.tb_model.specs.Facts.{History, HasEnded, IsSpawned, own, is_spawned}
 use Rattle.tb_model.specs.LeastNames.{IsLeastName}
 use Rattle.tb_model.specs.Program.{Program, instr_at, situation}
 use Rattle.tb_plan.specs.declared.config.Config.{Config}
@@ -68,3 +68,11 @@ ClaimsWork s seat new Later =
     IsFalse (is_stopped s) × IsLeastName (CanTake s.program (history s) s.control.claims seat) None × (least_task s ≢ None) × (new ≡ with_seat s seat None)
 ClaimsWork s seat new Done = IsFalse (is_stopped s) × (least_task s ≡ None) × (new ≡ with_seat s seat None)
 ClaimsWork s seat new Stopped = IsTrue (is_stopped s) × (new ≡ with_seat s seat None)
+
+-- each task that is there has ended or faulted
+abbrev pub HaveAllEnded : Session → Type 0
+HaveAllEnded s = (t : Name) → IsSpawned (history s) t → HasEnded (history s) t
+
+-- where the run isn't stopped, that is so exactly where the claim says that all is done
+abbrev pub SaysDone : Session → Claim → Type 0
+SaysDone s claim = IsFalse (is_stopped s) → (claim ≡ Done) ↔ HaveAllEnded s

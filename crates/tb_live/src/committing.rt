@@ -1,17 +1,16 @@
 //! A plan that was made at some time, and is taken now.
 
-ghost use Rattle.std.specs.Prelude.{◌≡◌, ◌≢◌, ◌<◌, IfOk, IfErr, IsOk, OnOk, OnErr, Some, None, length};
+ghost use Rattle.std.specs.Prelude.{◌≡◌, ◌<◌, IfOk, IfErr, IsOk, OnOk, OnErr, Some, None, length};
 ghost use Rattle.tb_core.specs.Outcomes.{IsOpen};
 ghost use Rattle.tb_core.specs.Seen.{history};
 ghost use Rattle.tb_control.specs.Claims.{claim_of};
 ghost use Rattle.tb_next.specs.Floor.{IsCarried};
 ghost use Rattle.tb_live.specs.Entering.{Enters, EntersOn, IsKeptFrom, has_no_place};
 ghost use Rattle.tb_next.specs.Plans.{IsNative};
-ghost use Rattle.tb_core.specs.declared.step_refusal.StepRefusal.TheVariants.{Memory};
 ghost use Rattle.tb_live.specs.Preparing.{HasRoom, HoldsStep, IsReadied};
 ghost use Rattle.tb_next.specs.Fitting.{Fits};
 
-use crate::prepared::{Prepared, holds_step, take_step};
+use crate::prepared::{Prepared, first_of, holds_step, take_step};
 use crate::stepping::{enter_readied, ready_step};
 use tb_control::Control;
 use tb_core::{Core, StepRefusal};
@@ -22,7 +21,7 @@ use tb_plan::Plan;
 use tb_read::Program;
 
 /// The event of a plan, with all room made for its step: what is prepared for the task, if something
-/// is, and then without memory. A refusal for any reason but memory keeps what is prepared.
+/// is, and then without memory. A refusal keeps what is prepared.
 fn event_for(
     program: &Program,
     core: &mut Core,
@@ -44,14 +43,17 @@ fn event_for(
     ensures refused { IfErr result (IsKeptFrom core.old.run plan.now
         (has_no_place limit journal.old.items)) }
     ensures given_up { OnOk result (prepared.new ≡ None) }
-    ensures kept { IfErr result (λ e. e ≢ Memory → prepared.new ≡ prepared.old) }
+    ensures kept { OnErr result (prepared.new ≡ prepared.old) }
     ensures serves { HasRoom limit program.now core.new journal.new.items journal.new.room prepared.new }
     ensures succeeds { HoldsStep prepared.old seat plan.now.config.task
         → IsOpen core.old.run plan.now → IsOk result }
     ensures floor { floor.new ≡ floor.old }
 {
     if !holds_step(prepared, seat, &plan.config.task) {
-        return ready_step(core, journal, prepared, floor, limit, plan);
+        return match ready_step(core, journal, prepared, floor, limit, plan) {
+            Ok(events) => Ok(first_of(events)),
+            Err(refusal) => Err(refusal),
+        };
     }
     if let Some(refusal) = core.refusal(plan) {
         return Err(refusal);
@@ -62,8 +64,7 @@ fn event_for(
     }
 }
 
-/// Takes the step of a plan of the program, and enters it for the seat. A refusal for any reason but
-/// memory keeps what is prepared.
+/// Takes the step of a plan of the program, and enters it for the seat. A refusal keeps what is prepared.
 pub fn enter_plan(
     program: &Program,
     core: &mut Core,
@@ -81,7 +82,7 @@ pub fn enter_plan(
     requires shorter { length core.old.run.steps < length journal.old.items }
     requires room { HasRoom limit program.now core.old journal.old.items journal.old.room prepared.old }
     ensures entered { Enters limit seat core.old.run plan core.new.run journal.old.items journal.new.items control.old control.new result }
-    ensures kept { IfErr result (λ e. e ≢ Memory → prepared.new ≡ prepared.old) }
+    ensures kept { OnErr result (prepared.new ≡ prepared.old) }
     ensures serves { HasRoom limit program.now core.new journal.new.items journal.new.room prepared.new }
     ensures succeeds { HoldsStep prepared.old seat plan.config.task
         → IsOpen core.old.run plan → IsOk result }
@@ -113,7 +114,7 @@ pub fn enter_on(
     requires room { HasRoom limit program.now core.old journal.old.items journal.old.room prepared.old }
     requires claimed { claim_of control.old.claims seat ≡ Some plan.config.task }
     ensures entered { EntersOn limit seat core.old.run plan core.new.run journal.old.items journal.new.items control.old control.new result }
-    ensures kept { IfErr result (λ e. e ≢ Memory → prepared.new ≡ prepared.old) }
+    ensures kept { OnErr result (prepared.new ≡ prepared.old) }
     ensures serves { HasRoom limit program.now core.new journal.new.items journal.new.room prepared.new }
     ensures succeeds { HoldsStep prepared.old seat plan.config.task
         → IsOpen core.old.run plan → IsOk result }

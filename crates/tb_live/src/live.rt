@@ -8,11 +8,10 @@ mod pausing;
 mod running;
 mod state;
 
-ghost use Rattle.std.specs.Prelude.{◌≡◌, ◌≢◌, ◌<◌, ◌≤◌, ℕ, IfOk, IfErr, OnErr, IfSome, IfNone, IsOk, Some, None, length, reverse, slice_get};
+ghost use Rattle.std.specs.Prelude.{◌≡◌, ◌<◌, ◌≤◌, ℕ, IfOk, IfErr, OnErr, IfSome, IfNone, IsOk, Some, None, length, reverse, slice_get};
 ghost use Rattle.std.specs.Option.{option_copied};
 ghost use Rattle.tb_model.specs.declared.entry.Entry.TheVariants.{Rolled};
 ghost use Rattle.tb_model.specs.State.{printed};
-ghost use Rattle.tb_core.specs.declared.step_refusal.StepRefusal.TheVariants.{Memory};
 ghost use Rattle.tb_control.specs.Claims.{claim_of, AreLawful};
 ghost use Rattle.tb_live.specs.Session.{opened, with_seat, history, is_full, cell_numbers};
 ghost use Rattle.tb_next.specs.Newest.{last_store, last_print};
@@ -149,11 +148,11 @@ impl Live {
         self.control.claims.let_go(seat);
     }
 
-    /// Takes the next step of a task, for seat 0. Want of memory comes last; any other refusal keeps
-    /// what is prepared.
+    /// Takes the next step of a task, for seat 0. Want of memory comes last. A refusal keeps what is
+    /// prepared.
     pub fn step(&mut self, task: &TaskName) -> Result<StepId, StepRefusal>
         ensures stepped { StepsBy self.old.session task.now self.new.session result }
-        ensures kept { IfErr result (λ e. e ≢ Memory → self.new ≡ self.old) }
+        ensures kept { OnErr result (self.new ≡ self.old) }
     {
         let coming = match coming_of(self.alloc, &self.program, &self.core, task) {
             Ok(coming) => coming,
@@ -181,7 +180,7 @@ impl Live {
     #[inline(always)]
     pub fn step_least(&mut self) -> Result<Option<StepId>, StepRefusal>
         ensures stepped { LeastStepsBy self.old.session self.new.session result }
-        ensures kept { IfErr result (λ e. e ≢ Memory → self.new ≡ self.old) }
+        ensures kept { OnErr result (self.new ≡ self.old) }
     {
         self.step_least_for(0)
     }
@@ -190,7 +189,7 @@ impl Live {
     /// at a breakpoint that it meets.
     pub fn step_least_for(&mut self, seat: u32) -> Result<Option<StepId>, StepRefusal>
         ensures stepped { LeastStepsFor seat self.old.session self.new.session result }
-        ensures kept { IfErr result (λ e. e ≢ Memory → self.new ≡ self.old) }
+        ensures kept { OnErr result (self.new ≡ self.old) }
     {
         match known_coming(self.alloc, &self.program, &self.core, &self.floor) {
             Ok(Some(found)) => for_least(enter_clear(

@@ -1,10 +1,9 @@
 //! What is prepared for the next change.
 
-ghost use Rattle.std.specs.Prelude.{◌≡◌, ◌↔◌, Some, None, IfOk, IfSome, IfNone, IsSome, IsTrue};
+ghost use Rattle.std.specs.Prelude.{◌≡◌, ◌↔◌, Some, None, IfSome, IfNone, IsSome, IsTrue};
 ghost use Rattle.tb_live.specs.Preparing.{HoldsStep, HoldsRoll, held_event, held_names, held_roll};
 ghost use Rattle.tb_live.specs.declared.prepared.Prepared.TheVariants as prepared;
 
-use std::alloc::AllocError;
 use tb_model::{Event, StepId, TaskName};
 use tb_roll::Ready;
 
@@ -117,11 +116,10 @@ fn drop_prepared(place: &mut Option<Prepared>)
     *place = None;
 }
 
-/// A copy of what was done.
-pub fn copy_of(event: &Event) -> Result<Event, AllocError>
-    ensures { IfOk result (λ copy. copy ≡ event.now) }
+/// One of the two.
+pub fn first_of(events: (Event, Event)) -> Event
+    ensures { result ≡ events.0 }
 {
-    let task = event.task.clone()?;
-    let action = event.action.clone()?;
-    Ok(Event { task, action })
+    let (event, _other) = events;
+    event
 }

@@ -1,9 +1,8 @@
 //! A planned step, with its entry in the journal.
 
-ghost use Rattle.std.specs.Prelude.{◌≡◌, ◌≢◌, ◌<◌, IfOk, IfErr, OnOk, OnErr, Some, None, length, slice_get};
+ghost use Rattle.std.specs.Prelude.{◌≡◌, ◌<◌, ◌≤◌, IfOk, IfErr, OnOk, OnErr, Some, None, length, slice_get};
 ghost use Rattle.tb_model.specs.declared.event.Event.{Event as AnEvent};
 ghost use Rattle.tb_model.specs.Program.{Program};
-ghost use Rattle.tb_core.specs.declared.step_refusal.StepRefusal.TheVariants.{Memory};
 ghost use Rattle.tb_core.specs.Outcomes.{Fits, IsCurrent, IsOpen, MayTake, event_of};
 ghost use Rattle.tb_core.specs.Seen.{history};
 ghost use Rattle.tb_control.specs.Controls.{behind_step};
@@ -22,9 +21,8 @@ use tb_model::{Action, Event, StepId, TaskName};
 use tb_next::{Coming, Floor};
 use tb_plan::Plan;
 
-/// Makes all room for the step of a plan and for its entry, and tells the event. The journal has more
-/// entries than the history has events. What was prepared is given up for it, and at want of memory;
-/// any other refusal keeps it.
+/// Makes all room for the step of a plan and for its entry, and tells the event, twice. The journal has
+/// more entries than the history has events. What was prepared is given up for it, but at no refusal.
 pub fn ready_step(
     core: &mut Core,
     journal: &mut Journal,
@@ -32,17 +30,18 @@ pub fn ready_step(
     floor: &mut Floor,
     limit: u32,
     plan: &Plan,
-) -> Result<Event, StepRefusal>
+) -> Result<(Event, Event), StepRefusal>
     requires fits { Fits core.old.run plan.now }
     requires limit { core.old.run.limit ≡ limit }
     requires shorter { length core.old.run.steps < length journal.old.items }
     ensures run { core.new.run ≡ core.old.run }
     ensures entries { journal.new.items ≡ journal.old.items }
-    ensures readied { IfOk result (IsReadied limit core.new plan.now journal.old.items journal.new.room) }
+    ensures readied { IfOk result (λ p. IsReadied limit core.new plan.now journal.old.items journal.new.room p.0) }
+    ensures copy { IfOk result (λ p. p.1 ≡ p.0) }
     ensures refused { IfErr result (IsKeptFrom core.old.run plan.now
         (has_no_place limit journal.old.items)) }
     ensures given_up { OnOk result (prepared.new ≡ None) }
-    ensures kept { IfErr result (λ e. e ≢ Memory → prepared.new ≡ prepared.old) }
+    ensures kept { OnErr result (prepared.new ≡ prepared.old) }
     ensures serves { (P : Program)
         → HasRoom limit P core.old journal.old.items journal.old.room prepared.old
         → HasRoom limit P core.new journal.new.items journal.new.room prepared.new }
@@ -51,20 +50,17 @@ pub fn ready_step(
     if limit as usize <= journal.len() {
         return Err(core.refusal(plan).unwrap_or(StepRefusal::Full));
     }
-    let event = match core.reserve_step(plan) {
-        Ok(event) => event,
-        Err(StepRefusal::Memory) => {
-            forget(prepared);
-            return Err(StepRefusal::Memory);
-        }
-        Err(refusal) => return Err(refusal),
-    };
-    forget(prepared);
     if journal.reserve().is_err() {
-        return Err(StepRefusal::Memory);
+        return Err(core.refusal(plan).unwrap_or(StepRefusal::Memory));
     }
-    floor.ready(&plan.config.task, &plan.action);
-    Ok(event)
+    match core.reserve_step(plan) {
+        Ok(events) => {
+            forget(prepared);
+            floor.ready(&plan.config.task, &plan.action);
+            Ok(events)
+        }
+        Err(refusal) => Err(refusal),
+    }
 }
 
 /// Takes a step for which all room is made, and enters it for the seat. It takes no memory.
@@ -96,7 +92,7 @@ pub fn enter_readied(
 }
 
 /// Takes what a task does next, from which nothing keeps it, and enters it for the seat: nothing is asked
-/// again but whether the journal has a place. What was prepared is given up, but where it has none.
+/// again but whether the journal has a place. What was prepared is given up for it, but at no refusal.
 #[inline(always)]
 pub fn enter_clear(
     core: &mut Core,
@@ -114,7 +110,7 @@ pub fn enter_clear(
     requires shorter { length core.old.run.steps < length journal.old.items }
     ensures entered { (p : Plan) → IsStepOf task coming p → IsCurrent core.old.run p
         → Enters limit seat core.old.run p core.new.run journal.old.items journal.new.items control.old control.new result }
-    ensures kept { IfErr result (λ e. e ≢ Memory → prepared.new ≡ prepared.old) }
+    ensures kept { OnErr result (prepared.new ≡ prepared.old) }
     ensures serves { (P : Program)
         → HasRoom limit P core.old journal.old.items journal.old.room prepared.old
         → HasRoom limit P core.new journal.new.items journal.new.room prepared.new }
@@ -124,7 +120,6 @@ pub fn enter_clear(
     if limit as usize <= journal.len() {
         return Err(StepRefusal::Full);
     }
-    forget(prepared);
     if journal.reserve().is_err() {
         return Err(StepRefusal::Memory);
     }
@@ -137,6 +132,7 @@ pub fn enter_clear(
     } = coming;
     match take(core, journal, seat, &task, action, to) {
         Ok(()) => {
+            forget(prepared);
             floor.step_taken(core);
             follow(control, core, at);
             Ok(StepId { task, k: steps + 1 })
@@ -162,7 +158,7 @@ pub fn enter_apart(
     requires shorter { length core.old.run.steps < length journal.old.items }
     ensures entered { (p : Plan) → IsStepOf found.0 found.1 p → IsCurrent core.old.run p
         → Enters limit seat core.old.run p core.new.run journal.old.items journal.new.items control.old control.new result }
-    ensures kept { IfErr result (λ e. e ≢ Memory → prepared.new ≡ prepared.old) }
+    ensures kept { OnErr result (prepared.new ≡ prepared.old) }
     ensures serves { (P : Program)
         → HasRoom limit P core.old journal.old.items journal.old.room prepared.old
         → HasRoom limit P core.new journal.new.items journal.new.room prepared.new }
@@ -213,7 +209,7 @@ fn take(
     requires room { 0 < journal.old.room }
     ensures ok { OnOk result (IsTaken seat core.old.run task.now action to core.new.run
         journal.old.items journal.new.items) }
-    ensures err { OnErr result ((core.new.run ≡ core.old.run) × (journal.new.items ≡ journal.old.items)) }
+    ensures err { OnErr result ((core.new ≡ core.old) × (journal.new.items ≡ journal.old.items) × (journal.old.room ≤ journal.new.room)) }
 {
     if stands_apart(seat, &action) {
         let event = core.step_copied(task, action, to)?;
@@ -230,7 +226,7 @@ fn take(
 }
 
 /// Takes what a task does next, where nothing keeps it from that, and enters it for the seat. What was
-/// prepared is kept where the step is refused for any reason but memory.
+/// prepared is kept where the step is refused.
 pub fn enter_step(
     core: &mut Core,
     journal: &mut Journal,
@@ -247,7 +243,7 @@ pub fn enter_step(
     requires shorter { length core.old.run.steps < length journal.old.items }
     ensures entered { (p : Plan) → IsStepOf task.now coming p → IsCurrent core.old.run p
         → Enters limit seat core.old.run p core.new.run journal.old.items journal.new.items control.old control.new result }
-    ensures kept { IfErr result (λ e. e ≢ Memory → prepared.new ≡ prepared.old) }
+    ensures kept { OnErr result (prepared.new ≡ prepared.old) }
     ensures serves { (P : Program)
         → HasRoom limit P core.old journal.old.items journal.old.room prepared.old
         → HasRoom limit P core.new journal.new.items journal.new.room prepared.new }

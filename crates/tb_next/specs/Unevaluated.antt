@@ -1,6 +1,8 @@
--- Whether a task can step, by its statement as it is written: where memory is refused for what the statement evaluates to.
-use Rattle.std.specs.Prelude.{List, [], ◌∷◌, ℤ, Bool, false, ◌&&◌, ◌||◌, ◌==◌, length, is_some, Option, Some, None, IsTrue, IsFalse}
+-- What keeps a task from its step, by its statement as it is written: where memory is refused for what the statement
+-- evaluates to.
+use Rattle.std.specs.Prelude.{◌≡◌, List, [], ◌∷◌, ℤ, Bool, false, ◌&&◌, ◌||◌, ◌==◌, length, is_some, Option, Some, None, option_map, IsTrue, IsFalse}
 use Rattle.std.specs.List.{list_any}
+use Rattle.std.specs.Option.{option_or}
 use Rattle.tb_model.specs.declared.kind.Kind.{Kind}
 use Rattle.tb_model.specs.declared.place.Place.{Place}
 use Rattle.tb_model.specs.declared.item.Item.{Item}
@@ -15,10 +17,12 @@ use Rattle.tb_model.specs.Facts.{History, items_of}
 use Rattle.tb_model.specs.State.{is_unended_covered}
 use Rattle.tb_model.specs.Legal.{Cells}
 use Rattle.tb_model.specs.Program.{Program, place_at, items_at}
-use Rattle.tb_model.specs.Hindrances.{spawned_names, least_where, can_step, least_ready}
+use Rattle.tb_model.specs.Hindrances.{Hindrance, By, Children, spawned_names, least_where, can_step, in_the_way, least_ready, refusal_of}
 use Rattle.tb_core.specs.declared.step_refusal.StepRefusal.{StepRefusal}
 use Rattle.tb_core.specs.declared.step_refusal.StepRefusal.TheVariants.{Memory, Full}
+use Rattle.tb_core.specs.Naming.{IsLong, IsNamed}
 use Rattle.tb_core.specs.Seen.{Seen, history}
+use Rattle.tb_next.specs.Plans.{IsRefusalTo}
 
 -- ---- the clauses of a `taskwait`, one by one
 
@@ -40,15 +44,15 @@ is_named cells H t regs clauses u = is_child t u && ((length clauses == 0) || li
 
 -- ---- what keeps a task from its statement
 
--- a `taskwait` of t with these items waits; a bad address is a fault, which doesn't
-abbrev pub holds_up : History → Name → Option (List Item) → Bool
-holds_up H t None = false
-holds_up H t (Some items) = is_some (least_where (is_unended_covered H t items) (spawned_names H))
+-- the least child for which a `taskwait` of t with these items waits; a bad address is a fault, which waits for none
+abbrev pub waited_for : History → Name → Option (List Item) → Option Name
+waited_for H t None = None
+waited_for H t (Some items) = least_where (is_unended_covered H t items) (spawned_names H)
 
--- the statement is a `taskwait` that waits
-abbrev pub is_held_up : Cells → History → Name → List ℤ → Statement → Bool
-is_held_up cells H t regs (DoWait depends) = holds_up H t (items_at cells regs depends)
-is_held_up cells H t regs _ = false
+-- the least child for which the statement waits, where it is a `taskwait`
+abbrev pub holding : Cells → History → Name → List ℤ → Statement → Option Name
+holding cells H t regs (DoWait depends) = waited_for H t (items_at cells regs depends)
+holding cells H t regs _ = None
 
 -- an action that is kept from its task as the statement's is, but for what a `taskwait` waits for
 abbrev pub stand_in : Statement → Action
@@ -56,13 +60,30 @@ stand_in DoStart = Start
 stand_in DoClose = Close
 stand_in _ = Open
 
--- ---- what is answered then: a full journal comes before want of memory where nothing else is in the way
+-- what keeps t from the statement: what does from its stand-in, and then the child for which it waits
+abbrev pub hindrance_at : Cells → History → Name → List ℤ → Statement → Option Hindrance
+hindrance_at cells H t regs s = option_or (in_the_way H t (stand_in s)) (option_map Children (holding cells H t regs s))
+
+-- the refusal names the hindrance that is found, or wants memory for its name, which is long
+pub record IsNaming (o : Option Hindrance) (e : StepRefusal) : Type 0 where
+  pub hindrance : Hindrance
+  pub found : o ≡ Some hindrance
+  pub named : IsNamed hindrance e
+
+-- so it names what keeps t from its step
+pub record IsKeptAt (P : Program) (run : Seen) (t : Name) (e : StepRefusal) : Type 0 where
+  pub hindrance : Hindrance
+  pub found : refusal_of P (history run) t ≡ Some (By hindrance)
+  pub named : IsNamed hindrance e
+
+-- ---- what is answered then: what keeps a task from its step comes first, and a full journal before want of memory
 
 -- of one task
 abbrev pub IsWanting : Program → Seen → Bool → Name → StepRefusal → Type 0
 IsWanting P run full t Full = IsTrue full × IsTrue (can_step P (history run) t)
-IsWanting P run full t Memory = IsTrue (can_step P (history run) t) → IsFalse full
-IsWanting P run full t _ = ⊥
+IsWanting P run full t Memory =
+    (IsTrue (can_step P (history run) t) → IsFalse full) × ((h : Hindrance) → refusal_of P (history run) t ≡ Some (By h) → IsLong h)
+IsWanting P run full t e = IsRefusalTo P run t e
 
 -- of the least task that can step
 abbrev pub IsLeastWanting : Program → Seen → Bool → StepRefusal → Type 0

@@ -1,31 +1,44 @@
-//! Whether a task can step, found without memory: where it is refused for what the task's statement
-//! evaluates to.
+//! Whether a task can step and what keeps it from that, found without memory: where it is refused for what the
+//! task's statement evaluates to.
 
-ghost use Rattle.std.specs.Prelude.{◌≡◌, ◌↔◌, IsTrue, IsFalse, None, is_some};
+ghost use Rattle.std.specs.Prelude.{◌≡◌, IfNone, IfSome, IsTrue, IsFalse, None, is_some, option_map};
 ghost use Rattle.std.specs.List.{list_any, list_all};
 ghost use Rattle.tb_model.specs.Facts.{is_spawned};
 ghost use Rattle.tb_model.specs.Program.{value, cell_at, place_at, items_at};
-ghost use Rattle.tb_model.specs.Hindrances.{can_step, in_the_way, least_ready};
-ghost use Rattle.tb_core.specs.Outcomes.{has_ended};
+ghost use Rattle.tb_model.specs.Hindrances.{Children as TheChildren, can_step, in_the_way, least_ready, refusal_of};
+ghost use Rattle.tb_core.specs.Naming.{config_with, IsNamed};
+ghost use Rattle.tb_core.specs.Outcomes.{has_ended, IsKeptBy};
 ghost use Rattle.tb_core.specs.Seen.{history};
+ghost use Rattle.tb_core.specs.Situation.{config_of};
 ghost use Rattle.tb_next.specs.Fitting.{Fits};
-ghost use Rattle.tb_next.specs.Unevaluated.{follows_some, holds_up, is_good, is_held_up, is_named, stand_in, IsWanting, IsLeastWanting};
+ghost use Rattle.tb_next.specs.Unevaluated.{follows_some, hindrance_at, holding, is_good, is_named, stand_in, waited_for, IsKeptAt, IsNaming, IsWanting, IsLeastWanting};
 
 use tb_core::{Core, StepRefusal};
 use tb_model::{Action, Address, Clause, Item, Operand, Place, Statement, TaskName, some_before};
 use tb_read::Program;
+use tb_undo::Standing;
 
-/// Why a task takes no step for whose statement memory was refused: a full journal comes first, where
-/// nothing else is in the way.
+/// Why a task that goes on takes no step where memory was refused for its statement: what keeps it from its step
+/// comes first, then a full journal.
 #[inline(never)]
 pub fn wanting(program: &Program, core: &Core, full: bool, task: &TaskName) -> StepRefusal
-    requires { Fits program.now core.now.run }
+    requires fits { Fits program.now core.now.run }
+    requires there { IsTrue (is_spawned (history core.now.run) task.now) }
+    requires going { IsFalse (has_ended core.now.run task.now) }
     ensures { IsWanting program.now core.now.run full task.now result }
 {
-    if full && can_step(program, core, task) {
-        StepRefusal::Full
-    } else {
-        StepRefusal::Memory
+    let Some(standing) = core.standing(task) else {
+        unreachable!();
+    };
+    match kept_from(program, core, task, &standing) {
+        Some(refusal) => refusal,
+        None => {
+            if full {
+                StepRefusal::Full
+            } else {
+                StepRefusal::Memory
+            }
+        }
     }
 }
 
@@ -67,65 +80,123 @@ fn can_step(program: &Program, core: &Core, task: &TaskName) -> bool
     if core.has_ended(task) {
         return false;
     }
+    kept_from(program, core, task, &standing).is_none()
+}
+
+/// What keeps a task that stands so and isn't over from its step, by name.
+fn kept_from(
+    program: &Program,
+    core: &Core,
+    task: &TaskName,
+    standing: &Standing<'_>,
+) -> Option<StepRefusal>
+    requires fits { Fits program.now core.now.run }
+    requires there { IsTrue (is_spawned (history core.now.run) task.now) }
+    requires going { IsFalse (has_ended core.now.run task.now) }
+    requires here { config_of core.now.run task.now ≡ config_with task.now standing.now }
+    ensures some { IfSome result (IsKeptAt program.now core.now.run task.now) }
+    ensures none { IfNone result (refusal_of program.now (history core.now.run) task.now ≡ None) }
+{
     match program.instr(standing.at()) {
-        Some(instr) => {
-            is_free(core, task, &instr.statement)
-                && !is_held_up(program, core, task, standing.regs(), &instr.statement)
-        }
+        Some(instr) => kept_by(program, core, task, standing, &instr.statement),
         None => unreachable!(),
     }
 }
 
-/// Whether nothing keeps the task from the statement, but for what a `taskwait` waits for.
-fn is_free(core: &Core, task: &TaskName, statement: &Statement) -> bool
+/// The same by the statement at which it stands.
+fn kept_by(
+    program: &Program,
+    core: &Core,
+    task: &TaskName,
+    standing: &Standing<'_>,
+    statement: &Statement,
+) -> Option<StepRefusal>
     requires there { IsTrue (is_spawned (history core.now.run) task.now) }
     requires going { IsFalse (has_ended core.now.run task.now) }
-    ensures { IsTrue result ↔ (in_the_way (history core.now.run) task.now (stand_in statement.now) ≡ None) }
+    ensures some { IfSome result (IsNaming (hindrance_at program.now.cells (history core.now.run)
+        task.now standing.now.regs statement.now)) }
+    ensures none { IfNone result (hindrance_at program.now.cells (history core.now.run)
+        task.now standing.now.regs statement.now ≡ None) }
 {
-    match statement {
-        Statement::Start => core.is_clear(task, &Action::Start),
-        Statement::EndTaskgroup => core.is_clear(task, &Action::Close),
-        _ => core.is_clear(task, &Action::Open),
+    match kept_in_front(core, task, standing, statement) {
+        Some(refusal) => Some(refusal),
+        None => held_up(program, core, task, standing.regs(), statement),
     }
 }
 
-/// Whether the statement is a `taskwait` that waits.
-fn is_held_up(
+/// What keeps the task from the statement, but for what a `taskwait` waits for.
+fn kept_in_front(
+    core: &Core,
+    task: &TaskName,
+    standing: &Standing<'_>,
+    statement: &Statement,
+) -> Option<StepRefusal>
+    requires there { IsTrue (is_spawned (history core.now.run) task.now) }
+    requires going { IsFalse (has_ended core.now.run task.now) }
+    ensures some { IfSome result (IsKeptBy core.now.run task.now (stand_in statement.now)) }
+    ensures none { IfNone result (in_the_way (history core.now.run) task.now
+        (stand_in statement.now) ≡ None) }
+{
+    match statement {
+        Statement::Start => core.hindrance(standing, task, &Action::Start),
+        Statement::EndTaskgroup => core.hindrance(standing, task, &Action::Close),
+        _ => core.hindrance(standing, task, &Action::Open),
+    }
+}
+
+/// The least child for which the statement waits, where it is a `taskwait`.
+fn held_up(
     program: &Program,
     core: &Core,
     task: &TaskName,
     regs: &[i64; 16],
     statement: &Statement,
-) -> bool
-    ensures { result ≡ is_held_up program.now.cells (history core.now.run) task.now regs.now statement.now }
+) -> Option<StepRefusal>
+    ensures some { IfSome result (IsNaming (option_map TheChildren (holding program.now.cells
+        (history core.now.run) task.now regs.now statement.now))) }
+    ensures none { IfNone result (holding program.now.cells (history core.now.run) task.now
+        regs.now statement.now ≡ None) }
 {
     match statement {
         Statement::Taskwait { depends } => waits(program, core, task, regs, depends.as_slice()),
-        _ => false,
+        _ => None,
     }
 }
 
-/// Whether a `taskwait` with these clauses waits. A bad address is a fault, which doesn't.
+/// The least child for which a `taskwait` with these clauses waits. A bad address is a fault, which doesn't.
 fn waits(
     program: &Program,
     core: &Core,
     task: &TaskName,
     regs: &[i64; 16],
     clauses: &[Clause],
-) -> bool
-    ensures { result ≡ holds_up (history core.now.run) task.now (items_at program.now.cells regs.now clauses.now) }
+) -> Option<StepRefusal>
+    ensures some { IfSome result (IsNaming (option_map TheChildren (waited_for
+        (history core.now.run) task.now (items_at program.now.cells regs.now clauses.now)))) }
+    ensures none { IfNone result (waited_for (history core.now.run) task.now
+        (items_at program.now.cells regs.now clauses.now) ≡ None) }
 {
     if !are_good(program, regs, clauses) {
-        return false;
+        return None;
     }
     let mut after: Option<&TaskName> = None;
     'tasks: while let Some(child) = core.next_unended(after) {
         if is_named(program, core, task, regs, clauses, child) {
-            return true;
+            return Some(waits_for(child));
         }
         after = Some(child);
     }
-    false
+    None
+}
+
+/// The refusal that names the child.
+fn waits_for(child: &TaskName) -> StepRefusal
+    ensures { IsNamed (TheChildren child.now) result }
+{
+    match child.clone() {
+        Ok(first) => StepRefusal::Children { first },
+        Err(_) => StepRefusal::Memory,
+    }
 }
 
 fn are_good(program: &Program, regs: &[i64; 16], clauses: &[Clause]) -> bool

@@ -4,13 +4,14 @@ use Rattle.std.specs.declared.alloc.Global.{Global}
 use Rattle.std.specs.Option.{option_map_or}
 use Rattle.std.proofs.lemmas.List.{length-append}
 use Rattle.std.proofs.lemmas.List.Elements.{filter-append}
+use Rattle.tb_model.specs.declared.action.Action.{Action}
 use Rattle.tb_model.specs.declared.event.Event.{Event}
 use Rattle.tb_model.specs.Names.{Name}
 use Rattle.tb_places.specs.declared.places.Places.{Places}
 use Rattle.tb_places.specs.declared.rows.Rows.{Rows}
 use Rattle.tb_places.specs.Where.{places_from}
-use Rattle.tb_places.specs.Rows.{row_of, room_of, HasRoomAt, is_of_row, AreRows}
-use Rattle.tb_places.specs.Places.{event_mark, event_number, IsNamed, IsIndexOf, HasRoomFor, HasRoomForAll, KeepsRoom}
+use Rattle.tb_places.specs.Rows.{row_of, room_of, HasRoomAt, is_of_row, AreRows, GrowsRooms}
+use Rattle.tb_places.specs.Places.{event_mark, event_number, mark_of, IsNamed, IsIndexOf, HasRoomAs, HasRoomFor, HasRoomForAll, KeepsRoom}
 use Rattle.tb_places.proofs.WhereLemmas.{places_cons}
 use Rattle.tb_places.proofs.RowLemmas.{its_row}
 use Rattle.tb_places.proofs.PlacesLemmas.{all_append, all_parts}
@@ -101,3 +102,16 @@ room_kept names es old new keeps room = record {
 -- the event that comes next is named
 pub named_next : (names : List Name) (xs ys : List Event) (e : Event) (p : Places) → HasRoomForAll names (xs ++ e ∷ ys) p → IsNamed names e
 named_next names xs ys e p room = (all_parts (IsNamed names) xs (e ∷ ys) room.named).1.0
+
+-- ---- no room is lost
+
+room_at_kept : (old new : Rows) → ((k : ℕ) → row_of new k ≡ row_of old k) → GrowsRooms old new → (n : Option ℕ) → HasRoomAt old n → HasRoomAt new n
+room_at_kept old new same grows None h = tt
+room_at_kept old new same grows (Some n) h = omega (arith, h, grows n, ap length (same n))
+
+pub as_kept : (old : Places) (own marks : Rows) → ((k : ℕ) → row_of own k ≡ row_of old.own k) → GrowsRooms old.own own → ((k : ℕ) → row_of marks k ≡ row_of old.marks k) → GrowsRooms old.marks marks
+    → (n : Option ℕ) (a : Action) → HasRoomAs old n a → HasRoomAs (record { own = own; marks = marks }) n a
+as_kept old own marks same grows same_marks grows_marks n a h = record {
+  own = room_at_kept old.own own same grows n h.own;
+  mark = room_at_kept old.marks marks same_marks grows_marks (mark_of a) h.mark;
+}

@@ -1,5 +1,5 @@
 -- What is read of rows of places.
-use Rattle.std.specs.Prelude.{◌≡◌, ◌<◌, ◌==◌, ℕ, List, [], Bool, false, Option, Some, None, ⊤, length, slice_get, vec_capacity}
+use Rattle.std.specs.Prelude.{◌≡◌, ◌<◌, ◌≤◌, ◌==◌, ℕ, List, [], Bool, false, Option, Some, None, ⊤, length, slice_get, vec_capacity}
 use Rattle.std.specs.Option.{option_map_or}
 use Rattle.tb_model.specs.declared.event.Event.{Event}
 use Rattle.tb_places.specs.declared.rows.Rows.{Rows}
@@ -33,6 +33,10 @@ is_of_row number k e = is_in_row k (number e)
 -- each row has the places of the events that have its number
 abbrev pub AreRows : (Event → Option ℕ) → List Event → Rows → Type 0
 AreRows number events r = (k : ℕ) → row_of r k ≡ places_where (is_of_row number k) events
+
+-- no row loses memory
+abbrev pub GrowsRooms : Rows → Rows → Type 0
+GrowsRooms old new = (k : ℕ) → room_of old k ≤ room_of new k
 
 -- the memory of each row stays
 abbrev pub KeepsRooms : Rows → Rows → Type 0

@@ -1,7 +1,8 @@
 //! The places of a history's events.
 
-ghost use Rattle.std.specs.Prelude.{◌≡◌, ◌++◌, ◌∷◌, [], List, OnOk, IsOk, length};
+ghost use Rattle.std.specs.Prelude.{◌≡◌, ◌++◌, ◌∷◌, [], ℕ, List, Option, OnOk, IsOk, length};
 ghost use Rattle.tb_model.specs.Names.{Name};
+ghost use Rattle.tb_model.specs.declared.action.Action.{Action as AnAction};
 ghost use Rattle.tb_model.specs.declared.event.Event.{Event as AnEvent};
 ghost use Rattle.tb_model.specs.Facts.{is_of, is_print, touches};
 ghost use Rattle.tb_places.specs.Numbers.{number_of};
@@ -66,6 +67,7 @@ impl Places {
     pub fn reserve(&mut self, number: Option<usize>, action: &Action) -> Result<(), AllocError>
         ensures same { (names : List Name) (events : List AnEvent) → IsIndexOf names events self.old →
             IsIndexOf names events self.new }
+        ensures keeps { (n : Option ℕ) (a : AnAction) → HasRoomAs self.old n a → HasRoomAs self.new n a }
         ensures ok { OnOk result (HasRoomAs self.new number action.now) }
         ensures succeeds { HasRoomAs self.old number action.now → IsOk result }
     {

@@ -2,7 +2,7 @@
 
 ghost use Rattle.std.specs.Prelude.{◌≡◌, ◌≢◌, ◌<◌, ◌≤◌, ◌+◌, ◌++◌, ◌∷◌, [], ℕ, List, Option, OnOk, IsOk, length, vec_len, vec_capacity};
 ghost use Rattle.tb_model.specs.declared.event.Event.{Event as AnEvent};
-ghost use Rattle.tb_places.specs.Rows.{row_of, room_of, HasRoom, HasRoomAt, AreRows, KeepsRooms};
+ghost use Rattle.tb_places.specs.Rows.{row_of, room_of, HasRoom, HasRoomAt, AreRows, GrowsRooms, KeepsRooms};
 
 use std::alloc::{AllocError, Global};
 
@@ -36,6 +36,7 @@ impl Rows {
     #[inline(always)]
     pub fn reserve_at(&mut self, n: Option<usize>) -> Result<(), AllocError>
         ensures same { (k : ℕ) → row_of self.new k ≡ row_of self.old k }
+        ensures keeps { GrowsRooms self.old self.new }
         ensures ok { OnOk result (HasRoomAt self.new n) }
         ensures succeeds { HasRoomAt self.old n → IsOk result }
     {
@@ -75,6 +76,7 @@ impl Rows {
 
     fn reserve(&mut self, n: usize) -> Result<(), AllocError>
         ensures same { (k : ℕ) → row_of self.new k ≡ row_of self.old k }
+        ensures keeps { GrowsRooms self.old self.new }
         ensures ok { OnOk result (HasRoom self.new n) }
         ensures succeeds { HasRoom self.old n → IsOk result }
     {
@@ -108,6 +110,7 @@ impl Rows {
     #[inline(always)]
     fn grow(&mut self, n: usize) -> Result<(), AllocError>
         ensures same { (k : ℕ) → row_of self.new k ≡ row_of self.old k }
+        ensures keeps { GrowsRooms self.old self.new }
         ensures within { OnOk result (n < length self.new.rows.items) }
         ensures there { n < length self.old.rows.items → IsOk result × (self.new ≡ self.old) }
     {

@@ -9,7 +9,7 @@ use Rattle.tb_commands.specs.declared.command.Command.{Command}
 use Rattle.tb_commands.specs.declared.command.Command.TheVariants.{Run, Show}
 use Rattle.tb_view.specs.declared.view.View.TheVariants.{Hist}
 use Rattle.tb_team.specs.declared.lost.Lost.{Lost}
-use Rattle.tb_team.specs.declared.lost.Lost.TheVariants.{Memory as NoMemory, Journal as BadJournal}
+use Rattle.tb_team.specs.declared.lost.Lost.TheVariants.{Memory as NoMemory}
 use Rattle.tb_replies.specs.Replies.{Answers}
 use Rattle.tb_replies.specs.declared.unwritten.Unwritten.{Unwritten}
 use Rattle.tb_replies.specs.declared.unwritten.Unwritten.TheVariants.{Memory as NoRoom, Write as NoWrite}
@@ -31,9 +31,10 @@ abbrev pub of_unwritten : Unwritten → Unanswered
 of_unwritten NoRoom = Memory
 of_unwritten NoWrite = Write
 
+-- all but want of memory say that the workers and the journal don't fit together
 abbrev pub of_lost : Lost → Unanswered
 of_lost NoMemory = Memory
-of_lost BadJournal = Journal
+of_lost _ = Journal
 
 abbrev pub failures_at : Unanswered → ℕ
 failures_at Write = 1

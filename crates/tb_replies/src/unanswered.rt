@@ -44,7 +44,7 @@ impl From<Lost> for Unanswered {
     fn from(lost: Lost) -> Unanswered {
         match lost {
             Lost::Memory => Unanswered::Memory,
-            Lost::Journal => Unanswered::Journal,
+            _ => Unanswered::Journal,
         }
     }
 }

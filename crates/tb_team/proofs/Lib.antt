@@ -4,3 +4,6 @@ pub mod Returned
 pub mod Reached
 pub mod Courses
 pub mod Looked
+pub mod Turned
+pub mod Idle
+pub mod Losses

@@ -2,12 +2,12 @@
 use Rattle.std.proofs.Common.{◌≡◌, ◌<◌, ◌≤◌, ◌+◌, ◌-◌, ℕ, suc, List, [], ◌∷◌, ◌++◌, Bool, true, false, ◌&&◌, not, length, map, take, drop, reverse, refl, sym, ap, ap₂, ◌∙◌, subst, arith, length-drop, append_assoc, get_or}
 use Rattle.std.specs.Prelude.{is_some}
 use Rattle.std.specs.List.{list_all}
-use Rattle.std.proofs.lemmas.List.{reverse-append, length-reverse, length-take-le, take-append-drop, drop_all}
+use Rattle.std.proofs.lemmas.List.{reverse-append, length-map, length-reverse, length-take-le, take-append-drop, drop_all}
 use Rattle.std.proofs.Math.Seq.{drop-cons}
 use Rattle.std.proofs.lemmas.List.Folds.{list_all-append}
 use Rattle.tb_model.specs.declared.action.Action.{Action}
 use Rattle.tb_model.specs.Facts.{History}
-use Rattle.tb_model.specs.Lines.{LinesFit, events_of}
+use Rattle.tb_model.specs.Lines.{Departure, LinesFit, events_of}
 use Rattle.tb_model.specs.Names.{Name}
 use Rattle.tb_model.specs.Program.{Program, LegalFor}
 use Rattle.tb_model.proofs.LinesLemmas.{line_kept}
@@ -77,24 +77,24 @@ module _ (points : List Breakpoint) (steps : List Step) where
       ap (λ k. list_all (λ step. not (is_met points step)) (take k (drop at steps))) none
 
 -- a test of all doesn't depend on the order
-pub all_reversed : {X : Type 0} (p : X → Bool) (xs : List X) → list_all p xs ≡ true → list_all p (reverse xs) ≡ true
-all_reversed p [] h = refl
-all_reversed p (x ∷ xs) h =
-    let parts = both (p x) (list_all p xs) h in
-    ap (list_all p) (reverse-append (x ∷ []) xs) ∙ list_all-append p (reverse xs) (x ∷ []) ∙ together _ _ (all_reversed p xs parts.1) (together _ _ parts.0 refl)
+pub all_turned : {X : Type 0} (p : X → Bool) (xs : List X) → list_all p (reverse xs) ≡ list_all p xs
+all_turned p [] = refl
+all_turned p (x ∷ xs) =
+    ap (list_all p) (reverse-append (x ∷ []) xs) ∙ list_all-append p (reverse xs) (x ∷ []) ∙ swapped (list_all p (reverse xs)) (list_all p xs) (p x) (all_turned p xs)
   where
-    both : (a b : Bool) → (a && b) ≡ true → (a ≡ true) × (b ≡ true)
-    both true b e = (refl, e)
-    both false b e = cc
+    swapped : (a b c : Bool) → a ≡ b → (a && (c && true)) ≡ (c && b)
+    swapped true b true e = e
+    swapped true b false e = refl
+    swapped false b true e = e
+    swapped false b false e = refl
 
-    together : (a b : Bool) → a ≡ true → b ≡ true → (a && b) ≡ true
-    together true b e f = f
-    together false b e f = cc
+pub all_reversed : {X : Type 0} (p : X → Bool) (xs : List X) → list_all p xs ≡ true → list_all p (reverse xs) ≡ true
+all_reversed p xs h = all_turned p xs ∙ h
 
 -- the steps from the oldest on: so many of the newest, but for the newest, and what is left of the history
 module _ (P : Program) (points : List Breakpoint) (steps : List Step) (count : ℕ) where
-  before_newest : 1 < count → count ≤ length steps → AreRun P (reverse steps) → none_between points steps (length steps - count) (length steps - 1) ≡ true → none_met P points (count - 1) (drop 1 (history_of (reverse steps))) ≡ true
-  before_newest some enough are none =
+  before_newest : 1 < count → count ≤ length steps → AreRun P (reverse steps) → none_met P points (count - 1) (drop 1 (history_of (reverse steps))) ≡ none_between points steps (length steps - count) (length steps - 1)
+  before_newest some enough are =
       let first = length steps - count in
       let mid = take (length steps - 1 - first) (drop first steps) in
       let last = drop (length steps - 1 - first) (drop first steps) in
@@ -112,7 +112,8 @@ module _ (P : Program) (points : List Breakpoint) (steps : List Step) (count : �
           ap reverse whole ∙ reverse-append old (mid ++ last) ∙ ap (λ l. l ++ reverse old) (reverse-append mid last) ∙ append_assoc (reverse last) (reverse mid) (reverse old)
 
       at : (last : List Step) → length last ≡ 1 → reverse steps ≡ reverse last ++ (reverse (take (length steps - 1 - (length steps - count)) (drop (length steps - count) steps)) ++ reverse (take (length steps - count) steps))
-          → length (take (length steps - 1 - (length steps - count)) (drop (length steps - count) steps)) ≡ count - 1 → none_met P points (count - 1) (drop 1 (history_of (reverse steps))) ≡ true
+          → length (take (length steps - 1 - (length steps - count)) (drop (length steps - count) steps)) ≡ count - 1
+          → none_met P points (count - 1) (drop 1 (history_of (reverse steps))) ≡ none_between points steps (length steps - count) (length steps - 1)
       at [] one whole long = cc
       at (c ∷ d ∷ last) one whole long = absurd (two_or_more (length last) one)
       at (c ∷ []) one whole long =
@@ -120,15 +121,15 @@ module _ (P : Program) (points : List Breakpoint) (steps : List Step) (count : �
           let old = take (length steps - count) steps in
           let rest = reverse mid ++ reverse old in
           let run = subst (AreRun P) whole are in
-          let all = all_reversed (λ (s : Step). not (is_met points s)) mid none in
+          let between = none_between points steps (length steps - count) (length steps - 1) in
           let n : length (reverse mid) ≡ count - 1 = length-reverse mid ∙ long in
-          let done = sym (none_by_records P points (reverse mid) (reverse old) (shorter_run P c rest run)) ∙ all in
-          subst (λ k. none_met P points k (drop 1 (history_of (reverse steps))) ≡ true) n
-          (subst (λ (l : List Step). none_met P points (length (reverse mid)) (drop 1 (history_of l)) ≡ true) (sym whole) done)
+          let done = sym (none_by_records P points (reverse mid) (reverse old) (shorter_run P c rest run)) ∙ all_turned (λ (s : Step). not (is_met points s)) mid in
+          subst (λ k. none_met P points k (drop 1 (history_of (reverse steps))) ≡ between) n
+          (subst (λ (l : List Step). none_met P points (length (reverse mid)) (drop 1 (history_of l)) ≡ between) (sym whole) done)
 
   -- the same of a number that is their count
-  pub none_before : (all : ℕ) → all ≡ length steps → 1 < count → count ≤ all → AreRun P (reverse steps) → none_between points steps (all - count) (all - 1) ≡ true → none_met P points (count - 1) (drop 1 (history_of (reverse steps))) ≡ true
-  none_before all counted some few are none = before_newest some (omega (arith, counted, few)) are (subst (λ k. none_between points steps (k - count) (k - 1) ≡ true) counted none)
+  pub none_before : (all : ℕ) → all ≡ length steps → 1 < count → count ≤ all → AreRun P (reverse steps) → none_met P points (count - 1) (drop 1 (history_of (reverse steps))) ≡ none_between points steps (all - count) (all - 1)
+  none_before all counted some few are = before_newest some (omega (arith, counted, few)) are ∙ sym (ap (λ k. none_between points steps (k - count) (k - 1)) counted)
 
 -- the newest step, the last of those from the oldest on
 pub newest_by_record : (P : Program) (points : List Breakpoint) (front : List Step) (c : Step) → AreRun P (reverse (front ++ c ∷ [])) → is_met points c ≡ meets_newest P points (history_of (reverse (front ++ c ∷ [])))
@@ -158,6 +159,11 @@ newest_at P points steps all c H counted most there are same =
     let whole : steps ≡ front ++ c ∷ [] = sym (take-append-drop (length steps - 1) steps) ∙ ap (λ l. front ++ l) last in
     newest_by_record P points front c (subst (λ l. AreRun P (reverse l)) whole are)
     ∙ (ap (λ (l : List Step). meets_newest P points (history_of (reverse l))) (sym whole) ∙ ap (meets_newest P points) same)
+
+-- there are as many steps as events of the history
+pub as_many : (steps : List Step) (H : History) (all : ℕ) → all ≡ length steps → history_of (reverse steps) ≡ H → all ≡ length H
+as_many steps H all counted same =
+    counted ∙ sym (length-reverse steps) ∙ sym (length-map (reverse steps) departure) ∙ sym (length-map (map departure (reverse steps)) (λ (d : Departure). d.event)) ∙ ap length same
 
 -- without steps none is the newest
 pub no_newest : (P : Program) (points : List Breakpoint) (steps : List Step) (H : History) → length steps ≡ 0 → history_of (reverse steps) ≡ H → false ≡ meets_newest P points H

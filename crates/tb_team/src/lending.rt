@@ -1,11 +1,13 @@
 //! A run is lent to workers, and comes back.
 
-ghost use Rattle.std.specs.Prelude.{◌≡◌, ◌<◌, ◌≤◌, true, IfOk, OnOk, length, vec_len};
+ghost use Rattle.std.specs.Prelude.{◌≡◌, ◌+◌, ◌<◌, ◌≤◌, ℕ, true, IfOk, IfErr, Err, length, slice_index_or, vec_len};
+ghost use Rattle.tb_work.specs.Answering.{IsRun};
 ghost use Rattle.tb_work.specs.Changes.{entries};
+ghost use Rattle.tb_work.specs.Receipts.{Seated, HaveNumbers};
 ghost use Rattle.tb_journal.specs.Journals.{all_below};
 ghost use Rattle.tb_team.specs.Gone.{HasSeats};
 ghost use Rattle.tb_team.specs.Lending.{IsBack};
-ghost use Rattle.tb_team.specs.Losing.{lost_by};
+ghost use Rattle.tb_team.specs.Losing.{lost_by, IsLostBy, IsUnlent};
 
 use crate::losing::lose;
 use crate::lost::Lost;
@@ -16,7 +18,28 @@ use std::sync::Wait;
 use std::sync::ledger::Blank;
 use std::thread::Threads;
 use tb_live::Live;
-use tb_work::{AdoptRefusal, Closed, GoRefusal, Places, Seat, Shared, Team, is_seated};
+use tb_work::{
+    AdoptRefusal, Closed, Gap, GoRefusal, Places, Seat, Shared, Team, is_seated, run_is_sound,
+};
+
+/// Lets the workers of these seats, which count from 1, take up to so many steps.
+fn work_as<N: Team + Send + Sync, R: Threads + Wait + Sync>(
+    rt: &R,
+    shared: &Shared<N>,
+    team: &mut [Seat<N>],
+    most: u32,
+) -> Result<(), Lost>
+    requires some { 0 < length team.old }
+    requires few { length team.old ≤ 64 }
+    requires numbers { (i : ℕ) (d : Seated) → i < length team.old → (slice_index_or team.old i d).number ≡ i + 1 }
+    ensures { IfErr result (IsLostBy N.program N.limit N.breakpoints N.seats N.begun (length team.old)) }
+{
+    match shared.go(rt, team, most, &OpenGate) {
+        Ok(_) => Ok(()),
+        Err(GoRefusal::Memory) => Err(Lost::Memory),
+        Err(GoRefusal::CellTaken) => Err(Lost::Taken),
+    }
+}
 
 /// Lets the workers of the seats from 1 on take up to so many steps.
 fn work<N: Team + Send + Sync, R: Threads + Wait + Sync>(
@@ -29,14 +52,12 @@ fn work<N: Team + Send + Sync, R: Threads + Wait + Sync>(
     requires some { 1 ≤ workers }
     requires few { workers ≤ 64 }
     requires seats { workers < vec_len seats.old }
-    ensures { vec_len seats.new ≡ vec_len seats.old }
+    requires numbers { HaveNumbers seats.old.items }
+    ensures len { vec_len seats.new ≡ vec_len seats.old }
+    ensures lost { IfErr result (IsLostBy N.program N.limit N.breakpoints N.seats N.begun workers) }
 {
     let team = &mut seats.as_mut_slice()[1..workers as usize + 1];
-    match shared.go(rt, team, most, &OpenGate) {
-        Ok(_) => Ok(()),
-        Err(GoRefusal::Memory) => Err(Lost::Memory),
-        Err(GoRefusal::CellTaken) => Err(Lost::Journal),
-    }
+    work_as(rt, shared, team, most)
 }
 
 /// Why a run that isn't taken in is lost.
@@ -45,7 +66,7 @@ fn why_refused(refusal: AdoptRefusal) -> Lost
 {
     match refusal {
         AdoptRefusal::Memory => Lost::Memory,
-        AdoptRefusal::CellTaken => Lost::Journal,
+        AdoptRefusal::CellTaken => Lost::Written,
     }
 }
 
@@ -56,9 +77,19 @@ fn run_of(closed: Closed) -> Live
     closed.live
 }
 
+/// The run that lacks a receipt's place is given up.
+fn lost_in(gap: Gap) -> Lost
+    ensures lost { result ≡ Lost.Gap }
+    ensures run { IsRun gap.closed.live.session }
+{
+    run_is_sound(&gap.closed.live);
+    lose(run_of(gap.closed), Lost::Gap)
+}
+
 /// The run, where its workers met no refusal.
 fn unless_refused(live: Live, worked: Result<(), Lost>) -> Result<Live, Lost>
-    ensures { IfOk result (λ back. back.session ≡ live.session) }
+    ensures kept { IfOk result (λ back. back.session ≡ live.session) }
+    ensures refused { IfErr result (λ why. worked ≡ Err why) }
 {
     match worked {
         Ok(()) => Ok(live),
@@ -85,7 +116,8 @@ fn lend_as<N: Team + Send + Sync, R: Threads + Wait + Sync>(
     requires some { 1 ≤ workers }
     requires few { workers ≤ 64 }
     requires seats { HasSeats live.session }
-    ensures { IfOk result (λ back. IsBack live.session back.session) }
+    ensures back { IfOk result (λ back. IsBack live.session back.session) }
+    ensures lost { IfErr result (IsLostBy N.program N.limit N.breakpoints N.seats N.begun workers) }
 {
     let (shared, mut seats) = match Shared::<N>::adopt(alloc, live, places, blank) {
         Ok(adopted) => adopted,
@@ -94,7 +126,7 @@ fn lend_as<N: Team + Send + Sync, R: Threads + Wait + Sync>(
     let worked = work(rt, &shared, &mut seats, workers, most);
     match shared.close(seats) {
         Ok(closed) => unless_refused(run_of(closed), worked),
-        Err(gap) => Err(lose(run_of(gap.closed), Lost::Journal)),
+        Err(gap) => Err(lost_in(gap)),
     }
 }
 
@@ -109,10 +141,11 @@ pub fn lend<R: Threads + Wait + Sync>(
     requires some { 1 ≤ workers }
     requires few { workers ≤ 64 }
     requires seats { HasSeats live.session }
-    ensures { IfOk result (λ back. IsBack live.session back.session) }
+    ensures back { IfOk result (λ back. IsBack live.session back.session) }
+    ensures lost { IfErr result (IsUnlent workers live.session) }
 {
     if !is_seated(&live) {
-        return Err(lose(live, Lost::Journal));
+        return Err(lose(live, Lost::Unseated));
     }
     match Places::new(alloc, live.limit()) {
         Ok(places) => {

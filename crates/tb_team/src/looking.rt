@@ -1,6 +1,6 @@
 //! Looks through what workers left.
 
-ghost use Rattle.std.specs.Prelude.{◌≡◌, ◌-◌, ◌<◌, ◌≤◌, IsTrue, true, is_some, not, length, take, drop, get_or};
+ghost use Rattle.std.specs.Prelude.{◌≡◌, ◌-◌, ◌<◌, ◌≤◌, ◌↔◌, IsTrue, is_some, not, length, take, drop, get_or};
 ghost use Rattle.std.specs.List.{list_all};
 ghost use Rattle.tb_core.specs.Entries.{Entry as Step};
 ghost use Rattle.tb_live.specs.Breaks.{met};
@@ -55,20 +55,17 @@ fn are_turns_from(live: &Live, workers: u32, from: usize) -> bool
     live.journal().are_turns(workers, from)
 }
 
-/// Whether none of so many of the newest steps met a breakpoint, the newest aside. False where there aren't
-/// so many.
+/// Whether none of so many of the newest steps met a breakpoint, the newest aside.
 fn none_met_before(live: &Live, count: usize) -> bool
-    ensures { IsTrue result → none_met live.now.session.program
-        live.now.session.control.breakpoints.standing (count - 1) (drop 1 (history live.now.session)) ≡ true }
+    requires { count ≤ length (history live.now.session) }
+    ensures { result ≡ none_met live.now.session.program
+        live.now.session.control.breakpoints.standing (count - 1) (drop 1 (history live.now.session)) }
 {
     if count < 2 {
         return true;
     }
     let steps = live.core().legal_entries();
     let all = steps.len();
-    if all < count {
-        return false;
-    }
     none_met(live.breakpoints(), &steps, all - count, all - 1)
 }
 
@@ -88,7 +85,7 @@ pub fn newest_is_met(live: &Live) -> bool
 /// breakpoint.
 pub fn is_course(live: &Live, workers: u32, from: usize) -> bool
     requires { from ≤ length live.now.session.journal }
-    ensures { IsTrue result → IsCourse workers from live.now.session }
+    ensures { IsTrue result ↔ IsCourse workers from live.now.session }
 {
     if !are_turns_from(live, workers, from) {
         return false;

@@ -5,14 +5,26 @@ ghost use Rattle.tb_team.specs.declared.lost.Lost.TheVariants.{Memory};
 
 use std::alloc::AllocError;
 
-/// Why a run that was lent to workers is lost.
+/// Why a run that was lent to workers is lost. All but want of memory say that what the workers did and what
+/// the journal says don't fit together.
 #[derive(Clone, Copy, Debug, Drop, PartialEq, Eq)]
 pub enum Lost {
     /// A growth was refused.
     Memory,
-    /// What the workers did and what the journal says don't fit together, or the steps aren't those of a
-    /// `go` that stopped where it has to.
-    Journal,
+    /// An entry of the journal is of none of the run's seats.
+    Unseated,
+    /// The cell of a place that stands was written already.
+    Written,
+    /// A worker met a cell that was taken.
+    Taken,
+    /// A receipt's place isn't in the journal.
+    Gap,
+    /// The new entries aren't steps of the workers, or run on past one that met a breakpoint.
+    Course,
+    /// There are more new entries than were asked for.
+    Many,
+    /// Nothing stops the workers after the new entries.
+    Unstopped,
 }
 
 impl From<AllocError> for Lost {

@@ -1,8 +1,9 @@
 //! Workers take steps of a run.
 
-ghost use Rattle.std.specs.Prelude.{◌≡◌, ◌<◌, ◌≤◌, IfOk, length};
+ghost use Rattle.std.specs.Prelude.{◌≡◌, ◌<◌, ◌≤◌, IfOk, IfErr, length};
 ghost use Rattle.tb_team.specs.Gone.{HasSeats, IsGone};
 ghost use Rattle.tb_team.specs.Looking.{IsLooked};
+ghost use Rattle.tb_team.specs.Losing.{IsAstray, IsLost};
 
 use crate::gone::Gone;
 use crate::lending::lend;
@@ -19,17 +20,18 @@ use tb_live::Live;
 fn look(live: Live, workers: u32, most: u32, from: usize) -> Result<Gone, Lost>
     requires seats { HasSeats live.session }
     requires from { from ≤ length live.session.journal }
-    ensures { IfOk result (IsLooked workers most from live.session) }
+    ensures looked { IfOk result (IsLooked workers most from live.session) }
+    ensures astray { IfErr result (IsAstray workers most from live.session) }
 {
     let mut live = live;
     live.journal_is_sound();
     let _core = live.core();
     if !is_course(&live, workers, from) {
-        return Err(lose(live, Lost::Journal));
+        return Err(lose(live, Lost::Course));
     }
     let count = (live.journal().len() - from) as u32;
     if most < count {
-        return Err(lose(live, Lost::Journal));
+        return Err(lose(live, Lost::Many));
     }
     live.resume();
     match stop_after(&mut live, count, most) {
@@ -52,12 +54,17 @@ pub fn go_several<R: Threads + Wait + Sync>(
     requires seats { HasSeats live.session }
     requires several { 1 < workers }
     requires few { workers ≤ 64 }
-    ensures { IfOk result (IsGone workers most live.session) }
+    ensures gone { IfOk result (IsGone workers most live.session) }
+    ensures lost { IfErr result (IsLost workers most live.session) }
 {
     let mut live = live;
     let from = live.journal().len();
     // a claim that was left would keep its task from all workers
     live.withdraw_all();
-    let live = lend(rt, alloc, live, workers, most)?;
+    let live = match lend(rt, alloc, live, workers, most) {
+        Ok(live) => live,
+        Err(why) => return Err(why),
+    };
+    live.journal_is_sound();
     look(live, workers, most, from)
 }

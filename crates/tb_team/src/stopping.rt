@@ -1,11 +1,12 @@
 //! Why workers take no more steps.
 
-ghost use Rattle.std.specs.Prelude.{◌≡◌, ◌&&◌, IfOk, IfSome, IsTrue, IsFalse, Some, nat_lt, nat_eq};
+ghost use Rattle.std.specs.Prelude.{◌≡◌, ◌≢◌, ◌&&◌, IfOk, IfErr, OnErr, IsTrue, IsFalse, None, Some, nat_lt, nat_eq};
 ghost use Rattle.tb_live.specs.Modes.{is_paused};
 ghost use Rattle.tb_live.specs.Moves.{least_task};
 ghost use Rattle.tb_live.specs.Session.{history, is_full};
 ghost use Rattle.tb_team.specs.Gone.{HasSeats};
 ghost use Rattle.tb_team.specs.Looking.{KeepsButClaims, meets_newest, reason};
+ghost use Rattle.tb_team.specs.Losing.{IsUnstopped};
 ghost use Rattle.tb_team.specs.Turns.{why_idle};
 
 use crate::looking::newest_is_met;
@@ -20,6 +21,7 @@ fn is_done(live: &mut Live) -> Result<bool, AllocError>
     requires going { IsFalse (is_paused live.old.session.control.mode) }
     requires room { IsFalse (is_full live.old.session) }
     ensures done { IfOk result (λ done. IsTrue done → why_idle (least_task live.old.session) (is_full live.old.session) ≡ Some Stop.Done) }
+    ensures going { IfOk result (λ done. IsFalse done → why_idle (least_task live.old.session) (is_full live.old.session) ≡ None) }
     ensures kept { KeepsButClaims live.old.session live.new.session }
 {
     match live.claim(1)? {
@@ -32,6 +34,7 @@ fn is_done(live: &mut Live) -> Result<bool, AllocError>
 fn full_stop(live: &mut Live) -> Result<Stop, AllocError>
     requires { IsTrue (is_full live.old.session) }
     ensures why { IfOk result (λ why. why_idle (least_task live.old.session) (is_full live.old.session) ≡ Some why) }
+    ensures err { OnErr result (least_task live.old.session ≢ None → IsFalse (is_full live.old.session)) }
     ensures kept { IfOk result (λ why. live.new.session ≡ live.old.session) }
 {
     match live.step_least_for(1) {
@@ -46,7 +49,8 @@ fn full_stop(live: &mut Live) -> Result<Stop, AllocError>
 fn idle_stop(live: &mut Live) -> Result<Option<Stop>, AllocError>
     requires seats { HasSeats live.old.session }
     requires going { IsFalse (is_paused live.old.session.control.mode) }
-    ensures why { IfOk result (λ o. IfSome o (λ why. why_idle (least_task live.old.session) (is_full live.old.session) ≡ Some why)) }
+    ensures why { IfOk result (λ o. why_idle (least_task live.old.session) (is_full live.old.session) ≡ o) }
+    ensures err { OnErr result (least_task live.old.session ≢ None → IsFalse (is_full live.old.session)) }
     ensures kept { IfOk result (λ o. KeepsButClaims live.old.session live.new.session) }
 {
     if live.is_full() {
@@ -64,6 +68,7 @@ pub fn stop_after(live: &mut Live, count: u32, most: u32) -> Result<Stop, Lost>
     ensures why { IfOk result (λ why. reason
         (nat_lt 0 count && meets_newest live.old.session.program live.old.session.control.breakpoints.standing (history live.old.session))
         (nat_eq count most) live.old.session ≡ Some why) }
+    ensures lost { IfErr result (IsUnstopped count most live.old.session) }
     ensures kept { IfOk result (λ why. KeepsButClaims live.old.session live.new.session) }
 {
     if 0 < count && newest_is_met(live) {
@@ -74,6 +79,6 @@ pub fn stop_after(live: &mut Live, count: u32, most: u32) -> Result<Stop, Lost>
     }
     match idle_stop(live)? {
         Some(stop) => Ok(stop),
-        None => Err(Lost::Journal),
+        None => Err(Lost::Unstopped),
     }
 }

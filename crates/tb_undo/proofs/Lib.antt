@@ -3,6 +3,7 @@ pub mod PlacesLemmas
 pub mod ComingLemmas
 pub mod RowLemmas
 pub mod SetsLemmas
+pub mod RoomLemmas
 pub mod ActLemmas
 pub mod StoreLemmas
 pub mod TaskLemmas

@@ -8,7 +8,7 @@ use Rattle.tb_model.specs.declared.action.Action.{Action}
 use Rattle.tb_model.specs.Names.{Name, child, is_elder}
 use Rattle.tb_model.specs.Items.{some_meet, is_before, is_apart}
 use Rattle.tb_model.specs.Facts.{History, own, ends, is_spawned, IsSpawned, spawns, items_of, before, apart, groups}
-use Rattle.tb_model.specs.State.{open_groups, children_since}
+use Rattle.tb_model.specs.State.{called_by, children_since, open_groups, spawn_of}
 use Rattle.tb_model.specs.Legal.{Cells, Legal, spawn_count}
 use Rattle.tb_model.specs.Lines.{Departure, events_of}
 use Rattle.tb_model.proofs.FactsLemmas.{acted_spawned, not_started, ends_own, spawn_names}
@@ -27,14 +27,22 @@ use Rattle.tb_wait.specs.Histories.{kin_from, AreKin}
 use Rattle.tb_wait.proofs.HistoryLemmas.{counted, depth, over_from}
 use Rattle.tb_wait.proofs.UnendedLemmas.{unended_child}
 use Rattle.tb_undo.specs.declared.row.Row.{Row}
-use Rattle.tb_undo.specs.Tasks.{row, seen_row}
-use Rattle.tb_undo.specs.State.{Seen, IsState, known_task}
+use Rattle.tb_undo.specs.Tasks.{Task, row, seen_row}
+use Rattle.tb_undo.specs.State.{Seen, IsState, known_task, task_of}
 use Rattle.tb_undo.specs.Obstacles.{sibling}
 use Rattle.tb_undo.specs.Readings.{IsNthOf, IsNextChild, IsUnendedBehind}
 use Rattle.tb_undo.proofs.ObstacleLemmas.{none_meet, least_name_by}
 use Rattle.tb_undo.proofs.StartLemmas.{kept, is_known, parent_spawned, named, headed, unheaded}
 
 -- ---- one task
+
+-- the line of its body
+pub body_told : (root_line : ℕ) (D : List Departure) (t : Name) → option_map (λ (k : Task). k.body) (task_of root_line D t) ≡ cond (is_spawned (events_of D) t) (Some (called_by root_line (spawn_of t (events_of D))).line) None
+body_told root_line D t = at (is_spawned (events_of D) t)
+  where
+    at : (b : Bool) → option_map (λ (k : Task). k.body) (cond b (Some (known_task root_line D t)) None) ≡ cond b (Some (called_by root_line (spawn_of t (events_of D))).line) None
+    at true = refl
+    at false = refl
 
 -- who wasn't generated has done nothing
 unacted : (cells : Cells) (H : History) (t : Name) → Legal cells H → is_spawned H t ≡ false → own t H ≡ []

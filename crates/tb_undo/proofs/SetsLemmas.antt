@@ -9,7 +9,7 @@ use Rattle.tb_wait.specs.Kin.{Tasks as Waiting, place}
 use Rattle.tb_depend.specs.Relations.{items_at}
 use Rattle.tb_excl.specs.Holders.{Holders, HasRoomFor, KeepsRoom, IsSet, IsSame}
 use Rattle.tb_undo.specs.declared.row.Row.{Row}
-use Rattle.tb_undo.specs.Tasks.{Task, Rows, row, seen_row, holders_of, HasChildRoom, HasChildRoomIn}
+use Rattle.tb_undo.specs.Tasks.{Task, Rows, row, seen_row, holders_of, HasChildRoom, HasChildRoomIn, KeepsRowRoom}
 use Rattle.tb_undo.specs.Sets.{children_in, items_in, number_of, IsLinked, place_in, Become, Sets, Reserves, HasSetRoom}
 use Rattle.tb_undo.specs.Places.{rows_in, AreInPlace}
 use Rattle.tb_undo.proofs.PlacesLemmas.{no_row, missing}
@@ -50,10 +50,22 @@ module _ (old new : Rows) (p : Name) (r w : Row) (found : row old p ≡ Some r) 
           (subst (λ x. IsSet r.holders (items_in old (n ∷ p)) to x × KeepsRoom r.holders x) holders
           (subst (λ x. IsSet r.holders x to w.holders) (sym items) set, keeps)))
 
+  -- no task loses its room for a child
+  pub rooms_kept : KeepsRowRoom r w → (q : Name) (items : List Item) (deferred : Bool) → HasChildRoomIn old q items deferred → HasChildRoomIn new q items deferred
+  rooms_kept keeps q items deferred room x e = at (same_name p q) refl
+    where
+      at : (b : Bool) → same_name p q ≡ b → HasChildRoom x items deferred
+      at true s =
+          let is = sym (writes q ∙ ap (λ b. cond b (Some w) (row old q)) s) ∙ e in
+          let there = ap (row old) (sym (same_true p q s)) ∙ found in
+          subst (λ y. HasChildRoom y items deferred) (ap (λ o. unwrap_or o x) is) (keeps items deferred (room r there))
+      at false s = room x (sym (writes q ∙ ap (λ b. cond b (Some w) (row old q)) s) ∙ e)
+
   -- more room at p
-  pub reserves : seen_row w ≡ seen_row r → IsSame r.holders w.holders → KeepsRoom r.holders w.holders → Reserves old new
-  reserves same holds keeps = record {
+  pub reserves : seen_row w ≡ seen_row r → IsSame r.holders w.holders → KeepsRoom r.holders w.holders → KeepsRowRoom r w → Reserves old new
+  reserves same holds keeps rooms = record {
     tasks = kept old new p r w found writes seen_row same;
+    rooms = rooms_kept rooms;
     holders = λ q h g. at q h g (same_name p q) refl;
   }
     where
@@ -147,11 +159,12 @@ from_one rows (k ∷ p) n linked e = subst (λ x. 0 < x) (ap (λ o. unwrap_or o 
 
 -- what stays reserves nothing
 pub reserves_none : (rows : Rows) → Reserves rows rows
-reserves_none rows = record { tasks = λ u. refl; holders = λ p h e. subst (λ o. Become o (λ f. IsSame f h × KeepsRoom f h)) (sym e) ((λ place. refl), all_kept h) }
+reserves_none rows = record { rooms = λ t items deferred room. room; tasks = λ u. refl; holders = λ p h e. subst (λ o. Become o (λ f. IsSame f h × KeepsRoom f h)) (sym e) ((λ place. refl), all_kept h) }
 
 -- a row whose task and holders are as they were
-pub reserves_row : (old new : Rows) (t : Name) (r w : Row) → row old t ≡ Some r → Writes old t w new → seen_row w ≡ seen_row r → w.holders ≡ r.holders → Reserves old new
-reserves_row old new t r w found writes same holders = record {
+pub reserves_row : (old new : Rows) (t : Name) (r w : Row) → row old t ≡ Some r → Writes old t w new → seen_row w ≡ seen_row r → w.holders ≡ r.holders → KeepsRowRoom r w → Reserves old new
+reserves_row old new t r w found writes same holders rooms = record {
+  rooms = rooms_kept old new t r w found writes rooms;
   tasks = kept old new t r w found writes seen_row same;
   holders = λ p h e.
       let stays = kept old new t r w found writes (λ (x : Row). x.holders) holders p in

@@ -21,7 +21,7 @@ use Rattle.tb_undo.specs.Tasks.{Task, Rows, task, holders_of, fresh_task, regist
 use Rattle.tb_undo.specs.Sets.{Become, Comes}
 use Rattle.tb_undo.specs.Places.{HasPlaceOrRoom}
 use Rattle.tb_undo.specs.State.{Seen, AreLast, known_task, task_of, IsState}
-use Rattle.tb_undo.specs.Changes.{HasSpawnRoom, AreSame, replaced_in, Changed, ChangedBack, CanChange, CanChangeBack}
+use Rattle.tb_undo.specs.Changes.{HasFamilyRoom, HasSpawnRoom, AreSame, replaced_in, Changed, ChangedBack, CanChange, CanChangeBack}
 use Rattle.tb_undo.specs.Steps.{Follows, IsAhead, IsBehind, IsRecord, Stands, IsWithout}
 use Rattle.tb_undo.proofs.StoreLemmas.{number_right}
 use Rattle.tb_undo.proofs.TieLemmas.{acting, applied, can_change, can_change_back, at_end, reverted_newest}
@@ -121,8 +121,17 @@ copied_test copied key child b e t = (
 abbrev pub with_room : Seen → WaitTable → Marks → Seen
 with_room s waits marks = record { store = s.store; waits = waits; marks = marks; rows = s.rows; row_room = s.row_room; copied = s.copied }
 
-pub spawn_room : (copied grown : Seen) (waits : WaitTable) (marks : Marks) (p u : Name) (items : List Item) (deferred : Bool) (s : Seen)
-    → s ≡ with_room grown waits marks → copied.copied ≡ Some u → grown.copied ≡ copied.copied → HasPlaceOrRoom waits.tasks u grown.row_room → HasChildRoomIn grown.rows p items deferred
-    → HasRoomForChild waits p u → 0 < marks.room → HasSpawnRoom s p u items deferred
-spawn_room copied grown waits marks p u items deferred s e name same row child room mark =
-    subst (λ (x : Seen). HasSpawnRoom x p u items deferred) (sym e) (record { waits = room; marks = mark; row = row; child = child; copied = same ∙ name })
+pub family_room : (grown : Seen) (waits : WaitTable) (marks : Marks) (p u : Name) (items : List Item) (deferred : Bool) (s : Seen)
+    → s ≡ with_room grown waits marks → HasPlaceOrRoom waits.tasks u grown.row_room → HasChildRoomIn grown.rows p items deferred
+    → HasRoomForChild waits p u → 0 < marks.room → HasFamilyRoom s p u items deferred
+family_room grown waits marks p u items deferred s e row child room mark =
+    subst (λ (x : Seen). HasFamilyRoom x p u items deferred) (sym e) (record { waits = room; marks = mark; row = row; child = child })
+
+-- the names of the child are copied last
+module _ (old family s : Seen) (e : s ≡ record family { copied = s.copied }) where
+  pub spawn_room : (p u : Name) (items : List Item) (deferred : Bool) → HasFamilyRoom family p u items deferred → s.copied ≡ Some u → HasSpawnRoom s p u items deferred
+  spawn_room p u items deferred f c =
+      subst (λ (x : Seen). HasSpawnRoom x p u items deferred) (sym e) (record { waits = f.waits; marks = f.marks; row = f.row; child = f.child; copied = c })
+
+  pub same_copied : AreSame old family → AreSame old s
+  same_copied k = subst (AreSame old) (sym e) (record { cells = k.cells; output = k.output; waits = k.waits; marks = k.marks; rows = k.rows })

@@ -11,7 +11,7 @@ use Rattle.tb_store.specs.declared.replaced.Replaced.{Replaced}
 use Rattle.tb_store.specs.Contents.{number_at, with_number}
 use Rattle.tb_ready.specs.Tasks.{mark_of}
 use Rattle.tb_ready.specs.Histories.{MarkedBy, MarkedBackBy}
-use Rattle.tb_wait.specs.Kin.{IsNext, IsLast, HasRoomFor as HasRoomForChild, HasGroupRoom, IsSame as IsSameWaits}
+use Rattle.tb_wait.specs.Kin.{IsNext, IsLast, HasRoomFor as HasRoomForChild, HasGroupRoom, IsSame as IsSameWaits, KeepsRoom as KeepsWaitRoom}
 use Rattle.tb_wait.specs.Histories.{ChangesBy, ChangesBackBy}
 use Rattle.tb_undo.specs.declared.row.Row.{Row}
 use Rattle.tb_undo.specs.Tasks.{Task, Rows, row, task, holders_of, advanced, retreated, fresh_task, HasChildRoomIn, HasRowRoom, IsRegister, register_by, register_over}
@@ -153,6 +153,13 @@ pub record AreSame (old new : Seen) : Type 0 where
 
 -- ---- room
 
+-- for the spawn of u, but for the copies of its name
+pub record HasFamilyRoom (s : Seen) (p u : Name) (items : List Item) (deferred : Bool) : Type 0 where
+  pub waits : HasRoomForChild s.waits p u
+  pub marks : 0 < s.marks.room
+  pub row : HasPlaceOrRoom s.waits.tasks u s.row_room
+  pub child : HasChildRoomIn s.rows p items deferred
+
 -- for the spawn of u
 pub record HasSpawnRoom (s : Seen) (p u : Name) (items : List Item) (deferred : Bool) : Type 0 where
   pub waits : HasRoomForChild s.waits p u
@@ -172,6 +179,15 @@ HasRoomOf s t _ = ⊤
 -- the event takes no memory
 abbrev pub HasRoomFor : Seen → Event → Type 0
 HasRoomFor s v = HasRoomOf s v.task v.action
+
+-- none is lost, and the names that are copied are those that were
+pub record KeepsRoom (old new : Seen) : Type 0 where
+  pub store : old.store.room ≤ new.store.room
+  pub waits : KeepsWaitRoom old.waits new.waits
+  pub marks : old.marks.room ≤ new.marks.room
+  pub rows : Reserves old.rows new.rows
+  pub row_room : old.row_room ≤ new.row_room
+  pub copied : new.copied ≡ old.copied
 
 -- ---- what each table asks for
 

@@ -1,5 +1,5 @@
 -- Who holds what among the children of each task: what a start, an end, and the room for a start change.
-use Rattle.std.specs.Prelude.{◌≡◌, ◌<◌, ℕ, true, false, List, [], ◌∷◌, Option, Some, None, ⊤, if◌then◌else◌}
+use Rattle.std.specs.Prelude.{◌≡◌, ◌<◌, ℕ, Bool, true, false, List, [], ◌∷◌, Option, Some, None, ⊤, if◌then◌else◌}
 use Rattle.std.specs.Option.{option_map}
 use Rattle.tb_model.specs.declared.item.Item.{Item}
 use Rattle.tb_model.specs.declared.place.Place.{Place}
@@ -7,7 +7,7 @@ use Rattle.tb_model.specs.Names.{Name, same_name, is_child}
 use Rattle.tb_wait.specs.Kin.{Tasks as Waiting, place}
 use Rattle.tb_depend.specs.Relations.{items_at}
 use Rattle.tb_excl.specs.Holders.{Holders, holder, HasRoomFor, KeepsRoom, IsSet, IsSame}
-use Rattle.tb_undo.specs.Tasks.{Task, Rows, row, task, holders_of}
+use Rattle.tb_undo.specs.Tasks.{Task, Rows, row, task, holders_of, HasChildRoomIn}
 
 -- the items of each child of a task, where it is there
 abbrev pub children_in : Option Task → List (List Item)
@@ -54,6 +54,7 @@ pub record Sets (old : Rows) (t : Name) (to : Option ℕ) (new : Rows) : Type 0 
 pub record Reserves (old : Rows) (new : Rows) : Type 0 where
   pub tasks : (u : Name) → task new u ≡ task old u
   pub holders : (p : Name) (h : Holders) → holders_of new p ≡ Some h → Become (holders_of old p) (λ g. IsSame g h × KeepsRoom g h)
+  pub rooms : (t : Name) (items : List Item) (deferred : Bool) → HasChildRoomIn old t items deferred → HasChildRoomIn new t items deferred
 
 -- the parent of t has the room for what its items take
 abbrev pub HasSetRoom : Rows → Name → Type 0

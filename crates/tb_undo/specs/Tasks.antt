@@ -120,6 +120,10 @@ pub record HasChildRoom (r : Row) (items : List Item) (deferred : Bool) : Type 0
   pub siblings : HasRoomFor r.children items
   pub step : deferred ≡ false → 0 < r.undeferred.room
 
+-- no room for a child is lost
+abbrev pub KeepsRowRoom : Row → Row → Type 0
+KeepsRowRoom old new = (items : List Item) (deferred : Bool) → HasChildRoom old items deferred → HasChildRoom new items deferred
+
 -- and for this step of its task
 abbrev pub HasRowRoom : Row → Action → Type 0
 HasRowRoom r (Spawn s) = HasChildRoom r s.items s.deferred

@@ -7,7 +7,7 @@ ghost use Rattle.std.specs.Option.{option_copied};
 ghost use Rattle.tb_model.specs.Names.{same_name};
 ghost use Rattle.tb_model.specs.LeastNames.{IsLeastName};
 ghost use Rattle.tb_model.specs.Facts.{own, ends, last, before, apart, is_spawned, items_of};
-ghost use Rattle.tb_model.specs.State.{open_groups, printed};
+ghost use Rattle.tb_model.specs.State.{called_by, open_groups, printed, spawn_of};
 ghost use Rattle.tb_model.specs.Legal.{first_number, spawn_count};
 ghost use Rattle.tb_model.specs.Lines.{events_of};
 ghost use Rattle.tb_wait.specs.Kin.{place};
@@ -109,6 +109,17 @@ impl Tables {
             *near = Some(standing.row_place());
         }
         found
+    }
+
+    /// The line that begins the body of a task that was generated.
+    pub fn body(&self, name: &TaskName) -> Option<u32>
+        ensures { ForState self.now (λ first root_line D.
+            result ≡ (if is_spawned (events_of D) name.now then Some (called_by root_line (spawn_of name.now (events_of D))).line else None)) }
+    {
+        match get(&self.rows, &self.waits, self.near, name) {
+            Some(row) => Some(row.body),
+            None => None,
+        }
     }
 
     /// How many children the task generated.

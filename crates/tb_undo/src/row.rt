@@ -4,7 +4,7 @@ ghost use Rattle.std.specs.Prelude.{◌≡◌, ◌<◌, ◌≤◌, length, OnOk,
 ghost use Rattle.tb_model.specs.declared.place.Place.{Place as APlace};
 ghost use Rattle.tb_depend.specs.Relations.{items_at};
 ghost use Rattle.tb_excl.specs.Holders.{holder, HasRoomFor, KeepsRoom, IsSet, IsSame};
-ghost use Rattle.tb_undo.specs.Tasks.{HasChildRoom, seen_row, advanced, retreated, fresh_task, first_registers, HasRowRoom, IsRegister, register_over};
+ghost use Rattle.tb_undo.specs.Tasks.{HasChildRoom, KeepsRowRoom, seen_row, advanced, retreated, fresh_task, first_registers, HasRowRoom, IsRegister, register_over};
 
 use crate::undeferred::Undeferred;
 use std::alloc::{AllocError, Global};
@@ -131,6 +131,7 @@ impl Row {
         ensures ok { OnOk result (HasRoomFor self.new.holders (items_at self.new.children.siblings n)) }
         ensures same { IsSame self.old.holders self.new.holders }
         ensures keeps { KeepsRoom self.old.holders self.new.holders }
+        ensures rooms { KeepsRowRoom self.old self.new }
         ensures succeeds { HasRoomFor self.old.holders (items_at self.old.children.siblings n) →
             IsOk result }
     {
@@ -143,6 +144,7 @@ impl Row {
         ensures task { seen_row self.new ≡ seen_row self.old }
         ensures ok { OnOk result (HasChildRoom self.new items.now deferred) }
         ensures holders { self.new.holders ≡ self.old.holders }
+        ensures keeps { KeepsRowRoom self.old self.new }
         ensures succeeds { HasChildRoom self.old items.now deferred → IsOk result }
     {
         self.children.reserve_add(items)?;

@@ -1,6 +1,6 @@
 //! The rows of the tasks, by the places of their names in the table of waits.
 
-ghost use Rattle.std.specs.Prelude.{◌≡◌, ◌<◌, ◌-◌, [], ◌∷◌, IfSome, IfOk, OnOk, IsOk, Some, None, if◌then◌else◌, true, option_map, length, vec_capacity};
+ghost use Rattle.std.specs.Prelude.{◌≡◌, ◌<◌, ◌≤◌, ◌-◌, [], ◌∷◌, IfSome, IfOk, OnOk, IsOk, Some, None, if◌then◌else◌, true, option_map, length, vec_capacity};
 ghost use Rattle.tb_model.specs.declared.place.Place.{Place as APlace};
 ghost use Rattle.tb_model.specs.Names.{Name, same_name};
 ghost use Rattle.tb_excl.specs.Holders.{holder};
@@ -44,6 +44,7 @@ pub fn reserve_hold(
     requires linked { IsLinked (rows_in rows.old.items) name.now }
     ensures placed { AreInPlace waits.now.tasks rows.new.items }
     ensures same { Reserves (rows_in rows.old.items) (rows_in rows.new.items) }
+    ensures keeps { vec_capacity rows.old - length rows.old.items ≤ vec_capacity rows.new - length rows.new.items }
     ensures ok { OnOk result (HasSetRoom (rows_in rows.new.items) name.now) }
     ensures succeeds { HasSetRoom (rows_in rows.old.items) name.now → IsOk result }
 {
@@ -81,6 +82,7 @@ pub fn reserve_row(
     requires { AreInPlace waits.now.tasks rows.old.items }
     ensures placed { AreInPlace waits.now.tasks rows.new.items }
     ensures rows { Reserves (rows_in rows.old.items) (rows_in rows.new.items) }
+    ensures keeps { vec_capacity rows.old - length rows.old.items ≤ vec_capacity rows.new - length rows.new.items }
     ensures row { OnOk result (HasPlaceOrRoom waits.now.tasks child.now (vec_capacity rows.new - length rows.new.items)) }
     ensures child { OnOk result (HasChildRoomIn (rows_in rows.new.items) parent.now items.now deferred) }
     ensures succeeds { HasPlaceOrRoom waits.now.tasks child.now (vec_capacity rows.old - length rows.old.items) →
@@ -98,6 +100,7 @@ fn reserve_place(
     child: &TaskName,
 ) -> Result<(), AllocError>
     ensures items { rows.new.items ≡ rows.old.items }
+    ensures keeps { vec_capacity rows.old ≤ vec_capacity rows.new }
     ensures ok { OnOk result (HasPlaceOrRoom waits.now.tasks child.now (vec_capacity rows.new - length rows.new.items)) }
     ensures succeeds { HasPlaceOrRoom waits.now.tasks child.now (vec_capacity rows.old - length rows.old.items) → IsOk result }
 {

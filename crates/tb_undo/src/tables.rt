@@ -9,7 +9,7 @@ ghost use Rattle.tb_undo.specs.Places.{HasPlaceOrRoom};
 ghost use Rattle.tb_undo.specs.Sets.{Reserves, IsLinked, HasSetRoom, Sets, Comes, Goes, number_of};
 ghost use Rattle.tb_undo.specs.State.{IsState};
 ghost use Rattle.tb_undo.specs.Steps.{IsAhead, IsBehind, IsRecord, Stands, IsWithout};
-ghost use Rattle.tb_undo.specs.Changes.{IsRest, Changed, ChangedBack, Acted, ActedBack, AreSame, HasRoomFor, HasSpawnRoom, CanChange, CanChangeBack, replaced_in, cell_over, IsCell, cells_by, output_by, cells_back, output_back};
+ghost use Rattle.tb_undo.specs.Changes.{IsRest, KeepsRoom, HasFamilyRoom, Changed, ChangedBack, Acted, ActedBack, AreSame, HasRoomFor, HasSpawnRoom, CanChange, CanChangeBack, replaced_in, cell_over, IsCell, cells_by, output_by, cells_back, output_back};
 
 use crate::copies::Copies;
 use crate::row::Row;
@@ -72,6 +72,7 @@ impl Tables {
         requires { IsAhead self.old event.now }
         ensures same { AreSame self.old self.new }
         ensures names { KeepsNames self.old.waits.tasks self.new.waits.tasks }
+        ensures keeps { OnErr result (KeepsRoom self.old self.new) }
         ensures ok { OnOk result (HasRoomFor self.new event.now) }
         ensures succeeds { HasRoomFor self.old event.now → IsOk result }
     {
@@ -96,6 +97,7 @@ impl Tables {
         ensures applied { OnOk result (IsBehind self.old event.now to self.new) }
         ensures replaced { IfOk result (IsRecord self.old event.now) }
         ensures err { OnErr result (AreSame self.old self.new) }
+        ensures keeps { OnErr result (KeepsRoom self.old self.new) }
         ensures names { KeepsNames self.old.waits.tasks self.new.waits.tasks }
         ensures succeeds { HasRoomFor self.old event.now → IsOk result }
     {
@@ -141,7 +143,8 @@ impl Tables {
         }
     }
 
-    /// Makes the room for the spawn of a child.
+    /// Makes the room for the spawn of a child. The names that are copied for another are given up last, so not where
+    /// memory is wanted.
     fn reserve_spawn(
         &mut self,
         parent: &TaskName,
@@ -152,11 +155,29 @@ impl Tables {
         requires { parent.now ≡ drop 1 child.now }
         ensures same { AreSame self.old self.new }
         ensures names { KeepsNames self.old.waits.tasks self.new.waits.tasks }
+        ensures keeps { OnErr result (KeepsRoom self.old self.new) }
         ensures ok { OnOk result (HasSpawnRoom self.new parent.now child.now items.now deferred) }
         ensures succeeds { HasSpawnRoom self.old parent.now child.now items.now deferred → IsOk result }
     {
         self.turn_to(parent);
-        self.reserve_copies(parent, child)?;
+        self.reserve_family(parent, child, items, deferred)?;
+        self.reserve_copies(parent, child)
+    }
+
+    /// Makes the room for the child on each table, but for its names.
+    fn reserve_family(
+        &mut self,
+        parent: &TaskName,
+        child: &TaskName,
+        items: &[Item],
+        deferred: bool,
+    ) -> Result<(), AllocError>
+        ensures same { AreSame self.old self.new }
+        ensures names { KeepsNames self.old.waits.tasks self.new.waits.tasks }
+        ensures keeps { KeepsRoom self.old self.new }
+        ensures ok { OnOk result (HasFamilyRoom self.new parent.now child.now items.now deferred) }
+        ensures succeeds { HasFamilyRoom self.old parent.now child.now items.now deferred → IsOk result }
+    {
         self.reserve_row(parent, child, items, deferred)?;
         self.waits.reserve_spawned(parent, child)?;
         self.marks.reserve_add(child)
@@ -172,6 +193,7 @@ impl Tables {
     ) -> Result<(), AllocError>
         ensures rest { IsRest self.old self.new }
         ensures copied { self.new.copied ≡ self.old.copied }
+        ensures keeps { self.old.row_room ≤ self.new.row_room }
         ensures rows { Reserves self.old.rows self.new.rows }
         ensures row { OnOk result (HasPlaceOrRoom self.new.waits.tasks child.now self.new.row_room) }
         ensures child { OnOk result (HasChildRoomIn self.new.rows parent.now items.now deferred) }
@@ -194,6 +216,7 @@ impl Tables {
         requires { IsLinked self.old.rows name.now }
         ensures same { AreSame self.old self.new }
         ensures names { KeepsNames self.old.waits.tasks self.new.waits.tasks }
+        ensures keeps { KeepsRoom self.old self.new }
         ensures ok { OnOk result (HasSetRoom self.new.rows name.now) }
         ensures succeeds { HasSetRoom self.old.rows name.now → IsOk result }
     {
@@ -215,6 +238,7 @@ impl Tables {
     fn reserve_copies(&mut self, parent: &TaskName, child: &TaskName) -> Result<(), AllocError>
         requires { parent.now ≡ drop 1 child.now }
         ensures rest { self.new ≡ record self.old { copied = self.new.copied } }
+        ensures err { OnErr result (self.new ≡ self.old) }
         ensures ok { OnOk result (self.new.copied ≡ Some child.now) }
         ensures succeeds { self.old.copied ≡ Some child.now → IsOk result }
     {

@@ -44,6 +44,7 @@ impl Undeferred {
     pub fn reserve(&mut self) -> Result<(), AllocError>
         ensures steps { self.new.steps ≡ self.old.steps }
         ensures ok { OnOk result (0 < self.new.room) }
+        ensures keeps { self.old.room ≤ self.new.room }
         ensures succeeds { 0 < self.old.room → IsOk result }
     {
         match &mut self.steps {

@@ -1,50 +1,34 @@
 //! One task, as text.
 
-ghost use Rattle.std.specs.Prelude.{◌≡◌, ◌++◌, IfOk, OnOk, IsTrue, None, codes, length};
+ghost use Rattle.std.specs.Prelude.{◌≡◌, ◌++◌, IfOk, OnOk, IsTrue, codes, length};
 ghost use Rattle.tb_model.specs.Facts.{own, is_spawned};
-ghost use Rattle.tb_model.specs.State.{spawn_of, spawn_or, called_by, open_groups};
-ghost use Rattle.tb_core.specs.Scans.{history_of};
+ghost use Rattle.tb_model.specs.Program.{called};
+ghost use Rattle.tb_model.specs.State.{open_groups};
 ghost use Rattle.tb_core.specs.Seen.{history};
 ghost use Rattle.tb_core.specs.Situation.{config_of};
 ghost use Rattle.tb_live.specs.Soundness.{Fits};
 ghost use Rattle.tb_view.specs.Listing.{joined, listed, lines_of};
-ghost use Rattle.tb_view.specs.Tasks.{head_text, numbers_text, item_line, task_text};
+ghost use Rattle.tb_view.specs.Tasks.{body_text, head_text, numbers_text, item_line, task_text};
 
 use crate::action_text::{append_args, append_place, kind};
 use crate::listing::append_count;
 use crate::states::{append_state, state};
 use crate::step_line::body_name;
 use std::alloc::{AllocError, Global};
-use tb_core::{Core, History};
+use tb_core::Core;
 use tb_draft::Draft;
-use tb_model::{Action, Item, TaskName};
+use tb_model::{Item, TaskName};
 use tb_read::Program;
 
-/// The line that begins the body of a task.
-fn body_line(root_line: u32, entries: &History<'_>, task: &TaskName) -> u32
-    ensures { result ≡ (called_by root_line (spawn_of task.now (history_of entries.now))).line }
+/// The name of the body of a task that is there.
+fn body_of<'a>(program: &'a Program, core: &Core, task: &TaskName) -> &'a str
+    requires fits { Fits program.now core.now.run }
+    requires there { IsTrue (is_spawned (history core.now.run) task.now) }
+    ensures { result.now ≡ body_text program.now (called program.now task.now (history core.now.run)).line }
 {
-    let mut line = root_line;
-    'entries: for at in 0..entries.len() {
-        line = spawned_line(entries.action(at), task, line);
-    }
-    line
-}
-
-/// The body's line in an action that spawns the task, else this line.
-fn spawned_line(action: &Action, task: &TaskName, line: u32) -> u32
-    ensures { result ≡ (called_by line (spawn_or task.now action.now None)).line }
-{
-    match action {
-        Action::Spawn(spawned) => {
-            let spawn = spawned.get();
-            if spawn.child == *task {
-                spawn.body
-            } else {
-                line
-            }
-        }
-        _ => line,
+    match core.body(task) {
+        Some(line) => body_name(program, line),
+        None => unreachable!(),
     }
 }
 
@@ -55,16 +39,15 @@ fn append_head(
     core: &Core,
     task: &TaskName,
 ) -> Result<(), AllocError>
-    requires { Fits program.now core.now.run }
+    requires fits { Fits program.now core.now.run }
+    requires there { IsTrue (is_spawned (history core.now.run) task.now) }
     ensures { OnOk result (text.new
         ≡ text.old ++ head_text program.now (history core.now.run) task.now) }
 {
-    let entries = core.legal_entries();
-    let begins = body_line(program.root_line(), &entries, task);
     text.push_str("task ")?;
     text.push_name(task)?;
     text.push_str("\nbody ")?;
-    text.push_str(body_name(program, begins))?;
+    text.push_str(body_of(program, core, task))?;
     text.push_str("\nstate ")?;
     let mut near = None;
     let (word, at) = state(program, core, &mut near, task);

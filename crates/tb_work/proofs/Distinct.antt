@@ -1,5 +1,5 @@
 -- Places of several rows, each of which rises and has only places that its own row owns, are distinct.
-use Rattle.std.proofs.Common.{ℕ, ◌+◌, ◌<◌, ◌≤◌, ◌≡◌, ◌≢◌, suc, List, [], ◌∷◌, ◌++◌, Bool, true, false, cond, nat_eq, nat_lt, length, get_or, refl, ap, sym, ◌∙◌, arith}
+use Rattle.std.proofs.Common.{ℕ, ◌+◌, ◌<◌, ◌≤◌, ◌≡◌, ◌≢◌, suc, List, [], ◌∷◌, ◌++◌, Bool, true, false, cond, nat_eq, nat_lt, length, get_or, refl, ap, sym, subst, ◌∙◌, arith}
 use Rattle.std.proofs.lemmas.Bool.Decides.{nat_tests}
 use Rattle.tb_work.proofs.Numbered.{Rises}
 
@@ -57,32 +57,38 @@ not_owned own q n (p ∷ ps) o ne =
     let apart : p ≢ q = λ e. ne (ap own (sym e) ∙ o.0) in
     omega (arith, hit_none q p apart, not_owned own q n ps o.1 ne)
 
-abbrev pub concat : List (List ℕ) → List ℕ
+-- rows by their owners, one behind the other
+abbrev pub concat : List (ℕ × List ℕ) → List ℕ
 concat [] = []
-concat (r ∷ rs) = r ++ concat rs
+concat (r ∷ rs) = r.1 ++ concat rs
 
--- rows m, m + 1 and so on
-abbrev pub Good : (ℕ → ℕ) → ℕ → List (List ℕ) → Type 0
-Good own m [] = Unit {0}
-Good own m (r ∷ rs) = Rises 0 r × Owned own m r × Good own (m + 1) rs
+-- none of the rows is of this owner
+abbrev pub Apart : ℕ → List (ℕ × List ℕ) → Type 0
+Apart n [] = Unit {0}
+Apart n (r ∷ rs) = (r.0 ≢ n) × Apart n rs
 
-pub before_all : (own : ℕ → ℕ) (q m : ℕ) (rs : List (List ℕ)) → Good own m rs → own q < m → hits q (concat rs) ≡ 0
-before_all own q m [] good lt = refl
-before_all own q m (r ∷ rs) good lt =
-    let ne : own q ≢ m = λ e. absurd (omega (arith, e, lt)) in
-    omega (arith, hits-append q r (concat rs), not_owned own q m r good.1 ne, before_all own q (m + 1) rs good.2 (omega (arith, lt)))
+-- rows of owners of which no two are one
+abbrev pub Good : (ℕ → ℕ) → List (ℕ × List ℕ) → Type 0
+Good own [] = Unit {0}
+Good own (r ∷ rs) = Rises 0 r.1 × Owned own r.0 r.1 × Apart r.0 rs × Good own rs
 
-pub once : (own : ℕ → ℕ) (q m : ℕ) (rs : List (List ℕ)) → Good own m rs → hits q (concat rs) ≤ 1
-once own q m [] good = omega arith
-once own q m (r ∷ rs) good = by (nat_eq (own q) m) refl (once own q (m + 1) rs good.2)
+pub not_theirs : (own : ℕ → ℕ) (q : ℕ) (rs : List (ℕ × List ℕ)) → Good own rs → Apart (own q) rs → hits q (concat rs) ≡ 0
+not_theirs own q [] good apart = refl
+not_theirs own q (r ∷ rs) good apart =
+    let ne : own q ≢ r.0 = λ e. apart.0 (sym e) in
+    omega (arith, hits-append q r.1 (concat rs), not_owned own q r.0 r.1 good.1 ne, not_theirs own q rs good.3 apart.1)
+
+pub once : (own : ℕ → ℕ) (q : ℕ) (rs : List (ℕ × List ℕ)) → Good own rs → hits q (concat rs) ≤ 1
+once own q [] good = omega arith
+once own q (r ∷ rs) good = by (nat_eq (own q) r.0) refl (once own q rs good.3)
   where
-    by : (b : Bool) → nat_eq (own q) m ≡ b → hits q (concat rs) ≤ 1 → hits q (r ++ concat rs) ≤ 1
+    by : (b : Bool) → nat_eq (own q) r.0 ≡ b → hits q (concat rs) ≤ 1 → hits q (r.1 ++ concat rs) ≤ 1
     by true is rest =
-        let same : own q ≡ m = grind (arith, nat_tests) in
-        omega (arith, hits-append q r (concat rs), at_most_one q 0 r good.0, before_all own q (m + 1) rs good.2 (omega (arith, same)))
+        let same : own q ≡ r.0 = grind (arith, nat_tests) in
+        omega (arith, hits-append q r.1 (concat rs), at_most_one q 0 r.1 good.0, not_theirs own q rs good.3 (subst (λ n. Apart n rs) (sym same) good.2))
     by false is rest =
-        let ne : own q ≢ m = λ e. absurd (grind (arith, nat_tests)) in
-        omega (arith, hits-append q r (concat rs), not_owned own q m r good.1 ne, rest)
+        let ne : own q ≢ r.0 = λ e. absurd (grind (arith, nat_tests)) in
+        omega (arith, hits-append q r.1 (concat rs), not_owned own q r.0 r.1 good.1 ne, rest)
 
 -- what does not fall, and has nothing twice, rises
 pub strict : (n : ℕ) (ps : List ℕ) → ((k : ℕ) (d : ℕ) → suc k < length ps → nat_lt (get_or ps (suc k) d) (get_or ps k d) ≡ false)

@@ -1,5 +1,5 @@
 -- Receipts of all seats that stand in the journal, and are as many as its entries after the first, are all of these by place.
-use Rattle.std.proofs.Common.{ℕ, ◌+◌, ◌<◌, ◌≤◌, ◌≡◌, zero, suc, List, [], ◌∷◌, ◌++◌, Bool, true, false, cond, nat_eq, nat_lt, map, drop, length, get_or, refl, ap, sym, subst, ◌∙◌, arith, All, None, Some, length-append, append_assoc}
+use Rattle.std.proofs.Common.{ℕ, ◌+◌, ◌<◌, ◌≤◌, ◌≡◌, ◌≢◌, zero, suc, List, [], ◌∷◌, ◌++◌, Bool, true, false, cond, nat_eq, nat_lt, map, drop, length, get_or, refl, ap, sym, subst, ◌∙◌, arith, All, None, Some, length-append, append_assoc}
 use Rattle.std.proofs.lemmas.Bool.Decides.{nat_tests}
 use Rattle.std.proofs.lemmas.List.{length-map, get_or-map}
 use Rattle.std.proofs.lemmas.List.Sums.{sum_by-cons, sum_by-append}
@@ -12,9 +12,9 @@ use Rattle.tb_model.specs.declared.entry.Entry.{Entry}
 use Rattle.tb_model.specs.declared.entry.Entry.TheVariants.{Opened}
 use Rattle.tb_work.specs.declared.receipt.Receipt.{Receipt}
 use Rattle.tb_journal.specs.Journals.{seat_of}
-use Rattle.tb_work.specs.Receipts.{Seated, receipt, rises_from, all_of, IsRow, Stands, first_gap, all_receipts, receipts_in, receipts_from}
+use Rattle.tb_work.specs.Receipts.{Seated, HaveOwnNumbers, receipt, rises_from, all_of, IsRow, Stands, first_gap, all_receipts, receipts_in, receipts_from}
 use Rattle.tb_work.proofs.Numbered.{Rises, AllAtMost, all_places, from}
-use Rattle.tb_work.proofs.Distinct.{hit, hits, above, hits-append, hit_same, Owned, concat, Good, once, strict}
+use Rattle.tb_work.proofs.Distinct.{hit, hits, above, hits-append, hit_same, Owned, concat, Apart, Good, once, strict}
 
 -- a receipt's place
 abbrev pub place_of : Receipt → ℕ
@@ -85,18 +85,27 @@ owned_by J n (r ∷ rs) is at =
     let seat : seat_of r.entry ≡ n = grind (arith, nat_tests) in
     (ap seat_of (get_or_any J r.place Opened r.entry here.0 ∙ here.1) ∙ seat, owned_by J n rs rest (all_tail (IsAt J) r rs at))
 
-abbrev pub rows_of : List Seated → List (List ℕ)
-rows_of seats = map (λ s. places s.receipts) seats
+abbrev pub rows_of : List Seated → List (ℕ × List ℕ)
+rows_of seats = map (λ s. (s.number, places s.receipts)) seats
 
-good_rows : (J : List Entry) (m : ℕ) (seats : List Seated) → ((i : ℕ) (d : Seated) → i < length seats → (get_or seats i d).number ≡ m + i)
-    → All IsRow seats → All (IsAt J) (all_receipts seats) → Good (own J) m (rows_of seats)
-good_rows J m [] numbers rows at = tt
-good_rows J m (s ∷ ss) numbers rows at =
-    let row = all_head IsRow s ss rows in
-    let number : s.number ≡ m = omega (arith, numbers 0 s (omega arith)) in (
+apart_rows : (n : ℕ) (seats : List Seated) → ((i : ℕ) (d : Seated) → i < length seats → (get_or seats i d).number ≢ n) → Apart n (rows_of seats)
+apart_rows n [] apart = tt
+apart_rows n (s ∷ ss) apart = (apart 0 s (omega arith), apart_rows n ss (λ i d lt. apart (suc i) d (omega (arith, lt))))
+
+not_first : (i : ℕ) → 0 ≡ suc i → ⊥
+not_first i e = omega (arith, e)
+
+one_less : (i j : ℕ) → suc i ≡ suc j → i ≡ j
+one_less i j e = omega (arith, e)
+
+good_rows : (J : List Entry) (seats : List Seated) → HaveOwnNumbers seats → All IsRow seats → All (IsAt J) (all_receipts seats) → Good (own J) (rows_of seats)
+good_rows J [] numbers rows at = tt
+good_rows J (s ∷ ss) numbers rows at =
+    let row = all_head IsRow s ss rows in (
       rises_of 0 s.receipts row.rises,
-      owned_by J m s.receipts (subst (λ n. all_of n s.receipts ≡ true) number row.own) (all_left (IsAt J) s.receipts (all_receipts ss) at),
-      good_rows J (m + 1) ss (λ i d lt. omega (arith, numbers (suc i) d (omega (arith, lt)))) (all_tail IsRow s ss rows) (all_right (IsAt J) s.receipts (all_receipts ss) at),
+      owned_by J s.number s.receipts row.own (all_left (IsAt J) s.receipts (all_receipts ss) at),
+      apart_rows s.number ss (λ i d lt same. not_first i (numbers 0 (suc i) d (omega arith) (omega (arith, lt)) (sym same))),
+      good_rows J ss (λ i j d lt below same. one_less i j (numbers (suc i) (suc j) d (omega (arith, lt)) (omega (arith, below)) same)) (all_tail IsRow s ss rows) (all_right (IsAt J) s.receipts (all_receipts ss) at),
     )
 
 -- ---- how often a place stands in a list of receipts
@@ -154,9 +163,9 @@ lowest (zero ∷ ps) none lt = absurd (omega (arith, none, hit_same 0))
 lowest (suc p ∷ ps) none lt = omega arith
 
 -- nothing stands at place 0
-none_at_0 : (J : List Entry) (seats : List Seated) (m : ℕ) → Good (own J) m (rows_of seats) → hits 0 (concat (rows_of seats)) ≡ 0
-none_at_0 J [] m good = refl
-none_at_0 J (s ∷ ss) m good = omega (arith, hits-append 0 (places s.receipts) (concat (rows_of ss)), above 0 0 (places s.receipts) good.0 (omega arith), none_at_0 J ss (m + 1) good.2)
+none_at_0 : (J : List Entry) (seats : List Seated) → Good (own J) (rows_of seats) → hits 0 (concat (rows_of seats)) ≡ 0
+none_at_0 J [] good = refl
+none_at_0 J (s ∷ ss) good = omega (arith, hits-append 0 (places s.receipts) (concat (rows_of ss)), above 0 0 (places s.receipts) good.0 (omega arith), none_at_0 J ss good.3)
 
 not_less : (a b : ℕ) → a ≤ b → nat_lt b a ≡ false
 not_less a b le = grind (arith, nat_tests)
@@ -173,14 +182,13 @@ length_counted [] = refl
 length_counted (r ∷ rs) = omega (arith, length_counted rs, sum_by-cons (λ (x : Receipt). 1) r rs)
 
 pub whole : (J : List Entry) (seats : List Seated) (xs : List Receipt)
-    → ((i : ℕ) (d : Seated) → i < length seats → (get_or seats i d).number ≡ i)
-    → All IsRow seats → All (Stands J) (all_receipts seats) → first_gap (length J) (all_receipts seats) ≡ None
+    → HaveOwnNumbers seats → All IsRow seats → All (Stands J) (all_receipts seats) → first_gap (length J) (all_receipts seats) ≡ None
     → receipts_in seats + 1 ≡ length J → IsPermutation (all_receipts seats) xs → IsSortedByKey place_of nat_cmp xs
     → xs ≡ receipts_from 1 (drop 1 J)
 whole J seats xs numbers rows stand gap count same sorted =
     let at_all = at_their_places J (all_receipts seats) gap stand in
     let at = All-permutation (IsAt J) (all_receipts seats) xs same at_all in
-    let good = good_rows J 0 seats (λ i d lt. omega (arith, numbers i d lt)) rows at_all in
+    let good = good_rows J seats numbers rows at_all in
     let ps = places xs in
     let many : length ps ≡ length xs = length-map xs place_of in
     let one : Receipt → ℕ = λ r. 1 in
@@ -189,7 +197,7 @@ whole J seats xs numbers rows stand gap count same sorted =
     let hit_as : (q : ℕ) → hits q ps ≡ hits q (concat (rows_of seats)) = λ q. hits_summed q xs ∙ sum_by-IsPermutation (λ r. hit q r.place) (all_receipts seats) xs same ∙ sym (hits_rows q seats) in
     let rising = IsNonDecreasingBy-from_sort place_of xs sorted in
     let low : (k : ℕ) (d : ℕ) → suc k < length ps → nat_lt (get_or ps (suc k) d) (get_or ps k d) ≡ false = λ k d lt. falls_not xs rising k d (omega (arith, lt, many)) in
-    let rises = strict 0 ps low (λ q. omega (arith, hit_as q, once (own J) q 0 (rows_of seats) good)) (lowest ps (hit_as 0 ∙ none_at_0 J seats 0 good)) in
+    let rises = strict 0 ps low (λ q. omega (arith, hit_as q, once (own J) q (rows_of seats) good)) (lowest ps (hit_as 0 ∙ none_at_0 J seats good)) in
     let bound : AllAtMost (0 + length ps) ps = subst (λ n. AllAtMost n ps) (omega (arith, many)) (at_most J (length xs) xs long at) in
     let spelt : ps ≡ from 0 (length xs) = all_places 0 ps rises bound ∙ ap (from 0) many in
     let parts = behind J (length xs) long in

@@ -42,3 +42,8 @@ pub record TakesBurst (seat : ℕ) (plans : List Plan) (b : Burst) (old new : Se
   pub last : Session
   pub each : TakesEach seat b.taken plans b.refusal old last
   pub ended : new ≡ with_seat last seat None
+
+-- and the seat's newest receipts are theirs, from the place on that the journal had next
+pub record BurstsBy (P : Program) (old seat : Seated) (plans : List Plan) (b : Burst) (s new : Session) : Type 0 where
+  pub takes : TakesBurst old.number plans b s new
+  pub each : CommitsEach P b.taken (length s.journal) plans old seat

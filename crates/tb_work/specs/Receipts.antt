@@ -47,6 +47,10 @@ pub record Grew (old new : Seated) (place : ℕ) (entry : Entry) : Type 0 where
 abbrev pub HaveNumbers : List Seated → Type 0
 HaveNumbers seats = (i : ℕ) (d : Seated) → i < length seats → (slice_index_or seats i d).number ≡ i
 
+-- no two seats have one number
+abbrev pub HaveOwnNumbers : List Seated → Type 0
+HaveOwnNumbers seats = (i j : ℕ) (d : Seated) → i < length seats → j < length seats → (slice_index_or seats i d).number ≡ (slice_index_or seats j d).number → i ≡ j
+
 -- each seat's last place is below n
 abbrev pub AreBelow : ℕ → List Seated → Type 0
 AreBelow n seats = (i : ℕ) (d : Seated) → i < length seats → last_from 0 (slice_index_or seats i d).receipts < n

@@ -1,7 +1,7 @@
 //! A run is taken in: its entries are written to the places' cells, and each seat gets the receipts of
 //! its own.
 
-ghost use Rattle.std.specs.Prelude.{◌≡◌, ◌+◌, ◌<◌, ◌≤◌, ◌^◌, ◌++◌, [], ◌∷◌, Some, true, IsTrue, length, slice_index, vec_len, vec_capacity, map, take, IfOk, OnOk, IfErr};
+ghost use Rattle.std.specs.Prelude.{◌≡◌, ◌+◌, ◌<◌, ◌≤◌, ◌^◌, ◌++◌, [], ◌∷◌, Some, true, length, slice_index, vec_len, vec_capacity, map, take, IfOk, OnOk, IfErr};
 ghost use Rattle.tb_work.specs.Changes.{entries};
 ghost use Rattle.tb_journal.specs.Journals.{seat_of, all_below};
 ghost use Rattle.tb_work.specs.Receipts.{HaveNumbers, AreBelow, receipts_in};
@@ -37,15 +37,13 @@ pub fn journal_of(live: &Live) -> &Journal
     live.journal()
 }
 
-/// Whether the journal has begun and is within its limit. That of each run is, but no call tells it.
-fn is_within(live: &Live) -> bool
-    ensures begun { IsTrue result → 0 < length live.now.session.journal }
-    ensures within { IsTrue result → length live.now.session.journal ≤ live.now.session.limit }
-    ensures fits { IsTrue result → length live.now.session.journal < 2 ^ 32 }
+/// The journal has begun and is within its limit.
+fn has_begun(live: &Live)
+    ensures begun { 0 < length live.now.session.journal }
+    ensures within { length live.now.session.journal ≤ live.now.session.limit }
+    ensures fits { length live.now.session.journal < 2 ^ 32 }
 {
-    let limit = live.limit() as usize;
-    let length = journal_of(live).len();
-    0 < length && length <= limit
+    live.journal_is_sound();
 }
 
 /// Room for so many receipts.
@@ -185,9 +183,7 @@ impl<N: Team> Shared<N> {
         ensures err { IfErr result (λ e. e.0 ≡ live) }
     {
         let (mut book, mut spare) = blank.open::<N>();
-        if !is_within(&live) {
-            return Err((live, AdoptRefusal::CellTaken));
-        }
+        has_begun(&live);
         let Ok(room) = room_for(alloc, live.limit()) else {
             return Err((live, AdoptRefusal::Memory));
         };

@@ -4,7 +4,7 @@ ghost use Rattle.std.specs.Prelude.{◌≡◌, ◌+◌, ◌<◌, ◌≤◌, ◌+
 ghost use Rattle.std.specs.Ordering.{nat_cmp};
 ghost use Rattle.tb_model.specs.declared.entry.Entry.{Entry as AnEntry};
 ghost use Rattle.tb_work.specs.Changes.{entries};
-ghost use Rattle.tb_work.specs.Receipts.{first_gap, all_receipts, receipts_in, Stands, HaveNumbers, IsRow, receipts_from};
+ghost use Rattle.tb_work.specs.Receipts.{first_gap, all_receipts, receipts_in, Stands, HaveOwnNumbers, IsRow, receipts_from};
 ghost use Rattle.tb_work.specs.Closing.{IsReleased, IsUnclaimed};
 
 use crate::adopting::journal_of;
@@ -149,7 +149,7 @@ impl<N: Team> Shared<N> {
         ensures count { MatchResult result (λ c. receipts_in seats.items + 1 ≡ length c.live.session.journal) (λ g. receipts_in seats.items + 1 ≡ length g.closed.live.session.journal) }
         ensures receipts { MatchResult result (λ c. IsPermutation (all_receipts seats.items) c.receipts.items) (λ g. IsPermutation (all_receipts seats.items) g.closed.receipts.items) }
         ensures sorted { IfOk result (λ c. IsSortedByKey (λ r. r.place) nat_cmp c.receipts.items) }
-        ensures whole { HaveNumbers seats.items → IfOk result (λ c. c.receipts.items ≡ receipts_from 1 (drop 1 (entries c.live.session))) }
+        ensures whole { HaveOwnNumbers seats.items → IfOk result (λ c. c.receipts.items ≡ receipts_from 1 (drop 1 (entries c.live.session))) }
         ensures rows { All IsRow seats.items }
         ensures stands { MatchResult result (λ c. All (Stands (entries c.live.session)) (all_receipts seats.items)) (λ g. All (Stands (entries g.closed.live.session)) (all_receipts seats.items)) }
         ensures exact { MatchResult result (λ c. first_gap (length c.live.session.journal) (all_receipts seats.items) ≡ None) (λ g. first_gap (length g.closed.live.session.journal) (all_receipts seats.items) ≡ Some g.place) }

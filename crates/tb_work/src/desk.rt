@@ -1,6 +1,7 @@
 //! What lies under the lock.
 
-ghost use Rattle.std.specs.Prelude.{◌≡◌, ◌+◌, ◌<◌, ◌≤◌, Some, None, reverse, length, vec_len, vec_capacity, map, take, IfOk, IfErr, OnOk, OnErr};
+ghost use Rattle.std.specs.Prelude.{◌≡◌, ◌+◌, ◌<◌, ◌≤◌, ◌↔◌, Some, None, reverse, length, vec_len, vec_capacity, map, take, IfOk, IfErr, OnOk, OnErr};
+ghost use Rattle.tb_model.specs.declared.entry.Entry.TheVariants.{Rolled};
 ghost use Rattle.tb_control.specs.declared.mode.Mode.TheVariants.{Resumed};
 ghost use Rattle.tb_live.specs.Commits.{MayCommit};
 ghost use Rattle.tb_live.specs.Modes as modes;
@@ -8,8 +9,8 @@ ghost use Rattle.tb_live.specs.Moves.{RollsFor, UndoesFor};
 ghost use Rattle.tb_live.specs.Pauses.{with_mode};
 ghost use Rattle.tb_live.specs.Session.{with_seat};
 ghost use Rattle.tb_live.specs.Working.{ClaimsTask, ClaimsWork};
-ghost use Rattle.tb_work.specs.Answering.{ClaimsBy, ClaimsOneBy, CommitsBy, IsAnswer, IsOfTeam, RollsBy, Tells, UndoesBy};
-ghost use Rattle.tb_work.specs.Bursts.{CommitsBurst, TakesBurst, TakesEach, stepped_on};
+ghost use Rattle.tb_work.specs.Answering.{ClaimsBy, ClaimsOneBy, CommitsBy, IsAnswer, IsOfTeam, LetsGo, Pauses, Resumes, ResumesFor, RollsBy, Takes, Tells, UndoesBy};
+ghost use Rattle.tb_work.specs.Bursts.{BurstsBy, CommitsBurst, CommitsEach, TakesEach, stepped_on};
 ghost use Rattle.tb_work.specs.Going.{IsWhy};
 ghost use Rattle.tb_work.specs.Refusing.{RefusesPlan, RefusesRoll, RefusesUndo};
 ghost use Rattle.tb_work.specs.Changes.{Commits, RollsBack, entries};
@@ -21,6 +22,7 @@ use crate::entering::enter;
 use crate::places::Places;
 use crate::receipt::Receipt;
 use crate::refused::Refused;
+use crate::running::run_is_sound;
 use crate::seat::Seat;
 use crate::stopping::why_of;
 use crate::taking::{next_place, ready_undo, take_back, take_back_all, take_more, take_step};
@@ -64,7 +66,7 @@ impl<N: Team> Desk<N> {
     fn is_of_team(&self)
         ensures { IsOfTeam N.program N.limit N.breakpoints N.seats N.begun self.now.live.session }
     {
-        self.live.journal_is_sound();
+        run_is_sound(&self.live);
     }
 
     /// Prepares, writes the entry to the place's cell, and commits. The claim ends.
@@ -79,8 +81,8 @@ impl<N: Team> Desk<N> {
         ensures ok { IfOk result (Commits N.program plan seat.old seat.new) }
         ensures err { OnErr result (seat.new ≡ seat.old) }
 
-        ensures run { CommitsBy seat.old.number plan result self.old.live.session self.new.live.session }
-        ensures answer { IsAnswer N.program N.limit N.breakpoints N.seats N.begun (CommitsBy seat.old.number plan result) }
+        ensures run { CommitsBy seat.old seat.new plan result self.old.live.session self.new.live.session }
+        ensures answer { IsAnswer N.program N.limit N.breakpoints N.seats N.begun (CommitsBy seat.old seat.new plan result) }
     {
         self.is_of_team();
         self.commit_now(places, seat, plan)
@@ -96,7 +98,7 @@ impl<N: Team> Desk<N> {
         requires enough { N.limit ≤ length N.cells }
         ensures ok { IfOk result (Commits N.program plan seat.old seat.new) }
         ensures err { OnErr result (seat.new ≡ seat.old) }
-        ensures run { CommitsBy seat.old.number plan result self.old.live.session self.new.live.session }
+        ensures run { CommitsBy seat.old seat.new plan result self.old.live.session self.new.live.session }
     {
         let Desk {
             alloc,
@@ -129,8 +131,8 @@ impl<N: Team> Desk<N> {
         requires places { places.now ≡ N.cells }
         requires enough { N.limit ≤ length N.cells }
         ensures seat { CommitsBurst N.program plans.items seat.old seat.new result }
-        ensures run { TakesBurst seat.old.number plans.items result self.old.live.session self.new.live.session }
-        ensures answer { IsAnswer N.program N.limit N.breakpoints N.seats N.begun (TakesBurst seat.old.number plans.items result) }
+        ensures run { BurstsBy N.program seat.old seat.new plans.items result self.old.live.session self.new.live.session }
+        ensures answer { IsAnswer N.program N.limit N.breakpoints N.seats N.begun (BurstsBy N.program seat.old seat.new plans.items result) }
     {
         self.is_of_team();
         let burst = self.commit_each(places, seat, plans);
@@ -141,7 +143,8 @@ impl<N: Team> Desk<N> {
     fn commit_each(&mut self, places: &Places, seat: &mut Seat<N>, plans: Vec<Plan>) -> Burst
         requires places { places.now ≡ N.cells }
         requires enough { N.limit ≤ length N.cells }
-        ensures seat { CommitsBurst N.program plans.items seat.old seat.new result }
+        ensures each { CommitsEach N.program result.taken (length self.old.live.session.journal) plans.items seat.old seat.new }
+        ensures whole { (result.refusal ≡ None) ↔ (result.taken ≡ length plans.items) }
         ensures run { TakesEach seat.old.number result.taken plans.items result.refusal self.old.live.session self.new.live.session }
     {
         let mut taken = 0;
@@ -217,8 +220,8 @@ impl<N: Team> Desk<N> {
         ensures ok { OnOk result (RollsBack id.now seat.old seat.new) }
         ensures err { OnErr result (seat.new ≡ seat.old) }
 
-        ensures run { RollsBy seat.old.number id.now result self.old.live.session self.new.live.session }
-        ensures answer { IsAnswer N.program N.limit N.breakpoints N.seats N.begun (RollsBy seat.old.number id.now result) }
+        ensures run { RollsBy seat.old seat.new id.now result self.old.live.session self.new.live.session }
+        ensures answer { IsAnswer N.program N.limit N.breakpoints N.seats N.begun (RollsBy seat.old seat.new id.now result) }
     {
         self.is_of_team();
         self.roll_now(places, seat, id)
@@ -235,6 +238,7 @@ impl<N: Team> Desk<N> {
         ensures ok { OnOk result (RollsBack id.now seat.old seat.new) }
         ensures err { OnErr result (seat.new ≡ seat.old) }
         ensures rolled { IfOk result (λ removed. RollsFor seat.old.number self.old.live.session id.now self.new.live.session removed.items) }
+        ensures takes { OnOk result (Takes self.old.live.session (Rolled seat.old.number id.now) seat.old seat.new) }
         ensures stays { OnErr result (self.new.live.session ≡ self.old.live.session) }
         ensures refused { IfErr result (RefusesRoll self.old.live.session id.now) }
     {
@@ -276,8 +280,8 @@ impl<N: Team> Desk<N> {
         ensures ok { OnOk result (RollsBack id.now seat.old seat.new) }
         ensures err { OnErr result (seat.new ≡ seat.old) }
 
-        ensures run { UndoesBy seat.old.number id.now result self.old.live.session self.new.live.session }
-        ensures answer { IsAnswer N.program N.limit N.breakpoints N.seats N.begun (UndoesBy seat.old.number id.now result) }
+        ensures run { UndoesBy seat.old seat.new id.now result self.old.live.session self.new.live.session }
+        ensures answer { IsAnswer N.program N.limit N.breakpoints N.seats N.begun (UndoesBy seat.old seat.new id.now result) }
     {
         self.is_of_team();
         self.undo_now(places, seat, id)
@@ -294,6 +298,7 @@ impl<N: Team> Desk<N> {
         ensures ok { OnOk result (RollsBack id.now seat.old seat.new) }
         ensures err { OnErr result (seat.new ≡ seat.old) }
         ensures undone { IfOk result (UndoesFor seat.old.number self.old.live.session id.now self.new.live.session) }
+        ensures takes { OnOk result (Takes self.old.live.session (Rolled seat.old.number id.now) seat.old seat.new) }
         ensures stays { OnErr result (self.new.live.session ≡ self.old.live.session) }
         ensures refused { IfErr result (RefusesUndo seat.old.number self.old.live.session id.now) }
     {
@@ -346,29 +351,37 @@ impl<N: Team> Desk<N> {
 
     /// Ends the seat's claim.
     pub fn let_go(&mut self, seat: &Seat<N>)
-        ensures { self.new.live.session ≡ with_seat self.old.live.session seat.now.number None }
+        ensures left { self.new.live.session ≡ with_seat self.old.live.session seat.now.number None }
+        ensures answer { IsAnswer N.program N.limit N.breakpoints N.seats N.begun (LetsGo seat.now.number) }
     {
+        self.is_of_team();
         leave(&mut self.live, seat.number());
     }
 
     /// Pauses the run.
     pub fn pause(&mut self)
-        ensures { self.new.live.session ≡ with_mode self.old.live.session (modes.paused self.old.live.session.control.mode) }
+        ensures mode { self.new.live.session ≡ with_mode self.old.live.session (modes.paused self.old.live.session.control.mode) }
+        ensures answer { IsAnswer N.program N.limit N.breakpoints N.seats N.begun Pauses }
     {
+        self.is_of_team();
         pause(&mut self.live);
     }
 
     /// Lets the run go on.
     pub fn resume(&mut self)
-        ensures { self.new.live.session ≡ with_mode self.old.live.session Resumed }
+        ensures mode { self.new.live.session ≡ with_mode self.old.live.session Resumed }
+        ensures answer { IsAnswer N.program N.limit N.breakpoints N.seats N.begun Resumes }
     {
+        self.is_of_team();
         resume(&mut self.live);
     }
 
     /// Lets the run go on for so many steps.
     pub fn resume_for(&mut self, steps: u32)
-        ensures { self.new.live.session ≡ with_mode self.old.live.session (modes.counting steps) }
+        ensures mode { self.new.live.session ≡ with_mode self.old.live.session (modes.counting steps) }
+        ensures answer { IsAnswer N.program N.limit N.breakpoints N.seats N.begun (ResumesFor steps) }
     {
+        self.is_of_team();
         resume_for(&mut self.live, steps);
     }
 

@@ -1,10 +1,10 @@
 //! What any thread of a team asks of the run, and the workers.
 
-ghost use Rattle.std.specs.Prelude.{◌≡◌, ◌+◌, ◌<◌, ◌≤◌, All, Any, Err, length, IfOk, IsTrue, OnOk, OnErr};
+ghost use Rattle.std.specs.Prelude.{◌≡◌, ◌+◌, ◌<◌, ◌^◌, All, Any, Err, length, IfOk, IsTrue, OnOk, OnErr};
 ghost use Rattle.tb_work.specs.declared.ended.Ended.TheVariants.{Well, CellTaken};
 ghost use Rattle.tb_work.specs.declared.go_refusal.GoRefusal.TheVariants.{CellTaken as MetTakenCell};
-ghost use Rattle.tb_work.specs.Answering.{ClaimsBy, ClaimsOneBy, CommitsBy, IsAnswer, RollsBy, Tells, UndoesBy};
-ghost use Rattle.tb_work.specs.Bursts.{CommitsBurst, TakesBurst};
+ghost use Rattle.tb_work.specs.Answering.{ClaimsBy, ClaimsOneBy, CommitsBy, IsAnswer, LetsGo, Pauses, Resumes, ResumesFor, RollsBy, Tells, UndoesBy};
+ghost use Rattle.tb_work.specs.Bursts.{BurstsBy, CommitsBurst};
 ghost use Rattle.tb_work.specs.Changes.{Commits, RollsBack};
 ghost use Rattle.tb_work.specs.Claiming.{IsClaim, IsWorkFor};
 ghost use Rattle.tb_work.specs.Ending.{IsEnding, IsTurn};
@@ -53,7 +53,9 @@ impl<N: Team> Shared<N> {
     }
 
     /// Ends the seat's claim.
-    pub fn let_go<R: Wait>(&self, rt: &R, seat: &Seat<N>) {
+    pub fn let_go<R: Wait>(&self, rt: &R, seat: &Seat<N>)
+        ensures { IsAnswer N.program N.limit N.breakpoints N.seats N.begun (LetsGo seat.now.number) }
+    {
         self.desk.lock(rt).let_go(seat);
     }
 
@@ -67,7 +69,7 @@ impl<N: Team> Shared<N> {
     ) -> Result<u32, Refused<CommitRefusal>>
         ensures ok { IfOk result (Commits N.program plan seat.old seat.new) }
         ensures err { OnErr result (seat.new ≡ seat.old) }
-        ensures answer { IsAnswer N.program N.limit N.breakpoints N.seats N.begun (CommitsBy seat.old.number plan result) }
+        ensures answer { IsAnswer N.program N.limit N.breakpoints N.seats N.begun (CommitsBy seat.old seat.new plan result) }
     {
         self.desk.lock(rt).commit(&self.places, seat, plan)
     }
@@ -75,7 +77,7 @@ impl<N: Team> Shared<N> {
     /// Commits the plans one after another, in one hold of the lock, until one is refused. The claim ends.
     pub fn commit_burst<R: Wait>(&self, rt: &R, seat: &mut Seat<N>, plans: Vec<Plan>) -> Burst
         ensures seat { CommitsBurst N.program plans.items seat.old seat.new result }
-        ensures answer { IsAnswer N.program N.limit N.breakpoints N.seats N.begun (TakesBurst seat.old.number plans.items result) }
+        ensures answer { IsAnswer N.program N.limit N.breakpoints N.seats N.begun (BurstsBy N.program seat.old seat.new plans.items result) }
     {
         self.desk.lock(rt).commit_burst(&self.places, seat, plans)
     }
@@ -90,7 +92,7 @@ impl<N: Team> Shared<N> {
     ) -> Result<Vec<Removed>, Refused<RollRefusal>>
         ensures ok { OnOk result (RollsBack id.now seat.old seat.new) }
         ensures err { OnErr result (seat.new ≡ seat.old) }
-        ensures answer { IsAnswer N.program N.limit N.breakpoints N.seats N.begun (RollsBy seat.old.number id.now result) }
+        ensures answer { IsAnswer N.program N.limit N.breakpoints N.seats N.begun (RollsBy seat.old seat.new id.now result) }
     {
         self.desk.lock(rt).roll(&self.places, seat, id)
     }
@@ -104,18 +106,22 @@ impl<N: Team> Shared<N> {
     ) -> Result<Removed, Refused<UndoRefusal>>
         ensures ok { OnOk result (RollsBack id.now seat.old seat.new) }
         ensures err { OnErr result (seat.new ≡ seat.old) }
-        ensures answer { IsAnswer N.program N.limit N.breakpoints N.seats N.begun (UndoesBy seat.old.number id.now result) }
+        ensures answer { IsAnswer N.program N.limit N.breakpoints N.seats N.begun (UndoesBy seat.old seat.new id.now result) }
     {
         self.desk.lock(rt).undo(&self.places, seat, id)
     }
 
     /// Pauses the run. What is paused stays as it is.
-    pub fn pause<R: Wait>(&self, rt: &R) {
+    pub fn pause<R: Wait>(&self, rt: &R)
+        ensures { IsAnswer N.program N.limit N.breakpoints N.seats N.begun Pauses }
+    {
         self.desk.lock(rt).pause();
     }
 
     /// Lets the run go on.
-    pub fn resume<R: Wait>(&self, rt: &R) {
+    pub fn resume<R: Wait>(&self, rt: &R)
+        ensures { IsAnswer N.program N.limit N.breakpoints N.seats N.begun Resumes }
+    {
         self.desk.lock(rt).resume();
     }
 
@@ -175,7 +181,7 @@ impl<N: Team> Shared<N> {
     ) -> u64
     where
         N: Send + Sync,
-        requires { (0 < length seats.old) × (length seats.old ≤ 65) }
+        requires { (0 < length seats.old) × (length seats.old < 2 ^ 32) }
         ensures steps { result + receipts_in seats.old ≡ receipts_in seats.new }
         ensures grew { AllGrew seats.old seats.new }
     {
@@ -200,8 +206,9 @@ impl<N: Team> Shared<N> {
     ) -> Result<Ran, GoRefusal>
     where
         N: Send + Sync,
-        requires { (0 < length seats.old) × (length seats.old ≤ 65) }
+        requires { (0 < length seats.old) × (length seats.old < 2 ^ 32) }
         ensures steps { IfOk result (λ r. r.steps + receipts_in seats.old ≡ receipts_in seats.new) }
+        ensures resumed { IsAnswer N.program N.limit N.breakpoints N.seats N.begun (ResumesFor most) }
         ensures why { IfOk result (λ r. IsAnswer N.program N.limit N.breakpoints N.seats N.begun (Tells r.why)) }
         ensures well { OnOk result (All (λ s. IsAnswer N.program N.limit N.breakpoints N.seats N.begun (IsEnding s.number Well)) seats.new) }
         ensures taken { result ≡ Err MetTakenCell → Any (λ s. IsAnswer N.program N.limit N.breakpoints N.seats N.begun (IsEnding s.number CellTaken)) seats.new }
@@ -246,7 +253,7 @@ fn all_ended_well<N: Team>(seats: &[Seat<N>]) -> bool
 
 /// How many receipts there are.
 fn count<N: Team>(seats: &[Seat<N>]) -> u64
-    requires { length seats.now ≤ 65 }
+    requires { length seats.now < 2 ^ 32 }
     ensures { result ≡ receipts_in seats.now }
 {
     let mut sum = 0u64;

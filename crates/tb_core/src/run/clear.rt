@@ -19,7 +19,7 @@ impl Core {
         requires { MayTake self.old.run task.now action }
         ensures taken { OnOk result (Takes self.old.run task.now action to self.new.run
             (event_for self.old.run task.now action)) }
-        ensures err { OnErr result (self.new.run ≡ self.old.run) }
+        ensures err { OnErr result (self.new ≡ self.old) }
     {
         let task = task.clone()?;
         if is_whole(&action) {
@@ -36,7 +36,7 @@ impl Core {
         requires may { MayTake self.old.run task action }
         ensures taken { OnOk result (Takes self.old.run task action to self.new.run
             (event_for self.old.run task action)) }
-        ensures err { OnErr result (self.new.run ≡ self.old.run) }
+        ensures err { OnErr result (self.new ≡ self.old) }
     {
         let _ = &self.tables;
         self.append(Event { task, action }, to)?;
@@ -49,9 +49,9 @@ impl Core {
         requires { MayTake self.old.run task action }
         ensures taken { OnOk result (Takes self.old.run task action to self.new.run
             (event_for self.old.run task action)) }
-        ensures err { OnErr result (self.new.run ≡ self.old.run) }
+        ensures err { OnErr result (self.new ≡ self.old) }
     {
-        let event = fill_in(&self.tables, task, action, None)?;
+        let event = fill_in(&self.tables, task, action)?;
         self.append(event, to)?;
         Ok(())
     }
@@ -65,7 +65,7 @@ impl Core {
     ) -> Result<Event, AllocError>
         requires { MayTake self.old.run task.now action }
         ensures taken { IfOk result (Takes self.old.run task.now action to self.new.run) }
-        ensures err { OnErr result (self.new.run ≡ self.old.run) }
+        ensures err { OnErr result (self.new ≡ self.old) }
     {
         let event = self.event_of_clear(task, action)?;
         let copy = copy_event(&event)?;

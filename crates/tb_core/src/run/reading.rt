@@ -6,7 +6,7 @@ ghost use Rattle.tb_places.specs.Where.{places_where};
 ghost use Rattle.tb_model.specs.Facts.{is_of, is_print, is_spawned, touches, own, items_of, before, apart};
 ghost use Rattle.tb_model.specs.Legal.{spawn_count};
 ghost use Rattle.tb_model.specs.LeastNames.{IsLeastName};
-ghost use Rattle.tb_model.specs.State.{printed, open_groups};
+ghost use Rattle.tb_model.specs.State.{called_by, open_groups, printed, spawn_of};
 ghost use Rattle.tb_undo.specs.Obstacles.{sibling};
 ghost use Rattle.tb_undo.specs.Readings.{IsUnendedBehind};
 ghost use Rattle.tb_undo.specs.State.{AreLast};
@@ -58,6 +58,13 @@ impl Core {
         ensures { result ≡ length (open_groups (own task.now (history self.now.run))) }
     {
         self.tables.groups(task)
+    }
+
+    /// The line that begins the body of a task that is there.
+    pub fn body(&self, task: &TaskName) -> Option<u32>
+        ensures { result ≡ (if is_spawned (history self.now.run) task.now then Some (called_by self.now.run.root_line (spawn_of task.now (history self.now.run))).line else None) }
+    {
+        self.tables.body(task)
     }
 
     /// How many children a task that is there has generated.

@@ -1,7 +1,7 @@
 //! Claims of seats on tasks.
 
 ghost use Rattle.std.specs.Prelude.{◌≡◌, ◌<◌, IfOk, IsOk, OnErr, IsTrue, length};
-ghost use Rattle.tb_live.specs.Working.{ClaimsTask, ClaimsWork, is_stopped};
+ghost use Rattle.tb_live.specs.Working.{ClaimsTask, ClaimsWork, SaysDone, is_stopped};
 
 use super::Live;
 use std::alloc::AllocError;
@@ -38,11 +38,13 @@ impl Live {
     }
 
     /// Gives up the seat's former claim, and gives it one on the least task that can step and that no
-    /// other seat claims. A run that is paused, or whose journal is full, takes no memory for that. What
-    /// is prepared is kept.
+    /// other seat claims. It answers Done exactly where all tasks have ended or faulted, but for a run that
+    /// is paused, or whose journal is full: that one is stopped, and takes no memory to say so. What is
+    /// prepared is kept.
     pub fn claim(&mut self, seat: u32) -> Result<Claim, AllocError>
         requires { seat < length self.old.session.control.claims }
         ensures ok { IfOk result (ClaimsWork self.old.session seat self.new.session) }
+        ensures done { IfOk result (SaysDone self.old.session) }
         ensures err { OnErr result (self.new ≡ self.old) }
         ensures stopped { IsTrue (is_stopped self.old.session) → IsOk result }
         ensures prepared { self.new.prepared ≡ self.old.prepared }

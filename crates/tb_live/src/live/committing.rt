@@ -1,19 +1,16 @@
 //! Plans that seats commit, and rollbacks that are prepared.
 
-ghost use Rattle.std.specs.Prelude.{◌≡◌, ◌≢◌, IfOk, IfErr, OnErr, IfSome, IfNone, IsOk, IsSome, Some};
+ghost use Rattle.std.specs.Prelude.{◌≡◌, IfOk, IfErr, OnErr, IfSome, IfNone, IsOk, IsSome, Some};
 ghost use Rattle.tb_model.specs.declared.entry.Entry.TheVariants.{Rolled};
-ghost use Rattle.tb_core.specs.declared.step_refusal.StepRefusal.TheVariants.{Memory};
-ghost use Rattle.tb_live.specs.declared.commit_refusal.CommitRefusal.TheVariants.{Step as NotTaken};
 ghost use Rattle.tb_live.specs.Commits.{Commits, CommitsMore, IsPrepared, IsOffered, MayCommit, RefusesCommit, entry_to_come};
 ghost use Rattle.tb_live.specs.Moves.{IsRollPrepared, KeepsAll};
 
 use super::Live;
 use crate::commit_refusal::CommitRefusal;
 use crate::committing::{enter_on, enter_plan};
-use crate::prepared::{Prepared, copy_of, keep};
+use crate::prepared::{Prepared, keep};
 use crate::rolling::ready_roll;
 use crate::stepping::ready_step;
-use tb_core::StepRefusal;
 use tb_model::{Entry, StepId};
 use tb_next::foreign;
 use tb_plan::Plan;
@@ -21,13 +18,13 @@ use tb_roll::RollRefusal;
 
 impl Live {
     /// Takes all memory for a commit of the plan by the seat, and tells the entry to come, whose place
-    /// is the journal's length. The `commit` of that plan right behind it is done, and takes none. A
-    /// refusal keeps what an earlier call prepared, but for want of memory.
+    /// is the journal's length. The `commit` of that plan right after it is done, and takes none. A
+    /// refusal, for want of memory too, keeps what an earlier call prepared.
     pub fn prepare(&mut self, seat: u32, plan: &Plan) -> Result<Entry, CommitRefusal>
         ensures session { self.new.session ≡ self.old.session }
         ensures prepared { IfOk result (IsPrepared seat self.new plan.now) }
         ensures refused { IfErr result (RefusesCommit self.old.session seat plan.now) }
-        ensures kept { IfErr result (λ e. e ≢ NotTaken Memory → self.new ≡ self.old) }
+        ensures kept { OnErr result (self.new ≡ self.old) }
     {
         if let Some(refusal) = self.withheld(seat, plan) {
             return Err(refusal);
@@ -40,25 +37,20 @@ impl Live {
             self.limit,
             plan,
         ) {
-            Ok(event) => match copy_of(&event) {
-                Ok(copy) => {
-                    keep(&mut self.prepared, Prepared::Step { seat, event: copy });
-                    Ok(Entry::Stepped { seat, event })
-                }
-                Err(_) => Err(CommitRefusal::Step {
-                    refusal: StepRefusal::Memory,
-                }),
-            },
+            Ok((event, copy)) => {
+                keep(&mut self.prepared, Prepared::Step { seat, event: copy });
+                Ok(Entry::Stepped { seat, event })
+            }
             Err(refusal) => Err(CommitRefusal::Step { refusal }),
         }
     }
 
     /// Takes the step of a plan that was made for the task that the seat claims, and answers the place
     /// of its entry. The claim ends. A plan that isn't for the task's situation by this program is
-    /// stale. A refusal keeps what is prepared, but for want of memory.
+    /// stale. A refusal, for want of memory too, keeps what is prepared.
     pub fn commit(&mut self, seat: u32, plan: Plan) -> Result<u32, CommitRefusal>
         ensures committed { Commits seat self.old.session plan self.new.session result }
-        ensures kept { IfErr result (λ e. e ≢ NotTaken Memory → self.new ≡ self.old) }
+        ensures kept { OnErr result (self.new ≡ self.old) }
         ensures room { MayCommit self.old.session seat plan
             → self.old.prepared ≡ Some (entry_to_come seat self.old.session plan) → IsOk result }
     {
@@ -85,7 +77,7 @@ impl Live {
     /// Takes the step of a plan as `commit` does, and keeps the claim: the seat goes on with the task.
     pub fn commit_more(&mut self, seat: u32, plan: Plan) -> Result<u32, CommitRefusal>
         ensures committed { CommitsMore seat self.old.session plan self.new.session result }
-        ensures kept { IfErr result (λ e. e ≢ NotTaken Memory → self.new ≡ self.old) }
+        ensures kept { OnErr result (self.new ≡ self.old) }
         ensures room { MayCommit self.old.session seat plan
             → self.old.prepared ≡ Some (entry_to_come seat self.old.session plan) → IsOk result }
     {

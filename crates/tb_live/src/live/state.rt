@@ -1,7 +1,8 @@
 //! What a task's state is beside its situation.
 
-ghost use Rattle.std.specs.Prelude.{◌≡◌, ◌↔◌, IfOk, IsTrue};
-ghost use Rattle.tb_model.specs.Facts.{own};
+ghost use Rattle.std.specs.Prelude.{◌≡◌, ◌↔◌, IfOk, IsTrue, Some, None, if◌then◌else◌};
+ghost use Rattle.tb_model.specs.Facts.{is_spawned, own};
+ghost use Rattle.tb_model.specs.Program.{called};
 ghost use Rattle.tb_model.specs.State.{Faulted, status_of, open_groups_of, is_unended_child, is_unended_member_of};
 ghost use Rattle.tb_core.specs.Listed.{AreAll};
 ghost use Rattle.tb_live.specs.Session.{history};
@@ -11,6 +12,14 @@ use std::alloc::AllocError;
 use tb_model::{StepId, TaskName};
 
 impl Live {
+    /// The line that begins the body of a task that is there.
+    pub fn body(&self, task: &TaskName) -> Option<u32>
+        ensures { result ≡ (if is_spawned (history self.now.session) task.now
+            then Some (called self.now.session.program task.now (history self.now.session)).line else None) }
+    {
+        self.core.body(task)
+    }
+
     /// Whether the task is over by a fault. One that has ended and hasn't faulted is over by an end.
     pub fn has_faulted(&self, task: &TaskName) -> bool
         ensures { IsTrue result ↔ (status_of (own task.now (history self.now.session)) ≡ Faulted) }

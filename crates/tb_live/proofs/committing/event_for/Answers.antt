@@ -10,8 +10,11 @@ refusal-requires c = native_fits c.args.program.now c.args.core.now.run c.args.p
 pub ready_step-requires-clause-fits : goal.ready_step-requires-clause-fits
 ready_step-requires-clause-fits c = native_fits c.args.program.now c.args.core.now.run c.args.plan.now c.requires.fits c.requires.native
 
-pub returns-then-not-holds_step-clause-serves : goal.returns-then-not-holds_step-clause-serves
-returns-then-not-holds_step-clause-serves c = c.ready_step.ensures.serves c.args.program.now c.requires.room
+pub returns-in-Ok-clause-serves : goal.returns-in-Ok-clause-serves
+returns-in-Ok-clause-serves c = c.ready_step.ensures.serves c.args.program.now c.requires.room
+
+pub returns-in-Err-clause-serves : goal.returns-in-Err-clause-serves
+returns-in-Err-clause-serves c = c.ready_step.ensures.serves c.args.program.now c.requires.room
 
 -- what is prepared serves
 pub returns-clause-readied : goal.returns-clause-readied

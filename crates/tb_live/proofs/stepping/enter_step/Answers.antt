@@ -21,7 +21,7 @@ returns-then-limit-len-clause-entered c p says current =
 
 pub returns-in-Err-clause-entered : goal.returns-in-Err-clause-entered
 returns-in-Err-clause-entered c p says current =
-    memory_enters c.args.limit c.args.seat c.args.core.now.run c.args.core.now.run p c.args.journal.now.items c.args.journal.now.items c.args.control.now c.args.control.now refl refl refl (some_place c.args.limit c.args.journal.now.items (search rules))
+    memory_enters c.args.limit c.args.seat c.args.core.now.run c.args.core.now.run c.args.task.now c.args.coming p c.args.journal.now.items c.args.journal.now.items c.args.control.now c.args.control.now says c.in_default-hindrance.ensures.none refl refl refl (some_place c.args.limit c.args.journal.now.items (search rules))
 
 pub enter_clear-requires-clause-clear : goal.enter_clear-requires-clause-clear
 enter_clear-requires-clause-clear c =

@@ -18,7 +18,7 @@ returns-in-Some-index_mut-clause-rows c =
     (found c.args.waits.now.tasks c.args.rows.now.items c.requires c.args.name.now c.in-Some.at (sym c.find.ensures ∙ c.in-Some.is) c.index_mut.result.now c.index_mut.ensures.value c.in-Some-index_mut.row c.in-Some-index_mut.is)
     (writes c.args.waits.now.tasks c.args.rows.now.items c.requires c.args.name.now c.in-Some.at (sym c.find.ensures ∙ c.in-Some.is) c.index_mut.result.now c.index_mut.ensures.value
     c.in-Some-index_mut.row c.reserve_child.new.self c.in-Some-index_mut.is (ap (λ h. h.parent) c.reserve_child.ensures.holders))
-    c.reserve_child.ensures.task c.reserve_child.ensures.holders
+    c.reserve_child.ensures.task c.reserve_child.ensures.holders c.reserve_child.ensures.keeps
 
 pub returns-in-Some-index_mut-clause-ok : goal.returns-in-Some-index_mut-clause-ok
 returns-in-Some-index_mut-clause-ok c =

@@ -18,7 +18,7 @@ returns-in-Some-index_mut-clause-same c =
     (found c.args.waits.now.tasks c.args.rows.now.items c.requires.placed at.parent c.in-Some.at at.place c.index_mut.result.now c.index_mut.ensures.value c.in-Some-index_mut.row c.in-Some-index_mut.is)
     (writes c.args.waits.now.tasks c.args.rows.now.items c.requires.placed at.parent c.in-Some.at at.place c.index_mut.result.now c.index_mut.ensures.value
     c.in-Some-index_mut.row c.reserve_hold.new.self c.in-Some-index_mut.is c.reserve_hold.ensures.keeps.parent)
-    c.reserve_hold.ensures.task c.reserve_hold.ensures.same c.reserve_hold.ensures.keeps
+    c.reserve_hold.ensures.task c.reserve_hold.ensures.same c.reserve_hold.ensures.keeps c.reserve_hold.ensures.rooms
 
 pub returns-in-Some-index_mut-clause-ok : goal.returns-in-Some-index_mut-clause-ok
 returns-in-Some-index_mut-clause-ok c =

@@ -17,4 +17,4 @@ pub returns-in-Err-Memory-clause-refused : goal.returns-in-Err-Memory-clause-ref
 returns-in-Err-Memory-clause-refused c =
     let s = c.args.live.now.session in
     let e = c.in-Err-Memory in
-    no_room s c.args.seat c.args.id.now (subst (λ (r : RollRefusal). KeepsAll s c.args.id.now r) e.field-0-is e.ensures.refused)
+    no_room c.core.result.now.run s c.args.seat c.args.id.now c.core.ensures.history c.in_default.ensures.none (subst (λ (r : RollRefusal). KeepsAll s c.args.id.now r) e.field-0-is e.ensures.refused)

@@ -1,4 +1,5 @@
-use Rattle.std.proofs.Common.{◌≡◌, get_or, refl, sym, ap, ◌∙◌}
+use Rattle.std.proofs.Common.{◌≡◌, get_or, refl, sym, ap, ◌∙◌, subst}
+use Rattle.std.specs.Result.{IsErr}
 use Rattle.std.proofs.lemmas.Option.{get_or_from_slice_get}
 use Rattle.tb_wait.specs.Kin.{place}
 use Rattle.tb_model.specs.Facts.{is_of}
@@ -21,7 +22,7 @@ returns-in-Err-clause-kept c =
     let i = c.self.inside in
     needed i.first.items i.root_line i.limit (entries_in i.tables i.entries.items) c.of-entries.result c.of-entries.result c.args.id.now c.in-Some.at c.in-Some-first_needer.by c.args.self.now.run
     (ap (λ (h : Held). h.run) c.self.view_is) c.self.invariant.0.legal (c.of-entries.ensures ∙ ap (entries_in c.self.inside.tables) c.as_slice.ensures.value) (c.of-entries.ensures ∙ ap (entries_in c.self.inside.tables) c.as_slice.ensures.value)
-    (c.in-Some.ensures.there.0 refl) c.in-Some.ensures.step c.in-Some-first_needer.ensures.needer c.in-Some-first_needer.ensures.within
+    (c.in-Some.ensures.there.0 refl) c.in-Some.ensures.step c.in-Some-first_needer.ensures.needer c.in-Some-first_needer.ensures.within (λ j h. c.step_among.ensures.long j (subst IsErr (sym c.in-Err.is) refl) h)
 
 pub place_in-requires : goal.place_in-requires
 place_in-requires c =

@@ -1,6 +1,6 @@
 use Rattle.std.proofs.Common.{ap, sym, ◌∙◌}
 use Rattle.tb_control.specs.Claims.{with_claim}
-use Rattle.tb_live.proofs.WorkLemmas.{lawful_found, live_claims}
+use Rattle.tb_live.proofs.WorkLemmas.{lawful_found, live_claims, says_done}
 use Rattle.tb_live.specs.Session.{Held}
 use Rattle.tb_live.proofs.live.Live.claim.Goals as goal
 
@@ -14,3 +14,12 @@ returns-in-Ok-clause-ok c =
     let i = c.self.inside in
     live_claims i.program i.limit i.journal.items i.control i.core.run c.args.self.now.session (ap (λ (h : Held). h.session) c.self.view_is) c.self.invariant.0 c.args.seat c.in-Ok.claim c.set.new.self (sym c.is_paused.ensures ∙ c.if-is_paused.false) (sym c.is_full.ensures ∙ c.if-is_full.false) c.in-Ok.ensures.found.1
     (c.set.ensures ∙ ap (with_claim i.control.claims c.args.seat) c.in-Ok.ensures.found.0)
+
+pub returns-in-Ok-clause-done : goal.returns-in-Ok-clause-done
+returns-in-Ok-clause-done c =
+    let i = c.self.inside in
+    let s = c.args.self.now.session in
+    let shows = ap (λ (h : Held). h.session) c.self.view_is in
+    says_done i.program i.limit i.journal.items i.control i.core.run s shows c.self.invariant.0 c.args.seat _ c.in-Ok.claim
+    (live_claims i.program i.limit i.journal.items i.control i.core.run s shows c.self.invariant.0 c.args.seat c.in-Ok.claim c.set.new.self (sym c.is_paused.ensures ∙ c.if-is_paused.false) (sym c.is_full.ensures ∙ c.if-is_full.false) c.in-Ok.ensures.found.1
+    (c.set.ensures ∙ ap (with_claim i.control.claims c.args.seat) c.in-Ok.ensures.found.0))

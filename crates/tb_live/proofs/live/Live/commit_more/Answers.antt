@@ -1,6 +1,5 @@
 use Rattle.std.proofs.Common.{ap, ◌∙◌, rules}
 use Rattle.std.specs.Prelude.{Ok, Err}
-use Rattle.tb_live.specs.declared.commit_refusal.CommitRefusal.TheVariants.{Step as NotTaken}
 use Rattle.tb_control.specs.Claims.{claim_of}
 use Rattle.tb_live.specs.Moves.{coming}
 use Rattle.tb_live.specs.Session.{Held}
@@ -51,7 +50,7 @@ pub returns-clause-kept : goal.returns-clause-kept
 returns-clause-kept c =
     let i = c.self.inside in
     let e = c.in-Err.ensures.entered in
-    λ n. same_held i.program i.limit i.journal.items c.enter_on.new.journal.items i.control c.enter_on.new.control i.prepared c.enter_on.new.prepared c.args.self.now c.self.view_is e.1 e.2 (c.in-Err.ensures.kept (λ same. n (ap NotTaken same)))
+    same_held i.program i.limit i.journal.items c.enter_on.new.journal.items i.control c.enter_on.new.control i.prepared c.enter_on.new.prepared c.args.self.now c.self.view_is e.1 e.2 c.in-Err.ensures.kept
 
 -- what is prepared serves, so nothing is refused
 pub returns-clause-room : goal.returns-clause-room

@@ -33,8 +33,8 @@ loop-plan-preserved g c =
       place = omega (arith, place.0, place.1, at.invariant.place);
     }
 
-pub returns-in-Err-clause-seat : goal.returns-in-Err-clause-seat
-returns-in-Err-clause-seat g c =
+pub returns-in-Err-clause-each : goal.returns-in-Err-clause-each
+returns-in-Err-clause-each g c =
     let at = c.loop-plan in
     let first = length c.args.self.now.live.session.journal in
     let rest = into_iter_items c.next.new.self in
@@ -44,12 +44,18 @@ returns-in-Err-clause-seat g c =
     let whole : at.yielded ++ c.in-Some.plan ∷ rest ≡ c.args.plans.items = ap (λ (l : List Plan). at.yielded ++ l) (sym step) ∙ sym front ∙ given in
     let here : CommitsEach g.N.Team.program at.taken first at.yielded c.args.seat.now c.commit_more.new.seat =
     subst (λ (s : Seated). CommitsEach g.N.Team.program at.taken first at.yielded c.args.seat.now s) (sym c.in-Err.ensures.err) at.invariant.each in
+    subst (λ (l : List Plan). CommitsEach g.N.Team.program at.taken first l c.args.seat.now c.commit_more.new.seat) whole (each_before g.N.Team.program at.taken first at.yielded (c.in-Some.plan ∷ rest) c.args.seat.now c.commit_more.new.seat here)
+
+pub returns-in-Err-clause-whole : goal.returns-in-Err-clause-whole
+returns-in-Err-clause-whole g c =
+    let at = c.loop-plan in
+    let rest = into_iter_items c.next.new.self in
+    let given : into_iter_items c.into_iter-plan-iterator.result ≡ c.args.plans.items = c.into_iter-plan-iterator.ensures.into_iter_gives.0 in
+    let front : into_iter_items c.into_iter-plan-iterator.result ≡ at.yielded ++ into_iter_items at.plan-iterator = taken_front c.into_iter-plan-iterator.result at.yielded at.plan-iterator at.yielded_by in
+    let step : into_iter_items at.plan-iterator ≡ c.in-Some.plan ∷ rest = c.in-Some.ensures.steps.0 in
+    let whole : at.yielded ++ c.in-Some.plan ∷ rest ≡ c.args.plans.items = ap (λ (l : List Plan). at.yielded ++ l) (sym step) ∙ sym front ∙ given in
     let long : length c.args.plans.items ≡ length at.yielded + suc (length rest) = ap length (sym whole) ∙ length-append at.yielded (c.in-Some.plan ∷ rest) in
-    record {
-      place = first;
-      each = subst (λ (l : List Plan). CommitsEach g.N.Team.program at.taken first l c.args.seat.now c.commit_more.new.seat) whole (each_before g.N.Team.program at.taken first at.yielded (c.in-Some.plan ∷ rest) c.args.seat.now c.commit_more.new.seat here);
-      whole = ((λ is. absurd (none-some c.in-Err.refusal (sym is))), (λ is. absurd (omega (arith, is, long, at.invariant.all))));
-    }
+    ((λ is. absurd (none-some c.in-Err.refusal (sym is))), (λ is. absurd (omega (arith, is, long, at.invariant.all))))
 
 pub returns-in-Err-clause-run : goal.returns-in-Err-clause-run
 returns-in-Err-clause-run g c =

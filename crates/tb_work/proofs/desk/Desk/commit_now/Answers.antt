@@ -27,17 +27,18 @@ invariant_of-self-2 g c =
 
 pub returns-in-Err-clause-run : goal.returns-in-Err-clause-run
 returns-in-Err-clause-run g c =
-    run_refuses c.args.self.now.live.session c.prepare.new.self.session c.number.result c.args.seat.now.number c.args.plan c.in-Err.refusal c.in-Err.ensures.session (search rules) c.in-Err.ensures.refused
+    run_refuses c.args.self.now.live.session c.prepare.new.self.session c.number.result c.args.plan c.in-Err.refusal c.args.seat.now c.in-Err.ensures.session (search rules) c.in-Err.ensures.refused
 
 pub returns-in-Err-CellTaken-clause-run : goal.returns-in-Err-CellTaken-clause-run
 returns-in-Err-CellTaken-clause-run g c =
-    taken_now c.args.self.now.live.session c.prepare.new.self.session c.number.result c.args.seat.now.number c.args.plan c.in-Ok.ensures.session (search rules) c.in-Ok.ensures.prepared.may
+    taken_now c.args.self.now.live.session c.prepare.new.self.session c.number.result c.args.plan c.args.seat.now c.enter.new.seat c.in-Ok.ensures.session (search rules) (search rules) c.in-Ok.ensures.prepared.may
 
 pub returns-in-Err-Memory-clause-run : goal.returns-in-Err-Memory-clause-run
 returns-in-Err-Memory-clause-run g c =
-    short_now c.args.self.now.live.session c.prepare.new.self.session c.number.result c.args.seat.now.number c.args.plan c.in-Ok.ensures.session (search rules) c.in-Ok.ensures.prepared.may
+    short_now c.args.self.now.live.session c.prepare.new.self.session c.number.result c.args.plan c.args.seat.now c.enter.new.seat c.in-Ok.ensures.session (search rules) (search rules) c.in-Ok.ensures.prepared.may
 
 pub returns-clause-run : goal.returns-clause-run
 returns-clause-run g c =
-    committed_now c.args.self.now.live.session c.prepare.new.self.session c.take_step.new.live.session c.number.result c.number-2.result c.args.seat.now.number c.take_step.result c.args.plan
-    c.in-Ok.ensures.session (search rules) (search rules) c.in-Ok.ensures.prepared.may c.take_step.ensures.place c.take_step.ensures.session
+    committed_now c.args.self.now.live.session c.prepare.new.self.session c.take_step.new.live.session c.number.result c.number-2.result c.take_step.result c.next_place-place.result c.args.plan c.in-Ok.entry
+    c.args.seat.now c.enter.new.seat c.in-Ok.ensures.session (search rules) (search rules) c.in-Ok.ensures.prepared.may c.take_step.ensures.place c.take_step.ensures.session
+    c.next_place-place.ensures c.in-Ok.ensures.prepared.entry c.in-Ok-enter.ensures.grew

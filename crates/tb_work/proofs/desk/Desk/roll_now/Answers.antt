@@ -1,8 +1,9 @@
-use Rattle.std.proofs.Common.{rules}
+use Rattle.std.proofs.Common.{rules, ℕ, ◌≡◌, ap, ◌∙◌}
+use Rattle.tb_model.specs.declared.entry.Entry.TheVariants.{Rolled}
 use Rattle.tb_work.specs.declared.refused.Refused.TheVariants.{Run, CellTaken}
 use Rattle.tb_roll.specs.declared.roll_refusal.RollRefusal.TheVariants.{Memory}
 use Rattle.tb_work.proofs.Desks.{agrees_more}
-use Rattle.tb_work.proofs.Refusals.{roll_kept, rolled_now}
+use Rattle.tb_work.proofs.Refusals.{roll_kept, rolled_now, takes_now}
 use Rattle.tb_work.proofs.desk.Desk.roll_now.Goals as goal
 
 pub invariant_of-self-2 : goal.invariant_of-self-2
@@ -41,3 +42,9 @@ pub returns-clause-rolled : goal.returns-clause-rolled
 returns-clause-rolled g c =
     rolled_now c.args.self.now.live.session c.prepare_roll.new.self.session c.take_back_all.new.live.session c.number-2.result c.args.seat.now.number c.args.id.now c.take_back_all.result.items
     c.in-Ok.ensures.session (search rules) c.take_back_all.ensures.rolled
+
+pub returns-clause-takes : goal.returns-clause-takes
+returns-clause-takes g c =
+    let named : c.number.result ≡ c.args.seat.now.number = search rules in
+    takes_now c.args.self.now.live.session c.prepare_roll.new.self.session c.next_place-place.result c.in-Ok.entry (Rolled c.args.seat.now.number c.args.id.now) c.args.seat.now c.enter.new.seat
+    c.in-Ok.ensures.session c.next_place-place.ensures (c.in-Ok.ensures.prepared.entry ∙ ap (λ (n : ℕ). Rolled n c.args.id.now) named) c.in-Ok-enter.ensures.grew

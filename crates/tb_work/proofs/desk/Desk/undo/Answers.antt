@@ -3,8 +3,8 @@ use Rattle.tb_work.proofs.desk.Desk.undo.Goals as goal
 
 pub returns-clause-run : goal.returns-clause-run
 returns-clause-run g c =
-    undone_by c.args.self.now.live.session c.undo_now.new.self.live.session c.args.seat.now.number c.args.id.now c.undo_now.result
-    c.undo_now.ensures.undone c.undo_now.ensures.stays c.undo_now.ensures.refused
+    undone_by c.args.self.now.live.session c.undo_now.new.self.live.session c.args.id.now c.undo_now.result c.args.seat.now c.undo_now.new.seat
+    c.undo_now.ensures.undone c.undo_now.ensures.takes c.undo_now.ensures.stays c.undo_now.ensures.err c.undo_now.ensures.refused
 
 pub returns-clause-answer : goal.returns-clause-answer
 returns-clause-answer g c =

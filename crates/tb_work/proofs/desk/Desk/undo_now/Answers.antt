@@ -1,8 +1,9 @@
-use Rattle.std.proofs.Common.{rules, refl}
+use Rattle.std.proofs.Common.{rules, ℕ, ◌≡◌, refl, ap, ◌∙◌}
+use Rattle.tb_model.specs.declared.entry.Entry.TheVariants.{Rolled}
 use Rattle.tb_work.specs.declared.refused.Refused.TheVariants.{Run, CellTaken}
 use Rattle.tb_core.specs.declared.undo_refusal.UndoRefusal.TheVariants.{Memory}
 use Rattle.tb_work.proofs.Desks.{agrees_more}
-use Rattle.tb_work.proofs.Refusals.{undo_kept, undone_now, undo_short_of_memory}
+use Rattle.tb_work.proofs.Refusals.{takes_now, undo_kept, undone_now, undo_short_of_memory}
 use Rattle.tb_work.proofs.desk.Desk.undo_now.Goals as goal
 
 pub invariant_of-self-2 : goal.invariant_of-self-2
@@ -44,3 +45,9 @@ pub returns-clause-undone : goal.returns-clause-undone
 returns-clause-undone g c =
     undone_now c.args.self.now.live.session c.ready_undo.new.live.session c.take_back.new.live.session c.number-2.result c.args.seat.now.number c.args.id.now c.take_back.result
     c.in-Ok.ensures.session (search rules) c.take_back.ensures.undone
+
+pub returns-clause-takes : goal.returns-clause-takes
+returns-clause-takes g c =
+    let named : c.number.result ≡ c.args.seat.now.number = search rules in
+    takes_now c.args.self.now.live.session c.ready_undo.new.live.session c.next_place-place.result c.in-Ok.entry (Rolled c.args.seat.now.number c.args.id.now) c.args.seat.now c.enter.new.seat
+    c.in-Ok.ensures.session c.next_place-place.ensures (c.in-Ok.ensures.prepared.entry ∙ ap (λ (n : ℕ). Rolled n c.args.id.now) named) c.in-Ok-enter.ensures.grew

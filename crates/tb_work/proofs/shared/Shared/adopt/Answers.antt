@@ -8,7 +8,7 @@ invariant_of-new g c =
     let told = c.in-Ok-tell_run.ensures in
     let live = c.requires.live in
     let room = c.in-Ok.ensures in
-    let within : length c.args.live.session.journal ≤ c.args.live.session.limit = search rules in
+    let within : length c.args.live.session.journal ≤ c.args.live.session.limit = c.has_begun.ensures.within in
     record {
       program = live.0;
       limit = live.1;

@@ -12,5 +12,6 @@ returns-clause-grew g c = grew_burst g.N.Team.program c.in-Ok.plans.items c.args
 pub returns-clause-told : goal.returns-clause-told
 returns-clause-told g c =
     let refused : c.commit_burst-burst.result.refusal ≡ Some c.in-Some.refusal = search rules in
+    let a = c.commit_burst-burst.ensures.answer in
     ends_behind g.N.Team.program g.N.Team.limit g.N.Team.breakpoints g.N.Team.seats g.N.Team.begun c.args.seat.now.number c.in-Ok.plans.items c.commit_burst-burst.result
-    c.in-Some.refusal c.turn_behind.result c.commit_burst-burst.ensures.answer refused (sym c.turn_behind.ensures)
+    c.in-Some.refusal c.turn_behind.result (record { old = a.old; new = a.new; team = a.team; right = a.right.takes }) refused (sym c.turn_behind.ensures)

@@ -1,0 +1,13 @@
+//! What each run keeps.
+
+ghost use Rattle.tb_work.specs.Answering.{IsRun};
+
+use tb_live::Live;
+
+/// What each run keeps, for a caller to cite.
+pub fn run_is_sound(live: &Live)
+    ensures { IsRun live.now.session }
+{
+    live.journal_is_sound();
+    let _claim = live.claim_of(0);
+}
