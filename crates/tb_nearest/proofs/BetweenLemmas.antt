@@ -1,5 +1,5 @@
 -- What a direct need says of the events in between.
-use Rattle.std.proofs.Common.{◌≡◌, ◌≢◌, ◌⊎◌, inl, inr, ⊎_elim, ℕ, suc, List, [], ◌∷◌, ◌++◌, true, false, length, refl, sym, ap, ◌∙◌, subst, arith}
+use Rattle.std.proofs.Common.{◌≡◌, ◌≢◌, ◌⊎◌, inl, inr, ⊎_elim, ℕ, suc, List, [], ◌∷◌, true, false, length, refl, sym, ap, ◌∙◌, subst, arith}
 use Rattle.std.proofs.lemmas.Bool.{cases_Bool, eqb-true, eq-eqb, both_ways, false≢true}
 use Rattle.tb_model.specs.declared.action.Action.{Action}
 use Rattle.tb_model.specs.declared.action.Action.TheVariants.{Start, Let, Load, Store, Print, Spawn, Wait, Open, Close, Test, End, Fault}
@@ -83,28 +83,3 @@ shared Close b h = absurd (false≢true h)
 shared (Test b') b h = absurd (false≢true h)
 shared End b h = absurd (false≢true h)
 shared Fault b h = absurd (false≢true h)
-
--- ---- where an event stands beside another
-
--- y stands between, with front' in front of it, or no younger than u
-abbrev pub Beside : (u y : Event) (between front later front' : History) → Type 0
-Beside u y between front later front' =
-    ((earlier : History) × (between ≡ later ++ y ∷ earlier) × (front' ≡ earlier ++ u ∷ front)) ⊎ ((mid : History) × (u ∷ front ≡ mid ++ y ∷ front'))
-
-pub beside : (u y : Event) (between front later front' : History) → between ++ u ∷ front ≡ later ++ y ∷ front' → Beside u y between front later front'
-beside u y [] front later front' e = inr (later, e)
-beside u y (b ∷ between) front [] front' e = inl (between, head_is, tail_is)
-  where
-    head_is : b ∷ between ≡ y ∷ between
-    head_is = cc
-
-    tail_is : front' ≡ between ++ u ∷ front
-    tail_is = cc
-beside u y (b ∷ between) front (c ∷ later) front' e =
-    ⊎_elim (λ r. inl (r.0, joined r.1, r.2)) (λ r. inr r) (beside u y between front later front' rest)
-  where
-    rest : between ++ u ∷ front ≡ later ++ y ∷ front'
-    rest = cc
-
-    joined : {z : History} → between ≡ z → b ∷ between ≡ c ∷ z
-    joined r = cc

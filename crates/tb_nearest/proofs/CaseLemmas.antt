@@ -7,7 +7,7 @@ use Rattle.tb_model.specs.declared.action.Action.{Action}
 use Rattle.tb_model.specs.declared.action.Action.TheVariants.{Start, Let, Load, Store, Print, Spawn, Wait, Open, Close, Test, End, Fault}
 use Rattle.tb_model.specs.declared.event.Event.{Event}
 use Rattle.tb_model.specs.Names.{Name}
-use Rattle.tb_model.specs.Facts.{History, is_of, own, before, apart, covers, holds, is_end, is_print, is_store_to, spawns}
+use Rattle.tb_model.specs.Facts.{History, is_of, own, covers, holds, is_end, is_print, is_store_to, spawns}
 use Rattle.tb_model.specs.Legal.{Cells, Legal}
 use Rattle.tb_model.specs.Needs.{needs, waits_for, needs_end_of, conflicts}
 use Rattle.tb_model.proofs.TestLemmas.{same_true, same_refl}
@@ -17,7 +17,7 @@ use Rattle.tb_model.proofs.SettledLemmas.{covers_settled}
 use Rattle.tb_nearest.specs.Nearest.{Nearest, next, first, touch, print, wait, resume, covers_by}
 use Rattle.tb_nearest.proofs.WayLemmas.{Found, any_there, needs_own, needs_spawn, needs_conflict, needs_end, needs_print, Way, whole, none_or_way, own_behind, none_own}
 use Rattle.tb_nearest.proofs.BetweenLemmas.{one_task, unborn, shared, store_conflicts}
-use Rattle.tb_nearest.proofs.SiblingLemmas.{by_order, by_exclusion}
+use Rattle.tb_nearest.proofs.SiblingLemmas.{by_start}
 use Rattle.tb_nearest.proofs.GroupLemmas.{by_close}
 
 -- a `taskwait` of another set of items waits for the task too
@@ -92,8 +92,7 @@ module _ (cells : Cells) (v u : Event) (between front : History) (l : Legal cell
             )
 
     by_waiting : (a : Action) → v.action ≡ a → waits_for H v.task a u.task ≡ true → Split
-    by_waiting Start a h =
-        ⊎_elim (by_order cells v u between front l e a) (by_exclusion cells v u between front l e a) (or_cases (before H u.task v.task) (apart H u.task v.task) h)
+    by_waiting Start a h = by_start cells v u between front l e a h
     by_waiting (Wait items) a h = by_wait items a h
     by_waiting Close a h = by_close cells v u between front l e a h
     by_waiting (Let r x) a h = absurd (false≢true h)

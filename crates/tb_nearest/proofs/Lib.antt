@@ -1,6 +1,5 @@
 pub mod WayLemmas
 pub mod DirectLemmas
-pub mod HolderLemmas
 pub mod BetweenLemmas
 pub mod SiblingLemmas
 pub mod GroupLemmas

@@ -31,9 +31,6 @@ pub any_there : {A : Type 0} (test : A → Bool) (later : List A) (x : A) (earli
 any_there test [] x earlier h = or_left (test x) _ h
 any_there test (y ∷ later) x earlier h = or_right (test y) _ (any_there test later x earlier h)
 
-pub any_found : {A : Type 0} (test other : A → Bool) (xs : List A) (f : Found test xs) → other f.who ≡ true → list_any other xs ≡ true
-any_found test other xs f h = subst (λ l. list_any other l ≡ true) (sym f.split) (any_there other f.later f.who f.earlier h)
-
 -- ---- direct needs, kind by kind
 
 module _ (H : History) (v u : Event) where

@@ -1,43 +1,24 @@
 -- Which events need an event nearest: of each kind of need the next one alone, so that an index of the history answers it. Each
 -- other event that needs it needs one of these.
-use Rattle.std.specs.Prelude.{◌≡◌, ℕ, List, [], ◌∷◌, ◌++◌, Bool, true, false, ◌&&◌, ◌||◌, ◌==◌, IsTrue, IsFalse}
+use Rattle.std.specs.Prelude.{◌≡◌, ℕ, List, [], ◌∷◌, ◌++◌, Bool, true, false, ◌&&◌, ◌||◌, IsTrue, IsFalse}
 use Rattle.std.specs.List.{list_any}
-use Rattle.tb_model.specs.declared.kind.Kind.{Kind}
-use Rattle.tb_model.specs.declared.kind.Kind.TheVariants.{Mutexinoutset}
-use Rattle.tb_model.specs.declared.place.Place.{Place}
-use Rattle.tb_model.specs.declared.place.Place.TheVariants.{Cell, All}
 use Rattle.tb_model.specs.declared.item.Item.{Item}
 use Rattle.tb_model.specs.declared.action.Action.{Action}
 use Rattle.tb_model.specs.declared.action.Action.TheVariants.{Start, Wait, Close}
 use Rattle.tb_model.specs.declared.event.Event.{Event}
-use Rattle.tb_model.specs.Names.{Name, is_elder}
-use Rattle.tb_model.specs.Items.{same_place}
-use Rattle.tb_model.specs.Facts.{History, is_of, own, items_of, before, apart, is_member, covers, holds, is_end, is_start, is_print, is_store_to, touches, spawns}
+use Rattle.tb_model.specs.Names.{Name}
+use Rattle.tb_model.specs.Facts.{History, is_of, own, before, apart, is_member, covers, holds, is_end, is_start, is_print, is_store_to, touches, spawns}
 use Rattle.tb_model.specs.Needs.{conflicts}
 
--- ---- who takes an exclusion: OpenMP 5.2, 15.9.5 depend Clause
+-- ---- who blocks a start: OpenMP 5.2, 15.9.5 depend Clause
 
--- one cell, or all memory both times
-abbrev pub is_place : Place → Place → Bool
-is_place (Cell c) (Cell d) = c == d
-is_place (Cell c) All = false
-is_place All (Cell c) = false
-is_place All All = true
+-- t can't start before u has ended, once that is under way: t depends on u, or the two exclude each other
+abbrev pub blocks : History → Name → Name → Bool
+blocks H u t = before H u t || apart H u t
 
-abbrev pub is_exclusive : Kind → Bool
-is_exclusive Mutexinoutset = true
-is_exclusive _ = false
-
-abbrev pub is_exclusive_at : Place → Item → Bool
-is_exclusive_at p i = is_exclusive i.kind && is_place p i.place
-
--- some item of t excludes others at this very place
-abbrev pub takes : History → Place → Name → Bool
-takes H p t = list_any (is_exclusive_at p) (items_of t H)
-
--- the event starts a sibling of t that excludes others at the place
-abbrev pub starts_holder : History → Place → Name → Event → Bool
-starts_holder H p t w = is_start w.action && ((is_elder t w.task || is_elder w.task t) && takes H p w.task)
+-- the event starts a task that u blocks, and that blocks t
+abbrev pub starts_between : History → Name → Name → Event → Bool
+starts_between H u t w = is_start w.action && (blocks H u w.task && blocks H w.task t)
 
 -- ---- which waits and closes ask for the end of a task
 
@@ -68,13 +49,9 @@ pub data Nearest (v u : Event) (between front : History) : Type 0 where
       → IsFalse (list_any (λ (w : Event). is_store_to c w.action) between) → Nearest v u between front
   -- the next print
   print : IsTrue (is_print v.action) → IsTrue (is_print u.action) → IsFalse (list_any (λ (w : Event). is_print w.action) between) → Nearest v u between front
-  -- the start of a sibling that depends on the ended one, and on none that does
-  start : IsTrue (is_end u.action) → v.action ≡ Start → IsTrue (before (between ++ u ∷ front) u.task v.task)
-      → ((w : Name) → IsTrue (before (between ++ u ∷ front) u.task w) → IsTrue (before (between ++ u ∷ front) w v.task) → ⊥) → Nearest v u between front
-  -- the next start of a sibling that takes an exclusion at a place at which the ended one excluded it
-  holder : (p q : Place) → IsTrue (is_end u.action) → v.action ≡ Start → IsTrue (apart (between ++ u ∷ front) u.task v.task)
-      → IsTrue (takes (between ++ u ∷ front) p v.task) → IsTrue (takes (between ++ u ∷ front) q u.task) → IsTrue (same_place p q)
-      → IsFalse (list_any (starts_holder (between ++ u ∷ front) p v.task) between) → Nearest v u between front
+  -- the start of a sibling that the ended one blocks, where none that it blocks too, and that blocks this one, starts in between
+  start : IsTrue (is_end u.action) → v.action ≡ Start → IsTrue (blocks (between ++ u ∷ front) u.task v.task)
+      → IsFalse (list_any (starts_between (between ++ u ∷ front) u.task v.task) between) → Nearest v u between front
   -- the parent's next `taskwait` that covers the ended child
   wait : (items : List Item) → IsTrue (is_end u.action) → v.action ≡ Wait items → IsTrue (covers (between ++ u ∷ front) v.task items u.task)
       → IsFalse (list_any (λ (w : Event). is_of v.task w && covers_by (between ++ u ∷ front) v.task w.action u.task) between) → Nearest v u between front
