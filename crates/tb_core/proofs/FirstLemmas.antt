@@ -14,7 +14,7 @@ use Rattle.tb_core.proofs.ScanLemmas.{history_cut, history_more}
 
 -- ---- a legal history is legal up to each entry
 
-legal_front : (cells : Cells) (later front : History) → Legal cells (later ++ front) → Legal cells front
+pub legal_front : (cells : Cells) (later front : History) → Legal cells (later ++ front) → Legal cells front
 legal_front cells [] front l = l
 legal_front cells (v ∷ later) front l = legal_front cells later front l.0
 
@@ -72,11 +72,11 @@ module _ (entries : List Entry) (at later : ℕ) (u w : Entry) (id : StepId) (be
 
   -- the test, as it is made of the entries
   abbrev IsTold : Bool → Type 0
-  IsTold b = AreLegal (take later entries) → (x y : Entry) → x ≡ get_or entries later x → y ≡ get_or entries at y → b ≡ needs front x.event y.event
+  IsTold b = (x y : Entry) → x ≡ get_or entries later x → y ≡ get_or entries at y → b ≡ needs front x.event y.event
 
   tested : (b : Bool) → AreLegal entries → IsTold b → first_needer id (w.event ∷ front) ≡ (if b then Some (step_of front w.event) else None)
   tested b legal told =
-      next ∙ ap (λ c. if c then Some (step_of front w.event) else None) (sym (told (front_legal entries later w within here legal) w u here first))
+      next ∙ ap (λ c. if c then Some (step_of front w.event) else None) (sym (told w u here first))
 
   -- one entry more
   pub none_next : (b : Bool) → AreLegal entries → IsTold b → b ≡ false → first_needer id (history_of (take (later + 1) entries)) ≡ None

@@ -5,6 +5,7 @@ pub mod HistoryLemmas
 pub mod WalkLemmas
 pub mod NeedsLemmas
 pub mod FirstLemmas
+pub mod LendingLemmas
 pub mod FillingLemmas
 pub mod ShownLemmas
 pub mod MiddleLemmas

@@ -1,19 +1,13 @@
--- Needs by scans: a task's items are those of its spawn, and names tell who can't be waited for.
+-- Needs by scans: names tell who can't be waited for.
 use Rattle.std.proofs.Common.{◌≡◌, List, [], ◌∷◌, true, ⊎_elim, refl, subst}
 use Rattle.std.specs.List.{list_any}
 use Rattle.std.proofs.lemmas.Bool.{false≢true, or_cases, or_left, or_right}
 use Rattle.tb_model.specs.Names.{Name, same_name, is_child, is_within}
-use Rattle.tb_model.specs.Facts.{own, items_of, is_member, holds}
-use Rattle.tb_model.specs.State.{spawn_of, items_in}
+use Rattle.tb_model.specs.Facts.{own, is_member, holds}
 use Rattle.tb_core.specs.Entries.{Entry}
 use Rattle.tb_core.specs.Scans.{AreLegal, history_of}
 use Rattle.tb_model.proofs.TestLemmas.{same_true, same_refl}
 use Rattle.tb_model.proofs.FactsLemmas.{AreChildren, group_children, first_children, held_child}
-use Rattle.tb_model.proofs.StateLemmas.{items_of_spawn}
-
--- a task is generated once
-pub items_named : (entries : List Entry) (t : Name) → AreLegal entries → items_of t (history_of entries) ≡ items_in (spawn_of t (history_of entries))
-items_named entries t l = items_of_spawn l.cells (history_of entries) t l.legal
 
 -- who is within a child of t is within t
 within_parent : (t c m : Name) → is_child t c ≡ true → is_within c m ≡ true → is_within t m ≡ true

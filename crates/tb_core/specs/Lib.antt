@@ -9,6 +9,7 @@ pub mod Packing
 pub mod Storing
 pub mod Soundness
 pub mod Scans
+pub mod Lending
 pub mod Listed
 pub mod Groups
 pub mod Rolled

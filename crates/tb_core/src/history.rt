@@ -1,16 +1,18 @@
 //! A history that is lent: its steps by their places.
 
-ghost use Rattle.std.specs.Prelude.{◌≡◌, ◌<◌, ◌≤◌, [], ◌∷◌, suc, IfSome, IfNone, length, take, get_or};
-ghost use Rattle.tb_model.specs.Facts.{is_of};
+ghost use Rattle.std.specs.Prelude.{◌≡◌, ◌<◌, ◌≤◌, [], ◌∷◌, suc, IfSome, IfNone, IsTrue, length, take, get_or};
+ghost use Rattle.tb_model.specs.Facts.{is_of, is_print, is_spawned, items_of, own, touches};
 ghost use Rattle.tb_core.specs.Entries.{Entry as AnEntry};
-ghost use Rattle.tb_core.specs.Scans.{history_of};
+ghost use Rattle.tb_core.specs.Lending.{AreLeft, IsLast, IsNoneBetween};
+ghost use Rattle.tb_core.specs.Scans.{AreLegal, history_of};
 ghost use Rattle.tb_core.specs.Soundness.{names_in};
 ghost use Rattle.tb_core.specs.Storing.{IsStored, entries_in};
 ghost use Rattle.std.specs.List.{AllZip};
 
 use crate::entry::Entry;
 use std::marker::Model;
-use tb_model::{Action, TaskName};
+use tb_model::{Action, Item, TaskName};
+use tb_places::{Places, last_place, next_place};
 use tb_undo::Tables;
 
 /// The steps of a core that stand, from the oldest on: all of them, or those in front of a place.
@@ -21,6 +23,8 @@ pub struct History<'a> {
     entries: &'a [Entry],
     // which say the tasks' names
     tables: &'a Tables,
+    // where they are, by task and by what they touch
+    places: &'a Places,
     count: usize,
 }
 
@@ -28,6 +32,7 @@ impl<'a> Model for History<'a> {
     ghost use Rattle.std.specs.Prelude.{◌≤◌, List, length, take};
     ghost use Rattle.std.specs.List.{AllZip};
     ghost use Rattle.tb_core.specs.Entries.{Entry as AnEntry};
+    ghost use Rattle.tb_core.specs.Lending.{AreLeft};
     ghost use Rattle.tb_core.specs.Soundness.{names_in};
     ghost use Rattle.tb_core.specs.Storing.{IsStored, entries_in};
 
@@ -35,21 +40,32 @@ impl<'a> Model for History<'a> {
 
     ghost view = { λ h. take h.count (entries_in h.tables.now h.entries.now) };
 
-    ghost invariant = { λ h. (h.count ≤ length h.entries.now) × AllZip (IsStored (names_in h.tables.now)) h.entries.now (entries_in h.tables.now h.entries.now) };
+    ghost invariant = { λ h. (h.count ≤ length h.entries.now)
+        × AllZip (IsStored (names_in h.tables.now)) h.entries.now (entries_in h.tables.now h.entries.now)
+        × AreLeft h.tables.now h.places.now (entries_in h.tables.now h.entries.now) };
 }
 
 impl<'a> History<'a> {
     /// All that is stored in these entries, which are those of the tables.
     #[inline(always)]
-    pub(crate) fn of(entries: &'a [Entry], tables: &'a Tables) -> History<'a>
-        requires { AllZip (IsStored (names_in tables.now)) entries.now (entries_in tables.now entries.now) }
+    pub(crate) fn of(entries: &'a [Entry], tables: &'a Tables, places: &'a Places) -> History<'a>
+        requires stored { AllZip (IsStored (names_in tables.now)) entries.now (entries_in tables.now entries.now) }
+        requires left { AreLeft tables.now places.now (entries_in tables.now entries.now) }
         ensures { result ≡ entries_in tables.now entries.now }
     {
         History {
             entries,
             tables,
+            places,
             count: entries.len(),
         }
+    }
+
+    /// What always holds, for a caller to cite: the steps are a legal history.
+    pub fn is_legal(&self)
+        ensures { AreLegal self.now }
+    {
+        let _count = self.count;
     }
 
     /// The same steps once more.
@@ -59,6 +75,7 @@ impl<'a> History<'a> {
         History {
             entries: self.entries,
             tables: self.tables,
+            places: self.places,
             count: self.count,
         }
     }
@@ -80,6 +97,7 @@ impl<'a> History<'a> {
         History {
             entries: self.entries,
             tables: self.tables,
+            places: self.places,
             count: at,
         }
     }
@@ -100,6 +118,74 @@ impl<'a> History<'a> {
         ensures { (e : AnEntry) → e ≡ get_or self.now at e → result.now ≡ e.event.action }
     {
         &entry_in(self.entries, at).action
+    }
+
+    /// The depend items of a task that is the root, or that one of these steps generated.
+    pub fn items(&self, task: &TaskName) -> &'a [Item]
+        ensures { IsTrue (is_spawned (history_of self.now) task.now) →
+            result.now ≡ items_of task.now (history_of self.now) }
+    {
+        self.tables.items(task)
+    }
+
+    /// The first place from this one on at which the task stepped, else how many steps there are.
+    pub fn next_of(&self, task: &TaskName, from: usize) -> usize
+        requires { from ≤ length self.now }
+        ensures from { from ≤ result }
+        ensures within { result ≤ length self.now }
+        ensures none { IsNoneBetween (is_of task.now) self.now from result }
+    {
+        let own = self.places.events_of(self.tables.place(task));
+        next_place(own, from, self.len())
+    }
+
+    /// The first place from this one on at which a step loaded from the cell or stored to it, else how many steps there are.
+    pub fn next_touch(&self, cell: u32, from: usize) -> usize
+        requires { from ≤ length self.now }
+        ensures from { from ≤ result }
+        ensures within { result ≤ length self.now }
+        ensures none { IsNoneBetween (λ v. touches cell v.action) self.now from result }
+    {
+        next_place(self.places.touches(cell), from, self.len())
+    }
+
+    /// The first place from this one on at which a step printed, else how many steps there are.
+    pub fn next_print(&self, from: usize) -> usize
+        requires { from ≤ length self.now }
+        ensures from { from ≤ result }
+        ensures within { result ≤ length self.now }
+        ensures none { IsNoneBetween (λ v. is_print v.action) self.now from result }
+    {
+        next_place(self.places.prints(), from, self.len())
+    }
+
+    /// The place of the step that the same task took last in front of this place.
+    pub fn previous(&self, at: usize) -> Option<usize>
+        requires { at < length self.now }
+        ensures some { (e : AnEntry) → e ≡ get_or self.now at e → IfSome result (IsLast (is_of e.event.task) self.now at) }
+        ensures none { (e : AnEntry) → e ≡ get_or self.now at e → IfNone result (IsNoneBetween (is_of e.event.task) self.now 0 at) }
+    {
+        if 0 < at && self.are_of_one(at, at - 1) {
+            return Some(at - 1);
+        }
+        let own = self.places.events_of(self.tables.place(self.task(at)));
+        last_place(own, at)
+    }
+
+    /// How many steps the task of the step at this place took in front of it.
+    pub fn rank(&self, at: usize) -> Option<usize>
+        requires { at < length self.now }
+        ensures { (e : AnEntry) → e ≡ get_or self.now at e →
+            IfSome result (λ n. n ≡ length (own e.event.task (history_of (take at self.now)))) }
+    {
+        let own = self.places.events_of(self.tables.place(self.task(at)));
+        let Ok(place) = u32::try_from(at) else {
+            return None;
+        };
+        match own.binary_search(&place) {
+            Ok(before) => Some(before),
+            Err(_) => None,
+        }
     }
 
     /// The line at which its task stood before the step at this place.

@@ -1,16 +1,16 @@
-//! Which event of the entries needs which. It is found by scans: nothing is kept for it, and no
-//! memory is taken.
+//! Which event of the entries needs which. What tasks named at their spawns is known to the tables; all else is found
+//! by scans. No memory is taken.
 
-ghost use Rattle.std.specs.Prelude.{◌≡◌, ◌<◌, ◌||◌, IfSome, Some, length, take, get_or};
+ghost use Rattle.std.specs.Prelude.{◌≡◌, ◌<◌, IfSome, IsTrue, Some, length, take, get_or};
 ghost use Rattle.tb_model.specs.declared.step_id.StepId.{StepId};
-ghost use Rattle.tb_model.specs.Facts.{before, apart, covers};
+ghost use Rattle.tb_model.specs.Facts.{apart, before, covers, is_spawned};
 ghost use Rattle.tb_model.specs.Needs;
 ghost use Rattle.tb_model.specs.Needers;
 ghost use Rattle.tb_core.specs.Entries.{Entry as AnEntry};
 ghost use Rattle.tb_core.specs.Scans.{AreLegal, history_of, step_at, found_step};
 
 use crate::history::History;
-use crate::scans::{holds, is_member, items_of};
+use crate::scans::{holds, is_member};
 use tb_model::{Action, Item, TaskName, some_apart, some_before};
 
 /// The place of the earliest entry that needs the one at this place.
@@ -32,11 +32,11 @@ pub fn first_needer(entries: &History<'_>, at: usize) -> Option<usize>
 /// Whether the step at the place `later` directly needs that at the place `earlier`.
 pub fn needs(entries: &History<'_>, later: usize, earlier: usize) -> bool
     requires later { later < length entries.now }
-    requires earlier { earlier < length entries.now }
-    ensures { AreLegal (take later entries.now) → (v u : AnEntry) →
-        v ≡ get_or entries.now later v → u ≡ get_or entries.now earlier u →
+    requires earlier { earlier < later }
+    ensures { (v u : AnEntry) → v ≡ get_or entries.now later v → u ≡ get_or entries.now earlier u →
         result ≡ Needs.needs (history_of (take later entries.now)) v.event u.event }
 {
+    entries.is_legal();
     let found = needs_event(
         &entries.front(later),
         entries.task(later),
@@ -49,7 +49,10 @@ pub fn needs(entries: &History<'_>, later: usize, earlier: usize) -> bool
 
 /// Whether the action `a` of `t`, which comes after these steps, directly needs the action `b` of `u` among them.
 fn needs_event(front: &History<'_>, t: &TaskName, a: &Action, u: &TaskName, b: &Action) -> bool
-    ensures { AreLegal front.now → result ≡ Needs.needs (history_of front.now)
+    requires legal { AreLegal front.now }
+    requires later { IsTrue (is_spawned (history_of front.now) t.now) }
+    requires earlier { IsTrue (is_spawned (history_of front.now) u.now) }
+    ensures { result ≡ Needs.needs (history_of front.now)
         (record { task = t.now; action = a.now }) (record { task = u.now; action = b.now }) }
 {
     *u == *t
@@ -61,16 +64,20 @@ fn needs_event(front: &History<'_>, t: &TaskName, a: &Action, u: &TaskName, b: &
 
 /// Whether the action of `t` comes behind the end of `u`.
 fn needs_end_of(front: &History<'_>, t: &TaskName, action: &Action, u: &TaskName) -> bool
-    ensures { AreLegal front.now →
-        result ≡ Needs.needs_end_of (history_of front.now) t.now action.now u.now }
+    requires legal { AreLegal front.now }
+    requires later { IsTrue (is_spawned (history_of front.now) t.now) }
+    requires earlier { IsTrue (is_spawned (history_of front.now) u.now) }
+    ensures { result ≡ Needs.needs_end_of (history_of front.now) t.now action.now u.now }
 {
     holds(front, t, u) || waits_for(front, t, action, u)
 }
 
 /// Whether the action of `t` waits for the end of `u`.
 fn waits_for(front: &History<'_>, t: &TaskName, action: &Action, u: &TaskName) -> bool
-    ensures { AreLegal front.now →
-        result ≡ Needs.waits_for (history_of front.now) t.now action.now u.now }
+    requires legal { AreLegal front.now }
+    requires later { IsTrue (is_spawned (history_of front.now) t.now) }
+    requires earlier { IsTrue (is_spawned (history_of front.now) u.now) }
+    ensures { result ≡ Needs.waits_for (history_of front.now) t.now action.now u.now }
 {
     match action {
         Action::Start => is_before(front, u, t) || is_apart(front, u, t),
@@ -82,22 +89,27 @@ fn waits_for(front: &History<'_>, t: &TaskName, action: &Action, u: &TaskName) -
 
 /// Whether `u` is an elder sibling on which `t` depends.
 pub fn is_before(front: &History<'_>, u: &TaskName, t: &TaskName) -> bool
-    ensures { AreLegal front.now → result ≡ before (history_of front.now) u.now t.now }
+    requires elder { IsTrue (is_spawned (history_of front.now) u.now) }
+    requires younger { IsTrue (is_spawned (history_of front.now) t.now) }
+    ensures { result ≡ before (history_of front.now) u.now t.now }
 {
-    u.is_elder_of(t) && some_before(items_of(front, t), items_of(front, u))
+    u.is_elder_of(t) && some_before(front.items(t), front.items(u))
 }
 
 /// Whether the siblings `u` and `t` exclude each other.
 pub fn is_apart(front: &History<'_>, u: &TaskName, t: &TaskName) -> bool
-    ensures { AreLegal front.now → result ≡ apart (history_of front.now) u.now t.now }
+    requires one { IsTrue (is_spawned (history_of front.now) u.now) }
+    requires other { IsTrue (is_spawned (history_of front.now) t.now) }
+    ensures { result ≡ apart (history_of front.now) u.now t.now }
 {
-    (u.is_elder_of(t) && some_apart(items_of(front, t), items_of(front, u)))
-        || (t.is_elder_of(u) && some_apart(items_of(front, u), items_of(front, t)))
+    (u.is_elder_of(t) && some_apart(front.items(t), front.items(u)))
+        || (t.is_elder_of(u) && some_apart(front.items(u), front.items(t)))
 }
 
 /// Whether a `taskwait` of `t` with these items waits for `u`.
 pub fn is_covered(front: &History<'_>, t: &TaskName, items: &[Item], u: &TaskName) -> bool
-    ensures { AreLegal front.now → result ≡ covers (history_of front.now) t.now items.now u.now }
+    requires { IsTrue (is_spawned (history_of front.now) u.now) }
+    ensures { result ≡ covers (history_of front.now) t.now items.now u.now }
 {
-    t.is_parent_of(u) && (items.is_empty() || some_before(items, items_of(front, u)))
+    t.is_parent_of(u) && (items.is_empty() || some_before(items, front.items(u)))
 }

@@ -99,8 +99,20 @@ fn ordinal_among(own: &[u32], entries: &History<'_>, at: usize) -> u32
     }
 }
 
-/// The number of the step at this place among the steps of its task, from 1.
+/// The number of the step at this place among the steps of its task, from 1, found among the places of these.
 pub fn ordinal_of(entries: &History<'_>, at: usize) -> u32
+    requires within { at < length entries.now }
+    requires bound { length entries.now ≤ 1000000 }
+    ensures { (id : AStepId) → step_at entries.now at ≡ Some id → result ≡ id.k }
+{
+    match entries.rank(at) {
+        Some(before) => before as u32 + 1,
+        None => counted_ordinal(entries, at),
+    }
+}
+
+/// The same, counted.
+fn counted_ordinal(entries: &History<'_>, at: usize) -> u32
     requires within { at < length entries.now }
     requires bound { length entries.now ≤ 1000000 }
     ensures { (id : AStepId) → step_at entries.now at ≡ Some id → result ≡ id.k }

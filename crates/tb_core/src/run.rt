@@ -323,7 +323,7 @@ impl Core {
         ensures records { AreRecords self.now.run.cells self.now.run.root_line (reverse result) }
         ensures bound { length result ≤ 1000000 }
     {
-        History::of(self.entries.as_slice(), &self.tables)
+        History::of(self.entries.as_slice(), &self.tables, &self.places)
     }
 }
 

@@ -3,39 +3,10 @@
 ghost use Rattle.std.specs.Prelude.{◌≡◌, ◌∷◌, List};
 ghost use Rattle.tb_model.specs.declared.action.Action.{Action};
 ghost use Rattle.tb_model.specs.Facts;
-ghost use Rattle.tb_model.specs.State.{items_in, spawn_of};
 ghost use Rattle.tb_core.specs.Scans.{AreLegal, history_of};
 
 use crate::history::History;
-use tb_model::{Action, Item, TaskName};
-
-/// The depend items of the task.
-#[tactic(auto, using(crate::proofs::NeedsLemmas::items_named))]
-pub(crate) fn items_of<'a>(front: &History<'a>, t: &TaskName) -> &'a [Item]
-    ensures { AreLegal front.now → result.now ≡ Facts.items_of t.now (history_of front.now) }
-{
-    named_items(front, t)
-}
-
-/// The items that the spawn of the task names.
-fn named_items<'a>(front: &History<'a>, t: &TaskName) -> &'a [Item]
-    ensures { result.now ≡ items_in (spawn_of t.now (history_of front.now)) }
-{
-    let mut rest = front.again();
-    'back: while let Some((older, _, action)) = rest.split_newest() {
-        match action {
-            Action::Spawn(spawned) => {
-                let spawn = spawned.get();
-                if spawn.child == *t {
-                    return spawn.items.as_slice();
-                }
-            }
-            _ => {}
-        }
-        rest = older;
-    }
-    &[]
-}
+use tb_model::{Action, TaskName};
 
 /// Whether the newest action of `t` generated the undeferred child `u`.
 #[tactic(auto, using(crate::proofs::NeedsLemmas::held_within))]

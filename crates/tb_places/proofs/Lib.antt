@@ -3,3 +3,4 @@ pub mod RowLemmas
 pub mod NameLemmas
 pub mod PlacesLemmas
 pub mod RoomLemmas
+pub mod NextLemmas

@@ -2,7 +2,9 @@
 #![tactic(auto)]
 
 mod marks;
+mod next;
 mod places;
 mod rows;
 
+pub use next::{last_place, next_place};
 pub use places::Places;

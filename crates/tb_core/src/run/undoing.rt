@@ -41,7 +41,7 @@ impl Core {
         ensures kept { IfErr result (Keeps self.now.run id.now) }
     {
         let own = self.places.events_of(self.tables.place(&id.task));
-        let entries = History::of(self.entries.as_slice(), &self.tables);
+        let entries = History::of(self.entries.as_slice(), &self.tables, &self.places);
         let Some(at) = place_in(own, &entries, id) else {
             return Err(UndoRefusal::NoSuchStep);
         };

@@ -1,4 +1,4 @@
-use Rattle.std.proofs.Common.{◌∙◌, ap, refl, sym, subst, Some}
+use Rattle.std.proofs.Common.{◌∙◌, ap, Some}
 use Rattle.tb_core.specs.Seen.{Held}
 use Rattle.tb_core.proofs.ShownLemmas.{open_takes}
 use Rattle.tb_core.proofs.TakenLemmas.{names, run_of, filled, follows}

@@ -1,4 +1,4 @@
-use Rattle.std.proofs.Common.{◌∙◌, ◌<◌, ◌≤◌, ◌-◌, ap, refl, sym, subst, arith, Some}
+use Rattle.std.proofs.Common.{◌∙◌, ◌<◌, ◌-◌, ap, sym, subst, arith}
 use Rattle.std.specs.Vec.{vec_capacity, vec_len}
 use Rattle.tb_places.specs.Places.{HasRoomAs}
 use Rattle.tb_core.specs.Seen.{Held}

@@ -1,11 +1,7 @@
-use Rattle.std.proofs.Common.{◌∙◌, refl, sym, ap, subst, arith, Option, Some, None, unwrap_or}
-use Rattle.std.specs.Result.{IsOk}
-use Rattle.std.proofs.lemmas.Bool.{false≢true}
+use Rattle.std.proofs.Common.{◌∙◌, refl, sym, ap, arith, unwrap_or}
 use Rattle.tb_model.specs.declared.event.Event.{Event}
-use Rattle.tb_places.specs.Places.{HasRoomAs}
 use Rattle.tb_core.specs.Seen.{Held}
 use Rattle.tb_core.specs.Storing.{entries_in}
-use Rattle.tb_core.specs.Outcomes.{event_of}
 use Rattle.tb_core.proofs.ShownLemmas.{open_takes, takes_steps}
 use Rattle.tb_core.proofs.NumberLemmas.{named_next}
 use Rattle.tb_core.proofs.TakenLemmas.{none_reserved, ahead, follows, few_steps, takes_so}
