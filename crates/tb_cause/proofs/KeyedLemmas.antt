@@ -17,7 +17,7 @@ use Rattle.tb_model.proofs.SettledLemmas.{items_settled}
 use Rattle.tb_model.proofs.TestLemmas.{any_weaker, same_refl, same_true}
 use Rattle.tb_core.specs.Entries.{Entry}
 use Rattle.tb_core.specs.Scans.{AreLegal, history_of}
-use Rattle.tb_core.proofs.NeedsLemmas.{items_named}
+use Rattle.tb_model.proofs.StateLemmas.{items_of_spawn}
 use Rattle.tb_core.proofs.ScanLemmas.{history_cut, history_more}
 use Rattle.tb_cause.specs.Chains.{AreGivenAt, events_at}
 use Rattle.tb_cause.specs.Indexes.{items_told}
@@ -92,7 +92,7 @@ module _ (entries : List Entry) (later : ℕ) (w : Entry) (within : later < leng
 
   settled : (t : Name) → IsSpawned H t → I t ≡ items_of t H
   settled t s =
-      sym (items_named entries t legal) ∙ ap (items_of t) whole
+      sym (items_of_spawn legal.cells (history_of entries) t legal.legal) ∙ ap (items_of t) whole
       ∙ items_settled legal.cells (behind ++ w.event ∷ []) H t (subst (Legal legal.cells) whole legal.legal) s
 
   -- what of the history the entry needs is told by keys

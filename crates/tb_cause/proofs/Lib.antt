@@ -11,7 +11,6 @@ pub mod KeyedLemmas
 pub mod AskedLemmas
 pub mod AskedNeedLemmas
 pub mod NameLemmas
-pub mod SpawnLemmas
 pub mod GroupLemmas
 pub mod NearestLemmas
 pub mod AnsweredLemmas
@@ -21,3 +20,4 @@ pub mod LoneLemmas
 pub mod CountLemmas
 pub mod TaskKeyLemmas
 pub mod OwnPlaceLemmas
+pub mod SkippingLemmas

@@ -1,68 +1,52 @@
--- Which steps come behind the end of an undeferred child, entry by entry.
-use Rattle.std.proofs.Common.{◌≡◌, ◌<◌, ◌+◌, ℕ, List, [], ◌∷◌, Bool, true, false, cond, refl, sym, ap, ap₂, ◌∙◌, arith, length, take, Option, Some, None, slice_get, get_or, nat_eq, ne_eqb}
-use Rattle.std.proofs.lemmas.Bool.{eqb-true, eq-eqb}
+-- At which undeferred child a task is before a step: the one that its last step in front of that generated.
+use Rattle.std.proofs.Common.{◌≡◌, ◌<◌, ◌≤◌, ◌+◌, ◌-◌, ℕ, zero, suc, List, [], ◌∷◌, true, false, cond, refl, sym, ap, ap₂, ◌∙◌, subst, arith, length, take, get_or, Option, Some, option_map}
 use Rattle.std.proofs.lemmas.Option.{slice_get_read}
-use Rattle.tb_model.specs.declared.action.Action.{Action}
-use Rattle.tb_model.specs.declared.action.Action.TheVariants.{Spawn}
-use Rattle.tb_model.specs.Names.{Name, same_name}
-use Rattle.tb_model.specs.Facts.{History, own, is_of, prepend_if}
+use Rattle.tb_model.specs.Names.{Name}
+use Rattle.tb_model.specs.Facts.{IsSpawned, own, is_of, is_spawn_of, prepend_if}
+use Rattle.tb_model.specs.State.{spawn_of}
+use Rattle.tb_model.proofs.FactsLemmas.{own_other}
 use Rattle.tb_core.specs.Entries.{Entry}
-use Rattle.tb_core.specs.Scans.{history_of}
+use Rattle.tb_core.specs.Lending.{IsLast, IsNoneBetween}
+use Rattle.tb_core.specs.Scans.{AreLegal, history_of}
+use Rattle.tb_core.proofs.LendingLemmas.{spawned_in}
 use Rattle.tb_core.proofs.ScanLemmas.{history_more}
-use Rattle.tb_cause.specs.Indexes.{AreHeld}
+use Rattle.tb_cause.specs.Indexes.{placed_action}
 use Rattle.tb_cause.specs.Keys.{held_by}
-use Rattle.tb_cause.proofs.ConeLemmas.{some_same, there}
+use Rattle.tb_cause.proofs.ConeLemmas.{there}
 
--- only the newest action counts
-newest_counts : (a : Action) (acts : List Action) → held_by (a ∷ acts) ≡ held_by (a ∷ [])
-newest_counts (Spawn s) acts = refl
-newest_counts _ acts = refl
+-- where none of the entries from a place on is the task's, it has the actions that it had there
+own_stays : (entries : List Entry) (t : Name) (from k : ℕ) → from + k ≤ length entries → IsNoneBetween (is_of t) entries from (from + k)
+    → own t (history_of (take (from + k) entries)) ≡ own t (history_of (take from entries))
+own_stays entries t from zero within none = ap (λ n. own t (history_of (take n entries))) (omega arith)
+own_stays entries t from (suc k) within none =
+    let at : from + k < length entries = omega (arith, within) in
+    let w = there entries (from + k) at in
+    ap (λ n. own t (history_of (take n entries))) (omega arith)
+    ∙ ap (own t) (history_more entries (from + k) w.0 at w.1)
+    ∙ own_other t w.0.event (history_of (take (from + k) entries)) (none (from + k) w.0 (omega arith) (omega arith) w.1)
+    ∙ own_stays entries t from k (omega (arith, within)) (λ j e low high here. none j e low (omega (arith, high)) here)
 
-module _ (entries : List Entry) (at : ℕ) (e : Entry) (within : at < length entries) (here : e ≡ get_or entries at e) where
-  abbrev H : History
-  H = history_of (take at entries)
+own_upto : (entries : List Entry) (t : Name) (from to : ℕ) → from ≤ to → to ≤ length entries → IsNoneBetween (is_of t) entries from to
+    → own t (history_of (take to entries)) ≡ own t (history_of (take from entries))
+own_upto entries t from to order within none =
+    let k = to - from in
+    let same : from + k ≡ to = omega (arith, order) in
+    ap (λ n. own t (history_of (take n entries))) (sym same)
+    ∙ own_stays entries t from k (omega (arith, same, within)) (λ j e low high here. none j e low (omega (arith, same, high)) here)
 
-  -- who stands where
-  pub stands_more : (S S' : Name → Option Name) → ((t : Name) → S t ≡ held_by (own t H)) → ((t : Name) → S' t ≡ cond (same_name e.event.task t) (held_by (e.event.action ∷ [])) (S t))
-      → (t : Name) → S' t ≡ held_by (own t (history_of (take (at + 1) entries)))
-  stands_more S S' so_far changed t =
-      changed t ∙ at_task (is_of t e.event) ∙ ap (λ X. held_by (own t X)) (sym (history_more entries at e within here))
-    where
-      at_task : (b : Bool) → cond b (held_by (e.event.action ∷ [])) (S t) ≡ held_by (prepend_if b e.event.action (own t H))
-      at_task true = sym (newest_counts e.event.action (own t H))
-      at_task false = so_far t
+module _ (entries : List Entry) (at : ℕ) (e : Entry) (within : at < length entries) where
+  abbrev t : Name
+  t = e.event.task
 
-  -- one step more
-  pub held_more : (G G' : ℕ → Option Name) (found : Option Name) → AreHeld entries at G → found ≡ held_by (own e.event.task H) → ((p : ℕ) → G' p ≡ cond (nat_eq at p) found (G p)) → AreHeld entries (at + 1) G'
-  held_more G G' found so_far is changed = record {
-    told = λ p x lower there. by p x lower there (nat_eq at p) refl;
-    later = λ p past. changed p ∙ ap (λ b. cond b found (G p)) (ne_eqb at p (λ z. omega (arith, z, past))) ∙ so_far.later p (omega (arith, past));
-  }
-    where
-      by : (p : ℕ) (x : Entry) → p < at + 1 → slice_get entries p ≡ Some x → (b : Bool) → nat_eq at p ≡ b → G' p ≡ held_by (own x.event.task (history_of (take p entries)))
-      by p x lower there true z =
-          let same : at ≡ p = eqb-true at p z in
-          let entry : e ≡ x = some_same e x (sym (slice_get_read entries (length entries) at e refl within here) ∙ ap (slice_get entries) same ∙ there) in
-          changed p ∙ ap (λ b. cond b found (G p)) z ∙ is ∙ ap₂ (λ (y : Entry) n. held_by (own y.event.task (history_of (take n entries)))) entry same
-      by p x lower there false z =
-          changed p ∙ ap (λ b. cond b found (G p)) z ∙ so_far.told p x (lower_by p lower (λ s. absurd (no (sym z ∙ eq-eqb at p s)))) there
-        where
-          no : ◌≡◌ {A = Bool} false true → ⊥
-          no h = cc
+  pub newest_own : (before : ℕ) (d : Entry) → IsLast (is_of t) entries at before → d ≡ get_or entries before d
+      → own t (history_of (take at entries)) ≡ d.event.action ∷ own t (history_of (take before entries))
+  newest_own before d last here =
+      own_upto entries t (before + 1) at (omega (arith, last.front)) (omega (arith, within)) last.none
+      ∙ ap (own t) (history_more entries before d (omega (arith, last.front, within)) here)
+      ∙ ap (λ b. prepend_if b d.event.action (own t (history_of (take before entries)))) (last.passes d here)
 
-          lower_by : (p : ℕ) → p < at + 1 → (at ≡ p → ⊥) → p < at
-          lower_by p l n = omega (arith, l, n)
-
-  -- no step more
-  pub held_as_before : (G : ℕ → Option Name) → AreHeld entries at G → held_by (own e.event.task H) ≡ None → AreHeld entries (at + 1) G
-  held_as_before G so_far none = held_more G G None so_far (sym none) unchanged
-    where
-      unchanged : (p : ℕ) → G p ≡ cond (nat_eq at p) None (G p)
-      unchanged p = by (nat_eq at p) refl
-        where
-          by : (b : Bool) → nat_eq at p ≡ b → G p ≡ cond b None (G p)
-          by true z = so_far.later p (omega (arith, eqb-true at p z))
-          by false z = refl
+  pub none_own : IsNoneBetween (is_of t) entries 0 at → own t (history_of (take at entries)) ≡ []
+  none_own none = own_upto entries t 0 at (omega arith) (omega (arith, within)) none
 
 -- the task read at a place, and the entries in front of it, hold as the entry there does
 pub held_here : (entries : List Entry) (at : ℕ) → at < length entries → (t : Name) → ((e : Entry) → e ≡ get_or entries at e → t ≡ e.event.task) → (front : List Entry) → front ≡ take at entries → (o : Option Name)
@@ -70,3 +54,23 @@ pub held_here : (entries : List Entry) (at : ℕ) → at < length entries → (t
 held_here entries at within t read front cut o told =
     let w = there entries at within in
     told w.0 w.1 ∙ sym (ap₂ (λ (u : Name) (es : List Entry). held_by (own u (history_of es))) (read w.0 w.1) cut)
+
+-- the task read at a place was generated
+pub spawned_here : (entries : List Entry) (at : ℕ) → at < length entries → (t : Name) → ((e : Entry) → e ≡ get_or entries at e → t ≡ e.event.task) → AreLegal entries → IsSpawned (history_of entries) t
+spawned_here entries at within t read legal =
+    let w = there entries at within in
+    subst (IsSpawned (history_of entries)) (sym (read w.0 w.1)) (spawned_in entries at w.0 within w.1 legal)
+
+-- ---- the spawn of a task, looked for from the newest entry on
+
+module _ (entries : List Entry) (t : Name) (left : ℕ) (e : Entry) (within : left < length entries) (here : e ≡ get_or entries left e) (same : spawn_of t (history_of (take (left + 1) entries)) ≡ spawn_of t (history_of entries)) where
+  step : spawn_of t (history_of (take (left + 1) entries)) ≡ cond (is_spawn_of t e.event.action) (Some e.event.action) (spawn_of t (history_of (take left entries)))
+  step = ap (spawn_of t) (history_more entries left e within here)
+
+  pub spawn_here : is_spawn_of t e.event.action ≡ true → spawn_of t (history_of entries) ≡ placed_action entries (Some left)
+  spawn_here h =
+      sym same ∙ step ∙ ap (λ b. cond b (Some e.event.action) (spawn_of t (history_of (take left entries)))) h
+      ∙ sym (ap (option_map (λ (x : Entry). x.event.action)) (slice_get_read entries (length entries) left e refl within here))
+
+  pub spawn_not_here : is_spawn_of t e.event.action ≡ false → spawn_of t (history_of (take left entries)) ≡ spawn_of t (history_of entries)
+  spawn_not_here h = sym (step ∙ ap (λ b. cond b (Some e.event.action) (spawn_of t (history_of (take left entries)))) h) ∙ same

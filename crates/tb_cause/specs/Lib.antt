@@ -4,3 +4,4 @@ pub mod Keys
 pub mod Asked
 pub mod Indexes
 pub mod Nearest
+pub mod Skipping

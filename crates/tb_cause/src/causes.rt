@@ -54,7 +54,7 @@ fn places_in_front(alloc: Global, entries: &History<'_>, at: usize) -> Result<Ve
     requires within { at < length entries.now }
     ensures { IfOk result (λ places. AreCausesAt entries.now at places.items) }
 {
-    let indexed = Indexed::of(alloc, entries)?;
+    let indexed = Indexed::of(entries);
     places_indexed(alloc, &indexed, at)
 }
 
@@ -120,6 +120,7 @@ pub(crate) fn is_asked(
     ensures { IfOk result (λ b. (e : AnEntry) → e ≡ get_or indexed.now at e →
         b ≡ gives_any (has keys.now) (items_told indexed.now) e.event) }
 {
+    indexed.history_is_legal();
     let task = indexed.task_at(at);
     let action = indexed.action_at(at);
     let found = gives_some(keys, indexed, task, action, of_task)?;

@@ -1,6 +1,6 @@
 //! What needs a step, by one pass over the entries behind it.
 
-ghost use Rattle.std.specs.Prelude.{◌≡◌, ◌<◌, ◌≤◌, ◌+◌, ◌∷◌, [], ◌++◌, ◌||◌, IfOk, IsTrue, OnOk, Some, false, true, length, map, reverse, take, get_or};
+ghost use Rattle.std.specs.Prelude.{◌≡◌, ◌<◌, ◌≤◌, ◌+◌, ◌-◌, ◌∷◌, [], ◌++◌, ◌||◌, IfOk, IsTrue, OnOk, Some, false, true, length, map, reverse, take, get_or};
 ghost use Rattle.std.specs.List.{All};
 ghost use Rattle.tb_model.specs.declared.step_id.StepId.{StepId};
 ghost use Rattle.tb_core.specs.Entries.{Entry as AnEntry};
@@ -15,6 +15,7 @@ use crate::giving::give;
 use crate::indexed::Indexed;
 use crate::keys::Keys;
 use crate::names::{names_at, names_in};
+use crate::skipping::next_taker;
 use crate::taking::takes_some;
 use std::alloc::{AllocError, Global};
 use tb_core::{Core, History};
@@ -76,7 +77,7 @@ fn places_behind(
     if at + 1 == entries.len() {
         return place_alone(alloc, entries, at, step);
     }
-    let indexed = Indexed::of(alloc, entries)?;
+    let indexed = Indexed::of(entries);
     places_indexed(alloc, &indexed, at, step)
 }
 
@@ -146,14 +147,42 @@ fn pass(
 {
     indexed.history_is_legal();
     let mut of_task = indexed.is_of_task(keys, at);
-    for later in at + 1..indexed.len() {
-        of_task = indexed.is_of_next(keys, later, of_task);
-        if goes(keys, indexed, later, of_task)? {
-            enter(keys, places, indexed, later, of_task)?;
+    let mut later = at + 1;
+    'forward: while later < indexed.len() {
+        let next = next_taker(keys, indexed, places, later)?;
+        if next == indexed.len() {
+            return Ok(());
+        }
+        of_task = is_of_task_on(keys, indexed, later, next, of_task);
+        if goes(keys, indexed, next, of_task)? {
+            enter(keys, places, indexed, next, of_task)?;
             of_task = true;
         }
+        later = next + 1;
     }
     Ok(())
+}
+
+/// Whether there is a key of the task of the entry at the place `next`, where it is known of the entry in front of `later`,
+/// which mostly is of the same task: then no hash is taken.
+#[inline(always)]
+fn is_of_task_on(
+    keys: &Keys,
+    indexed: &Indexed<'_>,
+    later: usize,
+    next: usize,
+    of_last: bool,
+) -> bool
+    requires within { next < length indexed.now }
+    requires behind { 0 < later }
+    requires last { IsOfTask indexed.now (later - 1) (has keys.now) of_last }
+    ensures { IsOfTask indexed.now next (has keys.now) result }
+{
+    if next == later {
+        indexed.is_of_next(keys, next, of_last)
+    } else {
+        indexed.is_of_task(keys, next)
+    }
 }
 
 /// Whether the entry at this place takes one of the keys; `of_task` says whether there is a key of
@@ -164,6 +193,7 @@ fn goes(keys: &Keys, indexed: &Indexed<'_>, later: usize, of_task: bool) -> Resu
     ensures { IfOk result (λ b. (e : AnEntry) → e ≡ get_or indexed.now later e →
         b ≡ takes_any (has keys.now) (items_told indexed.now) (history_of (take later indexed.now)) e.event) }
 {
+    indexed.history_is_legal();
     let task = indexed.task_at(later);
     let action = indexed.action_at(later);
     let held = indexed.held_at(later);
@@ -188,6 +218,7 @@ fn enter(
     ensures keys { OnOk result ((k : Key) (e : AnEntry) → e ≡ get_or indexed.now at e →
         has keys.new k ≡ (gives (items_told indexed.now) e.event k || has keys.old k)) }
 {
+    indexed.history_is_legal();
     let task = indexed.task_at(at);
     let action = indexed.action_at(at);
     give(keys, indexed, task, action, of_task)?;

@@ -4,6 +4,8 @@ ghost use Rattle.std.specs.Prelude.{◌≡◌, ◌≤◌, ◌&&◌, ◌||◌, �
 ghost use Rattle.std.specs.List.{list_any};
 ghost use Rattle.indexmap.specs.IndexSet.{contains};
 ghost use Rattle.tb_model.specs.Names.{Name, same_name, is_within};
+ghost use Rattle.tb_model.specs.Facts.{is_spawned};
+ghost use Rattle.tb_core.specs.Scans.{history_of};
 ghost use Rattle.tb_cause.specs.Asked.{action_gives, parent_gives, over_gives, place_gives, item_gives, items_give, gives_any, some_above};
 ghost use Rattle.tb_cause.specs.Indexes.{items_told};
 ghost use Rattle.tb_cause.specs.Keys.{Key, Task, Within, IsUpward, has, gives, own_key, action_key, over_key, items_key, item_key, place_key, kind_number, same_item_key};
@@ -22,6 +24,7 @@ pub(crate) fn give(
     action: &Action,
     of_task: bool,
 ) -> Result<(), AllocError>
+    requires there { IsTrue (is_spawned (history_of indexed.now) task.now) }
     requires upward { IsUpward (λ t. has keys.old (Within t)) }
     requires of_task { IsTrue of_task → has keys.old (Task task.now) ≡ true }
     ensures { OnOk result ((k : Key) →
@@ -166,7 +169,8 @@ pub(crate) fn gives_some(
     action: &Action,
     of_task: bool,
 ) -> Result<bool, AllocError>
-    requires { of_task ≡ has keys.now (Task task.now) }
+    requires there { IsTrue (is_spawned (history_of indexed.now) task.now) }
+    requires of_task { of_task ≡ has keys.now (Task task.now) }
     ensures { IfOk result (λ b. b ≡ gives_any (has keys.now) (items_told indexed.now)
         (record { task = task.now; action = action.now })) }
 {

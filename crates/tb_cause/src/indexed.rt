@@ -1,20 +1,18 @@
 //! The entries of a history, with what is looked up in them.
 
-ghost use Rattle.std.specs.Prelude.{◌≡◌, ◌≤◌, ◌<◌, ◌+◌, ◌-◌, IfOk, IfSome, length, take, get_or};
+ghost use Rattle.std.specs.Prelude.{◌≡◌, ◌≤◌, ◌<◌, ◌+◌, ◌-◌, ◌∷◌, IfSome, IsTrue, List, length, take, get_or};
 ghost use Rattle.std.specs.Option.{option_copied};
-ghost use Rattle.tb_model.specs.Facts.{own};
+ghost use Rattle.tb_model.specs.declared.action.Action.{Action as AnAction};
+ghost use Rattle.tb_model.specs.Facts.{is_of, is_print, is_spawned, own, touches};
 ghost use Rattle.tb_model.specs.State.{spawn_of};
 ghost use Rattle.tb_core.specs.Entries.{Entry as AnEntry};
+ghost use Rattle.tb_core.specs.Lending.{IsNoneBetween};
 ghost use Rattle.tb_core.specs.Scans.{AreLegal, history_of};
-ghost use Rattle.tb_cause.specs.Indexes.{items_placed, items_told, placed_action};
+ghost use Rattle.tb_cause.specs.Indexes.{items_told, placed_action};
 ghost use Rattle.tb_cause.specs.Keys.{IsOfTask, has, held_by};
 
 use crate::cone::Cone;
 use crate::keys::{Keys, has_task};
-use crate::spawns::spawns_of;
-use crate::standing::held_steps;
-use indexmap::IndexMap;
-use std::alloc::{AllocError, Global};
 use std::marker::Model;
 use tb_core::History;
 use tb_model::{Action, Item, TaskName};
@@ -23,41 +21,27 @@ use tb_model::{Action, Item, TaskName};
 #[derive(Drop)]
 pub(crate) struct Indexed<'a> {
     entries: History<'a>,
-    // by the place of each step before which its task's newest step had generated an undeferred
-    // child: that child
-    held: IndexMap<u32, TaskName>,
-    // the place of each task's spawn
-    spawns: IndexMap<TaskName, u32>,
 }
 
 impl<'a> Model for Indexed<'a> {
-    ghost use Rattle.std.specs.Prelude.{List, nat_eq};
-    ghost use Rattle.indexmap.specs.IndexMap.{get};
-    ghost use Rattle.tb_model.specs.Names.{same_name};
+    ghost use Rattle.std.specs.Prelude.{◌≤◌, List, length};
     ghost use Rattle.tb_core.specs.Entries.{Entry as AnEntry};
-    ghost use Rattle.tb_cause.specs.Indexes.{AreIndexed};
 
     ghost Value = { List AnEntry };
 
     ghost view = { λ i. i.entries };
 
-    ghost invariant = { λ i. AreIndexed i.entries (get nat_eq i.held) (get same_name i.spawns) };
+    ghost invariant = { λ i. length i.entries ≤ 1000000 };
 }
 
 impl<'a> Indexed<'a> {
-    /// Passes over the entries twice.
-    pub fn of(alloc: Global, entries: &History<'a>) -> Result<Indexed<'a>, AllocError>
-        requires legal { AreLegal entries.now }
-        requires bound { length entries.now ≤ 1000000 }
-        ensures { IfOk result (λ indexed. indexed ≡ entries.now) }
+    pub fn of(entries: &History<'a>) -> Indexed<'a>
+        requires { length entries.now ≤ 1000000 }
+        ensures { result ≡ entries.now }
     {
-        let held = held_steps(alloc, entries)?;
-        let spawns = spawns_of(alloc, entries)?;
-        Ok(Indexed {
+        Indexed {
             entries: entries.again(),
-            held,
-            spawns,
-        })
+        }
     }
 
     /// What always holds, for a caller to cite. It does nothing.
@@ -65,7 +49,7 @@ impl<'a> Indexed<'a> {
         ensures legal { AreLegal self.now }
         ensures bound { length self.now ≤ 1000000 }
     {
-        let _entries = &self.entries;
+        self.entries.is_legal();
     }
 
     /// How many entries there are.
@@ -145,45 +129,84 @@ impl<'a> Indexed<'a> {
         self.is_of_task(keys, at)
     }
 
+    /// The first place from this one on at which the task stepped, else how many entries there are.
+    pub fn next_of(&self, task: &TaskName, from: usize) -> usize
+        requires { from ≤ length self.now }
+        ensures from { from ≤ result }
+        ensures none { IsNoneBetween (is_of task.now) self.now from result }
+    {
+        self.entries.next_of(task, from)
+    }
+
+    /// The first place from this one on at which the cell was loaded from or stored to, else how many entries there are.
+    pub fn next_touch(&self, cell: u32, from: usize) -> usize
+        requires { from ≤ length self.now }
+        ensures from { from ≤ result }
+        ensures none { IsNoneBetween (λ v. touches cell v.action) self.now from result }
+    {
+        self.entries.next_touch(cell, from)
+    }
+
+    /// The first place from this one on at which a step printed, else how many entries there are.
+    pub fn next_print(&self, from: usize) -> usize
+        requires { from ≤ length self.now }
+        ensures from { from ≤ result }
+        ensures none { IsNoneBetween (λ v. is_print v.action) self.now from result }
+    {
+        self.entries.next_print(from)
+    }
+
     /// The undeferred child that the newest step of this one's task had generated before it.
     pub fn held_at(&self, at: usize) -> Option<&TaskName>
         requires { at < length self.now }
         ensures { (e : AnEntry) → e ≡ get_or self.now at e →
             option_copied result ≡ held_by (own e.event.task (history_of (take at self.now))) }
     {
-        self.held.get(&self.place(at))
-    }
-
-    /// The place of the task's spawn.
-    pub fn spawn_of(&self, task: &TaskName) -> Option<usize>
-        ensures spawn { spawn_of task.now (history_of self.now) ≡ placed_action self.now result }
-        ensures within { IfSome result (λ at. at < length self.now) }
-    {
-        match self.spawns.get(task) {
-            Some(at) => Some(*at as usize),
+        match self.entries.previous(at) {
+            Some(before) => undeferred(self.entries.action(before)),
             None => None,
         }
     }
 
-    /// The depend items of the task.
+    /// The place of the task's spawn, looked for from the newest entry on.
+    pub fn spawn_of(&self, task: &TaskName) -> Option<usize>
+        ensures spawn { spawn_of task.now (history_of self.now) ≡ placed_action self.now result }
+        ensures within { IfSome result (λ at. at < length self.now) }
+    {
+        let mut left = self.entries.len();
+        'back: while 0 < left {
+            left -= 1;
+            if self.entries.action(left).is_spawn_of(task) {
+                return Some(left);
+            }
+        }
+        None
+    }
+
+    /// The depend items of a task that is there.
     pub fn items_of(&self, task: &TaskName) -> &[Item]
+        requires { IsTrue (is_spawned (history_of self.now) task.now) }
         ensures { result.now ≡ items_told self.now task.now }
     {
-        match self.spawn_of(task) {
-            Some(at) => items_at(&self.entries, at),
-            None => &[],
-        }
+        self.history_is_legal();
+        self.entries.items(task)
     }
 }
 
-/// The items that the spawn at this place names.
-fn items_at<'a>(entries: &History<'a>, at: usize) -> &'a [Item]
-    requires { at < length entries.now }
-    ensures { result.now ≡ items_placed entries.now at }
+/// The undeferred child that the action generates.
+fn undeferred(action: &Action) -> Option<&TaskName>
+    ensures { (acts : List AnAction) → option_copied result ≡ held_by (action.now ∷ acts) }
 {
-    match entries.action(at) {
-        Action::Spawn(spawned) => spawned.get().items.as_slice(),
-        _ => &[],
+    match action {
+        Action::Spawn(spawned) => {
+            let spawn = spawned.get();
+            if spawn.deferred {
+                None
+            } else {
+                Some(&spawn.child)
+            }
+        }
+        _ => None,
     }
 }
 
@@ -191,11 +214,7 @@ fn items_at<'a>(entries: &History<'a>, at: usize) -> &'a [Item]
 /// a state; the entries are lent. They are compiled with the crate, so that a further field is refused
 /// until it stands here.
 fn name_every_field(indexed: &Indexed<'_>, keys: &Keys, cone: &Cone) {
-    let Indexed {
-        entries: _,
-        held: _,
-        spawns: _,
-    } = indexed;
+    let Indexed { entries: _ } = indexed;
     let Keys {
         tasks: _,
         ended: _,

@@ -14,8 +14,7 @@ mod keys;
 mod names;
 mod nearest;
 mod noting;
-mod spawns;
-mod standing;
+mod skipping;
 mod taking;
 
 pub use asking::{needed_by, needs, place_among};

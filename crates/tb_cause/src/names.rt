@@ -17,7 +17,7 @@ use std::alloc::{AllocError, Global};
 use tb_core::{Core, History, step_among, step_at};
 use tb_model::StepId;
 
-/// The names of the steps at these places. Where they are few, each is counted among the entries.
+/// The names of the steps at these places. Where they are few, the number of each is found among its task's places.
 pub(crate) fn names_at(
     alloc: Global,
     entries: &History<'_>,
@@ -27,7 +27,7 @@ pub(crate) fn names_at(
     requires places { All (λ p. p < length entries.now) places.now }
     ensures { IfOk result (λ steps. map (λ (s : StepId). Some s) steps.items ≡ map (step_at entries.now) places.now) }
 {
-    if places.len() < 3 {
+    if places.len() < entries.len() / 8 {
         return few_names(alloc, entries, places);
     }
     let numbers = numbers_of(alloc, entries)?;

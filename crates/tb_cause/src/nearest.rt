@@ -39,7 +39,7 @@ fn nearest_among(alloc: Global, entries: &History<'_>, at: usize) -> Result<Vec<
     requires within { at < length entries.now }
     ensures { IfOk result (λ places. AreNearest entries.now at places.items) }
 {
-    let indexed = Indexed::of(alloc, entries)?;
+    let indexed = Indexed::of(entries);
     nearest_indexed(alloc, &indexed, at)
 }
 

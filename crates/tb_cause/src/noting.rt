@@ -7,7 +7,7 @@ ghost use Rattle.indexmap.specs.IndexSet.{contains};
 ghost use Rattle.tb_model.specs.declared.action.Action.TheVariants.{Close, Start};
 ghost use Rattle.tb_model.specs.declared.item.Item.{Item as AnItem};
 ghost use Rattle.tb_model.specs.Names.{Name, same_name};
-ghost use Rattle.tb_model.specs.Facts.{own, groups, innermost};
+ghost use Rattle.tb_model.specs.Facts.{own, groups, innermost, is_spawned};
 ghost use Rattle.tb_core.specs.Scans.{history_of};
 ghost use Rattle.tb_cause.specs.Asked.{same_key, asks, group_key, new_items_key};
 ghost use Rattle.tb_cause.specs.Indexes.{items_told};
@@ -33,6 +33,7 @@ pub(crate) fn note(
     held: Option<&TaskName>,
     of_task: bool,
 ) -> Result<(), AllocError>
+    requires there { IsTrue (is_spawned (history_of indexed.now) task.now) }
     requires held { option_copied held ≡ held_by (own task.now (history_of front.now)) }
     requires opened { action.now ≡ Close → groups (own task.now (history_of front.now)) ≢ [] }
     requires of_task { IsTrue of_task → has keys.old (Task task.now) ≡ true }
@@ -151,6 +152,7 @@ fn note_by_items(
     task: &TaskName,
     action: &Action,
 ) -> Result<(), AllocError>
+    requires { IsTrue (is_spawned (history_of indexed.now) task.now) }
     ensures { OnOk result ((k : Key) → has keys.new k
         ≡ (items_any (λ a. same_key a k) (items_told indexed.now) task.now action.now || has keys.old k)) }
 {

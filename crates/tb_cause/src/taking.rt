@@ -1,13 +1,13 @@
 //! The keys that a step takes.
 
-ghost use Rattle.std.specs.Prelude.{◌≡◌, ◌≤◌, ◌&&◌, ◌||◌, ℕ, Bool, List, IfOk};
+ghost use Rattle.std.specs.Prelude.{◌≡◌, ◌≤◌, ◌&&◌, ◌||◌, ℕ, Bool, List, IfOk, IsTrue};
 ghost use Rattle.std.specs.List.{list_any};
 ghost use Rattle.std.specs.Option.{option_copied};
 ghost use Rattle.indexmap.specs.IndexSet.{contains};
 ghost use Rattle.tb_model.specs.declared.action.Action.TheVariants.{Start};
 ghost use Rattle.tb_model.specs.declared.item.Item.{Item as AnItem};
 ghost use Rattle.tb_model.specs.Names.{Name, same_name};
-ghost use Rattle.tb_model.specs.Facts.{own, groups, innermost};
+ghost use Rattle.tb_model.specs.Facts.{own, groups, innermost, is_spawned};
 ghost use Rattle.tb_core.specs.Scans.{history_of};
 ghost use Rattle.tb_cause.specs.Indexes.{items_told};
 ghost use Rattle.tb_cause.specs.Keys.{Key, Task, has, held_by, held_any, action_any, wait_any, items_any, item_any, kind_any, place_any, takes_any, comes_behind, kind_number};
@@ -31,6 +31,7 @@ pub(crate) fn takes_some(
     held: Option<&TaskName>,
     of_task: bool,
 ) -> Result<bool, AllocError>
+    requires there { IsTrue (is_spawned (history_of indexed.now) task.now) }
     requires held { option_copied held ≡ held_by (own task.now (history_of front.now)) }
     requires of_task { of_task ≡ has keys.now (Task task.now) }
     ensures { IfOk result (λ b.
@@ -117,6 +118,7 @@ fn takes_by_items(
     task: &TaskName,
     action: &Action,
 ) -> Result<bool, AllocError>
+    requires { IsTrue (is_spawned (history_of indexed.now) task.now) }
     ensures { IfOk result (λ b. b ≡ items_any (has keys.now) (items_told indexed.now) task.now action.now) }
 {
     match action {

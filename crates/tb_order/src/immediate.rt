@@ -2,6 +2,7 @@
 
 ghost use Rattle.std.specs.Prelude.{◌≡◌, ◌<◌, ◌≤◌, IfOk, IsTrue, Some, is_some, length, map, take, reverse, get_or};
 ghost use Rattle.std.specs.List.{All};
+ghost use Rattle.tb_model.specs.Facts.{is_spawned};
 ghost use Rattle.tb_core.specs.Entries.{Entry as AnEntry};
 ghost use Rattle.tb_core.specs.Scans.{AreLegal, history_of};
 ghost use Rattle.tb_races.specs.declared.cause.Cause.{Cause as ACause};
@@ -38,6 +39,7 @@ fn causes_at(
     places: &[u32],
 ) -> Result<Vec<Cause>, AllocError>
     requires legal { AreLegal front.now }
+    requires spawned { IsTrue (is_spawned (history_of front.now) task.now) }
     requires bound { length front.now ≤ 1000000 }
     requires within { All (λ p. p < length front.now) places.now }
     requires near { All (λ p. IsTrue (is_some
@@ -60,6 +62,7 @@ fn cause_at(
     first: usize,
 ) -> Result<Cause, AllocError>
     requires legal { AreLegal front.now }
+    requires spawned { IsTrue (is_spawned (history_of front.now) task.now) }
     requires bound { length front.now ≤ 1000000 }
     requires within { first < length front.now }
     requires near { IsTrue (is_some

@@ -1,6 +1,7 @@
 //! Why a step directly needs an earlier one, found by scans: nothing is kept for it.
 
-ghost use Rattle.std.specs.Prelude.{◌≡◌, ◌<◌, length, get_or};
+ghost use Rattle.std.specs.Prelude.{◌≡◌, ◌<◌, IsTrue, length, get_or};
+ghost use Rattle.tb_model.specs.Facts.{is_spawned};
 ghost use Rattle.tb_core.specs.Entries.{Entry};
 ghost use Rattle.tb_core.specs.Scans.{AreLegal, history_of};
 ghost use Rattle.tb_races.specs.Kinds;
@@ -32,7 +33,10 @@ pub fn need_kind(
     u: &TaskName,
     b: &Action,
 ) -> Option<NeedKind>
-    ensures { AreLegal front.now → result ≡ Kinds.need_kind (history_of front.now)
+    requires legal { AreLegal front.now }
+    requires later { IsTrue (is_spawned (history_of front.now) t.now) }
+    requires earlier { IsTrue (is_spawned (history_of front.now) u.now) }
+    ensures { result ≡ Kinds.need_kind (history_of front.now)
         (record { task = t.now; action = a.now }) (record { task = u.now; action = b.now }) }
 {
     if *u == *t {
@@ -90,8 +94,10 @@ fn shared(later: &Action, earlier: &Action) -> Option<Conflict>
 
 /// Why the action of `t` comes behind the end of `u`.
 fn end_kind(front: &History<'_>, t: &TaskName, action: &Action, u: &TaskName) -> Option<NeedKind>
-    ensures { AreLegal front.now →
-        result ≡ Kinds.end_kind (history_of front.now) t.now action.now u.now }
+    requires legal { AreLegal front.now }
+    requires later { IsTrue (is_spawned (history_of front.now) t.now) }
+    requires earlier { IsTrue (is_spawned (history_of front.now) u.now) }
+    ensures { result ≡ Kinds.end_kind (history_of front.now) t.now action.now u.now }
 {
     match wait_kind(front, t, action, u) {
         Some(kind) => Some(kind),
@@ -107,8 +113,10 @@ fn end_kind(front: &History<'_>, t: &TaskName, action: &Action, u: &TaskName) ->
 
 /// Why the action of `t` waits for the end of `u`.
 fn wait_kind(front: &History<'_>, t: &TaskName, action: &Action, u: &TaskName) -> Option<NeedKind>
-    ensures { AreLegal front.now →
-        result ≡ Kinds.wait_kind (history_of front.now) t.now action.now u.now }
+    requires legal { AreLegal front.now }
+    requires later { IsTrue (is_spawned (history_of front.now) t.now) }
+    requires earlier { IsTrue (is_spawned (history_of front.now) u.now) }
+    ensures { result ≡ Kinds.wait_kind (history_of front.now) t.now action.now u.now }
 {
     match action {
         Action::Start => start_kind(front, t, u),
@@ -132,8 +140,9 @@ fn wait_kind(front: &History<'_>, t: &TaskName, action: &Action, u: &TaskName) -
 
 /// Why the start of `t` waits for the end of `u`.
 fn start_kind(front: &History<'_>, t: &TaskName, u: &TaskName) -> Option<NeedKind>
-    ensures { AreLegal front.now →
-        result ≡ Linking.start_kind (history_of front.now) t.now u.now }
+    requires later { IsTrue (is_spawned (history_of front.now) t.now) }
+    requires earlier { IsTrue (is_spawned (history_of front.now) u.now) }
+    ensures { result ≡ Linking.start_kind (history_of front.now) t.now u.now }
 {
     if is_before(front, u, t) {
         Some(NeedKind::Before)

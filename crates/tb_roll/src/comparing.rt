@@ -5,7 +5,7 @@ ghost use Rattle.tb_model.specs.declared.step_id.StepId.{StepId};
 ghost use Rattle.tb_model.specs.Equivalent.{Equivalent};
 ghost use Rattle.tb_model.specs.Ordered.{all_first, ordered};
 ghost use Rattle.tb_core.specs.Entries.{Entry};
-ghost use Rattle.tb_core.specs.Scans.{AreLegal, history_of, step_at};
+ghost use Rattle.tb_core.specs.Scans.{history_of, step_at};
 ghost use Rattle.tb_core.specs.Seen.{history};
 ghost use Rattle.tb_roll.specs.Comparing.{AreMatched, IsFoundIn};
 
@@ -33,7 +33,6 @@ fn is_found_in(
     entries: &History<'_>,
     others: &History<'_>,
 ) -> Result<bool, AllocError>
-    requires legal { AreLegal entries.now }
     requires bound { length others.now ≤ 1000000 }
     ensures { IfOk result (λ found.
         IsTrue found ↔ IsFoundIn (history_of entries.now) (history_of others.now)) }
@@ -46,7 +45,6 @@ fn is_found_in(
 
 /// Whether each entry stands behind those that it directly needs, also by these places.
 fn is_in_order(entries: &History<'_>, places: &[u32]) -> bool
-    requires legal { AreLegal entries.now }
     requires count { length places.now ≡ length entries.now }
     ensures { (others : List Entry) → AreMatched entries.now places.now others →
         result ≡ ordered (history_of others) (history_of entries.now) }
@@ -61,7 +59,6 @@ fn is_in_order(entries: &History<'_>, places: &[u32]) -> bool
 
 /// Whether the step at this place comes behind those that it directly needs.
 fn comes_behind(entries: &History<'_>, places: &[u32], later: usize) -> bool
-    requires legal { AreLegal (take later entries.now) }
     requires count { length places.now ≡ length entries.now }
     requires within { later < length entries.now }
     ensures { (others : List Entry) (i : StepId) (v : Entry) →

@@ -5,7 +5,7 @@ use Rattle.tb_core.specs.Scans.{history_of}
 use Rattle.tb_cause.specs.Keys.{Task, has}
 use Rattle.tb_cause.proofs.ConeLemmas.{there}
 use Rattle.tb_cause.proofs.KeyedLemmas.{closes_an_open}
-use Rattle.tb_cause.proofs.StandingLemmas.{held_here}
+use Rattle.tb_cause.proofs.StandingLemmas.{held_here, spawned_here}
 use Rattle.tb_cause.proofs.causes.note_at.Goals as goal
 
 pub note-requires-clause-held : goal.note-requires-clause-held
@@ -23,3 +23,6 @@ pub note-requires-clause-of_task : goal.note-requires-clause-of_task
 note-requires-clause-of_task c h =
     let w = there c.args.indexed.now c.args.at c.requires.within in
     ap (λ t. has c.args.keys.now (Task t)) (c.task_at-task.ensures w.0 w.1) ∙ sym (c.requires.of_task h w.0 w.1)
+
+pub note-requires-clause-there : goal.note-requires-clause-there
+note-requires-clause-there c = spawned_here c.args.indexed.now c.args.at c.requires.within c.task_at-task.result.now c.task_at-task.ensures c.history_is_legal.ensures.legal

@@ -4,7 +4,7 @@ use Rattle.tb_core.specs.Scans.{history_of}
 use Rattle.tb_cause.specs.Indexes.{items_told}
 use Rattle.tb_cause.specs.Keys.{Task, has, takes_any}
 use Rattle.tb_cause.proofs.ConeLemmas.{there}
-use Rattle.tb_cause.proofs.StandingLemmas.{held_here}
+use Rattle.tb_cause.proofs.StandingLemmas.{held_here, spawned_here}
 use Rattle.tb_cause.proofs.finding.goes.Goals as goal
 
 pub takes_some-requires-clause-held : goal.takes_some-requires-clause-held
@@ -23,3 +23,6 @@ returns c e is =
     let a = c.action_at-action.result.now in
     c.in_ok-found.ensures ∙ ap₂ (λ t (es : List Entry). takes_any f I (history_of es) (record { task = t; action = a })) (c.task_at-task.ensures e is) c.front-front.ensures
     ∙ ap (λ b. takes_any f I (history_of (take c.args.later c.args.indexed.now)) (record { task = e.event.task; action = b })) (c.action_at-action.ensures e is)
+
+pub takes_some-requires-clause-there : goal.takes_some-requires-clause-there
+takes_some-requires-clause-there c = spawned_here c.args.indexed.now c.args.later c.requires.within c.task_at-task.result.now c.task_at-task.ensures c.history_is_legal.ensures.legal

@@ -3,6 +3,7 @@ use Rattle.tb_model.specs.State.{spawn_of}
 use Rattle.tb_core.specs.Scans.{history_of}
 use Rattle.tb_cause.specs.Indexes.{items_told}
 use Rattle.tb_cause.proofs.ConeLemmas.{there}
+use Rattle.tb_cause.proofs.StandingLemmas.{spawned_here}
 use Rattle.tb_cause.proofs.LoneLemmas.{lone_reach, no_length}
 use Rattle.tb_cause.proofs.nearest.lone_spawn.Goals as goal
 
@@ -22,3 +23,6 @@ returns-then-spawn-at c =
           (ap (λ t. spawn_of t (history_of entries)) (sym mine) ∙ c.in_ok-spawn-in-Start.ensures.spawn)
           c.if-spawn-at.true,
     )
+
+pub items_of-requires : goal.items_of-requires
+items_of-requires c = spawned_here c.args.indexed.now c.args.at c.requires.within c.task_at-task.result.now c.task_at-task.ensures c.history_is_legal.ensures.legal

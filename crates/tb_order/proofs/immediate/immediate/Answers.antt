@@ -2,8 +2,11 @@ use Rattle.std.proofs.Common.{◌≡◌, ◌<◌, ◌∙◌, List, true, is_some
 use Rattle.std.specs.List.{All}
 use Rattle.tb_model.specs.declared.event.Event.{Event}
 use Rattle.tb_core.specs.Entries.{Entry}
-use Rattle.tb_core.specs.Scans.{AreLegal}
+use Rattle.tb_model.specs.Names.{Name}
+use Rattle.tb_model.specs.Facts.{IsSpawned}
+use Rattle.tb_core.specs.Scans.{AreLegal, history_of}
 use Rattle.tb_core.proofs.FirstLemmas.{front_legal}
+use Rattle.tb_core.proofs.LendingLemmas.{spawned_at}
 use Rattle.tb_cause.proofs.ConeLemmas.{there}
 use Rattle.tb_order.specs.Told.{told}
 use Rattle.tb_order.proofs.CauseLemmas.{causes_told, event_read, places_near, places_within}
@@ -38,3 +41,10 @@ returns c v isv =
     let read = event_read c.task.result.now c.action.result.now v.event (c.task.ensures v isv) (c.action.ensures v isv) in
     causes_told (take c.args.at c.args.entries.now) v.event places (c.deref.ensures.value ∙ c.in_ok-places.ensures v isv) c.in_ok-causes.causes.items
     (c.in_ok-causes.ensures ∙ ap₂ (λ (front : List Entry) (e : Event). map (told front e) places) c.front-front.ensures read)
+
+pub causes_at-requires-clause-spawned : goal.causes_at-requires-clause-spawned
+causes_at-requires-clause-spawned c =
+    let x = there c.args.entries.now c.args.at c.requires.within in
+    let spawned = spawned_at c.args.entries.now c.args.at x.0 c.requires.within x.1 c.requires.legal in
+    subst (λ (t : Name). IsSpawned (history_of c.front-front.result) t) (sym (c.task.ensures x.0 x.1))
+    (subst (λ (es : List Entry). IsSpawned (history_of es) x.0.event.task) (sym c.front-front.ensures) spawned)

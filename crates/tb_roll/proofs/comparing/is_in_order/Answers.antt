@@ -1,18 +1,10 @@
 use Rattle.std.proofs.Common.{◌<◌, length, sym, ◌∙◌, take, arith}
 use Rattle.tb_model.specs.Needs.{step_of}
 use Rattle.tb_core.specs.Scans.{history_of}
-use Rattle.tb_core.proofs.FirstLemmas.{front_legal, step_read}
+use Rattle.tb_core.proofs.FirstLemmas.{step_read}
 use Rattle.tb_cause.proofs.ConeLemmas.{there}
 use Rattle.tb_roll.proofs.OrderLemmas.{ordered_more, ordered_no_more}
 use Rattle.tb_roll.proofs.comparing.is_in_order.Goals as goal
-
-pub comes_behind-requires-clause-legal : goal.comes_behind-requires-clause-legal
-comes_behind-requires-clause-legal c =
-    let entries = c.args.entries.now in
-    let later = c.loop-later.later in
-    let within : later < length entries = omega (arith, c.loop-later-test.true, c.len-later-end.ensures) in
-    let e = there entries later within in
-    front_legal entries later e.0 within e.1 c.requires.legal
 
 pub returns-then-not-comes_behind : goal.returns-then-not-comes_behind
 returns-then-not-comes_behind c others matched =
