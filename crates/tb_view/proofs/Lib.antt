@@ -1,6 +1,7 @@
 mod NameLemmas
 pub mod CountLemmas
 pub mod WalkLemmas
+pub mod ChosenLemmas
 mod NamedLemmas
 mod NeedLemmas
 pub mod ShownLemmas

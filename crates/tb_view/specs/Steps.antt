@@ -48,11 +48,6 @@ abbrev pub AreStepsOf : List StepId → History → Type 0
 AreStepsOf steps [] = steps ≡ []
 AreStepsOf steps (v ∷ H) = AreStepsOf steps H ⊎ ((rest : List StepId) × (steps ≡ step_of H v ∷ rest) × AreStepsOf rest H)
 
--- i is the first of these
-abbrev pub is_first : StepId → List StepId → Bool
-is_first i [] = false
-is_first i (s ∷ steps) = same_step s i
-
 -- ---- how many steps each task has taken
 
 abbrev pub Counts : Type 0

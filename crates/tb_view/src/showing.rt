@@ -44,7 +44,7 @@ fn why_text(alloc: Global, live: &Live, id: &StepId) -> Result<Draft, ViewRefusa
     match needs(alloc, core, id) {
         Ok(steps) => {
             let entries = core.legal_entries();
-            told(chosen_text(alloc, "why", live.program(), &entries, &steps))
+            told(chosen_text(alloc, "why", live.program(), core, &entries, &steps))
         }
         Err(CauseRefusal::NoSuchStep) => Err(ViewRefusal::NoSuchStep),
         Err(CauseRefusal::Memory) => Err(ViewRefusal::Memory),
@@ -84,7 +84,7 @@ fn who_text(alloc: Global, live: &Live, id: &StepId) -> Result<Draft, ViewRefusa
     match needed_by(alloc, core, id) {
         Ok(steps) => {
             let entries = core.legal_entries();
-            told(chosen_text(alloc, "who", live.program(), &entries, &steps))
+            told(chosen_text(alloc, "who", live.program(), core, &entries, &steps))
         }
         Err(CauseRefusal::NoSuchStep) => Err(ViewRefusal::NoSuchStep),
         Err(CauseRefusal::Memory) => Err(ViewRefusal::Memory),

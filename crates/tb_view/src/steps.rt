@@ -1,14 +1,17 @@
 //! Steps of a history, as text.
 
-ghost use Rattle.std.specs.Prelude.{◌≡◌, ◌<◌, ◌≤◌, ◌+◌, ◌++◌, [], IfOk, OnOk, codes, decimal, length, reverse, suc, drop, if◌then◌else◌};
+ghost use Rattle.std.specs.Prelude.{◌≡◌, ◌<◌, ◌≤◌, ◌++◌, ◌∷◌, [], IfOk, IsTrue, OnOk, codes, decimal, length, map, reverse, suc, if◌then◌else◌};
+ghost use Rattle.tb_model.specs.Equivalent.{stands};
 ghost use Rattle.tb_core.specs.Scans.{history_of};
+ghost use Rattle.tb_core.specs.Soundness.{departure};
 ghost use Rattle.tb_view.specs.Lines.{event_line, line};
-ghost use Rattle.tb_view.specs.Steps.{history_text, newest_lines, chosen_text, AreStepsOf, count_of, IsCounted, is_first};
+ghost use Rattle.tb_view.specs.Steps.{history_text, newest_lines, chosen_lines, chosen_text, AreStepsOf, count_of, IsCounted};
 
 use crate::step_counts::StepCounts;
 use crate::step_line::append_line;
 use std::alloc::{AllocError, Global};
-use tb_core::History;
+use tb_cause::place_among;
+use tb_core::{Core, History};
 use tb_draft::Draft;
 use tb_model::{Action, StepId, TaskName};
 use tb_read::Program;
@@ -85,59 +88,35 @@ pub fn append_newest(
     Ok(())
 }
 
-/// Whether the kth step of the task is the next of these.
-fn is_next(steps: &[StepId], found: usize, task: &TaskName, k: u32) -> bool
-    requires { found ≤ length steps.now }
-    ensures { result ≡ is_first (record { task = task.now; k = k }) (drop found steps.now) }
-{
-    match steps.get(found) {
-        Some(step) => step.task == *task && step.k == k,
-        None => false,
-    }
-}
-
-/// Appends the line of the task's next step, which has this action, where it is the next of these
-/// steps, and tells how many of them were found then.
-fn append_chosen(
+/// Appends the line of a step of the history.
+fn append_step(
     text: &mut Draft,
     program: &Program,
-    counts: &mut StepCounts,
-    task: &TaskName,
-    action: &Action,
-    steps: &[StepId],
-    found: usize,
-) -> Result<usize, AllocError>
-    requires few { count_of counts.old task.now < 4294967295 }
-    requires within { found ≤ length steps.now }
-    ensures text { OnOk result (text.new ≡ text.old
-        ++ (if is_first (record { task = task.now; k = suc (count_of counts.old task.now) }) (drop found steps.now)
-        then event_line program.now
-        (record { task = task.now; k = suc (count_of counts.old task.now) })
-        (record { task = task.now; action = action.now })
-        else [])) }
-    ensures found { IfOk result (λ n. n
-        ≡ (if is_first (record { task = task.now; k = suc (count_of counts.old task.now) }) (drop found steps.now)
-        then found + 1 else found)) }
-    ensures within { IfOk result (λ n. n ≤ length steps.now) }
-    ensures counts { OnOk result (IsCounted counts.old task.now counts.new) }
+    core: &Core,
+    entries: &History<'_>,
+    step: &StepId,
+) -> Result<(), AllocError>
+    requires same { map departure (reverse entries.now) ≡ core.now.run.steps }
+    requires there { IsTrue (stands step.now (history_of entries.now)) }
+    ensures { OnOk result (text.new
+        ≡ text.old ++ chosen_lines program.now (step.now ∷ []) (history_of entries.now)) }
 {
-    let k = counts.count(task)?;
-    if !is_next(steps, found, task, k) {
-        return Ok(found);
-    }
-    append_line(text, program, task, k, action)?;
-    Ok(found + 1)
+    let Some(at) = place_among(core, entries, step) else {
+        unreachable!();
+    };
+    append_line(text, program, &step.task, step.k, entries.action(at))
 }
 
-/// How many steps these are, and the line of each.
+/// How many steps these are, and the line of each. They are steps of the core's history, in its order.
 pub(crate) fn chosen_text(
     alloc: Global,
     word: &str,
     program: &Program,
+    core: &Core,
     entries: &History<'_>,
     steps: &[StepId],
 ) -> Result<Draft, AllocError>
-    requires bound { length entries.now ≤ 1000000 }
+    requires same { map departure (reverse entries.now) ≡ core.now.run.steps }
     requires steps { AreStepsOf (reverse steps.now) (history_of entries.now) }
     ensures { IfOk result (λ text. text
         ≡ chosen_text word.now program.now steps.now (history_of entries.now)) }
@@ -145,11 +124,8 @@ pub(crate) fn chosen_text(
     let count = steps.len();
     let head = format!(in alloc; "{word} {count}\n")?;
     let mut text = Draft::of(alloc, head);
-    let mut counts = StepCounts::none(alloc);
-    let mut found = 0;
-    'steps: for at in 0..entries.len() {
-        let (task, action) = (entries.task(at), entries.action(at));
-        found = append_chosen(&mut text, program, &mut counts, task, action, steps, found)?;
+    for step in steps {
+        append_step(&mut text, program, core, entries, step)?;
     }
     Ok(text)
 }

@@ -1,18 +1,33 @@
-use Rattle.std.proofs.Common.{arith}
-use Rattle.tb_view.proofs.CountLemmas.{counted, few, read_at}
-use Rattle.tb_view.proofs.WalkLemmas.{walk_goes_on, walk_ends}
+use Rattle.std.proofs.Common.{◌≡◌, ◌<◌, ◌≤◌, ◌++◌, ◌∷◌, ◌∙◌, [], length, take, codes, sym, ap, append_assoc, arith}
+use Rattle.std.specs.Fmt.{decimal}
+use Rattle.std.proofs.lemmas.List.{take_all}
+use Rattle.tb_core.specs.Scans.{history_of}
+use Rattle.tb_view.specs.Lines.{line}
+use Rattle.tb_view.specs.Steps.{chosen_lines}
+use Rattle.tb_view.proofs.ChosenLemmas.{all_lines, each_line, line_more, stands_there}
 use Rattle.tb_view.proofs.steps.chosen_text.Goals as goal
 
-pub append_chosen-requires-clause-few : goal.append_chosen-requires-clause-few
-append_chosen-requires-clause-few c = few c.args.entries.now c.steps.at c.steps.counts _ (omega arith) c.requires.bound c.steps.invariant.counts
+pub append_step-requires-clause-there : goal.append_step-requires-clause-there
+append_step-requires-clause-there c = stands_there c.args.steps.now (history_of c.args.entries.now) c.requires.steps c.loop-step.step-index c.step-item.result (omega (arith, c.loop-step-test.true)) c.step-item.is
 
-pub steps-preserved : goal.steps-preserved
-steps-preserved c =
-    let is = read_at c.args.entries.now c.steps.at c.task-task.result.now c.action-action.result.now (omega arith) c.task-task.ensures c.action-action.ensures in record {
-      counts = counted c.args.entries.now c.steps.at _ _ _ is c.steps.invariant.counts c.in_ok-found.ensures.counts;
-      walked = walk_goes_on c.args.program.now c.args.entries.now c.args.steps.now c.steps.at c.steps.found c.in_ok-found.found _ c.steps.counts _ _ _
-          is c.steps.invariant.counts c.steps.invariant.walked c.in_ok-found.ensures.found c.in_ok-found.ensures.within c.in_ok-found.ensures.text;
-    }
+pub loop-step-preserved : goal.loop-step-preserved
+loop-step-preserved c =
+    let P = c.args.program.now in
+    let H = history_of c.args.entries.now in
+    let steps = c.args.steps.now in
+    let n = c.loop-step.step-index in
+    let head = line (c.args.word.now ++ codes " " ++ decimal (length steps)) in
+    c.in_ok-append_step.ensures
+    ∙ ap (λ x. x ++ chosen_lines P (c.step-item.result ∷ []) H) c.loop-step.invariant
+    ∙ append_assoc head (each_line P (take n steps) H) (chosen_lines P (c.step-item.result ∷ []) H)
+    ∙ ap (λ x. head ++ x) (line_more P steps n c.step-item.result H (omega (arith, c.loop-step-test.true)) c.step-item.is)
 
 pub returns : goal.returns
-returns c = walk_ends c.args.program.now c.args.entries.now c.args.steps.now c.steps.at c.steps.found _ _ (omega arith) c.steps.invariant.walked c.requires.steps
+returns c =
+    let P = c.args.program.now in
+    let H = history_of c.args.entries.now in
+    let steps = c.args.steps.now in
+    let n = c.loop-step.step-index in
+    let head = line (c.args.word.now ++ codes " " ++ decimal (length steps)) in
+    let all : length steps ≤ n = omega (arith, c.loop-step-test.false) in
+    c.loop-step.invariant ∙ ap (λ S. head ++ each_line P S H) (take_all n steps all) ∙ ap (λ x. head ++ x) (sym (all_lines P steps H c.requires.steps))
