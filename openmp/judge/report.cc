@@ -58,7 +58,7 @@ void Report::write_fault(std::ostream &out) {
     name(fault.other);
     out << "\"fault\": {\"rule\": " << quoted(fault.rule) << ", \"step\": " << quoted(fault.step)
         << ", \"actor\": " << fault.actor << ", \"other\": " << fault.other << ", \"place\": " << fault.place
-        << ", \"stamp\": " << fault.stamp << "},\n";
+        << ", \"event\": " << fault.event << "},\n";
 }
 
 // Where the function was called that made the access, and where its caller.

@@ -56,11 +56,12 @@ void Run::split(State &s, u32 also) {
 
 void Run::refuse(const char *rule, const char *step, const State &s, u32 other, const event &e) {
     if (fault.rule.empty())
-        fault = Fault{rule, step, s.actor, other, e.place, e.stamp};
+        fault = Fault{rule, step, s.actor, other, e.place, static_cast<u32>(now_ + 1)};
 }
 
 void Run::take(std::size_t at) {
     const event &e = trace[at];
+    now_ = at;
     if (e.kind == READ || e.kind == WRITE)
         return access(at, e);
     if (e.kind == CHAIN) {

@@ -85,7 +85,7 @@ struct Fault {
     std::string rule, step;
     u32 actor = NONE, other = NONE;
     int place = 0;
-    u32 stamp = 0;
+    u32 event = 0;      // the how manieth
 };
 
 // What isn't order, or is only this run's; counted.
@@ -230,6 +230,7 @@ private:
     std::map<u64, u64> sizes_;      // of reduced variables
     std::vector<u32> number_of_;    // the task number of each actor
     bool is_next_one_ = false;
+    std::size_t now_ = 0;           // the event that is taken
 };
 
 }  // namespace judge

@@ -42,7 +42,13 @@ public:
 private:
     static constexpr std::size_t HEADER = 4096, PIECE = 2048;
 
+    // Events of one thread, one behind the other.
+    struct Piece {
+        u32 begin, end;
+    };
+
     void read_header();
+    std::vector<std::vector<Piece>> find_pieces();
     void put_in_order();
 
     const char *bytes_ = nullptr;

@@ -70,7 +70,8 @@ static void note_callers(struct own *own, uint64_t place, struct frame *frame) {
         places[callers++] = (uint32_t)taskback_offset(frame->back);
         frame = outer_of(own, frame);
     }
-    struct event *event = taskback_note(own, CHAIN, own->task, places[1] | places[2] << 32, places[3] | places[4] << 32, 0);
+    struct event *event = taskback_note_access(own, CHAIN, places[1] | places[2] << 32, 0, 0);
+    event->value = places[3] | places[4] << 32;
     event->place = (int32_t)places[0];
 }
 
@@ -90,9 +91,8 @@ void taskback_access(enum kind kind, uint64_t address, uint64_t size, uint64_t p
     }
     if (own->stack_high)
         note_callers(own, place, __builtin_frame_address(0));
-    event = own->last = taskback_note(own, kind, own->task, address, 0, place);
+    event = own->last = taskback_note_access(own, kind, address, place, mark);
     set_size(event, size);
-    event->mark = (uint8_t)mark;
     *seen = (struct seen){address, place, own->epoch, kind, event};
     if (!is_number)
         return;

@@ -1,5 +1,7 @@
 /* Each thread writes into a piece of the file of its own, which is mapped: what is written down is kept however the
-   program ends. The first page is text; then the pieces follow, each begun by an event that names its thread. */
+   program ends. Where it is full it is copied behind what the file has, and filled anew, so that its memory stays near.
+   So a thread's first piece is its newest, and ends where an event has no kind. The first page is text; then the pieces
+   follow, each begun by an event that names its thread. */
 #define _GNU_SOURCE
 #include <fcntl.h>
 #include <link.h>
@@ -50,13 +52,25 @@ static void use_piece(struct own *own, struct event *piece) {
     own->end = piece + BUFFER;
 }
 
-/* The next piece of the file, or nothing where there is no room for it. */
-static struct event *next_piece(void) {
+/* A thread's piece of the file, or nothing where there is no room for it. */
+static struct event *map_piece(void) {
     uint64_t at = __atomic_fetch_add(&file_end, PIECE, __ATOMIC_ACQ_REL);
     if (posix_fallocate(file, (off_t)at, PIECE) != 0)
         return 0;
     void *piece = mmap(0, PIECE, PROT_READ | PROT_WRITE, MAP_SHARED | MAP_POPULATE, file, (off_t)at);
     return piece == MAP_FAILED ? 0 : piece;
+}
+
+/* Whether the full piece is in the file a second time. */
+static int keep_piece(const struct own *own) {
+    uint64_t at = __atomic_fetch_add(&file_end, PIECE, __ATOMIC_ACQ_REL);
+    for (uint64_t done = 0; done < PIECE;) {
+        ssize_t put = pwrite(file, (const char *)own->events + done, PIECE - done, (off_t)(at + done));
+        if (put <= 0)
+            return 0;
+        done += (uint64_t)put;
+    }
+    return 1;
 }
 
 static void stop_recording(void) { __atomic_store_n(&taskback_is_recording, 0, __ATOMIC_RELEASE); }
@@ -65,21 +79,25 @@ static void stop_recording(void) { __atomic_store_n(&taskback_is_recording, 0, _
    out, and the trace's numbers show that some are missing. */
 static void turn_page(struct own *own) {
     begin_part(own);
-    if (__atomic_load_n(&taskback_is_recording, __ATOMIC_ACQUIRE)) {
-        struct event *piece = next_piece();
-        if (piece) {
-            munmap(own->events, PIECE);
-            use_piece(own, piece);
-            own->next++->address = own->index;
-            own->events->kind = CHUNK;
-            return;
-        }
+    own->next = own->events + 1;
+    if (!__atomic_load_n(&taskback_is_recording, __ATOMIC_ACQUIRE) || keep_piece(own))
+        return;
+    stop_recording();
+    __atomic_add_fetch(&counter, 1, __ATOMIC_ACQ_REL);
+    munmap(own->events, PIECE);
+    use_piece(own, fresh_memory(PIECE));
+}
+
+static void begin_pieces(struct own *own) {
+    struct event *piece = taskback_is_recording ? map_piece() : 0;
+    use_piece(own, piece ? piece : fresh_memory(PIECE));
+    if (piece) {
+        own->next++->address = own->index;
+        own->events->kind = CHUNK;
+    } else if (taskback_is_recording) {
         stop_recording();
         __atomic_add_fetch(&counter, 1, __ATOMIC_ACQ_REL);
-        munmap(own->events, PIECE);
-        use_piece(own, fresh_memory(PIECE));
     }
-    own->next = own->events;
 }
 
 /* The first module is the program; below a thread's pointer are the variables that the modules have for each thread. */
@@ -103,11 +121,7 @@ struct own *taskback_adopt(void) {
     own->index = __atomic_fetch_add(&thread_count, 1, __ATOMIC_RELAXED);
     own->tls_size = thread_local_size;
     own->tls_low = (uint64_t)__builtin_thread_pointer() - thread_local_size;
-    use_piece(own, fresh_memory(PIECE));
-    if (taskback_is_recording) {
-        own->next = own->end;
-        turn_page(own);
-    }
+    begin_pieces(own);
     find_stack(own);
     own->link = __atomic_load_n(&all_threads, __ATOMIC_ACQUIRE);
     while (!__atomic_compare_exchange_n(&all_threads, &own->link, own, 0, __ATOMIC_ACQ_REL, __ATOMIC_ACQUIRE))
@@ -120,20 +134,30 @@ int32_t taskback_offset(uint64_t place) {
     return offset > 0 && offset <= INT32_MAX ? (int32_t)offset : 0;
 }
 
-struct event *taskback_note(struct own *own, enum kind kind, uint32_t task, uint64_t address, uint64_t value,
-                            uint64_t place) {
+/* Behind what is written down last stands an event without a kind, at which the piece ends. */
+static inline struct event *write_down(struct own *own, struct event told) {
     if (own->next == own->end)
         turn_page(own);
     struct event *event = own->next++;
-    event->address = address;
-    event->value = value;
-    event->stamp = __atomic_add_fetch(&counter, 1, __ATOMIC_ACQ_REL);
-    event->task = task;
-    event->place = taskback_offset(place);
-    event->size = 0;
-    event->mark = 0;
-    event->kind = (uint8_t)kind;
+    if (own->next != own->end)
+        own->next->kind = 0;
+    uint8_t kind = told.kind;
+    told.kind = 0;
+    *event = told;
+    __atomic_store_n(&event->kind, kind, __ATOMIC_RELEASE);
     return event;
+}
+
+struct event *taskback_note(struct own *own, enum kind kind, uint32_t task, uint64_t address, uint64_t value,
+                            uint64_t place) {
+    uint32_t stamp = __atomic_add_fetch(&counter, 1, __ATOMIC_ACQ_REL);
+    return write_down(own, (struct event){address, value, stamp, task, taskback_offset(place), 0, (uint8_t)kind, 0});
+}
+
+struct event *taskback_note_access(struct own *own, enum kind kind, uint64_t address, uint64_t place, int mark) {
+    uint32_t stamp = takes_number((uint8_t)kind, (uint8_t)mark) ? __atomic_add_fetch(&counter, 1, __ATOMIC_ACQ_REL)
+                                                              : __atomic_load_n(&counter, __ATOMIC_ACQUIRE);
+    return write_down(own, (struct event){address, 0, stamp, own->task, taskback_offset(place), 0, (uint8_t)kind, (uint8_t)mark});
 }
 
 static int add(char *line, int at, int most, const char *words) {

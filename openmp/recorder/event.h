@@ -76,5 +76,11 @@ struct event {
     uint8_t mark;
 };
 
+/* Whether the event raises the one counter; the others, which no order hangs on, have the number that it had. */
+static inline int takes_number(uint8_t kind, uint8_t mark) {
+    int is_access = kind == READ || kind == WRITE || kind == CHAIN;
+    return !is_access || (kind == WRITE && (mark & FREED) && !(mark & FRAME));
+}
+
 enum { LARGE = 0xffff, LONGEST_NUMBER = 16, CALLERS = 5 };
 #endif

@@ -91,6 +91,10 @@ static inline struct own *own_state(void) {
 struct event *taskback_note(struct own *own, enum kind kind, uint32_t task, uint64_t address, uint64_t value,
                             uint64_t place);
 
+/* Writes down what the thread's task does to memory, or who called it; it has a number of its own only where an order may
+   hang on it. */
+struct event *taskback_note_access(struct own *own, enum kind kind, uint64_t address, uint64_t place, int mark);
+
 /* Reads the number of the last write. */
 void taskback_settle(struct own *own);
 

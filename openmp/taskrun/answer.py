@@ -52,7 +52,7 @@ def tell_fault(finding):
     where = finding.line(fault["place"] or finding.actors[fault["actor"]].place)
     return [f"fault of the run: {task_words(finding, fault['actor'])} {done} while "
             f"{task_words(finding, fault['other'])} hadn't ended: {rule}",
-            f"  the step: it {fault['step']}, at {where}; event {fault['stamp']} of {finding.told['events']}"]
+            f"  the step: it {fault['step']}, at {where}; event {fault['event']} of {finding.told['events']}"]
 
 
 # ---- races
