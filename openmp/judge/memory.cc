@@ -24,7 +24,7 @@ Memory::Memory(Run &run) : run_(run) {
 
 void Memory::take(std::size_t at) {
     const event &e = run_.trace[at];
-    if (e.kind == MEMORY)
+    if (e.kind == MEMORY || (e.kind == END && e.mark == STACK))
         return is_new(at, e);
     if (e.kind == GROUP_CLOSE) {
         auto found = run_.combined.find(at);
@@ -208,7 +208,7 @@ void Memory::is_new(std::size_t at, const event &e) {
     freed_.erase(freed_.lower_bound(e.address), freed_.lower_bound(e.address + e.value));
     auto last = blocks.lower_bound(e.address + e.value);
     auto first = blocks.lower_bound(e.address);
-    if (e.mark == STACK && run_.segment_of[at] != NONE)
+    if (e.kind == MEMORY && e.mark == STACK && run_.segment_of[at] != NONE)
         stacks_.emplace(run_.segments[run_.segment_of[at]].actor, std::make_pair(e.address, e.value));
     blocks.erase(first, last);
     blocks[e.address] = Block{e.value, static_cast<u32>(at), run_.segment_of[at]};
@@ -312,13 +312,15 @@ void Memory::add_race(const Now &now, u32 at, u32 segment, bool is_apart, bool i
     raced_[now.granule]++;
     u64 lines = static_cast<u64>(static_cast<u32>(e.place)) << 32 | static_cast<u32>(f.place);
     u64 kinds = (u64{e.kind} << 8 | f.kind) << 8 | (is_apart ? 2 : 0) | (is_copied ? 1 : 0);
-    kinds |= u64{e.mark} << 32 | u64{f.mark} << 40;
+    constexpr u8 MARKS = (1 << ROW_SHIFT) - 1;
+    kinds |= static_cast<u64>(e.mark & MARKS) << 32 | static_cast<u64>(f.mark & MARKS) << 40;
     auto added = known_.emplace(Key{lines, kinds}, static_cast<u32>(races.size()));
     if (!added.second) {
         races[added.first->second].count++;
         return;
     }
-    races.push_back(Race{at, now.at, segment, now.segment, std::max(now.address, e.address), 1, is_apart, is_copied});
+    u64 address = std::max({now.address, e.address, is_copied ? 0 : now.granule * GRANULE});
+    races.push_back(Race{at, now.at, segment, now.segment, address, 1, is_apart, is_copied});
     u64 begin = 0;
     const Block *block = block_at(races.back().address, &begin);
     block_of_race.push_back(block ? *block : Block{0, NONE, NONE});

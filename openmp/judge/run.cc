@@ -99,7 +99,9 @@ void Run::take_sync(std::size_t at, const event &e) {
         actors[state_of(e).actor].items.push_back(Item{e.address, e.value, e.mark});
         return;
     case START: return start(e, trace.thread(at));
-    case END: return end(e);
+    case END:
+        segment_of[at] = state_of(e).segment;
+        return end(e);
     case RESUME: actors[state_of(e).actor].thread = trace.thread(at); return;
     case FULFIL: return fulfil(e);
     case WAIT: return wait(e);

@@ -18,7 +18,8 @@ enum { HEADER = 4096, PIECE = BUFFER * sizeof(struct event) };
 __thread struct own *taskback_own;
 int taskback_is_recording;
 static struct own *all_threads;
-static uint32_t counter;
+/* In a line of the cache of its own: each thread writes it. */
+static struct { uint32_t last; char rest[124]; } __attribute__((aligned(128))) counter;
 static uint32_t thread_count;
 static uint64_t file_end = HEADER;
 static uint64_t program_base, thread_local_size;
@@ -77,13 +78,13 @@ static void stop_recording(void) { __atomic_store_n(&taskback_is_recording, 0, _
 
 /* Makes room: the accesses in the piece are no longer there to be compared with. Where there is none the rest is left
    out, and the trace's numbers show that some are missing. */
-static void turn_page(struct own *own) {
+__attribute__((noinline)) static void turn_page(struct own *own) {
     begin_part(own);
     own->next = own->events + 1;
     if (!__atomic_load_n(&taskback_is_recording, __ATOMIC_ACQUIRE) || keep_piece(own))
         return;
     stop_recording();
-    __atomic_add_fetch(&counter, 1, __ATOMIC_ACQ_REL);
+    __atomic_add_fetch(&counter.last, 1, __ATOMIC_ACQ_REL);
     munmap(own->events, PIECE);
     use_piece(own, fresh_memory(PIECE));
 }
@@ -96,7 +97,7 @@ static void begin_pieces(struct own *own) {
         own->events->kind = CHUNK;
     } else if (taskback_is_recording) {
         stop_recording();
-        __atomic_add_fetch(&counter, 1, __ATOMIC_ACQ_REL);
+        __atomic_add_fetch(&counter.last, 1, __ATOMIC_ACQ_REL);
     }
 }
 
@@ -114,11 +115,24 @@ static int find_own(struct dl_phdr_info *info, size_t size, void *data) {
     return 0;
 }
 
+/* A thread that comes while the first one is alone isn't the runtime's. */
+static void find_strangers(struct own *own) {
+    static struct own *first;
+    if (own->index == 0) {
+        first = own;
+        own->is_alone = 1;
+    } else if (first && first->is_alone) {
+        taskback_has_strangers = 1;
+        first->is_alone = 0;
+    }
+}
+
 struct own *taskback_adopt(void) {
     struct own *own = fresh_memory(sizeof *own);
     taskback_own = own;
     own->epoch = 1;
     own->index = __atomic_fetch_add(&thread_count, 1, __ATOMIC_RELAXED);
+    find_strangers(own);
     own->tls_size = thread_local_size;
     own->tls_low = (uint64_t)__builtin_thread_pointer() - thread_local_size;
     begin_pieces(own);
@@ -129,13 +143,8 @@ struct own *taskback_adopt(void) {
     return own;
 }
 
-int32_t taskback_offset(uint64_t place) {
-    int64_t offset = (int64_t)(place - program_base);
-    return offset > 0 && offset <= INT32_MAX ? (int32_t)offset : 0;
-}
-
 /* Behind what is written down last stands an event without a kind, at which the piece ends. */
-static inline struct event *write_down(struct own *own, struct event told) {
+__attribute__((always_inline)) static inline struct event *write_down(struct own *own, struct event told) {
     if (own->next == own->end)
         turn_page(own);
     struct event *event = own->next++;
@@ -148,16 +157,25 @@ static inline struct event *write_down(struct own *own, struct event told) {
     return event;
 }
 
+int32_t taskback_offset(uint64_t place) {
+    int64_t offset = (int64_t)(place - program_base);
+    return offset > 0 && offset <= INT32_MAX ? (int32_t)offset : 0;
+}
+
+static inline uint32_t number(enum kind kind, int mark) {
+    return takes_number((uint8_t)kind, (uint8_t)mark) ? __atomic_add_fetch(&counter.last, 1, __ATOMIC_ACQ_REL)
+                                                      : __atomic_load_n(&counter.last, __ATOMIC_ACQUIRE);
+}
+
 struct event *taskback_note(struct own *own, enum kind kind, uint32_t task, uint64_t address, uint64_t value,
                             uint64_t place) {
-    uint32_t stamp = __atomic_add_fetch(&counter, 1, __ATOMIC_ACQ_REL);
+    uint32_t stamp = number(kind, 0);
     return write_down(own, (struct event){address, value, stamp, task, taskback_offset(place), 0, (uint8_t)kind, 0});
 }
 
 struct event *taskback_note_access(struct own *own, enum kind kind, uint64_t address, uint64_t place, int mark) {
-    uint32_t stamp = takes_number((uint8_t)kind, (uint8_t)mark) ? __atomic_add_fetch(&counter, 1, __ATOMIC_ACQ_REL)
-                                                              : __atomic_load_n(&counter, __ATOMIC_ACQUIRE);
-    return write_down(own, (struct event){address, 0, stamp, own->task, taskback_offset(place), 0, (uint8_t)kind, (uint8_t)mark});
+    uint32_t stamp = number(kind, mark), task = own->task;
+    return write_down(own, (struct event){address, 0, stamp, task, taskback_offset(place), 0, (uint8_t)kind, (uint8_t)mark});
 }
 
 static int add(char *line, int at, int most, const char *words) {

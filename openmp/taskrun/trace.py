@@ -11,6 +11,8 @@ NOTES = ("", "reductions", "detach clauses", "priority clauses", "cancellations"
          "calls that ask for the thread's number", "teams of one thread by the program", "runs without OMPT",
          "pieces without room", "processes that were forked")
 ATOMIC, FREED, LIBRARY, FRAME, OUTERMOST = 1, 2, 4, 8, 16
+STACK = 1
+ROW_SHIFT, MARKS = 5, 31
 WRITES = 32      # of a step: the program writes there, be the step a load or a store
 UNDEFERRED, FINAL = 0x8000000, 0x20000000
 FORMAT = struct.Struct("<QqIIiHBB")
@@ -35,7 +37,9 @@ class Event(NamedTuple):
 
 def takes_number(event):
     """Whether the event raises the one counter (event.h); the others have the number that it had."""
-    return event.kind not in (READ, WRITE, CHAIN) or event.kind == WRITE and event.mark & (FREED | FRAME) == FREED
+    if event.kind == WRITE:
+        return event.mark & (FREED | FRAME) == FREED
+    return event.kind not in (READ, CHAIN, MEMORY, ITEM, WAIT_ITEM, ITERATION, COPY, NOTE)
 
 
 class BadTrace(Exception):

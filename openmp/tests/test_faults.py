@@ -114,7 +114,7 @@ class Faults(support.Recorded):
         self.assertRegex(lines[-1], "the run didn't end by itself, and 1 tasks hadn't ended")
 
     def test_an_event_is_missing(self):
-        events = [event for event in numbered(self.trace.events) if event.kind != t.MEMORY]
+        events = [event for event in numbered(self.trace.events) if event.kind != t.BARRIER_BEGIN]
         status, lines = self.judge(events)
         self.assertEqual(status, 3, lines)
         self.assertRegex(lines[-1], "events are missing from the trace")
