@@ -135,7 +135,8 @@ bool Memory::compare(const Now &now, Bucket &bucket) {
         if (!conflicts && ++seen > FEW)
             return false;
         bool meets = touch.mask & now.mask && (conflicts || covers);
-        bool is_ordered = meets && (run_.is_before(touch.segment, now.segment) || is_own(now, touch));
+        bool is_ordered = meets && (run_.is_before(touch.segment, now.segment) || is_own(now, touch)
+                                    || (conflicts && is_in_turn(now, touch)));
         if (meets && !is_ordered && conflicts)
             add_race(now, touch.at, touch.segment, run_.are_apart(touch.segment, now.segment), false);
         is_passed = is_passed && is_ordered;
@@ -250,16 +251,39 @@ const Block *Memory::block_at(u64 address, u64 *begin) const {
     return address - found.first < found.second.size ? &found.second : nullptr;
 }
 
+bool Memory::is_on_stack(u32 part, u64 address) const {
+    auto stack = stacks_.find(part);
+    return stack != stacks_.end() && address - stack->second.first < stack->second.second;
+}
+
 // Whether the memory is one that a thread's share has for itself: its part of the stack, and what it has taken.
 bool Memory::is_private(u32 part, u64 address) const {
-    auto stack = stacks_.find(part);
-    if (stack != stacks_.end() && address - stack->second.first < stack->second.second)
+    if (is_on_stack(part, address))
         return true;
     const Block *block = block_at(address);
     if (!block || block->segment == NONE)
         return false;
     const Segment &segment = run_.segments[block->segment];
     return segment.actor == part && !(segment.flags & Segment::IS_SINGLE);
+}
+
+// Whether the memory is of the stack of a thread that is in front of both, and the thread's own order is: another thread
+// that took the later unit would have that memory on a stack of its own.
+bool Memory::is_in_turn(const Now &now, const Touch &earlier) {
+    const auto &actors = run_.actors;
+    u32 part = run_.segments[now.segment].actor, child = NONE, other = run_.segments[earlier.segment].actor, made = NONE;
+    while (part != NONE && !(actors[part].flags & Actor::IS_PART && is_on_stack(part, now.granule * GRANULE)))
+        part = actors[child = part].parent;
+    while (other != NONE && other != part)
+        other = actors[made = other].parent;
+    if (part == NONE || other == NONE)
+        return false;
+    std::size_t later = child == NONE ? now.at : actors[child].made;
+    if (made == NONE)
+        return earlier.at < later;
+    u32 unit = actors[made].unit;
+    return unit != NONE && run_.units[unit].end < later && run_.units[unit].last != NONE
+           && run_.is_before_node(earlier.segment, run_.units[unit].last);
 }
 
 // Whether one thread did both in units that might be two threads', on memory that is its own.
@@ -287,11 +311,10 @@ void Memory::look_for_copies(const Now &now) {
     const Region &region = run_.regions[actor.region];
     if (!region.stands_for_more() || region.has_number)
         return;
-    auto stack = stacks_.find(segment.actor);
-    if (stack != stacks_.end() && now.address - stack->second.first < stack->second.second)
+    if (is_on_stack(segment.actor, now.address))
         return;
     const Block *block = block_at(now.address);
-    if (block && run_.trace[block->at].stamp > region.begun)
+    if (block && block->at > region.begun)
         return;
     auto added = copied_.emplace(std::make_pair(segment.actor, run_.trace[now.at].place),
                                  Copied{now, now.at < actor.parted});

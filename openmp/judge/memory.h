@@ -75,6 +75,8 @@ private:
     void clear(u64 address, u64 size);
     void pass(const Now &now, Bucket &bucket);
     bool is_own(const Now &now, const Touch &earlier);
+    bool is_in_turn(const Now &now, const Touch &earlier);
+    bool is_on_stack(u32 part, u64 address) const;
     bool is_private(u32 part, u64 address) const;
     void look_for_copies(const Now &now);
     void tell_copies();

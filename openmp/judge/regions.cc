@@ -8,7 +8,8 @@ void Run::begin_region(const event &e) {
     Region region;
     region.meeting = s.actor;
     region.place = e.place;
-    region.begun = e.stamp;
+    region.begun = now_;
+    region.unit = s.unit;
     region.is_one_by_clause = is_next_one_;
     region.is_nested = s.phase != NONE;
     is_next_one_ = false;
@@ -39,6 +40,8 @@ void Run::begin_part(const event &e, u32 thread) {
     actors[part].region = known->second;
     actors[part].thread = thread;
     actors[part].flags = Actor::IS_PART;
+    actors[part].unit = region.unit;
+    actors[part].made = region.begun;
     actors[part].is_started = true;
     region.size = std::max<u32>(region.size, e.size);
     team_most = std::max(team_most, region.size);

@@ -34,6 +34,8 @@ struct Actor {
     u32 thread = NONE;
     u32 region = NONE;
     u32 start = NONE, end = NONE;   // nodes
+    u32 unit = NONE;        // of a thread's share, in which it was made
+    std::size_t made = 0;   // the event by which it was, or the region
     std::size_t parted = ~std::size_t{0};   // the event from which on the threads of its team may go different ways
     bool is_started = false, is_ended = false, is_joined = false;
     std::vector<Item> items;
@@ -56,6 +58,12 @@ struct Phase {
     std::vector<u32> tasks;           // that were made in it
 };
 
+// An iteration, a section or a block that one thread takes: its last node, where it has one, and the event that ends it.
+struct Unit {
+    u32 last = NONE;
+    std::size_t end = ~std::size_t{0};
+};
+
 // A worksharing construct that a team has met.
 struct Shared {
     u32 ordered = NONE;                     // the last ordered block's node
@@ -66,7 +74,8 @@ struct Region {
     u32 meeting = NONE;     // an actor
     int place = 0;
     u32 size = 0;           // of the team
-    u32 begun = 0;          // stamp
+    std::size_t begun = 0;  // the event
+    u32 unit = NONE;        // in which it was met
     bool is_one_by_clause = false, is_nested = false, has_number = false, is_ended = false;
     std::vector<u32> phases;
     std::vector<std::unique_ptr<Shared>> shared;
@@ -114,6 +123,7 @@ struct State {
     u32 group = NONE;       // the innermost one
     u32 fulfilled = NONE;   // the node of the call that fulfils its event
     u32 masked = NONE;      // the node of the last masked block of the phase
+    u32 unit = NONE;        // that the thread is in
     u32 unsettled = NONE;   // the last child, while its items come
     Loop loop;
     std::vector<u32> children;       // not yet waited for
@@ -148,6 +158,7 @@ public:
     const Trace &trace;
     std::vector<Actor> actors;
     std::vector<Segment> segments;
+    std::vector<Unit> units;
     std::vector<Phase> phases;
     std::vector<Region> regions;
     std::vector<Group> groups;
@@ -196,6 +207,7 @@ private:
     u32 open_phase(u32 region, u32 open);
     void begin_loop(const event &e);
     void iterate(const event &e);
+    void enter_unit(State &s, u32 segment);
     void leave_unit(State &s);
     void end_loop(const event &e);
     void begin_single(const event &e);

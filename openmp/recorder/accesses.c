@@ -243,7 +243,7 @@ static inline int is_quiet(const struct own *own, const void *address) {
 #define STORE(bytes)                                                             \
     void __sanitizer_cov_store##bytes(void *address) {                           \
         struct own *own = own_state();                                           \
-        if (__builtin_expect(own->in_loop, 0))                                   \
+        if (__builtin_expect(own->loop.is_on, 0))                                   \
             stored_in_loop(own, (uint64_t)address, bytes);                       \
         if (is_quiet(own, address))                                              \
             return;                                                              \

@@ -14,7 +14,7 @@ static inline void set_size(struct event *event, uint64_t size) {
         event->value = size;
 }
 
-enum { RUNNING_MOST = 1024, SEEN = 2048, ROWS = 64, BUFFER = 2048, FENCED = 4 };
+enum { RUNNING_MOST = 1024, SEEN = 2048, ROWS = 64, BUFFER = 2048, FENCED = 4, NESTED = 8 };
 
 /* A task that runs on this thread, where its part of the stack begins (0: not yet known), and what the runtime has of it. */
 struct running {
@@ -41,6 +41,7 @@ struct loop {
     uint32_t size;
     uint32_t task;
     int is_new;                /* the number's next value is the lowest one */
+    int is_on;
 };
 
 struct own {
@@ -54,7 +55,6 @@ struct own {
     uint64_t stack_low;
     struct event *unread;      /* a write whose number is read at the thread's next call */
     struct event *last;        /* the last load or store, which may turn out to be an atomic operation's */
-    int in_loop;
     int is_alone;              /* no other task and no other thread is there that could touch memory */
     uint32_t index;            /* the thread's number */
     uint32_t task;             /* the task that runs */
@@ -76,6 +76,8 @@ struct own {
     uint32_t loads;            /* how many relaxed atomic loads there were; the addresses of the last ones */
     uint64_t loaded[FENCED];
     struct loop loop;
+    struct loop outer[NESTED]; /* those around the regions that the thread has met */
+    uint32_t nesting;
     struct running running[RUNNING_MOST];
     struct seen rows[ROWS];    /* by their places, the last accesses, which may go on */
     struct seen seen[SEEN];
@@ -126,6 +128,9 @@ int32_t taskback_offset(uint64_t place);
 
 /* An access of `size` bytes by the thread's task. */
 void taskback_access(enum kind kind, uint64_t address, uint64_t size, uint64_t place, int mark);
+
+/* What a function of the library does to the program's memory. */
+void taskback_touches(enum kind kind, const void *address, size_t size, uint64_t place);
 
 /* An item of a task or of a taskwait, as the runtime's calls have it: `type` has bits. */
 struct runtime_item {

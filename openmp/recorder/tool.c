@@ -187,6 +187,10 @@ static void on_region_begin(ompt_data_t *task, const ompt_frame_t *frame, ompt_d
     begin_loud_part(own);
     region->value = __atomic_add_fetch(&region_count, 1, __ATOMIC_RELAXED);
     own->is_alone = 0;
+    if (own->nesting < NESTED)
+        own->outer[own->nesting] = own->loop;
+    own->nesting++;
+    own->loop.is_on = 0;
     taskback_note(own, REGION_BEGIN, number_of(task), region->value, wanted, (uint64_t)place);
 }
 
@@ -196,6 +200,8 @@ static void on_region_end(ompt_data_t *region, ompt_data_t *task, int flags, con
     begin_loud_part(own);
     own->task = number_of(task);
     taskback_note(own, REGION_END, own->task, region->value, 0, (uint64_t)place);
+    if (own->nesting > 0 && --own->nesting < NESTED)
+        own->loop = own->outer[own->nesting];
     own->is_alone = own->index == 0 && own->depth == 0 && !taskback_has_strangers;
 }
 

@@ -102,7 +102,8 @@ class Sources:
         if not end:
             return "memory"
         arguments = [name for name in names_in(":" + line[begin + 1:end - 1]) if IDENTIFIER.match(name.lstrip("&*"))]
-        if not arguments:
+        # Which of its arguments a scan writes isn't known here.
+        if not arguments or (is_written and re.match(r"\w*scanf\b", line[max(place.column - 1, 0):])):
             return "memory"
         return arguments[0].lstrip("&") if is_written else arguments[-1].lstrip("&")
 
