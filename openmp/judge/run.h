@@ -39,7 +39,7 @@ struct Actor {
     std::size_t parted = ~std::size_t{0};   // the event from which on the threads of its team may go different ways
     bool is_started = false, is_ended = false, is_joined = false;
     std::vector<Item> items;
-    std::vector<u32> waits;         // the siblings that its items make it wait for, until it starts
+    std::vector<u32> waits;         // the siblings that its items make it wait for
 };
 
 // A part of an actor between two steps that order something. A thread's part of a loop, an iteration, has no node of
@@ -154,6 +154,8 @@ public:
     u32 home(u32 actor) const;
     // `0.1.2`: the second child of the first child of the program.
     std::string name(u32 actor) const;
+    // The recorder's number of its task.
+    u32 number_of(u32 actor) const { return number_of_[actor]; }
 
     const Trace &trace;
     std::vector<Actor> actors;

@@ -83,7 +83,6 @@ void Run::start(const event &e, u32 thread) {
             return refuse("Waiting", "starts", s, earlier, e);
         graph_.lead(actors[earlier].end, node);
     }
-    actor.waits = {};
     keep_apart(s, e);
     actor.is_started = true;
     actor.start = node;

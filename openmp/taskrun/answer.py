@@ -145,6 +145,14 @@ def tell_races(finding, races):
 
 def answer(finding):
     """(exit status, lines)."""
+    status, lines = answer_of(finding)
+    if status != NONE and finding.sources.why_none:
+        lines = [f"places have no lines: {finding.sources.why_none}", *lines]
+    return status, lines
+
+
+def answer_of(finding):
+    """The same, without a remark on the program."""
     if finding.fault:
         return FAULT, tell_fault(finding)
     lines = what_is_unseen(finding) + what_is_alike(finding)

@@ -149,6 +149,7 @@ def judge():
     sources = [os.path.join(JUDGE, name) for name in sorted(os.listdir(JUDGE)) if name.endswith((".cc", ".h"))]
     made = os.path.join(folder_for(compiler), "judge")
     if not is_newer(made, os.path.join(RECORDER, "event.h"), *sources):
+        print(f"the judge is compiled by {compiler}, once; it takes half a minute", file=sys.stderr, flush=True)
         texts = [source for source in sources if source.endswith(".cc")]
         compile_whole([driver_of(compiler, True), "-std=c++17", "-O2", "-Wall", "-Wextra", *texts], made)
     return made
