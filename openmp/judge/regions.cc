@@ -11,7 +11,11 @@ void Run::begin_region(const event &e) {
     region.begun = now_;
     region.unit = s.unit;
     region.is_one_by_clause = is_next_one_;
-    region.is_nested = s.phase != NONE;
+    region.is_league = leagues_.count(e.task) != 0;
+    if (s.phase != NONE) {
+        const Region &outer = regions[phases[s.phase].region];
+        region.is_nested = outer.is_nested || !outer.is_league;
+    }
     is_next_one_ = false;
     u32 number = static_cast<u32>(regions.size()), open = node_of(s);
     region_of_[e.address] = number;
@@ -29,6 +33,9 @@ u32 Run::open_phase(u32 region, u32 open) {
 
 void Run::begin_part(const event &e, u32 thread) {
     auto known = region_of_.find(e.address);
+    bool is_of_program = e.size == 1 && e.value == 1;
+    if (e.address == 0 && !is_of_program)
+        leagues_.insert(e.task);
     if (e.address == 0 || known == region_of_.end())
         return;
     Region &region = regions[known->second];

@@ -4,6 +4,7 @@
 #include <array>
 #include <map>
 #include <memory>
+#include <set>
 #include <string>
 #include <unordered_map>
 #include <vector>
@@ -76,13 +77,14 @@ struct Region {
     u32 size = 0;           // of the team
     std::size_t begun = 0;  // the event
     u32 unit = NONE;        // in which it was met
+    bool is_league = false;     // of `teams`: what a team's first thread does, which is one
     bool is_one_by_clause = false, is_nested = false, has_number = false, is_ended = false;
     std::vector<u32> phases;
     std::vector<std::unique_ptr<Shared>> shared;
     std::vector<u32> parts;     // the numbers of its threads' tasks
 
     // Whether it has one thread, and might have more without a change of the program.
-    bool stands_for_more() const { return size == 1 && !is_one_by_clause && !is_nested; }
+    bool stands_for_more() const { return size == 1 && !is_one_by_clause && !is_nested && !is_league; }
 };
 
 struct Group {
@@ -243,6 +245,7 @@ private:
     std::map<u64, Released> released_;
     std::map<u64, u64> sizes_;      // of reduced variables
     std::vector<u32> number_of_;    // the task number of each actor
+    std::set<u32> leagues_;         // the first tasks of the teams of a league
     bool is_next_one_ = false;
     std::size_t now_ = 0;           // the event that is taken
 };

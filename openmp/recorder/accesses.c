@@ -30,6 +30,8 @@ static int is_left_out(const struct own *own, enum kind kind, uint64_t address) 
         return 1;
     if ((own->muted && own->muted == own->task) || address - own->tls_low < own->tls_size)
         return 1;
+    if (address - own->sorted.array < own->sorted.size || address - own->sorted.room < own->sorted.size)
+        return 1;
     if (kind != READ || own->depth == 0 || own->depth > RUNNING_MOST)
         return 0;
     const struct running *running = &own->running[own->depth - 1];

@@ -44,6 +44,11 @@ struct loop {
     int is_on;
 };
 
+/* An array that is being sorted, and the room for that: the sort's own. */
+struct sorted {
+    uint64_t array, room, size;
+};
+
 struct own {
     struct event *next, *end;
     struct event *events;      /* a piece of the file, or of memory where nothing is kept */
@@ -62,6 +67,7 @@ struct own {
     uint32_t epoch;            /* rises at each call that isn't an access */
     uint32_t depth;
     uint64_t tls_low, tls_size;
+    struct sorted sorted;
     uint64_t record, record_size; /* a task's record that is being filled, before its task is created */
     uint32_t record_creator;
     int undeferred;            /* the children are that `caller` creates */

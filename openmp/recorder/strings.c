@@ -149,16 +149,50 @@ char *__wrap_strndup(const char *text, size_t most) {
 typedef int compare_function(const void *, const void *);
 void __real_qsort(void *, size_t, size_t, compare_function *);
 void *__real_bsearch(const void *, const void *, size_t, size_t, compare_function *);
+void *__real_malloc(size_t);
+void __real_free(void *);
+void *__real_memcpy(void *, const void *, size_t);
 
+struct sort {
+    size_t size;
+    compare_function *compare;
+};
+
+/* As the library sorts; here, so that it is known which memory is the sort's own. */
+static void merge_sort(char *array, char *room, size_t count, const struct sort *sort) {
+    if (count < 2)
+        return;
+    size_t size = sort->size;
+    char *left = array, *middle = array + count / 2 * size, *right = middle, *end = array + count * size, *to = room;
+    merge_sort(array, room, count / 2, sort);
+    merge_sort(middle, room, count - count / 2, sort);
+    while (left < middle && right < end) {
+        char **from = sort->compare(left, right) <= 0 ? &left : &right;
+        __real_memcpy(to, *from, size);
+        *from += size;
+        to += size;
+    }
+    __real_memcpy(to, left, (size_t)(middle - left));
+    __real_memcpy(array, room, (size_t)(to - room) + (size_t)(middle - left));
+}
+
+/* What the function that compares does to other memory than the array is the program's own. */
 void __wrap_qsort(void *array, size_t count, size_t size, compare_function *compare) {
     reads(array, count * size, PLACE);
     writes(array, count * size, PLACE);
+    void *room = count * size ? __real_malloc(count * size) : 0;
+    if (!room) {
+        __real_qsort(array, count, size, compare);
+        return;
+    }
     struct own *own = own_state();
-    uint32_t muted = own->muted;
-    own->muted = own->task;
-    __real_qsort(array, count, size, compare);
+    struct sorted before = own->sorted;
     taskback_settle(own);
-    own->muted = muted;
+    own->sorted = (struct sorted){(uint64_t)array, (uint64_t)room, count * size};
+    merge_sort(array, room, count, &(struct sort){size, compare});
+    taskback_settle(own);
+    own->sorted = before;
+    __real_free(room);
 }
 
 void *__wrap_bsearch(const void *key, const void *array, size_t count, size_t size, compare_function *compare) {
