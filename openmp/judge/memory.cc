@@ -6,6 +6,7 @@ namespace {
 
 constexpr u32 MOST_RACES = 16;    // of one place: then it isn't looked at any more
 constexpr u32 DEAD = NONE - 1;    // such a place
+constexpr std::size_t FARTHEST = 256;    // nodes up the tree
 constexpr u32 FEW = 4;            // loads that a load is compared with, to stand for them
 
 u8 mask_of(u64 granule, u64 address, u64 size) {
@@ -160,7 +161,8 @@ void Memory::pass(const Now &now, Bucket &bucket) {
     for (u32 at = bucket.head; at != NONE; at = touches_[at].next)
         newest = std::max(newest, run_.end_of(touches_[at].segment));
     std::vector<u32> nodes(1, run_.begin_of(now.segment));
-    for (u32 node = run_.in_front_of(now.segment); node != NONE && node >= newest; node = run_.parent_of(node))
+    for (u32 node = run_.in_front_of(now.segment); node != NONE && node >= newest && nodes.size() < FARTHEST;
+         node = run_.parent_of(node))
         nodes.push_back(node);
     auto is_passed = [&](u32 node) {
         for (u32 at = bucket.head; at != NONE; at = touches_[at].next)

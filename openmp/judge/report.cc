@@ -101,7 +101,7 @@ void Report::write_side(std::ostream &out, u32 at, u32 segment) {
     name(actor);
     const char *done = e.kind == GROUP_CLOSE ? "writes" : e.mark & FREED ? "frees" : e.kind == WRITE ? "writes" : "reads";
     out << "{\"done\": \"" << done << "\", \"place\": " << e.place << ", \"actor\": " << actor << ", \"address\": " << e.address
-        << ", \"unit\": " << (run_.segments[segment].flags & Segment::IS_UNIT ? "true" : "false")
+        << ", \"size\": " << (e.mark >> ROW_SHIFT ? 1u << ((e.mark >> ROW_SHIFT) - 1) : e.size) << ", \"unit\": " << (run_.segments[segment].flags & Segment::IS_UNIT ? "true" : "false")
         << ", \"frame\": " << (e.mark & FRAME && e.kind == WRITE ? "true" : "false") << ", \"library\": " << (e.mark & LIBRARY && e.kind != GROUP_CLOSE ? "true" : "false")
         << ", \"callers\": ";
     write_callers(out, at);

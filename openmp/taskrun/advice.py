@@ -3,6 +3,7 @@
 import re
 
 from .places import postfix_expressions
+from .scopes import scope_name
 
 TASK_CLAUSES = re.compile(r"#\s*pragma\s+omp\s+task\b")
 
@@ -80,9 +81,9 @@ def depend_words(finding, race):
                     f"{places[other]} (so the one at {places[one]} names that place)")
     if known[0] and known[1]:
         return type_words(places, known)
-    names = [finding.name_of(side) for side in sides]
-    name = names[0] if names[0] != "memory" else names[1]
-    if name == "memory":
+    names = [scope_name(finding, side) for side in sides]
+    name = names[0] or names[1]
+    if not name:
         return None
     if places[0] == places[1]:
         return f"add depend(inout: {name})"

@@ -94,14 +94,21 @@ def gather(finding, races):
 
 
 def step_words(finding, race, side):
-    """`sum.c:9 writes total`; of memory without a name, where it was taken."""
+    """`sum.c:9 writes total`; of memory without a name, where it was allocated."""
     name = finding.name_of(side)
     if side.is_frame:
         return f"{finding.line_of(side)} frees memory of the function that ends there"
     words = f"{finding.line_of(side)} {side.done} {name}{finding.chain_of(side)}"
     if name == "memory" and race.block and finding.sources.is_own(race.block["place"]):
-        words += f" (byte {race.block['offset']} of the block taken at {finding.line(race.block['place'])})"
+        words += f" ({part_of_block(race, side)} allocated at {finding.line(race.block['place'])})"
     return words
+
+
+def part_of_block(race, side):
+    """`element 12 of the array`, or which byte where the elements aren't one behind the other."""
+    number, rest = divmod(race.block["offset"], side.size or 1)
+    is_element = rest == 0 and side.size in (1, 2, 4, 8, 16)
+    return f"element {number} of the array" if is_element else f"byte {race.block['offset']} of the block"
 
 
 def who_words(finding, race):

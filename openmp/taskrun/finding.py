@@ -56,6 +56,7 @@ class Side:
         self.place = told["place"]
         self.actor = actors[told["actor"]]
         self.address = told["address"]
+        self.size = told["size"]            # of one element
         self.is_unit = told["unit"]
         self.is_frame = told["frame"]       # the function ends that the memory is of
         self.is_library = told["library"]

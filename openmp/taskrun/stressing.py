@@ -19,7 +19,7 @@ from .trace import BadTrace, Trace
 RECORD = os.path.join(os.path.dirname(os.path.dirname(os.path.abspath(__file__))), "record")
 AT_ONCE = 20            # programs in one source
 RUNS = 5                # of each program with each number of threads
-LONGEST = 20            # seconds of one run
+LONGEST = 10            # seconds of one run
 TRIES = 40              # runs of a smaller program, of which one is to be refused
 SHRINKING = 90          # seconds
 
@@ -115,6 +115,8 @@ class Stress:
                 break
             made = self.compile(candidates, f"smaller_{turn}")
             for number, candidate in candidates.items():
+                if time.monotonic() - begin > SHRINKING:
+                    break
                 again = self._again(made, number, threads, found.rule, pool)
                 if again:
                     statements, found, is_smaller = candidate, again, True
