@@ -177,10 +177,15 @@ static void stored_in_loop(struct own *own, uint64_t address, uint32_t size) {
     for (int i = 0; i < 4; i++)
         if (loop->bounds[i] == address)
             return;
-    if (!loop->number)
+    const struct running *running = top_task(own);
+    if (!loop->number && running && address - own->stack_low < running->base - own->stack_low)
         loop->number = address;
     if (address != loop->number)
         return;
+    if (!loop->is_new && number_at(address, size) != loop->value) {
+        loop->is_on = 0;    /* it isn't the number, which optimised code keeps in no memory */
+        return;
+    }
     loop->value = loop->is_new ? number_at(loop->bounds[0], size) : loop->value + 1;
     loop->is_new = 0;
     begin_part(own);
