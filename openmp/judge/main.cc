@@ -1,5 +1,6 @@
 // Judges a recorded run, and writes what it found as JSON; it ends with 3 where it can't read the trace.
 //   judge TRACE                               what was found
+//   judge TRACE plain                         the same without short cuts
 //   judge TRACE places                        the places of its events
 //   judge TRACE part OUT at PLACE ..          the tasks of these places and what they need, as a trace
 //   judge TRACE part OUT tasks FIRST LAST     those from one name to another
@@ -46,11 +47,11 @@ void write_part(const judge::Run &run, const std::vector<std::string> &words) {
     part.tell(std::cout);
 }
 
-void judge_whole(const judge::Trace &trace) {
+void judge_whole(const judge::Trace &trace, bool is_plain) {
     judge::Run run(trace);
     std::optional<judge::Memory> memory;
     if (run.fault.rule.empty())
-        memory.emplace(run);
+        memory.emplace(run, is_plain);
     judge::Report(run, memory ? &*memory : nullptr).write(std::cout);
 }
 
@@ -59,8 +60,9 @@ void judge_whole(const judge::Trace &trace) {
 int main(int count, char **given) {
     const std::vector<std::string> words(given + 1, given + count);
     bool has_part = words.size() > 4 && words[1] == "part";
-    if (words.size() != 1 && !(words.size() == 2 && words[1] == "places") && !has_part) {
-        std::cerr << "judge TRACE [places | part OUT at PLACE .. | part OUT tasks FIRST LAST]\n";
+    bool has_word = words.size() == 2 && (words[1] == "places" || words[1] == "plain");
+    if (words.size() != 1 && !has_word && !has_part) {
+        std::cerr << "judge TRACE [plain | places | part OUT at PLACE .. | part OUT tasks FIRST LAST]\n";
         return 64;
     }
     try {
@@ -68,10 +70,10 @@ int main(int count, char **given) {
         judge::Trace trace(words[0].c_str());
         if (has_part)
             write_part(judge::Run(trace), words);
-        else if (words.size() == 2)
+        else if (has_word && words[1] == "places")
             write_places(trace);
         else
-            judge_whole(trace);
+            judge_whole(trace, has_word);
         std::cout.flush();
         return std::cout ? 0 : 3;
     } catch (const std::bad_alloc &) {

@@ -17,7 +17,7 @@ u8 mask_of(u64 granule, u64 address, u64 size) {
 
 }  // namespace
 
-Memory::Memory(Run &run) : run_(run) {
+Memory::Memory(Run &run, bool is_plain) : run_(run), is_plain_(is_plain) {
     for (std::size_t at = 0; at < run.trace.size(); at++)
         take(at);
     tell_copies();
@@ -108,7 +108,7 @@ void Memory::touch_place(Now &now, u32 &place) {
     bool is_known = false;
     for (u32 at = place; at != NONE; at = buckets_[at].next)
         is_known = compare(now, buckets_[at]) || is_known;
-    if (raced_.size() && raced_.count(now.granule) && raced_[now.granule] >= MOST_RACES)
+    if (!is_plain_ && raced_.size() && raced_.count(now.granule) && raced_[now.granule] >= MOST_RACES)
         place = DEAD;
     else if (!is_known)
         keep(now, place);
@@ -124,16 +124,16 @@ bool Memory::compare(const Now &now, Bucket &bucket) {
                   && run_.locks.are_in(now.locks, bucket.locks);
     if (!conflicts && (bucket.is_write || now.is_write))
         (bucket.is_atomic && now.is_atomic ? by_atomics : by_locks)++;
-    if (conflicts && !is_alike && bucket.passed != NONE && run_.is_node_before(bucket.passed, now.segment))
+    if (!is_plain_ && conflicts && !is_alike && bucket.passed != NONE && run_.is_node_before(bucket.passed, now.segment))
         return false;
     u32 seen = 0;
     bool is_passed = conflicts;
     for (u32 *link = &bucket.head; *link != NONE;) {
         u32 here = *link;
         Touch touch = touches_[here];
-        if (touch.segment == now.segment && is_alike && (touch.mask & now.mask) == now.mask)
+        if (!is_plain_ && touch.segment == now.segment && is_alike && (touch.mask & now.mask) == now.mask)
             return true;
-        if (!conflicts && ++seen > FEW)
+        if (!conflicts && (is_plain_ || ++seen > FEW))
             return false;
         bool meets = touch.mask & now.mask && (conflicts || covers);
         bool is_ordered = meets && (run_.is_before(touch.segment, now.segment) || is_own(now, touch)
@@ -141,7 +141,7 @@ bool Memory::compare(const Now &now, Bucket &bucket) {
         if (meets && !is_ordered && conflicts)
             add_race(now, touch.at, touch.segment, run_.are_apart(touch.segment, now.segment), false);
         is_passed = is_passed && is_ordered;
-        if (is_ordered && covers && (touch.mask & ~now.mask) == 0) {
+        if (!is_plain_ && is_ordered && covers && (touch.mask & ~now.mask) == 0) {
             *link = touch.next;
             touches_[here].next = free_touch_;
             free_touch_ = here;
@@ -149,7 +149,7 @@ bool Memory::compare(const Now &now, Bucket &bucket) {
             link = &touches_[here].next;
         }
     }
-    if (is_passed && bucket.head != NONE)
+    if (!is_plain_ && is_passed && bucket.head != NONE)
         pass(now, bucket);
     return false;
 }
@@ -170,6 +170,8 @@ void Memory::pass(const Now &now, Bucket &bucket) {
                 return false;
         return true;
     };
+    if (!is_passed(nodes[0]))
+        return;     // they are of the same iteration, which has no node
     std::size_t known = 0, beyond = nodes.size();
     while (beyond - known > 1) {
         std::size_t middle = known + (beyond - known) / 2;

@@ -38,7 +38,8 @@ struct Block {
 
 class Memory {
 public:
-    explicit Memory(Run &run);
+    // `is_plain`: each access is compared with all before it at its place, which shows that the short cuts lose nothing.
+    Memory(Run &run, bool is_plain);
 
     std::vector<Race> races;
     u64 by_thread_number = 0;      // kept out, since the program asked for the thread's number
@@ -86,6 +87,7 @@ private:
     const Block *block_at(u64 address, u64 *begin = nullptr) const;
 
     Run &run_;
+    const bool is_plain_;
     std::map<u64, std::unique_ptr<Page>> pages_;
     u64 last_page_number_ = ~u64{0};
     Page *last_page_ = nullptr;
