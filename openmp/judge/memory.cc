@@ -5,6 +5,7 @@ namespace judge {
 namespace {
 
 constexpr u32 MOST_RACES = 16;    // of one place: then it isn't looked at any more
+constexpr std::size_t MOST_COPIED = 1 << 20;
 constexpr u32 DEAD = NONE - 1;    // such a place
 constexpr std::size_t FARTHEST = 256;    // nodes up the tree
 constexpr u32 FEW = 4;            // loads that a load is compared with, to stand for them
@@ -25,6 +26,8 @@ Memory::Memory(Run &run, bool is_plain) : run_(run), is_plain_(is_plain) {
 
 void Memory::take(std::size_t at) {
     const event &e = run_.trace[at];
+    if (e.kind == BARRIER_END || e.kind == REGION_END)
+        copied_at_.clear();
     if (e.kind == MEMORY || (e.kind == END && e.mark == STACK))
         return is_new(at, e);
     if (e.kind == GROUP_CLOSE) {
@@ -82,7 +85,7 @@ void Memory::touch(std::size_t at, u64 address, u64 size, bool is_write, u8 mark
     }
     if (is_freed)
         keep_freed(now);
-    else if (is_write)
+    else
         look_for_copies(now);
 }
 
@@ -310,15 +313,16 @@ void Memory::look_for_copies(const Now &now) {
     const Actor &actor = run_.actors[segment.actor];
     bool is_copied = actor.flags & Actor::IS_PART ? !(segment.flags & (Segment::IS_UNIT | Segment::IS_ALONE))
                                                   : (actor.flags & Actor::IS_COPIED) != 0;
-    if (!is_copied || now.is_atomic || now.locks != 0 || actor.region == NONE)
+    if (!is_copied || actor.region == NONE)
         return;
     const Region &region = run_.regions[actor.region];
-    if (!region.stands_for_more() || region.has_number)
-        return;
-    if (is_on_stack(segment.actor, now.address))
+    if (!region.stands_for_more() || region.has_number || is_on_stack(segment.actor, now.address))
         return;
     const Block *block = block_at(now.address);
     if (block && block->at > region.begun)
+        return;
+    meet_copies(now, now.at < actor.parted);
+    if (!now.is_write || now.is_atomic || now.locks != 0)
         return;
     auto added = copied_.emplace(std::make_pair(segment.actor, run_.trace[now.at].place),
                                  Copied{now, now.at < actor.parted});
@@ -327,14 +331,41 @@ void Memory::look_for_copies(const Now &now) {
         known.now.size = 0;
 }
 
+// What one thread does under a lock and then without it, another one may do at once.
+void Memory::meet_copies(Now now, bool is_sure) {
+    u64 end = (now.address + now.size + GRANULE - 1) / GRANULE;
+    for (now.granule = now.address / GRANULE; now.granule < end && copied_at_.size() < MOST_COPIED; now.granule++) {
+        auto &all = copied_at_[now.granule];
+        now.mask = mask_of(now.granule, now.address, now.size);
+        bool is_known = false;
+        for (const Copied &other : all) {
+            const Now &then = other.now;
+            is_known = is_known || (then.locks == now.locks && then.is_atomic == now.is_atomic && then.is_write == now.is_write
+                                    && (then.mask & now.mask) == now.mask);
+            if (!(then.mask & now.mask) || !(then.is_write || now.is_write) || (then.is_atomic && now.is_atomic)
+                || run_.locks.exclude(then.locks, now.locks))
+                continue;
+            Race *race = add_race(now, then.at, then.segment, false, true);
+            if (race)
+                race->is_sure = is_sure && other.is_sure;
+        }
+        if (!is_known && all.size() < MOST_RACES)
+            all.push_back(Copied{now, is_sure});
+    }
+}
+
 // Where the threads may have gone different ways, an address that varies may be another one for each.
 void Memory::tell_copies() {
     for (auto &entry : copied_)
-        if (entry.second.now.size != 0)
-            add_race(entry.second.now, entry.second.now.at, entry.second.now.segment, false, true);
+        if (entry.second.now.size != 0) {
+            Race *race = add_race(entry.second.now, entry.second.now.at, entry.second.now.segment, false, true);
+            if (race)
+                race->is_sure = entry.second.is_sure;
+        }
 }
 
-void Memory::add_race(const Now &now, u32 at, u32 segment, bool is_apart, bool is_copied) {
+// The race, where it is the first of its kind.
+Race *Memory::add_race(const Now &now, u32 at, u32 segment, bool is_apart, bool is_copied) {
     const event &e = run_.trace[at], &f = run_.trace[now.at];
     raced_[now.granule]++;
     u64 lines = static_cast<u64>(static_cast<u32>(e.place)) << 32 | static_cast<u32>(f.place);
@@ -344,7 +375,7 @@ void Memory::add_race(const Now &now, u32 at, u32 segment, bool is_apart, bool i
     auto added = known_.emplace(Key{lines, kinds}, static_cast<u32>(races.size()));
     if (!added.second) {
         races[added.first->second].count++;
-        return;
+        return nullptr;
     }
     u64 address = std::max({now.address, e.address, is_copied ? 0 : now.granule * GRANULE});
     races.push_back(Race{at, now.at, segment, now.segment, address, 1, is_apart, is_copied});
@@ -352,6 +383,7 @@ void Memory::add_race(const Now &now, u32 at, u32 segment, bool is_apart, bool i
     const Block *block = block_at(races.back().address, &begin);
     block_of_race.push_back(block ? *block : Block{0, NONE, NONE});
     block_begin.push_back(begin);
+    return &races.back();
 }
 
 }  // namespace judge

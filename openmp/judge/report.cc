@@ -114,7 +114,7 @@ void Report::write_races(std::ostream &out) {
         const Race &race = memory_->races[i];
         const Block &block = memory_->block_of_race[i];
         out << (i ? ",\n" : "\n") << "{\"count\": " << race.count << ", \"apart\": " << (race.is_apart ? "true" : "false")
-            << ", \"copied\": " << (race.is_copied ? "true" : "false") << ", \"address\": " << race.address;
+            << ", \"copied\": " << (race.is_copied ? "true" : "false") << ", \"sure\": " << (race.is_sure ? "true" : "false") << ", \"address\": " << race.address;
         if (block.at != NONE && run_.trace[block.at].place != 0)
             out << ", \"block\": {\"place\": " << run_.trace[block.at].place
                 << ", \"offset\": " << race.address - memory_->block_begin[i] << ", \"size\": " << block.size << "}";

@@ -24,6 +24,8 @@ void Run::create(const event &e) {
     made.region = maker.region;
     made.unit = parent.unit;
     made.made = now_;
+    if (maker.parted <= now_)
+        made.parted = now_;
     made.flags = (e.value & FINAL ? Actor::IS_FINAL : 0) | (is_copied ? Actor::IS_COPIED : 0)
                  | (e.mark ? Actor::IS_LOOPS : 0)
                  | (e.value & UNDEFERRED || maker.flags & Actor::IS_FINAL ? Actor::IS_UNDEFERRED : 0);

@@ -71,6 +71,7 @@ class Race:
         self.count = told["count"]
         self.is_apart = told["apart"]
         self.is_copied = told["copied"]
+        self.is_sure = told["sure"]
         self.address = told["address"]
         self.block = told.get("block")
         self.earlier = Side(told["earlier"], actors)
@@ -94,10 +95,15 @@ class Finding:
         for race in self.races:
             self._find_own(race.earlier)
             self._find_own(race.later)
+        self.races = [race for race in self.races if race.is_sure or self._is_fixed(race)]
 
     def _find_own(self, side):
         own = [place for place in (side.place, *side.callers) if self.sources.is_own(place)]
         side.own = own[0] if own else side.place
+
+    def _is_fixed(self, race):
+        """Whether both name one variable, which is no other one for each thread."""
+        return all(re.fullmatch(r"[A-Za-z_][\w.]*(\[\d+\])*", self.name_of(side)) for side in (race.earlier, race.later))
 
     def _places(self):
         places = {actor.place for actor in self.actors.values()}
