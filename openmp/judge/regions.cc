@@ -91,6 +91,7 @@ void Run::end_barrier(const event &e) {
     s.segment = add_segment(s.actor, graph_.add(close), 0);
     s.children.clear();
     s.statics.clear();
+    s.static_units.clear();
     s.masked = NONE;
 }
 

@@ -249,7 +249,7 @@ bool exclude(const Actor &one, const Actor &other) {
 bool Run::are_apart(u32 one, u32 other) {
     for (u32 a = segments[one].actor; a != NONE; a = actors[a].parent)
         for (u32 b = segments[other].actor; b != NONE; b = actors[b].parent) {
-            if (a == b || actors[a].parent != actors[b].parent || !exclude(actors[a], actors[b]))
+            if (a == b || a == 0 || b == 0 || !are_siblings(a, b) || !exclude(actors[a], actors[b]))
                 continue;
             bool is_in_a = segments[one].actor == a
                            || (actors[a].end != NONE && graph_.leads(segments[one].node, actors[a].end));

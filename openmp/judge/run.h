@@ -61,6 +61,7 @@ struct Phase {
 
 // An iteration, a section or a block that one thread takes: its last node, where it has one, and the event that ends it.
 struct Unit {
+    u32 same = NONE;        // the first unit that the same thread takes with it
     u32 last = NONE;
     std::size_t end = ~std::size_t{0};
 };
@@ -126,6 +127,8 @@ struct State {
     u32 fulfilled = NONE;   // the node of the call that fulfils its event
     u32 masked = NONE;      // the node of the last masked block of the phase
     u32 unit = NONE;        // that the thread is in
+    u32 masked_unit = NONE; // its first masked block
+    std::map<std::array<u64, 3>, u32> static_units;     // in which it made tasks
     u32 unsettled = NONE;   // the last child, while its items come
     Loop loop;
     std::vector<u32> children;       // not yet waited for
@@ -194,6 +197,8 @@ private:
 
     void create(const event &e);
     void settle_items(State &parent);
+    bool are_siblings(u32 one, u32 other) const;
+    void find_same_unit(State &s);
     void keep_apart(State &s, const event &e);
     void start(const event &e, u32 thread);
     void end(const event &e);

@@ -63,6 +63,13 @@ void Run::enter_unit(State &s, u32 segment) {
     s.segment = segment;
     s.unit = static_cast<u32>(units.size());
     units.emplace_back();
+    units.back().same = s.unit;
+}
+
+// The same thread has the same iterations of static loops of one shape in one phase.
+void Run::find_same_unit(State &s) {
+    if (s.unit != NONE && s.loop.is_on && s.loop.is_static)
+        units[s.unit].same = s.static_units.emplace(std::array<u64, 3>{s.loop.count, s.loop.chunk, s.loop.unit}, s.unit).first->second;
 }
 
 // A unit by which something is ordered has nodes, and the phase ends after the last of them.
@@ -125,6 +132,8 @@ void Run::begin_masked(const event &e) {
     graph_.lead(s.masked, node);
     s.chain = s.segment;
     enter_unit(s, add_segment(s.actor, node, Segment::IS_UNIT | Segment::IS_ALONE | Segment::IS_SINGLE));
+    s.masked_unit = s.masked_unit == NONE ? s.unit : s.masked_unit;
+    units[s.unit].same = s.masked_unit;
 }
 
 void Run::end_masked(const event &e) {
