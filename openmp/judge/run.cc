@@ -4,6 +4,7 @@
 namespace judge {
 
 Run::Run(const Trace &of) : trace(of) {
+    has_ended = trace.has_end();
     segment_of.assign(trace.size(), NONE);
     locks_of.assign(trace.size(), 0);
     chain_of.assign(trace.size(), NONE);
@@ -123,7 +124,7 @@ void Run::take_sync(std::size_t at, const event &e) {
         segment_of[at] = state_of(e).segment;
         released_.erase(released_.lower_bound(e.address), released_.lower_bound(e.address + e.value));
         return;
-    case ENDED: has_ended = true; return;
+    case ENDED: return;
     default: return take_share(e);
     }
 }

@@ -74,25 +74,40 @@ std::vector<std::vector<Trace::Piece>> Trace::find_pieces() {
     return pieces;
 }
 
+// The last number in front of one that is missing: where there was no room for all, or a thread was in the middle of
+// writing at the end, what comes behind makes no sense without it.
+u32 Trace::find_whole(const std::vector<std::vector<Piece>> &pieces) {
+    std::vector<bool> is_there(count_ + 2, false);
+    u32 last = 0;
+    for (const auto &own : pieces)
+        for (const Piece &piece : own)
+            for (u32 i = piece.begin; i < piece.end; i++) {
+                const event &e = events_[i];
+                if (e.kind == CHUNK)
+                    continue;
+                last = std::max(last, e.stamp);
+                has_end_ = has_end_ || e.kind == ENDED;
+                if (takes_number(e.kind, e.mark) && e.stamp < is_there.size())
+                    is_there[e.stamp] = true;
+            }
+    u32 whole = 0;
+    while (is_there[whole + 1])
+        whole++;
+    is_cut_ = whole != last;
+    return whole;
+}
+
 // By their numbers: in front the one that has taken the number, then those that have only read it.
 void Trace::put_in_order() {
     const auto pieces = find_pieces();
-    u32 last = 0;
+    const u32 last = find_whole(pieces);
     auto each = [&](auto take) {
         for (const auto &own : pieces)
             for (const Piece &piece : own)
                 for (u32 i = piece.begin; i < piece.end; i++)
-                    if (events_[i].kind != CHUNK)
+                    if (events_[i].kind != CHUNK && events_[i].stamp <= last)
                         take(i, events_[i]);
     };
-    std::size_t numbered = 0;
-    each([&](u32, const event &e) {
-        last = std::max(last, e.stamp);
-        numbered += takes_number(e.kind, e.mark);
-    });
-    is_cut_ = numbered != last;
-    if (last > count_ + 4096)
-        throw BadTrace("the trace's numbers are wrong");
     std::vector<u32> at(std::size_t{last} + 2, 0);
     each([&](u32, const event &e) { at[e.stamp + 1]++; });
     for (u32 stamp = 1; stamp <= last; stamp++)

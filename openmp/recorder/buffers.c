@@ -67,8 +67,11 @@ static int keep_piece(const struct own *own) {
     uint64_t at = __atomic_fetch_add(&file_end, PIECE, __ATOMIC_ACQ_REL);
     for (uint64_t done = 0; done < PIECE;) {
         ssize_t put = pwrite(file, (const char *)own->events + done, PIECE - done, (off_t)(at + done));
-        if (put <= 0)
-            return 0;
+        if (put <= 0) {
+            static const struct event nothing;
+            /* A part of it would be there twice. */
+            return done > 0 && pwrite(file, &nothing, sizeof nothing, (off_t)at) < 0;
+        }
         done += (uint64_t)put;
     }
     return 1;
@@ -80,18 +83,23 @@ static void stop_recording(void) { __atomic_store_n(&taskback_is_recording, 0, _
    out, and the trace's numbers show that some are missing. */
 __attribute__((noinline)) static void turn_page(struct own *own) {
     begin_part(own);
+    int is_recording = __atomic_load_n(&taskback_is_recording, __ATOMIC_ACQUIRE);
     own->next = own->events + 1;
-    if (!__atomic_load_n(&taskback_is_recording, __ATOMIC_ACQUIRE) || keep_piece(own))
+    if (is_recording && keep_piece(own))
         return;
-    stop_recording();
-    __atomic_add_fetch(&counter.last, 1, __ATOMIC_ACQ_REL);
-    munmap(own->events, PIECE);
-    use_piece(own, fresh_memory(PIECE));
+    if (is_recording) {
+        stop_recording();
+        __atomic_add_fetch(&counter.last, 1, __ATOMIC_ACQ_REL);
+    }
+    if (own->is_mapped)
+        use_piece(own, fresh_memory(PIECE));
+    own->is_mapped = 0;
 }
 
 static void begin_pieces(struct own *own) {
     struct event *piece = taskback_is_recording ? map_piece() : 0;
     use_piece(own, piece ? piece : fresh_memory(PIECE));
+    own->is_mapped = piece != 0;
     if (piece) {
         own->next++->address = own->index;
         own->events->kind = CHUNK;

@@ -52,6 +52,7 @@ struct sorted {
 struct own {
     struct event *next, *end;
     struct event *events;      /* a piece of the file, or of memory where nothing is kept */
+    int is_mapped;
     struct own *link;
     uint64_t stack_high;
     uint64_t chain_frame, chain_caller, chain_outer; /* the function whose callers were written down last */

@@ -183,7 +183,8 @@ def why_unended(finding):
         return ["events are missing from the trace (no room for its file?): nothing is said of other schedules"]
     if not told["ended"] or told["unended"] or told["open_regions"]:
         rest = f", and {told['unended']} tasks hadn't ended" if told["unended"] else ""
-        return [f"the run didn't end by itself{rest}: what is told is of what was seen until then"]
+        why = ", or there was no room for its trace" if told["cut"] else ""
+        return [f"the run didn't end by itself{why}{rest}: what is told is of what was seen until then"]
     return []
 
 

@@ -48,7 +48,7 @@ class Parts(support.Recorded):
             text = file.read()
         self.assertEqual(status, 2)
         self.assertIn("program.c:12 writes x[i]", told)
-        self.assertEqual(text.count('<span class="step">'), 4)     # two reports
+        self.assertIn(text.count('<span class="step">'), (2, 4))     # what wrote it first may be told too
         self.assertIn('<span class="step">   14          sum = x[5];</span>', text)
         self.assertIn('<span class="directive">   13  #pragma omp task</span>', text)
         self.assertIn("program.c:11</text>", text)
