@@ -38,6 +38,7 @@ void Trace::read_header() {
     std::string page(bytes_, HEADER);
     std::size_t begin = std::strlen("taskback trace 2 "), end = page.find('\n');
     program_ = page.substr(begin, end - begin);
+    is_cut_ = page.compare(HEADER - (sizeof NO_ROOM - 1), sizeof NO_ROOM - 1, NO_ROOM) == 0;
     std::size_t second = page.find('\n', end + 1);
     unseen_ = page.substr(end + 1, second - end - 1);
 }
@@ -93,7 +94,7 @@ u32 Trace::find_whole(const std::vector<std::vector<Piece>> &pieces) {
     u32 whole = 0;
     while (is_there[whole + 1])
         whole++;
-    is_cut_ = whole != last;
+    is_cut_ = is_cut_ || whole != last;
     return whole;
 }
 

@@ -79,6 +79,14 @@ static int keep_piece(const struct own *own) {
 
 static void stop_recording(void) { __atomic_store_n(&taskback_is_recording, 0, __ATOMIC_RELEASE); }
 
+/* That there is no room for more stands at the end of the first page. */
+static void run_out_of_room(void) {
+    stop_recording();
+    __atomic_add_fetch(&counter.last, 1, __ATOMIC_ACQ_REL);
+    ssize_t put = pwrite(file, NO_ROOM, sizeof NO_ROOM - 1, HEADER - (off_t)sizeof NO_ROOM + 1);
+    (void)put;
+}
+
 /* Makes room: the accesses in the piece are no longer there to be compared with. Where there is none the rest is left
    out, and the trace's numbers show that some are missing. */
 __attribute__((noinline)) static void turn_page(struct own *own) {
@@ -87,10 +95,8 @@ __attribute__((noinline)) static void turn_page(struct own *own) {
     own->next = own->events + 1;
     if (is_recording && keep_piece(own))
         return;
-    if (is_recording) {
-        stop_recording();
-        __atomic_add_fetch(&counter.last, 1, __ATOMIC_ACQ_REL);
-    }
+    if (is_recording)
+        run_out_of_room();
     if (own->is_mapped)
         use_piece(own, fresh_memory(PIECE));
     own->is_mapped = 0;
@@ -104,8 +110,7 @@ static void begin_pieces(struct own *own) {
         own->next++->address = own->index;
         own->events->kind = CHUNK;
     } else if (taskback_is_recording) {
-        stop_recording();
-        __atomic_add_fetch(&counter.last, 1, __ATOMIC_ACQ_REL);
+        run_out_of_room();
     }
 }
 

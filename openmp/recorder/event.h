@@ -90,5 +90,8 @@ static inline int takes_number(uint8_t kind, uint8_t mark) {
     }
 }
 
+/* The end of a trace's first page, where events are missing. */
+#define NO_ROOM "no room\n"
+
 enum { LARGE = 0xffff, LONGEST_NUMBER = 16, CALLERS = 5 };
 #endif

@@ -63,7 +63,7 @@ class Trace:
         # Of one number the event that has taken it comes first; then those that have only read it.
         events = sorted(in_order(events), key=lambda event: (event.stamp, not takes_number(event)))
         # Where a number is missing, an event couldn't be written.
-        self.is_cut = bool(events) and events[-1].stamp != sum(map(takes_number, events))
+        self.is_cut = data[:PAGE].endswith(b"no room\n") or bool(events) and events[-1].stamp != sum(map(takes_number, events))
         self.events = [event._replace(stamp=number) for number, event in enumerate(events, 1)]
 
 
