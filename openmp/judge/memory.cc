@@ -5,7 +5,9 @@ namespace judge {
 namespace {
 
 constexpr u32 MOST_RACES = 16;    // of one place: then it isn't looked at any more
+constexpr std::size_t MOST_COPIED = 1 << 20;
 constexpr u32 DEAD = NONE - 1;    // such a place
+constexpr std::size_t FARTHEST = 256;    // nodes up the tree
 constexpr u32 FEW = 4;            // loads that a load is compared with, to stand for them
 
 u8 mask_of(u64 granule, u64 address, u64 size) {
@@ -16,7 +18,7 @@ u8 mask_of(u64 granule, u64 address, u64 size) {
 
 }  // namespace
 
-Memory::Memory(Run &run) : run_(run) {
+Memory::Memory(Run &run, bool is_plain) : run_(run), is_plain_(is_plain) {
     for (std::size_t at = 0; at < run.trace.size(); at++)
         take(at);
     tell_copies();
@@ -24,7 +26,9 @@ Memory::Memory(Run &run) : run_(run) {
 
 void Memory::take(std::size_t at) {
     const event &e = run_.trace[at];
-    if (e.kind == MEMORY)
+    if (e.kind == BARRIER_END || e.kind == REGION_END)
+        copied_at_.clear();
+    if (e.kind == MEMORY || (e.kind == END && e.mark == STACK))
         return is_new(at, e);
     if (e.kind == GROUP_CLOSE) {
         auto found = run_.combined.find(at);
@@ -81,7 +85,7 @@ void Memory::touch(std::size_t at, u64 address, u64 size, bool is_write, u8 mark
     }
     if (is_freed)
         keep_freed(now);
-    else if (is_write)
+    else
         look_for_copies(now);
 }
 
@@ -107,7 +111,7 @@ void Memory::touch_place(Now &now, u32 &place) {
     bool is_known = false;
     for (u32 at = place; at != NONE; at = buckets_[at].next)
         is_known = compare(now, buckets_[at]) || is_known;
-    if (raced_.size() && raced_.count(now.granule) && raced_[now.granule] >= MOST_RACES)
+    if (!is_plain_ && raced_.size() && raced_.count(now.granule) && raced_[now.granule] >= MOST_RACES)
         place = DEAD;
     else if (!is_known)
         keep(now, place);
@@ -123,23 +127,24 @@ bool Memory::compare(const Now &now, Bucket &bucket) {
                   && run_.locks.are_in(now.locks, bucket.locks);
     if (!conflicts && (bucket.is_write || now.is_write))
         (bucket.is_atomic && now.is_atomic ? by_atomics : by_locks)++;
-    if (conflicts && !is_alike && bucket.passed != NONE && run_.is_node_before(bucket.passed, now.segment))
+    if (!is_plain_ && conflicts && !is_alike && bucket.passed != NONE && run_.is_node_before(bucket.passed, now.segment))
         return false;
     u32 seen = 0;
     bool is_passed = conflicts;
     for (u32 *link = &bucket.head; *link != NONE;) {
         u32 here = *link;
         Touch touch = touches_[here];
-        if (touch.segment == now.segment && is_alike && (touch.mask & now.mask) == now.mask)
+        if (!is_plain_ && touch.segment == now.segment && is_alike && (touch.mask & now.mask) == now.mask)
             return true;
-        if (!conflicts && ++seen > FEW)
+        if (!conflicts && (is_plain_ || ++seen > FEW))
             return false;
         bool meets = touch.mask & now.mask && (conflicts || covers);
-        bool is_ordered = meets && (run_.is_before(touch.segment, now.segment) || is_own(now, touch));
+        bool is_ordered = meets && (run_.is_before(touch.segment, now.segment) || is_own(now, touch)
+                                    || (conflicts && is_in_turn(now, touch)));
         if (meets && !is_ordered && conflicts)
             add_race(now, touch.at, touch.segment, run_.are_apart(touch.segment, now.segment), false);
         is_passed = is_passed && is_ordered;
-        if (is_ordered && covers && (touch.mask & ~now.mask) == 0) {
+        if (!is_plain_ && is_ordered && covers && (touch.mask & ~now.mask) == 0) {
             *link = touch.next;
             touches_[here].next = free_touch_;
             free_touch_ = here;
@@ -147,7 +152,7 @@ bool Memory::compare(const Now &now, Bucket &bucket) {
             link = &touches_[here].next;
         }
     }
-    if (is_passed && bucket.head != NONE)
+    if (!is_plain_ && is_passed && bucket.head != NONE)
         pass(now, bucket);
     return false;
 }
@@ -159,7 +164,8 @@ void Memory::pass(const Now &now, Bucket &bucket) {
     for (u32 at = bucket.head; at != NONE; at = touches_[at].next)
         newest = std::max(newest, run_.end_of(touches_[at].segment));
     std::vector<u32> nodes(1, run_.begin_of(now.segment));
-    for (u32 node = run_.in_front_of(now.segment); node != NONE && node >= newest; node = run_.parent_of(node))
+    for (u32 node = run_.in_front_of(now.segment); node != NONE && node >= newest && nodes.size() < FARTHEST;
+         node = run_.parent_of(node))
         nodes.push_back(node);
     auto is_passed = [&](u32 node) {
         for (u32 at = bucket.head; at != NONE; at = touches_[at].next)
@@ -167,6 +173,8 @@ void Memory::pass(const Now &now, Bucket &bucket) {
                 return false;
         return true;
     };
+    if (!is_passed(nodes[0]))
+        return;     // they are of the same iteration, which has no node
     std::size_t known = 0, beyond = nodes.size();
     while (beyond - known > 1) {
         std::size_t middle = known + (beyond - known) / 2;
@@ -208,7 +216,7 @@ void Memory::is_new(std::size_t at, const event &e) {
     freed_.erase(freed_.lower_bound(e.address), freed_.lower_bound(e.address + e.value));
     auto last = blocks.lower_bound(e.address + e.value);
     auto first = blocks.lower_bound(e.address);
-    if (e.mark == STACK && run_.segment_of[at] != NONE)
+    if (e.kind == MEMORY && e.mark == STACK && run_.segment_of[at] != NONE)
         stacks_.emplace(run_.segments[run_.segment_of[at]].actor, std::make_pair(e.address, e.value));
     blocks.erase(first, last);
     blocks[e.address] = Block{e.value, static_cast<u32>(at), run_.segment_of[at]};
@@ -250,16 +258,39 @@ const Block *Memory::block_at(u64 address, u64 *begin) const {
     return address - found.first < found.second.size ? &found.second : nullptr;
 }
 
+bool Memory::is_on_stack(u32 part, u64 address) const {
+    auto stack = stacks_.find(part);
+    return stack != stacks_.end() && address - stack->second.first < stack->second.second;
+}
+
 // Whether the memory is one that a thread's share has for itself: its part of the stack, and what it has taken.
 bool Memory::is_private(u32 part, u64 address) const {
-    auto stack = stacks_.find(part);
-    if (stack != stacks_.end() && address - stack->second.first < stack->second.second)
+    if (is_on_stack(part, address))
         return true;
     const Block *block = block_at(address);
     if (!block || block->segment == NONE)
         return false;
     const Segment &segment = run_.segments[block->segment];
     return segment.actor == part && !(segment.flags & Segment::IS_SINGLE);
+}
+
+// Whether the memory is of the stack of a thread that is in front of both, and the thread's own order is: another thread
+// that took the later unit would have that memory on a stack of its own.
+bool Memory::is_in_turn(const Now &now, const Touch &earlier) {
+    const auto &actors = run_.actors;
+    u32 part = run_.segments[now.segment].actor, child = NONE, other = run_.segments[earlier.segment].actor, made = NONE;
+    while (part != NONE && !(actors[part].flags & Actor::IS_PART && is_on_stack(part, now.granule * GRANULE)))
+        part = actors[child = part].parent;
+    while (other != NONE && other != part)
+        other = actors[made = other].parent;
+    if (part == NONE || other == NONE)
+        return false;
+    std::size_t later = child == NONE ? now.at : actors[child].made;
+    if (made == NONE)
+        return earlier.at < later;
+    u32 unit = actors[made].unit;
+    return unit != NONE && run_.units[unit].end < later && run_.units[unit].last != NONE
+           && run_.is_before_node(earlier.segment, run_.units[unit].last);
 }
 
 // Whether one thread did both in units that might be two threads', on memory that is its own.
@@ -282,16 +313,16 @@ void Memory::look_for_copies(const Now &now) {
     const Actor &actor = run_.actors[segment.actor];
     bool is_copied = actor.flags & Actor::IS_PART ? !(segment.flags & (Segment::IS_UNIT | Segment::IS_ALONE))
                                                   : (actor.flags & Actor::IS_COPIED) != 0;
-    if (!is_copied || now.is_atomic || now.locks != 0 || actor.region == NONE)
+    if (!is_copied || actor.region == NONE)
         return;
     const Region &region = run_.regions[actor.region];
-    if (!region.stands_for_more() || region.has_number)
-        return;
-    auto stack = stacks_.find(segment.actor);
-    if (stack != stacks_.end() && now.address - stack->second.first < stack->second.second)
+    if (!region.stands_for_more() || region.has_number || is_on_stack(segment.actor, now.address))
         return;
     const Block *block = block_at(now.address);
-    if (block && run_.trace[block->at].stamp > region.begun)
+    if (block && block->at > region.begun)
+        return;
+    meet_copies(now, now.at < actor.parted);
+    if (!now.is_write || now.is_atomic || now.locks != 0)
         return;
     auto added = copied_.emplace(std::make_pair(segment.actor, run_.trace[now.at].place),
                                  Copied{now, now.at < actor.parted});
@@ -300,29 +331,59 @@ void Memory::look_for_copies(const Now &now) {
         known.now.size = 0;
 }
 
+// What one thread does under a lock and then without it, another one may do at once.
+void Memory::meet_copies(Now now, bool is_sure) {
+    u64 end = (now.address + now.size + GRANULE - 1) / GRANULE;
+    for (now.granule = now.address / GRANULE; now.granule < end && copied_at_.size() < MOST_COPIED; now.granule++) {
+        auto &all = copied_at_[now.granule];
+        now.mask = mask_of(now.granule, now.address, now.size);
+        bool is_known = false;
+        for (const Copied &other : all) {
+            const Now &then = other.now;
+            is_known = is_known || (then.locks == now.locks && then.is_atomic == now.is_atomic && then.is_write == now.is_write
+                                    && (then.mask & now.mask) == now.mask);
+            if (!(then.mask & now.mask) || !(then.is_write || now.is_write) || (then.is_atomic && now.is_atomic)
+                || run_.locks.exclude(then.locks, now.locks))
+                continue;
+            Race *race = add_race(now, then.at, then.segment, false, true);
+            if (race)
+                race->is_sure = is_sure && other.is_sure;
+        }
+        if (!is_known && all.size() < MOST_RACES)
+            all.push_back(Copied{now, is_sure});
+    }
+}
+
 // Where the threads may have gone different ways, an address that varies may be another one for each.
 void Memory::tell_copies() {
     for (auto &entry : copied_)
-        if (entry.second.now.size != 0)
-            add_race(entry.second.now, entry.second.now.at, entry.second.now.segment, false, true);
+        if (entry.second.now.size != 0) {
+            Race *race = add_race(entry.second.now, entry.second.now.at, entry.second.now.segment, false, true);
+            if (race)
+                race->is_sure = entry.second.is_sure;
+        }
 }
 
-void Memory::add_race(const Now &now, u32 at, u32 segment, bool is_apart, bool is_copied) {
+// The race, where it is the first of its kind.
+Race *Memory::add_race(const Now &now, u32 at, u32 segment, bool is_apart, bool is_copied) {
     const event &e = run_.trace[at], &f = run_.trace[now.at];
     raced_[now.granule]++;
     u64 lines = static_cast<u64>(static_cast<u32>(e.place)) << 32 | static_cast<u32>(f.place);
     u64 kinds = (u64{e.kind} << 8 | f.kind) << 8 | (is_apart ? 2 : 0) | (is_copied ? 1 : 0);
-    kinds |= u64{e.mark} << 32 | u64{f.mark} << 40;
+    constexpr u8 MARKS = (1 << ROW_SHIFT) - 1;
+    kinds |= static_cast<u64>(e.mark & MARKS) << 32 | static_cast<u64>(f.mark & MARKS) << 40;
     auto added = known_.emplace(Key{lines, kinds}, static_cast<u32>(races.size()));
     if (!added.second) {
         races[added.first->second].count++;
-        return;
+        return nullptr;
     }
-    races.push_back(Race{at, now.at, segment, now.segment, std::max(now.address, e.address), 1, is_apart, is_copied});
+    u64 address = std::max({now.address, e.address, is_copied ? 0 : now.granule * GRANULE});
+    races.push_back(Race{at, now.at, segment, now.segment, address, 1, is_apart, is_copied});
     u64 begin = 0;
     const Block *block = block_at(races.back().address, &begin);
     block_of_race.push_back(block ? *block : Block{0, NONE, NONE});
     block_begin.push_back(begin);
+    return &races.back();
 }
 
 }  // namespace judge

@@ -26,7 +26,8 @@ struct Race {
     u64 address;
     u64 count = 1;
     bool is_apart = false;
-    bool is_copied = false;   // each thread of a larger team would do it: the two are one event
+    bool is_copied = false;   // each thread of a larger team would do it: the two may be one event
+    bool is_sure = true;      // else only where the place is no other one for each thread
 };
 
 // A block that was taken, or a task's part of a stack.
@@ -38,7 +39,8 @@ struct Block {
 
 class Memory {
 public:
-    explicit Memory(Run &run);
+    // `is_plain`: each access is compared with all before it at its place, which shows that the short cuts lose nothing.
+    Memory(Run &run, bool is_plain);
 
     std::vector<Race> races;
     u64 by_thread_number = 0;      // kept out, since the program asked for the thread's number
@@ -75,15 +77,19 @@ private:
     void clear(u64 address, u64 size);
     void pass(const Now &now, Bucket &bucket);
     bool is_own(const Now &now, const Touch &earlier);
+    bool is_in_turn(const Now &now, const Touch &earlier);
+    bool is_on_stack(u32 part, u64 address) const;
     bool is_private(u32 part, u64 address) const;
     void look_for_copies(const Now &now);
+    void meet_copies(Now now, bool is_sure);
     void tell_copies();
-    void add_race(const Now &now, u32 at, u32 segment, bool is_apart, bool is_copied);
+    Race *add_race(const Now &now, u32 at, u32 segment, bool is_apart, bool is_copied);
     void keep_freed(const Now &now);
     void find_freed(const Now &now, u32 &place);
     const Block *block_at(u64 address, u64 *begin = nullptr) const;
 
     Run &run_;
+    const bool is_plain_;
     std::map<u64, std::unique_ptr<Page>> pages_;
     u64 last_page_number_ = ~u64{0};
     Page *last_page_ = nullptr;
@@ -105,6 +111,8 @@ private:
         bool is_sure;     // else only where it is always the same address
     };
     std::map<std::pair<u32, int>, Copied> copied_;
+    // Since the last barrier, by where: under which locks, loads and stores apart.
+    std::unordered_map<u64, std::vector<Copied>> copied_at_;
     std::unordered_map<u64, u32> raced_;     // how many races a place has had
     std::unordered_map<u32, std::pair<u64, u64>> stacks_;   // of each actor, its part of a stack
 };

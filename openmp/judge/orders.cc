@@ -51,7 +51,8 @@ void Run::release(const event &e) {
 void Run::acquire(const event &e) {
     State &s = state_of(e);
     auto known = released_.find(e.address);
-    if (known == released_.end() || known->second.actor == s.actor)
+    bool is_in_turn = !(actors[s.actor].flags & Actor::IS_PART);    // units of one thread come in any order
+    if (known == released_.end() || (known->second.actor == s.actor && is_in_turn))
         return;
     u32 node = e.mark & UP ? known->second.raised : known->second.node;
     if (node == NONE)

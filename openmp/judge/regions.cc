@@ -8,9 +8,14 @@ void Run::begin_region(const event &e) {
     Region region;
     region.meeting = s.actor;
     region.place = e.place;
-    region.begun = e.stamp;
+    region.begun = now_;
+    region.unit = s.unit;
     region.is_one_by_clause = is_next_one_;
-    region.is_nested = s.phase != NONE;
+    region.is_league = leagues_.count(e.task) != 0;
+    if (s.phase != NONE) {
+        const Region &outer = regions[phases[s.phase].region];
+        region.is_nested = outer.is_nested || !outer.is_league;
+    }
     is_next_one_ = false;
     u32 number = static_cast<u32>(regions.size()), open = node_of(s);
     region_of_[e.address] = number;
@@ -28,6 +33,9 @@ u32 Run::open_phase(u32 region, u32 open) {
 
 void Run::begin_part(const event &e, u32 thread) {
     auto known = region_of_.find(e.address);
+    bool is_of_program = e.size == 1 && e.value == 1;
+    if (e.address == 0 && !is_of_program)
+        leagues_.insert(e.task);
     if (e.address == 0 || known == region_of_.end())
         return;
     Region &region = regions[known->second];
@@ -39,6 +47,8 @@ void Run::begin_part(const event &e, u32 thread) {
     actors[part].region = known->second;
     actors[part].thread = thread;
     actors[part].flags = Actor::IS_PART;
+    actors[part].unit = region.unit;
+    actors[part].made = region.begun;
     actors[part].is_started = true;
     region.size = std::max<u32>(region.size, e.size);
     team_most = std::max(team_most, region.size);
@@ -81,6 +91,7 @@ void Run::end_barrier(const event &e) {
     s.segment = add_segment(s.actor, graph_.add(close), 0);
     s.children.clear();
     s.statics.clear();
+    s.static_units.clear();
     s.masked = NONE;
 }
 

@@ -1,5 +1,7 @@
 #include "report.h"
 
+#include <map>
+
 namespace judge {
 
 std::string quoted(const std::string &text) {
@@ -22,6 +24,24 @@ void Report::name(u32 actor) {
         actor = run_.actors[actor].parent;
 }
 
+// With the tasks of a race those that clauses put right in front of them or behind, some of each.
+void Report::name_near() {
+    constexpr std::size_t MOST = 8;
+    std::map<u32, std::size_t> behind;
+    for (u32 actor : std::set<u32>(named_)) {
+        const auto &waits = run_.actors[actor].waits;
+        for (std::size_t i = 0; i < waits.size() && i < MOST; i++)
+            name(waits[i]);
+        behind[actor] = 0;
+    }
+    for (u32 actor = 1; actor < run_.actors.size() && !behind.empty(); actor++)
+        for (u32 other : run_.actors[actor].waits) {
+            auto found = behind.find(other);
+            if (found != behind.end() && found->second++ < MOST)
+                name(actor);
+        }
+}
+
 void Report::write(std::ostream &out) {
     out << "{\"program\": " << quoted(run_.trace.program()) << ", \"unseen\": " << quoted(run_.trace.unseen())
         << ",\n\"events\": " << run_.trace.size() << ", \"tasks\": " << run_.explicit_tasks
@@ -32,6 +52,7 @@ void Report::write(std::ostream &out) {
     write_counts(out);
     write_fault(out);
     write_races(out);
+    name_near();
     write_actors(out);
     out << "}\n";
 }
@@ -58,7 +79,7 @@ void Report::write_fault(std::ostream &out) {
     name(fault.other);
     out << "\"fault\": {\"rule\": " << quoted(fault.rule) << ", \"step\": " << quoted(fault.step)
         << ", \"actor\": " << fault.actor << ", \"other\": " << fault.other << ", \"place\": " << fault.place
-        << ", \"stamp\": " << fault.stamp << "},\n";
+        << ", \"event\": " << fault.event << "},\n";
 }
 
 // Where the function was called that made the access, and where its caller.
@@ -80,7 +101,7 @@ void Report::write_side(std::ostream &out, u32 at, u32 segment) {
     name(actor);
     const char *done = e.kind == GROUP_CLOSE ? "writes" : e.mark & FREED ? "frees" : e.kind == WRITE ? "writes" : "reads";
     out << "{\"done\": \"" << done << "\", \"place\": " << e.place << ", \"actor\": " << actor << ", \"address\": " << e.address
-        << ", \"unit\": " << (run_.segments[segment].flags & Segment::IS_UNIT ? "true" : "false")
+        << ", \"size\": " << (e.mark >> ROW_SHIFT ? 1u << ((e.mark >> ROW_SHIFT) - 1) : e.size) << ", \"unit\": " << (run_.segments[segment].flags & Segment::IS_UNIT ? "true" : "false")
         << ", \"frame\": " << (e.mark & FRAME && e.kind == WRITE ? "true" : "false") << ", \"library\": " << (e.mark & LIBRARY && e.kind != GROUP_CLOSE ? "true" : "false")
         << ", \"callers\": ";
     write_callers(out, at);
@@ -93,7 +114,7 @@ void Report::write_races(std::ostream &out) {
         const Race &race = memory_->races[i];
         const Block &block = memory_->block_of_race[i];
         out << (i ? ",\n" : "\n") << "{\"count\": " << race.count << ", \"apart\": " << (race.is_apart ? "true" : "false")
-            << ", \"copied\": " << (race.is_copied ? "true" : "false") << ", \"address\": " << race.address;
+            << ", \"copied\": " << (race.is_copied ? "true" : "false") << ", \"sure\": " << (race.is_sure ? "true" : "false") << ", \"address\": " << race.address;
         if (block.at != NONE && run_.trace[block.at].place != 0)
             out << ", \"block\": {\"place\": " << run_.trace[block.at].place
                 << ", \"offset\": " << race.address - memory_->block_begin[i] << ", \"size\": " << block.size << "}";
@@ -117,6 +138,14 @@ void Report::write_actors(std::ostream &out) const {
         for (std::size_t i = 0; i < actor.items.size(); i++)
             out << (i ? ", [" : "[") << actor.items[i].address << ", " << actor.items[i].length << ", "
                 << unsigned{actor.items[i].type} << "]";
+        out << "], \"waits\": [";
+        bool is_first_wait = true;
+        for (u32 other : actor.waits) {
+            if (!named_.count(other))
+                continue;
+            out << (is_first_wait ? "" : ", ") << other;
+            is_first_wait = false;
+        }
         out << "]}";
         is_first = false;
     }

@@ -20,6 +20,7 @@ private:
     void write_side(std::ostream &out, u32 at, u32 segment);
     void write_actors(std::ostream &out) const;
     void name(u32 actor);
+    void name_near();
     void write_callers(std::ostream &out, u32 at) const;
 
     Run &run_;

@@ -4,6 +4,7 @@
 namespace judge {
 
 Run::Run(const Trace &of) : trace(of) {
+    has_ended = trace.has_end();
     segment_of.assign(trace.size(), NONE);
     locks_of.assign(trace.size(), 0);
     chain_of.assign(trace.size(), NONE);
@@ -56,11 +57,12 @@ void Run::split(State &s, u32 also) {
 
 void Run::refuse(const char *rule, const char *step, const State &s, u32 other, const event &e) {
     if (fault.rule.empty())
-        fault = Fault{rule, step, s.actor, other, e.place, e.stamp};
+        fault = Fault{rule, step, s.actor, other, e.place, static_cast<u32>(now_ + 1)};
 }
 
 void Run::take(std::size_t at) {
     const event &e = trace[at];
+    now_ = at;
     if (e.kind == READ || e.kind == WRITE)
         return access(at, e);
     if (e.kind == CHAIN) {
@@ -98,7 +100,9 @@ void Run::take_sync(std::size_t at, const event &e) {
         actors[state_of(e).actor].items.push_back(Item{e.address, e.value, e.mark});
         return;
     case START: return start(e, trace.thread(at));
-    case END: return end(e);
+    case END:
+        segment_of[at] = state_of(e).segment;
+        return end(e);
     case RESUME: actors[state_of(e).actor].thread = trace.thread(at); return;
     case FULFIL: return fulfil(e);
     case WAIT: return wait(e);
@@ -120,7 +124,7 @@ void Run::take_sync(std::size_t at, const event &e) {
         segment_of[at] = state_of(e).segment;
         released_.erase(released_.lower_bound(e.address), released_.lower_bound(e.address + e.value));
         return;
-    case ENDED: has_ended = true; return;
+    case ENDED: return;
     default: return take_share(e);
     }
 }
@@ -246,7 +250,7 @@ bool exclude(const Actor &one, const Actor &other) {
 bool Run::are_apart(u32 one, u32 other) {
     for (u32 a = segments[one].actor; a != NONE; a = actors[a].parent)
         for (u32 b = segments[other].actor; b != NONE; b = actors[b].parent) {
-            if (a == b || actors[a].parent != actors[b].parent || !exclude(actors[a], actors[b]))
+            if (a == b || a == 0 || b == 0 || !are_siblings(a, b) || !exclude(actors[a], actors[b]))
                 continue;
             bool is_in_a = segments[one].actor == a
                            || (actors[a].end != NONE && graph_.leads(segments[one].node, actors[a].end));

@@ -4,6 +4,7 @@
 #include <array>
 #include <map>
 #include <memory>
+#include <set>
 #include <string>
 #include <unordered_map>
 #include <vector>
@@ -34,10 +35,12 @@ struct Actor {
     u32 thread = NONE;
     u32 region = NONE;
     u32 start = NONE, end = NONE;   // nodes
+    u32 unit = NONE;        // of a thread's share, in which it was made
+    std::size_t made = 0;   // the event by which it was, or the region
     std::size_t parted = ~std::size_t{0};   // the event from which on the threads of its team may go different ways
     bool is_started = false, is_ended = false, is_joined = false;
     std::vector<Item> items;
-    std::vector<u32> waits;         // the siblings that its items make it wait for, until it starts
+    std::vector<u32> waits;         // the siblings that its items make it wait for
 };
 
 // A part of an actor between two steps that order something. A thread's part of a loop, an iteration, has no node of
@@ -56,6 +59,13 @@ struct Phase {
     std::vector<u32> tasks;           // that were made in it
 };
 
+// An iteration, a section or a block that one thread takes: its last node, where it has one, and the event that ends it.
+struct Unit {
+    u32 same = NONE;        // the first unit that the same thread takes with it
+    u32 last = NONE;
+    std::size_t end = ~std::size_t{0};
+};
+
 // A worksharing construct that a team has met.
 struct Shared {
     u32 ordered = NONE;                     // the last ordered block's node
@@ -66,14 +76,16 @@ struct Region {
     u32 meeting = NONE;     // an actor
     int place = 0;
     u32 size = 0;           // of the team
-    u32 begun = 0;          // stamp
+    std::size_t begun = 0;  // the event
+    u32 unit = NONE;        // in which it was met
+    bool is_league = false;     // of `teams`: what a team's first thread does, which is one
     bool is_one_by_clause = false, is_nested = false, has_number = false, is_ended = false;
     std::vector<u32> phases;
     std::vector<std::unique_ptr<Shared>> shared;
     std::vector<u32> parts;     // the numbers of its threads' tasks
 
     // Whether it has one thread, and might have more without a change of the program.
-    bool stands_for_more() const { return size == 1 && !is_one_by_clause && !is_nested; }
+    bool stands_for_more() const { return size == 1 && !is_one_by_clause && !is_nested && !is_league; }
 };
 
 struct Group {
@@ -85,7 +97,7 @@ struct Fault {
     std::string rule, step;
     u32 actor = NONE, other = NONE;
     int place = 0;
-    u32 stamp = 0;
+    u32 event = 0;      // the how manieth
 };
 
 // What isn't order, or is only this run's; counted.
@@ -114,6 +126,9 @@ struct State {
     u32 group = NONE;       // the innermost one
     u32 fulfilled = NONE;   // the node of the call that fulfils its event
     u32 masked = NONE;      // the node of the last masked block of the phase
+    u32 unit = NONE;        // that the thread is in
+    u32 masked_unit = NONE; // its first masked block
+    std::map<std::array<u64, 3>, u32> static_units;     // in which it made tasks
     u32 unsettled = NONE;   // the last child, while its items come
     Loop loop;
     std::vector<u32> children;       // not yet waited for
@@ -144,10 +159,13 @@ public:
     u32 home(u32 actor) const;
     // `0.1.2`: the second child of the first child of the program.
     std::string name(u32 actor) const;
+    // The recorder's number of its task.
+    u32 number_of(u32 actor) const { return number_of_[actor]; }
 
     const Trace &trace;
     std::vector<Actor> actors;
     std::vector<Segment> segments;
+    std::vector<Unit> units;
     std::vector<Phase> phases;
     std::vector<Region> regions;
     std::vector<Group> groups;
@@ -179,6 +197,8 @@ private:
 
     void create(const event &e);
     void settle_items(State &parent);
+    bool are_siblings(u32 one, u32 other) const;
+    void find_same_unit(State &s);
     void keep_apart(State &s, const event &e);
     void start(const event &e, u32 thread);
     void end(const event &e);
@@ -196,6 +216,7 @@ private:
     u32 open_phase(u32 region, u32 open);
     void begin_loop(const event &e);
     void iterate(const event &e);
+    void enter_unit(State &s, u32 segment);
     void leave_unit(State &s);
     void end_loop(const event &e);
     void begin_single(const event &e);
@@ -229,7 +250,9 @@ private:
     std::map<u64, Released> released_;
     std::map<u64, u64> sizes_;      // of reduced variables
     std::vector<u32> number_of_;    // the task number of each actor
+    std::set<u32> leagues_;         // the first tasks of the teams of a league
     bool is_next_one_ = false;
+    std::size_t now_ = 0;           // the event that is taken
 };
 
 }  // namespace judge

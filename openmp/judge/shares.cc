@@ -52,11 +52,24 @@ void Run::iterate(const event &e) {
     if (loop.is_static) {
         auto added = s.statics[{loop.count, loop.chunk}].emplace(unit, static_cast<u32>(segments.size()));
         if (!added.second) {
-            s.segment = added.first->second;
+            enter_unit(s, added.first->second);
             return;
         }
     }
-    s.segment = add_segment(s.actor, s.phase, Segment::IS_UNIT | Segment::IS_LIGHT);
+    enter_unit(s, add_segment(s.actor, s.phase, Segment::IS_UNIT | Segment::IS_LIGHT));
+}
+
+void Run::enter_unit(State &s, u32 segment) {
+    s.segment = segment;
+    s.unit = static_cast<u32>(units.size());
+    units.emplace_back();
+    units.back().same = s.unit;
+}
+
+// The same thread has the same iterations of static loops of one shape in one phase.
+void Run::find_same_unit(State &s) {
+    if (s.unit != NONE && s.loop.is_on && s.loop.is_static)
+        units[s.unit].same = s.static_units.emplace(std::array<u64, 3>{s.loop.count, s.loop.chunk, s.loop.unit}, s.unit).first->second;
 }
 
 // A unit by which something is ordered has nodes, and the phase ends after the last of them.
@@ -66,11 +79,14 @@ void Run::leave_unit(State &s) {
     const Segment &segment = segments[s.segment];
     if (s.segment != s.chain && !(segment.flags & Segment::IS_LIGHT)) {
         phases[s.phase].arrivals.push_back(segment.node);
+        units[s.unit].last = segment.node;
         if (s.loop.is_on && s.loop.is_static)
             s.statics[{s.loop.count, s.loop.chunk}][s.loop.unit] = s.segment;
     }
+    if (s.unit != NONE)
+        units[s.unit].end = now_;
     s.segment = s.chain;
-    s.chain = NONE;
+    s.chain = s.unit = NONE;
 }
 
 // Who did the last iteration writes the variables that are `lastprivate`: one thread alone.
@@ -93,7 +109,7 @@ void Run::begin_single(const event &e) {
     if (!e.mark)
         return;
     s.chain = s.segment;
-    s.segment = add_segment(s.actor, graph_.add(phases[s.phase].open), Segment::IS_UNIT | Segment::IS_SINGLE);
+    enter_unit(s, add_segment(s.actor, graph_.add(phases[s.phase].open), Segment::IS_UNIT | Segment::IS_SINGLE));
 }
 
 void Run::end_single(const event &e) {
@@ -115,7 +131,9 @@ void Run::begin_masked(const event &e) {
     u32 node = graph_.add(phases[s.phase].open);
     graph_.lead(s.masked, node);
     s.chain = s.segment;
-    s.segment = add_segment(s.actor, node, Segment::IS_UNIT | Segment::IS_ALONE | Segment::IS_SINGLE);
+    enter_unit(s, add_segment(s.actor, node, Segment::IS_UNIT | Segment::IS_ALONE | Segment::IS_SINGLE));
+    s.masked_unit = s.masked_unit == NONE ? s.unit : s.masked_unit;
+    units[s.unit].same = s.masked_unit;
 }
 
 void Run::end_masked(const event &e) {

@@ -22,6 +22,11 @@ void Run::create(const event &e) {
     made.place = e.place;
     made.child = ++actors[home(parent.actor)].children;
     made.region = maker.region;
+    find_same_unit(parent);
+    made.unit = parent.unit;
+    made.made = now_;
+    if (maker.parted <= now_)
+        made.parted = now_;
     made.flags = (e.value & FINAL ? Actor::IS_FINAL : 0) | (is_copied ? Actor::IS_COPIED : 0)
                  | (e.mark ? Actor::IS_LOOPS : 0)
                  | (e.value & UNDEFERRED || maker.flags & Actor::IS_FINAL ? Actor::IS_UNDEFERRED : 0);
@@ -40,6 +45,20 @@ void Run::create(const event &e) {
     split(parent);
 }
 
+// Of a team's thread two tasks are siblings where it surely makes both: another one might take one of the units.
+bool Run::are_siblings(u32 one, u32 other) const {
+    const Actor &a = actors[one], &b = actors[other];
+    if (a.parent != b.parent)
+        return false;
+    const Actor &maker = actors[a.parent];
+    if (!(maker.flags & Actor::IS_PART) || a.unit == b.unit)
+        return true;
+    const Region &region = regions[maker.region];
+    if (region.size == 1 && !region.stands_for_more())
+        return true;
+    return a.unit != NONE && b.unit != NONE && units[a.unit].same == units[b.unit].same;
+}
+
 // The items of a child come behind its making: they are all there when the next child is made, or it starts.
 void Run::settle_items(State &parent) {
     if (parent.unsettled == NONE)
@@ -48,7 +67,9 @@ void Run::settle_items(State &parent) {
     if (!child.items.empty()) {
         if (!parent.siblings)
             parent.siblings = std::make_unique<Siblings>();
-        child.waits = parent.siblings->before(child.items);
+        for (u32 earlier : parent.siblings->before(child.items))
+            if (are_siblings(earlier, parent.unsettled))
+                child.waits.push_back(earlier);
         parent.siblings->add(parent.unsettled, child.items);
     }
     parent.unsettled = NONE;
@@ -81,7 +102,6 @@ void Run::start(const event &e, u32 thread) {
             return refuse("Waiting", "starts", s, earlier, e);
         graph_.lead(actors[earlier].end, node);
     }
-    actor.waits = {};
     keep_apart(s, e);
     actor.is_started = true;
     actor.start = node;

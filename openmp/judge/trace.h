@@ -38,11 +38,20 @@ public:
     const std::string &unseen() const { return unseen_; }
     // Whether an event is missing in front of the last one.
     bool is_cut() const { return is_cut_; }
+    // Whether the program came to its end.
+    bool has_end() const { return has_end_; }
 
 private:
     static constexpr std::size_t HEADER = 4096, PIECE = 2048;
 
+    // Events of one thread, one behind the other.
+    struct Piece {
+        u32 begin, end;
+    };
+
     void read_header();
+    std::vector<std::vector<Piece>> find_pieces();
+    u32 find_whole(const std::vector<std::vector<Piece>> &pieces);
     void put_in_order();
 
     const char *bytes_ = nullptr;
@@ -52,7 +61,7 @@ private:
     std::vector<u32> order_;
     std::vector<u32> threads_;
     std::string program_, unseen_;
-    bool is_cut_ = false;
+    bool is_cut_ = false, has_end_ = false;
 };
 
 }  // namespace judge

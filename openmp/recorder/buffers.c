@@ -1,5 +1,7 @@
 /* Each thread writes into a piece of the file of its own, which is mapped: what is written down is kept however the
-   program ends. The first page is text; then the pieces follow, each begun by an event that names its thread. */
+   program ends. Where it is full it is copied behind what the file has, and filled anew, so that its memory stays near.
+   So a thread's first piece is its newest, and ends where an event has no kind. The first page is text; then the pieces
+   follow, each begun by an event that names its thread. */
 #define _GNU_SOURCE
 #include <fcntl.h>
 #include <link.h>
@@ -16,7 +18,8 @@ enum { HEADER = 4096, PIECE = BUFFER * sizeof(struct event) };
 __thread struct own *taskback_own;
 int taskback_is_recording;
 static struct own *all_threads;
-static uint32_t counter;
+/* In a line of the cache of its own: each thread writes it. */
+static struct { uint32_t last; char rest[124]; } __attribute__((aligned(128))) counter;
 static uint32_t thread_count;
 static uint64_t file_end = HEADER;
 static uint64_t program_base, thread_local_size;
@@ -50,8 +53,8 @@ static void use_piece(struct own *own, struct event *piece) {
     own->end = piece + BUFFER;
 }
 
-/* The next piece of the file, or nothing where there is no room for it. */
-static struct event *next_piece(void) {
+/* A thread's piece of the file, or nothing where there is no room for it. */
+static struct event *map_piece(void) {
     uint64_t at = __atomic_fetch_add(&file_end, PIECE, __ATOMIC_ACQ_REL);
     if (posix_fallocate(file, (off_t)at, PIECE) != 0)
         return 0;
@@ -59,27 +62,56 @@ static struct event *next_piece(void) {
     return piece == MAP_FAILED ? 0 : piece;
 }
 
+/* Whether the full piece is in the file a second time. */
+static int keep_piece(const struct own *own) {
+    uint64_t at = __atomic_fetch_add(&file_end, PIECE, __ATOMIC_ACQ_REL);
+    for (uint64_t done = 0; done < PIECE;) {
+        ssize_t put = pwrite(file, (const char *)own->events + done, PIECE - done, (off_t)(at + done));
+        if (put <= 0) {
+            static const struct event nothing;
+            /* A part of it would be there twice. */
+            return done > 0 && pwrite(file, &nothing, sizeof nothing, (off_t)at) < 0;
+        }
+        done += (uint64_t)put;
+    }
+    return 1;
+}
+
 static void stop_recording(void) { __atomic_store_n(&taskback_is_recording, 0, __ATOMIC_RELEASE); }
+
+/* That there is no room for more stands at the end of the first page. */
+static void run_out_of_room(void) {
+    stop_recording();
+    __atomic_add_fetch(&counter.last, 1, __ATOMIC_ACQ_REL);
+    ssize_t put = pwrite(file, NO_ROOM, sizeof NO_ROOM - 1, HEADER - (off_t)sizeof NO_ROOM + 1);
+    (void)put;
+}
 
 /* Makes room: the accesses in the piece are no longer there to be compared with. Where there is none the rest is left
    out, and the trace's numbers show that some are missing. */
-static void turn_page(struct own *own) {
+__attribute__((noinline)) static void turn_page(struct own *own) {
     begin_part(own);
-    if (__atomic_load_n(&taskback_is_recording, __ATOMIC_ACQUIRE)) {
-        struct event *piece = next_piece();
-        if (piece) {
-            munmap(own->events, PIECE);
-            use_piece(own, piece);
-            own->next++->address = own->index;
-            own->events->kind = CHUNK;
-            return;
-        }
-        stop_recording();
-        __atomic_add_fetch(&counter, 1, __ATOMIC_ACQ_REL);
-        munmap(own->events, PIECE);
+    int is_recording = __atomic_load_n(&taskback_is_recording, __ATOMIC_ACQUIRE);
+    own->next = own->events + 1;
+    if (is_recording && keep_piece(own))
+        return;
+    if (is_recording)
+        run_out_of_room();
+    if (own->is_mapped)
         use_piece(own, fresh_memory(PIECE));
+    own->is_mapped = 0;
+}
+
+static void begin_pieces(struct own *own) {
+    struct event *piece = taskback_is_recording ? map_piece() : 0;
+    use_piece(own, piece ? piece : fresh_memory(PIECE));
+    own->is_mapped = piece != 0;
+    if (piece) {
+        own->next++->address = own->index;
+        own->events->kind = CHUNK;
+    } else if (taskback_is_recording) {
+        run_out_of_room();
     }
-    own->next = own->events;
 }
 
 /* The first module is the program; below a thread's pointer are the variables that the modules have for each thread. */
@@ -96,18 +128,27 @@ static int find_own(struct dl_phdr_info *info, size_t size, void *data) {
     return 0;
 }
 
+/* A thread that comes while the first one is alone isn't the runtime's. */
+static void find_strangers(struct own *own) {
+    static struct own *first;
+    if (own->index == 0) {
+        first = own;
+        own->is_alone = 1;
+    } else if (first && first->is_alone) {
+        taskback_has_strangers = 1;
+        first->is_alone = 0;
+    }
+}
+
 struct own *taskback_adopt(void) {
     struct own *own = fresh_memory(sizeof *own);
     taskback_own = own;
     own->epoch = 1;
     own->index = __atomic_fetch_add(&thread_count, 1, __ATOMIC_RELAXED);
+    find_strangers(own);
     own->tls_size = thread_local_size;
     own->tls_low = (uint64_t)__builtin_thread_pointer() - thread_local_size;
-    use_piece(own, fresh_memory(PIECE));
-    if (taskback_is_recording) {
-        own->next = own->end;
-        turn_page(own);
-    }
+    begin_pieces(own);
     find_stack(own);
     own->link = __atomic_load_n(&all_threads, __ATOMIC_ACQUIRE);
     while (!__atomic_compare_exchange_n(&all_threads, &own->link, own, 0, __ATOMIC_ACQ_REL, __ATOMIC_ACQUIRE))
@@ -115,25 +156,39 @@ struct own *taskback_adopt(void) {
     return own;
 }
 
+/* Behind what is written down last stands an event without a kind, at which the piece ends. */
+__attribute__((always_inline)) static inline struct event *write_down(struct own *own, struct event told) {
+    if (own->next == own->end)
+        turn_page(own);
+    struct event *event = own->next++;
+    if (own->next != own->end)
+        own->next->kind = 0;
+    uint8_t kind = told.kind;
+    told.kind = 0;
+    *event = told;
+    __atomic_store_n(&event->kind, kind, __ATOMIC_RELEASE);
+    return event;
+}
+
 int32_t taskback_offset(uint64_t place) {
     int64_t offset = (int64_t)(place - program_base);
     return offset > 0 && offset <= INT32_MAX ? (int32_t)offset : 0;
 }
 
+static inline uint32_t number(enum kind kind, int mark) {
+    return takes_number((uint8_t)kind, (uint8_t)mark) ? __atomic_add_fetch(&counter.last, 1, __ATOMIC_ACQ_REL)
+                                                      : __atomic_load_n(&counter.last, __ATOMIC_ACQUIRE);
+}
+
 struct event *taskback_note(struct own *own, enum kind kind, uint32_t task, uint64_t address, uint64_t value,
                             uint64_t place) {
-    if (own->next == own->end)
-        turn_page(own);
-    struct event *event = own->next++;
-    event->address = address;
-    event->value = value;
-    event->stamp = __atomic_add_fetch(&counter, 1, __ATOMIC_ACQ_REL);
-    event->task = task;
-    event->place = taskback_offset(place);
-    event->size = 0;
-    event->mark = 0;
-    event->kind = (uint8_t)kind;
-    return event;
+    uint32_t stamp = number(kind, 0);
+    return write_down(own, (struct event){address, value, stamp, task, taskback_offset(place), 0, (uint8_t)kind, 0});
+}
+
+struct event *taskback_note_access(struct own *own, enum kind kind, uint64_t address, uint64_t place, int mark) {
+    uint32_t stamp = number(kind, mark), task = own->task;
+    return write_down(own, (struct event){address, 0, stamp, task, taskback_offset(place), 0, (uint8_t)kind, (uint8_t)mark});
 }
 
 static int add(char *line, int at, int most, const char *words) {

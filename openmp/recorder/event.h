@@ -9,7 +9,7 @@ enum kind {
     CREATE = 1,     /* task: the creator; address: the child; value: its flags; place: the directive */
     ITEM,           /* task: the child; address; value: the length; mark: the type's bits */
     START,          /* task */
-    END,            /* task */
+    END,            /* task; mark: STACK where address, value are its part of the stack, which is new from here on */
     WAIT,           /* task: it has passed a taskwait */
     WAIT_ITEM,      /* task; the rest as of ITEM; in front of its WAIT_ITEMS */
     WAIT_ITEMS,     /* task: it has passed a taskwait with items */
@@ -20,8 +20,9 @@ enum kind {
     IMPLICIT_BEGIN, /* task: the implicit task; address: its region, 0 for the initial task; value: its index */
     BARRIER_BEGIN,  /* task: an implicit task; address: its region */
     BARRIER_END,    /* the same */
-    READ,           /* task; address; value: the number read; size; place */
-    WRITE,          /* task; address; value: the number written; size; place */
+    READ,           /* task; address; value: the number read; size; place; mark. Of elements that one place touches in
+                       their order it is one event: the size is that of all, the number that of the first */
+    WRITE,          /* the same; the number written */
     MEMORY,         /* task; address, value: from here on this many bytes are new; place: who took them; mark: STACK */
     LOCK,           /* task; address: the lock; value: 1 where it is a reduction's; mark: SHARED */
     UNLOCK,         /* task; address: the lock */
@@ -59,6 +60,9 @@ enum note {
    outermost one. */
 enum mark { ATOMIC = 1, FREED = 2, LIBRARY = 4, FRAME = 8, OUTERMOST = 16 };
 
+/* Above these marks stands, of several elements, 1 and the power of two that is the size of each. */
+enum { ROW_SHIFT = 5, LONGEST_ROW = 32768 };
+
 /* Marks of a loop, of an iteration, of a release, of a lock that several may hold, and of a task's
    own part of a stack. */
 enum { LOOP_STATIC = 1, LOOP_ORDERED = 2, HANDED_OUT = 1, KEEPS = 1, GUARD = 2, NOTHING = 4, DOWN = 8, UP = 8, SHARED = 1,
@@ -75,6 +79,19 @@ struct event {
     uint8_t kind;
     uint8_t mark;
 };
+
+/* Whether the event raises the one counter. The others, on which no order between threads hangs, have the number that it
+   had: what is given back comes in front of who takes it next, and all else between two threads is ordered by numbers. */
+static inline int takes_number(uint8_t kind, uint8_t mark) {
+    switch (kind) {
+    case WRITE: return (mark & FREED) && !(mark & FRAME);
+    case READ: case CHAIN: case MEMORY: case ITEM: case WAIT_ITEM: case ITERATION: case COPY: case NOTE: return 0;
+    default: return 1;
+    }
+}
+
+/* The end of a trace's first page, where events are missing. */
+#define NO_ROOM "no room\n"
 
 enum { LARGE = 0xffff, LONGEST_NUMBER = 16, CALLERS = 5 };
 #endif

@@ -65,25 +65,37 @@ int __wrap_pthread_rwlock_tryrdlock(pthread_rwlock_t *lock) {
 
 GIVES(pthread_rwlock_unlock, pthread_rwlock_t)
 
-/* What `pthread_once` does once comes in front of what all that call it do then. */
-static __thread void (*once_function)(void);
-static __thread int does_once;
+/* What `pthread_once` does once comes in front of what all that call it do then; that is written down before it lets
+   others go on. */
+struct once {
+    pthread_once_t *lock;
+    void (*function)(void);
+    uint64_t place;
+    int is_done;
+};
 
-static void do_once(void) {
-    does_once = 1;
-    once_function();
+static __thread struct once *once;
+
+static void note_once(const struct once *now, enum kind kind, int mark) {
+    struct own *own = own_state();
+    begin_loud_part(own);
+    taskback_note(own, kind, own->task, (uint64_t)now->lock, 0, now->place)->mark = (uint8_t)mark;
 }
 
-int __wrap_pthread_once(pthread_once_t *once, void (*function)(void)) {
-    void (*before)(void) = once_function;
-    once_function = function;
-    does_once = 0;
-    int status = __real_pthread_once(once, do_once);
-    struct own *own = own_state();
-    once_function = before;
-    begin_loud_part(own);
-    taskback_note(own, does_once ? RELEASE : ACQUIRE, own->task, (uint64_t)once, 0, PLACE)->mark = does_once ? GUARD : 0;
-    does_once = 0;
+static void do_once(void) {
+    struct once *now = once;
+    now->function();
+    now->is_done = 1;
+    note_once(now, RELEASE, GUARD);
+}
+
+int __wrap_pthread_once(pthread_once_t *lock, void (*function)(void)) {
+    struct once *before = once, now = {lock, function, PLACE, 0};
+    once = &now;
+    int status = __real_pthread_once(lock, do_once);
+    once = before;
+    if (!now.is_done)
+        note_once(&now, ACQUIRE, 0);
     return status;
 }
 

@@ -27,12 +27,11 @@ static void begin_loop(struct own *own, int32_t number, uint64_t count, uint64_t
 
 static void watch_number(struct own *own, void *last, void *low, void *high, void *stride) {
     uint32_t size = own->loop.size;
-    own->loop = (struct loop){0, {(uint64_t)low, (uint64_t)last, (uint64_t)high, (uint64_t)stride}, 0, size, own->task, 1};
-    own->in_loop = 1;
+    own->loop = (struct loop){0, {(uint64_t)low, (uint64_t)last, (uint64_t)high, (uint64_t)stride}, 0, size, own->task, 1, 1};
 }
 
 static void end_loop(struct own *own, int is_last, uint64_t place) {
-    own->in_loop = 0;
+    own->loop.is_on = 0;
     begin_part(own);
     taskback_note(own, LOOP_END, own->task, 0, 0, place)->mark = (uint8_t)is_last;
 }

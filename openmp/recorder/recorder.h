@@ -14,22 +14,22 @@ static inline void set_size(struct event *event, uint64_t size) {
         event->value = size;
 }
 
-enum { RUNNING_MOST = 1024, SEEN = 4096, BUFFER = 2048, FENCED = 4 };
+enum { RUNNING_MOST = 1024, SEEN = 2048, ROWS = 64, BUFFER = 2048, FENCED = 4, NESTED = 8 };
 
-/* A task that runs on this thread, and where its part of the stack begins (0: not yet known). */
+/* A task that runs on this thread, where its part of the stack begins (0: not yet known), and what the runtime has of it. */
 struct running {
     uint32_t task;
     uint32_t prior;            /* what ran on the thread before */
-    uint32_t is_untied;
+    uint8_t is_untied;
+    uint8_t has_callers;       /* some of its accesses have callers that were written down */
     uint64_t base;
+    uint64_t record, shared;   /* the runtime's record, and its pointers to what the task shares; 0: not known */
 };
 
 /* An access of the part of a task that is under way: the same one again isn't written down again. */
 struct seen {
-    uint64_t address;
-    uint64_t place;
+    uint32_t place;
     uint32_t epoch;
-    uint32_t kind;
     struct event *event;
 };
 
@@ -41,11 +41,18 @@ struct loop {
     uint32_t size;
     uint32_t task;
     int is_new;                /* the number's next value is the lowest one */
+    int is_on;
+};
+
+/* An array that is being sorted, and the room for that: the sort's own. */
+struct sorted {
+    uint64_t array, room, size;
 };
 
 struct own {
     struct event *next, *end;
     struct event *events;      /* a piece of the file, or of memory where nothing is kept */
+    int is_mapped;
     struct own *link;
     uint64_t stack_high;
     uint64_t chain_frame, chain_caller, chain_outer; /* the function whose callers were written down last */
@@ -54,18 +61,20 @@ struct own {
     uint64_t stack_low;
     struct event *unread;      /* a write whose number is read at the thread's next call */
     struct event *last;        /* the last load or store, which may turn out to be an atomic operation's */
-    int in_loop;
+    int is_alone;              /* no other task and no other thread is there that could touch memory */
     uint32_t index;            /* the thread's number */
     uint32_t task;             /* the task that runs */
     uint32_t muted;            /* a task whose accesses are the runtime's */
     uint32_t epoch;            /* rises at each call that isn't an access */
     uint32_t depth;
     uint64_t tls_low, tls_size;
+    struct sorted sorted;
     uint64_t record, record_size; /* a task's record that is being filled, before its task is created */
     uint32_t record_creator;
     int undeferred;            /* the children are that `caller` creates */
     uint32_t caller;           /* the task in a call of the runtime that creates children */
     uint64_t caller_place;
+    uint64_t made;             /* the record of the child that it creates; 0: not known */
     int item_count;            /* the next child's items */
     const void *items;
     int more_count;
@@ -74,7 +83,10 @@ struct own {
     uint32_t loads;            /* how many relaxed atomic loads there were; the addresses of the last ones */
     uint64_t loaded[FENCED];
     struct loop loop;
+    struct loop outer[NESTED]; /* those around the regions that the thread has met */
+    uint32_t nesting;
     struct running running[RUNNING_MOST];
+    struct seen rows[ROWS];    /* by their places, the last accesses, which may go on */
     struct seen seen[SEEN];
 };
 
@@ -91,8 +103,17 @@ static inline struct own *own_state(void) {
 struct event *taskback_note(struct own *own, enum kind kind, uint32_t task, uint64_t address, uint64_t value,
                             uint64_t place);
 
+/* Writes down what the thread's task does to memory, or who called it; it has a number of its own only where an order may
+   hang on it. */
+struct event *taskback_note_access(struct own *own, enum kind kind, uint64_t address, uint64_t place, int mark);
+
 /* Reads the number of the last write. */
-void taskback_settle(struct own *own);
+void taskback_read_written(struct own *own);
+
+static inline void taskback_settle(struct own *own) {
+    if (own->unread)
+        taskback_read_written(own);
+}
 
 /* From here on the same access counts again. */
 static inline void begin_part(struct own *own) {
@@ -115,6 +136,9 @@ int32_t taskback_offset(uint64_t place);
 /* An access of `size` bytes by the thread's task. */
 void taskback_access(enum kind kind, uint64_t address, uint64_t size, uint64_t place, int mark);
 
+/* What a function of the library does to the program's memory. */
+void taskback_touches(enum kind kind, const void *address, size_t size, uint64_t place);
+
 /* An item of a task or of a taskwait, as the runtime's calls have it: `type` has bits. */
 struct runtime_item {
     uint64_t address;
@@ -125,9 +149,14 @@ struct runtime_item {
 /* The bytes from here on are new: what was there before has nothing to do with them. */
 struct event *taskback_new_memory(struct own *own, uint64_t address, uint64_t size, uint64_t place);
 
-/* The task begins or ends on this thread's stack. */
-void taskback_push_task(struct own *own, uint32_t task, uint32_t prior, int is_untied);
+/* The untied task leaves this thread's stack. */
 void taskback_pop_task(struct own *own, uint32_t task);
+
+/* From here on other threads than the runtime's may touch memory at any time. */
+extern int taskback_has_strangers;
+
+/* The runtime's records of tasks begin with this many bytes of its own, in front of them a pointer to what is shared. */
+enum { RECORD_HEAD = 40, SHARED_MOST = 64 };
 
 /* A block that the program has taken, or gives back. */
 void *taskback_taken(void *block, uint64_t place);

@@ -1,25 +1,22 @@
 /* Functions of C's library that read and write the program's memory: what they touch is written down in front of them,
    or after them where only they know how much it is. */
 #define _GNU_SOURCE
-#include <stdarg.h>
 #include <stdio.h>
 #include <stdlib.h>
 #include <string.h>
 
 #include "recorder.h"
 
-static void touches(enum kind kind, const void *address, size_t size, uint64_t place) {
+#define reads(address, size, place) taskback_touches(READ, address, size, place)
+#define writes(address, size, place) taskback_touches(WRITE, address, size, place)
+
+void taskback_touches(enum kind kind, const void *address, size_t size, uint64_t place) {
     if (address && size)
         taskback_access(kind, (uint64_t)address, size, place, LIBRARY);
 }
 
-static void reads(const void *address, size_t size, uint64_t place) { touches(READ, address, size, place); }
-static void writes(const void *address, size_t size, uint64_t place) { touches(WRITE, address, size, place); }
-
 /* What the recorder itself calls isn't led through it. */
 size_t __real_strlen(const char *);
-char *__real_strchr(const char *, int);
-int __real_atoi(const char *);
 static size_t whole(const char *text) { return text ? __real_strlen(text) + 1 : 0; }
 
 /* ---- strings */
@@ -81,6 +78,39 @@ SEEKS(strrchr)
 COMPARES(int, strcmp)
 COMPARES(int, strcasecmp)
 COMPARES(char *, strstr)
+COMPARES(char *, strpbrk)
+COMPARES(size_t, strspn)
+COMPARES(size_t, strcspn)
+
+/* A piece of the text is found, and the sign behind it overwritten. What is left of the text the library keeps. */
+char *__real_strtok(char *, const char *);
+char *__wrap_strtok(char *text, const char *signs) {
+    reads(text, whole(text), PLACE);
+    char *found = __real_strtok(text, signs);
+    if (found) {
+        reads(found, whole(found), PLACE);
+        writes(found + __real_strlen(found), 1, PLACE);
+    }
+    return found;
+}
+
+char *__real_strtok_r(char *, const char *, char **);
+char *__wrap_strtok_r(char *text, const char *signs, char **rest) {
+    char *left = text ? text : *rest;
+    reads(left, whole(left), PLACE);
+    char *found = __real_strtok_r(text, signs, rest);
+    if (found)
+        writes(found + __real_strlen(found), 1, PLACE);
+    writes(rest, sizeof *rest, PLACE);
+    return found;
+}
+
+void *__real_memchr(const void *, int, size_t);
+void *__wrap_memchr(const void *block, int byte, size_t size) {
+    char *found = __real_memchr(block, byte, size);
+    reads(block, found ? (size_t)(found - (const char *)block) + 1 : size, PLACE);
+    return found;
+}
 
 double __real_strtod(const char *, char **);
 double __wrap_strtod(const char *text, char **end) {
@@ -119,16 +149,50 @@ char *__wrap_strndup(const char *text, size_t most) {
 typedef int compare_function(const void *, const void *);
 void __real_qsort(void *, size_t, size_t, compare_function *);
 void *__real_bsearch(const void *, const void *, size_t, size_t, compare_function *);
+void *__real_malloc(size_t);
+void __real_free(void *);
+void *__real_memcpy(void *, const void *, size_t);
 
+struct sort {
+    size_t size;
+    compare_function *compare;
+};
+
+/* As the library sorts; here, so that it is known which memory is the sort's own. */
+static void merge_sort(char *array, char *room, size_t count, const struct sort *sort) {
+    if (count < 2)
+        return;
+    size_t size = sort->size;
+    char *left = array, *middle = array + count / 2 * size, *right = middle, *end = array + count * size, *to = room;
+    merge_sort(array, room, count / 2, sort);
+    merge_sort(middle, room, count - count / 2, sort);
+    while (left < middle && right < end) {
+        char **from = sort->compare(left, right) <= 0 ? &left : &right;
+        __real_memcpy(to, *from, size);
+        *from += size;
+        to += size;
+    }
+    __real_memcpy(to, left, (size_t)(middle - left));
+    __real_memcpy(array, room, (size_t)(to - room) + (size_t)(middle - left));
+}
+
+/* What the function that compares does to other memory than the array is the program's own. */
 void __wrap_qsort(void *array, size_t count, size_t size, compare_function *compare) {
     reads(array, count * size, PLACE);
     writes(array, count * size, PLACE);
+    void *room = count * size ? __real_malloc(count * size) : 0;
+    if (!room) {
+        __real_qsort(array, count, size, compare);
+        return;
+    }
     struct own *own = own_state();
-    uint32_t muted = own->muted;
-    own->muted = own->task;
-    __real_qsort(array, count, size, compare);
+    struct sorted before = own->sorted;
     taskback_settle(own);
-    own->muted = muted;
+    own->sorted = (struct sorted){(uint64_t)array, (uint64_t)room, count * size};
+    merge_sort(array, room, count, &(struct sort){size, compare});
+    taskback_settle(own);
+    own->sorted = before;
+    __real_free(room);
 }
 
 void *__wrap_bsearch(const void *key, const void *array, size_t count, size_t size, compare_function *compare) {
@@ -136,68 +200,7 @@ void *__wrap_bsearch(const void *key, const void *array, size_t count, size_t si
     return __real_bsearch(key, array, count, size, compare);
 }
 
-/* ---- input and output: the strings that a format prints are read */
-
-/* Takes the arguments of one conversion; gives the string that it prints. */
-static const char *argument(char conversion, int longs, va_list *arguments) {
-    switch (conversion) {
-    case 's': return longs ? (va_arg(*arguments, void *), (const char *)0) : va_arg(*arguments, const char *);
-    case 'p': case 'n': va_arg(*arguments, void *); return 0;
-    case 'a': case 'A': case 'e': case 'E': case 'f': case 'F': case 'g': case 'G':
-        if (longs == 'L')
-            va_arg(*arguments, long double);
-        else
-            va_arg(*arguments, double);
-        return 0;
-    case '%': case 'm': return 0;
-    default:
-        if (longs)
-            va_arg(*arguments, long);
-        else
-            va_arg(*arguments, int);
-        return 0;
-    }
-}
-
-static void reads_of(const char *format, va_list *arguments, uint64_t place) {
-    while ((format = __real_strchr(format, '%')) != 0) {
-        int longs = 0, most = -1;
-        for (format++; *format && __real_strchr("-+ #0123456789.'*hljztLq", *format); format++) {
-            if (*format == '*') {
-                int given = va_arg(*arguments, int);
-                most = format[-1] == '.' ? given : most;
-            } else if (*format == '.') {
-                most = __real_atoi(format + 1);
-            } else if (__real_strchr("ljztLq", *format)) {
-                longs = *format;
-            }
-        }
-        if (!*format)
-            return;
-        const char *text = argument(*format++, longs, arguments);
-        if (text)
-            reads(text, most >= 0 ? strnlen(text, (size_t)most) : whole(text), place);
-    }
-}
-
-#define FORMATTED(type, name, parameters, arguments, real, after)   \
-    type __wrap_##name parameters {                                 \
-        va_list list, again;                                        \
-        va_start(list, format);                                     \
-        va_copy(again, list);                                       \
-        reads_of(format, &again, PLACE);                            \
-        va_end(again);                                              \
-        type done = real arguments;                                 \
-        va_end(list);                                               \
-        after;                                                      \
-        return done;                                                \
-    }
-FORMATTED(int, printf, (const char *format, ...), (format, list), vprintf, )
-FORMATTED(int, fprintf, (FILE *file, const char *format, ...), (file, format, list), vfprintf, )
-FORMATTED(int, sprintf, (char *to, const char *format, ...), (to, format, list), vsprintf,
-          writes(to, done < 0 ? 0 : (size_t)done + 1, PLACE))
-FORMATTED(int, snprintf, (char *to, size_t most, const char *format, ...), (to, most, format, list), vsnprintf,
-          writes(to, done < 0 ? 0 : (size_t)done < most ? (size_t)done + 1 : most, PLACE))
+/* ---- input and output */
 
 int __real_puts(const char *);
 int __wrap_puts(const char *text) {

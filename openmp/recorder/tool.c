@@ -7,6 +7,7 @@
 enum { STARTED = 1, UNTIED = 2, NUMBER_SHIFT = 2 };
 
 int taskback_has_tool;
+int taskback_has_strangers;
 static uint32_t task_count;
 static uint64_t region_count;
 
@@ -22,27 +23,50 @@ struct event *taskback_new_memory(struct own *own, uint64_t address, uint64_t si
     return taskback_note(own, MEMORY, own->task, address, size, place);
 }
 
-void taskback_push_task(struct own *own, uint32_t task, uint32_t prior, int is_untied) {
-    if (own->depth < RUNNING_MOST)
-        own->running[own->depth] = (struct running){task, prior, (uint32_t)is_untied, 0};
-    else
+/* The runtime's record of a task stands at one distance from its data; 0 where that isn't known. */
+static uint64_t record_distance;
+
+static void learn_distance(struct own *own, const ompt_data_t *child) {
+    static int is_wrong;
+    if (!own->made || is_wrong)
+        return;
+    uint64_t distance = own->made - (uint64_t)child;
+    if (record_distance && distance != record_distance)
+        is_wrong = 1;
+    record_distance = is_wrong ? 0 : distance;
+    own->made = 0;
+}
+
+static void push_task(struct own *own, uint32_t task, uint32_t prior, int is_untied, const ompt_data_t *data) {
+    if (own->depth < RUNNING_MOST) {
+        uint64_t record = data && record_distance ? (uint64_t)data + record_distance : 0;
+        uint64_t shared = record ? *(const uint64_t *)record : 0;
+        own->running[own->depth] = (struct running){task, prior, (uint8_t)is_untied, 0, 0, record, shared};
+    } else {
         taskback_note(own, NOTE, task, 0, NOTE_DEEP, 0);
+    }
     own->depth++;
 }
 
-void taskback_pop_task(struct own *own, uint32_t task) {
+/* The task's part of the stack, which is free from here on; 0 where it had none. */
+static uint64_t drop_task(struct own *own, uint32_t task) {
     if (own->depth == 0)
-        return;
+        return 0;
     if (own->depth > RUNNING_MOST) {
         own->depth--;
-        return;
+        return 0;
     }
     struct running *top = &own->running[own->depth - 1];
     if (top->task != task)
-        return;
-    if (top->base)
-        taskback_new_memory(own, own->stack_low, top->base - own->stack_low, 0);
+        return 0;
     own->depth--;
+    return top->base ? top->base - own->stack_low : 0;
+}
+
+void taskback_pop_task(struct own *own, uint32_t task) {
+    uint64_t size = drop_task(own, task);
+    if (size)
+        taskback_new_memory(own, own->stack_low, size, 0);
 }
 
 static void note_items(struct own *own, uint32_t child, int count, const void *items) {
@@ -66,14 +90,20 @@ static void on_create(ompt_data_t *creator, const ompt_frame_t *frame, ompt_data
         if (own->undeferred)
             kept |= ompt_task_undeferred;
     }
+    if (own->is_alone) {    /* it makes a task outside of any region */
+        own->is_alone = 0;
+        taskback_has_strangers = 1;
+    }
     taskback_note(own, CREATE, number_of(creator), number_of(child), kept, where);
+    learn_distance(own, child);
     note_items(own, number_of(child), own->item_count, own->items);
     note_items(own, number_of(child), own->more_count, own->more_items);
     own->item_count = own->more_count = 0;
 }
 
-static void finish(struct own *own, uint32_t task) {
-    taskback_note(own, END, task, 0, 0, 0);
+static void finish(struct own *own, uint32_t task, uint64_t stack) {
+    begin_part(own);
+    taskback_note(own, END, task, stack ? own->stack_low : 0, stack, 0)->mark = stack ? STACK : 0;
 }
 
 static int runs_here(const struct own *own, uint32_t task) {
@@ -90,13 +120,14 @@ static void go_on(struct own *own, ompt_data_t *next, uint32_t before) {
     if (next->value & STARTED) {
         if (is_untied && !runs_here(own, own->task)) {
             taskback_note(own, RESUME, own->task, 0, 0, 0);
-            taskback_push_task(own, own->task, before, 1);
+            push_task(own, own->task, before, 1, 0);
+            own->running[own->depth <= RUNNING_MOST ? own->depth - 1 : 0].has_callers = 1;
         }
         return;
     }
     next->value |= STARTED;
     taskback_note(own, START, own->task, 0, 0, 0);
-    taskback_push_task(own, own->task, before, is_untied);
+    push_task(own, own->task, before, is_untied, next);
 }
 
 static void on_schedule(ompt_data_t *prior, ompt_task_status_t status, ompt_data_t *next) {
@@ -106,15 +137,14 @@ static void on_schedule(ompt_data_t *prior, ompt_task_status_t status, ompt_data
     switch (status) {
     case ompt_task_complete:
     case ompt_task_cancel:
-        taskback_pop_task(own, before);
-        finish(own, before);
+        finish(own, before, drop_task(own, before));
         break;
     case ompt_task_detach:
         taskback_pop_task(own, before);
         break;
     case ompt_task_late_fulfill:
         taskback_note(own, FULFIL, own->task, before, 0, 0);
-        finish(own, before);
+        finish(own, before, 0);
         return;
     case ompt_task_early_fulfill:
         taskback_note(own, FULFIL, own->task, before, 0, 0);
@@ -156,6 +186,11 @@ static void on_region_begin(ompt_data_t *task, const ompt_frame_t *frame, ompt_d
     struct own *own = own_state();
     begin_loud_part(own);
     region->value = __atomic_add_fetch(&region_count, 1, __ATOMIC_RELAXED);
+    own->is_alone = 0;
+    if (own->nesting < NESTED)
+        own->outer[own->nesting] = own->loop;
+    own->nesting++;
+    own->loop.is_on = 0;
     taskback_note(own, REGION_BEGIN, number_of(task), region->value, wanted, (uint64_t)place);
 }
 
@@ -165,6 +200,9 @@ static void on_region_end(ompt_data_t *region, ompt_data_t *task, int flags, con
     begin_loud_part(own);
     own->task = number_of(task);
     taskback_note(own, REGION_END, own->task, region->value, 0, (uint64_t)place);
+    if (own->nesting > 0 && --own->nesting < NESTED)
+        own->loop = own->outer[own->nesting];
+    own->is_alone = own->index == 0 && own->depth == 0 && !taskback_has_strangers;
 }
 
 static void on_implicit(ompt_scope_endpoint_t end, ompt_data_t *region, ompt_data_t *task, unsigned int size,
@@ -181,7 +219,7 @@ static void on_implicit(ompt_scope_endpoint_t end, ompt_data_t *region, ompt_dat
     uint64_t where = flags & ompt_task_initial || !region ? 0 : region->value;
     taskback_note(own, IMPLICIT_BEGIN, own->task, where, index, 0)->size = (uint16_t)size;
     if (where)
-        taskback_push_task(own, own->task, before, 0);
+        push_task(own, own->task, before, 0, 0);
 }
 
 void taskback_note_lock(enum kind kind, const void *lock, uint64_t place) {

@@ -61,6 +61,7 @@ static void leave(const struct call *before) {
     own->caller_place = before->place;
     own->undeferred = before->undeferred;
     own->item_count = own->more_count = 0;
+    own->made = 0;
 }
 
 static void keep_items(struct own *own, int count, const void *items, int more_count, const void *more_items) {
@@ -73,6 +74,7 @@ static void keep_items(struct own *own, int count, const void *items, int more_c
 int32_t __wrap___kmpc_omp_task(void *at, int32_t thread, void *task) {
     struct call call = enter(PLACE, 0);
     keep_items(call.own, 0, 0, 0, 0);
+    call.own->made = (uint64_t)task;
     int32_t result = __real___kmpc_omp_task(at, thread, task);
     leave(&call);
     return result;
@@ -82,6 +84,7 @@ int32_t __wrap___kmpc_omp_task_with_deps(void *at, int32_t thread, void *task, i
                                          int32_t more_count, void *more_items) {
     struct call call = enter(PLACE, 0);
     keep_items(call.own, count, items, more_count, more_items);
+    call.own->made = (uint64_t)task;
     int32_t result = __real___kmpc_omp_task_with_deps(at, thread, task, count, items, more_count, more_items);
     leave(&call);
     return result;

@@ -90,7 +90,8 @@ class Access:
                  "home", "quiet", "segment")
 
     def __init__(self, event, actor, locks):
-        self.address, self.value, self.stamp, _, self.place, self.size, kind, self.mark = event
+        self.address, self.value, self.stamp, _, self.place, self.size, kind, mark = event
+        self.mark = mark & t.MARKS
         if self.size == t.LARGE:
             self.size, self.value = self.value, 0
         self.actor = actor
@@ -165,6 +166,8 @@ class Run:
 
     def _end(self, event):
         actor = self.actor_of(event.task)
+        if event.mark == t.STACK:
+            self.memory.append((event.stamp, event.address, event.value))
         if actor is not self.root and actor.ended is None:
             actor.ended = event.stamp
 
@@ -226,7 +229,8 @@ class Run:
             return      # a thread's share of a region ends, behind its last barrier
         if not event.mark & t.FRAME:
             self._busy.add(task)
-        self.accesses.append(Access(event, self._now.get(task, self.root), self._locks.get(task, NO_LOCKS)))
+        actor, locks = self._now.get(task, self.root), self._locks.get(task, NO_LOCKS)
+        self.accesses += [Access(element, actor, locks) for element in elements(event)]
 
     def _lock(self, event):
         self.counts["reductions" if event.value else "critical sections and locks"] += 1
@@ -279,6 +283,15 @@ class Run:
                     part.steps = []
                 elif part.ended is None:
                     part.ended = phase.closed
+
+
+def elements(event):
+    """The event for each element that it touches; all have the number of the first."""
+    if not event.mark >> t.ROW_SHIFT:
+        return (event,)
+    size = 1 << (event.mark >> t.ROW_SHIFT) - 1
+    return [event._replace(address=address, size=size)
+            for address in range(event.address, event.address + event.size, size)]
 
 
 def shared_accesses(run):

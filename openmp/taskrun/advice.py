@@ -3,7 +3,9 @@
 import re
 
 from .places import postfix_expressions
+from .scopes import scope_name
 
+OUT, INOUT = 2, 3
 TASK_CLAUSES = re.compile(r"#\s*pragma\s+omp\s+task\b")
 
 
@@ -32,7 +34,7 @@ def remedy(finding, race):
     if meeting is first:
         return wait_words(finding, race.earlier, second, first)
     one, other = branch(first, meeting), branch(second, meeting)
-    if not (one.is_task and other.is_task):
+    if not (one.is_task and other.is_task) or both_order(race):
         return "keep the two apart by a critical section or an atomic operation, or add a barrier between them"
     earlier, behind = (one, other) if one.number < other.number else (other, one)
     wait = f"a taskwait in front of {finding.line(behind.place)}"
@@ -43,6 +45,13 @@ def remedy(finding, race):
         return f"add {wait}"
     return (f"add a taskgroup around the task at {finding.line(earlier.place)}: "
             "a depend clause orders children of one task alone")
+
+
+def both_order(race):
+    """Whether clauses of both would order the two if one thread surely made both tasks."""
+    return race.earlier.actor is not race.later.actor and all(
+        any(begin <= race.address < begin + max(length, 1) and bits in (OUT, INOUT) for begin, length, bits in side.actor.items)
+        for side in (race.earlier, race.later))
 
 
 def wait_words(finding, side, task, maker):
@@ -80,9 +89,9 @@ def depend_words(finding, race):
                     f"{places[other]} (so the one at {places[one]} names that place)")
     if known[0] and known[1]:
         return type_words(places, known)
-    names = [finding.name_of(side) for side in sides]
-    name = names[0] if names[0] != "memory" else names[1]
-    if name == "memory":
+    names = [scope_name(finding, side) for side in sides]
+    name = names[0] or names[1]
+    if not name:
         return None
     if places[0] == places[1]:
         return f"add depend(inout: {name})"

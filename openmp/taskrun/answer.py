@@ -52,7 +52,7 @@ def tell_fault(finding):
     where = finding.line(fault["place"] or finding.actors[fault["actor"]].place)
     return [f"fault of the run: {task_words(finding, fault['actor'])} {done} while "
             f"{task_words(finding, fault['other'])} hadn't ended: {rule}",
-            f"  the step: it {fault['step']}, at {where}; event {fault['stamp']} of {finding.told['events']}"]
+            f"  the step: it {fault['step']}, at {where}; event {fault['event']} of {finding.told['events']}"]
 
 
 # ---- races
@@ -94,14 +94,21 @@ def gather(finding, races):
 
 
 def step_words(finding, race, side):
-    """`sum.c:9 writes total`; of memory without a name, where it was taken."""
+    """`sum.c:9 writes total`; of memory without a name, where it was allocated."""
     name = finding.name_of(side)
     if side.is_frame:
         return f"{finding.line_of(side)} frees memory of the function that ends there"
     words = f"{finding.line_of(side)} {side.done} {name}{finding.chain_of(side)}"
     if name == "memory" and race.block and finding.sources.is_own(race.block["place"]):
-        words += f" (byte {race.block['offset']} of the block taken at {finding.line(race.block['place'])})"
+        words += f" ({part_of_block(race, side)} allocated at {finding.line(race.block['place'])})"
     return words
+
+
+def part_of_block(race, side):
+    """`element 12 of the array`, or which byte where the elements aren't one behind the other."""
+    number, rest = divmod(race.block["offset"], side.size or 1)
+    is_element = rest == 0 and side.size in (1, 2, 4, 8, 16)
+    return f"element {number} of the array" if is_element else f"byte {race.block['offset']} of the block"
 
 
 def who_words(finding, race):
@@ -145,6 +152,14 @@ def tell_races(finding, races):
 
 def answer(finding):
     """(exit status, lines)."""
+    status, lines = answer_of(finding)
+    if status != NONE and finding.sources.why_none:
+        lines = [f"places have no lines: {finding.sources.why_none}", *lines]
+    return status, lines
+
+
+def answer_of(finding):
+    """The same, without a remark on the program."""
     if finding.fault:
         return FAULT, tell_fault(finding)
     lines = what_is_unseen(finding) + what_is_alike(finding)
@@ -168,7 +183,8 @@ def why_unended(finding):
         return ["events are missing from the trace (no room for its file?): nothing is said of other schedules"]
     if not told["ended"] or told["unended"] or told["open_regions"]:
         rest = f", and {told['unended']} tasks hadn't ended" if told["unended"] else ""
-        return [f"the run didn't end by itself{rest}: what is told is of what was seen until then"]
+        why = ", or there was no room for its trace" if told["cut"] else ""
+        return [f"the run didn't end by itself{why}{rest}: what is told is of what was seen until then"]
     return []
 
 

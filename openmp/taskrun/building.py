@@ -11,7 +11,7 @@ import tempfile
 RECORDER = os.path.join(os.path.dirname(os.path.dirname(os.path.abspath(__file__))), "recorder")
 JUDGE = os.path.join(os.path.dirname(RECORDER), "judge")
 PARTS = ["buffers.c", "accesses.c", "atomics.c", "tool.c", "wraps.c", "reductions.c", "loops.c", "locks.c", "memory.c",
-         "strings.c", "operators.c"]
+         "strings.c", "formats.c", "operators.c"]
 CXX_ENDINGS = (".cc", ".cpp", ".cxx", ".C", ".c++", ".cp", ".CPP")
 SOURCE_ENDINGS = (".c",) + CXX_ENDINGS
 OBJECT_ENDINGS = (".o", ".a", ".so")
@@ -36,7 +36,9 @@ OTHER_CALLS = ["omp_get_thread_num", "omp_set_num_threads",
                "free", "memcpy", "memmove", "memset", "strcpy", "stpcpy", "strcat", "strncpy", "strncat", "strlen", "atoi",
                "atol", "atof", "strtol", "strtoul", "strtod", "strchr", "strrchr", "strcmp", "strcasecmp", "strstr",
                "strncmp", "memcmp", "strdup", "strndup", "qsort", "bsearch", "printf", "fprintf", "sprintf", "snprintf",
-               "puts", "fputs", "fgets", "fread", "fwrite",
+               "puts", "fputs", "fgets", "fread", "fwrite", "strpbrk", "strspn", "strcspn", "strtok", "strtok_r", "memchr",
+               "vprintf", "vfprintf", "vsprintf", "vsnprintf", "sscanf", "scanf", "fscanf", "__isoc99_sscanf",
+               "__isoc99_scanf", "__isoc99_fscanf", "getline",
                "pthread_mutex_lock", "pthread_mutex_trylock", "pthread_mutex_timedlock", "pthread_mutex_unlock",
                "pthread_spin_lock", "pthread_spin_trylock", "pthread_spin_unlock", "pthread_rwlock_rdlock",
                "pthread_rwlock_tryrdlock", "pthread_rwlock_wrlock", "pthread_rwlock_trywrlock", "pthread_rwlock_unlock",
@@ -147,6 +149,7 @@ def judge():
     sources = [os.path.join(JUDGE, name) for name in sorted(os.listdir(JUDGE)) if name.endswith((".cc", ".h"))]
     made = os.path.join(folder_for(compiler), "judge")
     if not is_newer(made, os.path.join(RECORDER, "event.h"), *sources):
+        print(f"the judge is compiled by {compiler}, once; it takes half a minute", file=sys.stderr, flush=True)
         texts = [source for source in sources if source.endswith(".cc")]
         compile_whole([driver_of(compiler, True), "-std=c++17", "-O2", "-Wall", "-Wextra", *texts], made)
     return made

@@ -1,12 +1,16 @@
 """What the judge found in a trace, with the source lines of its places."""
 
 import json
+import os
 import re
 import subprocess
 
 from .building import CannotBuild, judge
 from .places import Sources
 
+# Of one event: bytes of the trace, seconds and bytes of memory of the judge; what is many, and how many its numbers allow.
+EVENT, SECONDS, MEMORY = 32, 4e-7, 100
+MANY_EVENTS, MOST_EVENTS = 5_000_000, 4_000_000_000
 IS_PART, IS_UNDEFERRED, IS_FINAL, IS_COPIED, HAS_NUMBER, IS_DETACHED, IS_LOOPS = 1, 2, 4, 8, 16, 32, 64
 
 
@@ -24,6 +28,7 @@ class Actor:
         self.flags = told["flags"]
         self.items = [tuple(item) for item in told["items"]]    # (address, length, bits of the type)
         self.parent = None
+        self.waits = []     # those that its clauses put right in front of it
 
     @property
     def is_part(self):
@@ -51,6 +56,7 @@ class Side:
         self.place = told["place"]
         self.actor = actors[told["actor"]]
         self.address = told["address"]
+        self.size = told["size"]            # of one element
         self.is_unit = told["unit"]
         self.is_frame = told["frame"]       # the function ends that the memory is of
         self.is_library = told["library"]
@@ -65,6 +71,7 @@ class Race:
         self.count = told["count"]
         self.is_apart = told["apart"]
         self.is_copied = told["copied"]
+        self.is_sure = told["sure"]
         self.address = told["address"]
         self.block = told.get("block")
         self.earlier = Side(told["earlier"], actors)
@@ -82,15 +89,21 @@ class Finding:
         for number, actor in told["actors"].items():
             if actor["parent"] >= 0:
                 self.actors[int(number)].parent = self.actors[actor["parent"]]
+            self.actors[int(number)].waits = [self.actors[other] for other in actor["waits"]]
         self.races = [Race(race, self.actors) for race in told["races"]]
         self.sources = Sources(told["program"], self._places())
         for race in self.races:
             self._find_own(race.earlier)
             self._find_own(race.later)
+        self.races = [race for race in self.races if race.is_sure or self._is_fixed(race)]
 
     def _find_own(self, side):
         own = [place for place in (side.place, *side.callers) if self.sources.is_own(place)]
         side.own = own[0] if own else side.place
+
+    def _is_fixed(self, race):
+        """Whether both name one variable, which is no other one for each thread."""
+        return all(re.fullmatch(r"[A-Za-z_][\w.]*(\[\d+\])*", self.name_of(side)) for side in (race.earlier, race.later))
 
     def _places(self):
         places = {actor.place for actor in self.actors.values()}
@@ -133,14 +146,44 @@ def without_call(name, sources, place):
     return name if not sources.is_call(place) else "memory"
 
 
-def judge_trace(path):
-    """The Finding of a trace; CannotJudge where there is none."""
+def run_judge(*words):
+    """What the judge writes for these words; CannotJudge where it writes nothing."""
     try:
-        done = subprocess.run([judge(), path], capture_output=True, text=True, check=False)
+        done = subprocess.run([judge(), *words], capture_output=True, text=True, check=False)
     except CannotBuild as fault:
         raise CannotJudge(str(fault)) from fault
     except (OSError, subprocess.CalledProcessError) as fault:
         raise CannotJudge(f"the judge can't be built or started: {fault}") from fault
     if done.returncode != 0:
         raise CannotJudge(done.stderr.strip() or f"the judge ended with status {done.returncode}")
-    return Finding(json.loads(done.stdout))
+    return json.loads(done.stdout)
+
+
+def judge_trace(path):
+    """The Finding of a trace; CannotJudge where there is none."""
+    return Finding(run_judge(path))
+
+
+def foretell(path):
+    """What judging the trace will take, where that is much; None where it isn't. CannotJudge where it is too much."""
+    try:
+        events = os.path.getsize(path) // EVENT
+    except OSError:
+        return None
+    if events > MOST_EVENTS:
+        raise CannotJudge(f"{path} has {events:,} events, and the judge has room for {MOST_EVENTS:,}")
+    if events < MANY_EVENTS:
+        return None
+    wanted, there = events * MEMORY, memory_there()
+    words = f"{events:,} events: this takes some {events * SECONDS:.0f} s and {wanted / 1e9:.1f} GB"
+    return f"{words}; {there / 1e9:.1f} GB are free" if there and there < wanted else words
+
+
+def memory_there():
+    """The free memory in bytes; 0 where that isn't told."""
+    try:
+        with open("/proc/meminfo", encoding="ascii") as told:
+            found = re.search(r"MemAvailable:\s*(\d+) kB", told.read())
+    except OSError:
+        return 0
+    return int(found[1]) * 1024 if found else 0

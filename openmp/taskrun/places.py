@@ -50,6 +50,17 @@ def find_places(program, addresses):
     return dict(zip(wanted, map(read_place, told)))
 
 
+def why_no_lines(program, addresses):
+    """Why none of these has a line; None where none is asked for."""
+    if not any(address > 0 for address in addresses):
+        return None
+    if not symbolizer():
+        return "no llvm-symbolizer and no addr2line is here"
+    if not os.path.exists(program):
+        return f"{program} isn't there any more"
+    return f"{program} was stripped, or is another program than the one that ran"
+
+
 def read_place(told):
     """A line of the symbolizer's: `file:line:column`, or `file:line` with remarks."""
     found = re.match(r"(.*?):(\d+)(?::(\d+))?(?: .*)?$", told)
@@ -63,6 +74,7 @@ class Sources:
 
     def __init__(self, program, places):
         self._places = find_places(program, places)
+        self.why_none = None if any(place.line for place in self._places.values()) else why_no_lines(program, places)
         self._texts = {}
         self._names = {}
 
@@ -74,7 +86,7 @@ class Sources:
         """What is read or written there, in the words of the source; `memory` where that can't be told."""
         if address not in self._names:
             place = self.place(address)
-            lines = self._lines(place.file) if place.line else []
+            lines = self.lines(place.file) if place.line else []
             line = lines[place.line - 1] if 0 < place.line <= len(lines) else ""
             self._names[address] = expression_at(line, place.column) or "memory"
         return self._names[address]
@@ -87,7 +99,7 @@ class Sources:
     def is_call(self, address):
         """Whether a function's name stands there, in front of its arguments."""
         place = self.place(address)
-        lines = self._lines(place.file) if place.line else []
+        lines = self.lines(place.file) if place.line else []
         line = lines[place.line - 1] if 0 < place.line <= len(lines) else ""
         return bool(re.match(r"[\w.>:<,-]*[\w>]\s*\(", line[max(place.column - 1, 0):]))
 
@@ -95,21 +107,22 @@ class Sources:
         """What the library's function that is called there writes, its first argument, or reads: the last one that is
         no literal and no format."""
         place = self.place(address)
-        lines = self._lines(place.file) if place.line else []
+        lines = self.lines(place.file) if place.line else []
         line = lines[place.line - 1] if 0 < place.line <= len(lines) else ""
         begin = line.find("(", max(place.column - 1, 0))
         end = matching(line, begin) if begin >= 0 else 0
         if not end:
             return "memory"
         arguments = [name for name in names_in(":" + line[begin + 1:end - 1]) if IDENTIFIER.match(name.lstrip("&*"))]
-        if not arguments:
+        # Which of its arguments a scan writes isn't known here.
+        if not arguments or (is_written and re.match(r"\w*scanf\b", line[max(place.column - 1, 0):])):
             return "memory"
         return arguments[0].lstrip("&") if is_written else arguments[-1].lstrip("&")
 
     def directive(self, address):
         """The text of the directive there, with the lines that go on from it."""
         place = self.place(address)
-        lines = self._lines(place.file) if place.line else []
+        lines = self.lines(place.file) if place.line else []
         text = ""
         for line in lines[place.line - 1:] if place.line else []:
             text += line.rstrip("\\")
@@ -126,7 +139,7 @@ class Sources:
     def statement(self, address):
         """The statement that the directive there stands in front of: up to its semicolon, or its closing brace."""
         place = self.place(address)
-        lines = self._lines(place.file) if place.line else []
+        lines = self.lines(place.file) if place.line else []
         at = place.line - 1
         while 0 <= at < len(lines) and (lines[at].endswith("\\") or lines[at].lstrip().startswith("#")):
             at += 1
@@ -138,7 +151,8 @@ class Sources:
                 return text[:number + 1]
         return text
 
-    def _lines(self, file):
+    def lines(self, file):
+        """Those of a source; none where it can't be read."""
         if file not in self._texts:
             try:
                 with open(file, encoding="utf-8", errors="replace") as text:

@@ -45,6 +45,7 @@ class Session:
         self.run = Run(trace)
         self.memory = Memory(self.run)
         self.sources = Sources(trace.program, {event.place for event in trace.events})
+        self._remarks = []
         self.counts = Counter(self.run.counts) + Counter(self.memory.counts)
         self.actors = all_homes(self.run)
         self._item_cells = {}
@@ -176,11 +177,16 @@ class Session:
         alike = sum(cell.alike for cell in self.memory.cells)
         lines = [f"# a run of {os.path.basename(self.trace.program)}: {tasks} tasks, {len(self.taken)} steps,"
                  f" {len(self.memory.cells)} cells for {alike} places in memory"]
+        lines += [f"# {words}" for words in self._remarks]
         for name, count in sorted(self.counts.items()):
             if count:
                 told = "not said" if name in NOT_SAID else "left out"
                 lines.append(f"# {told}: {name}: {count}")
         return [re.sub(r"[^ -~]", "?", line) for line in lines]
+
+    def remark(self, words):
+        """One more comment on what the run was."""
+        self._remarks.append(words)
 
     def unsaid(self):
         """What of the run the notation has no word for, with counts."""

@@ -1,7 +1,6 @@
 """A trace as the recorder wrote it: one line, and then its events, thread by thread."""
 
 import struct
-from operator import attrgetter
 from typing import NamedTuple
 
 (CREATE, ITEM, START, END, WAIT, WAIT_ITEM, WAIT_ITEMS, GROUP_OPEN, GROUP_CLOSE, REGION_BEGIN, REGION_END,
@@ -12,12 +11,15 @@ NOTES = ("", "reductions", "detach clauses", "priority clauses", "cancellations"
          "calls that ask for the thread's number", "teams of one thread by the program", "runs without OMPT",
          "pieces without room", "processes that were forked")
 ATOMIC, FREED, LIBRARY, FRAME, OUTERMOST = 1, 2, 4, 8, 16
+STACK = 1
+ROW_SHIFT, MARKS = 5, 31
 WRITES = 32      # of a step: the program writes there, be the step a load or a store
 UNDEFERRED, FINAL = 0x8000000, 0x20000000
 FORMAT = struct.Struct("<QqIIiHBB")
 LARGE = 0xffff
 HEADER = b"taskback trace 2 "
 PAGE = 4096     # bytes of text in front of the events
+PIECE = 2048    # events
 
 
 class Event(NamedTuple):
@@ -33,12 +35,19 @@ class Event(NamedTuple):
     mark: int
 
 
+def takes_number(event):
+    """Whether the event raises the one counter (event.h); the others have the number that it had."""
+    if event.kind == WRITE:
+        return event.mark & (FREED | FRAME) == FREED
+    return event.kind not in (READ, CHAIN, MEMORY, ITEM, WAIT_ITEM, ITERATION, COPY, NOTE)
+
+
 class BadTrace(Exception):
     """The file isn't a whole trace."""
 
 
 class Trace:
-    """The program's path, and the events in the order of their stamps."""
+    """The program's path, and the events in their order, each with its place in it as its stamp."""
 
     def __init__(self, path):
         try:
@@ -50,7 +59,25 @@ class Trace:
             raise BadTrace(f"{path} is no whole trace")
         first, _, _ = data.partition(b"\n")
         self.program = first[len(HEADER):].decode("utf-8", "surrogateescape")
-        events = map(Event._make, FORMAT.iter_unpack(memoryview(data)[PAGE:]))
-        self.events = sorted((event for event in events if event.kind not in (0, CHUNK)), key=attrgetter("stamp"))
-        # The stamps are the numbers from 1 on; where one is missing, an event couldn't be written.
-        self.is_cut = bool(self.events) and self.events[-1].stamp != len(self.events)
+        events = [Event._make(fields) for fields in FORMAT.iter_unpack(memoryview(data)[PAGE:])]
+        # Of one number the event that has taken it comes first; then those that have only read it.
+        events = sorted(in_order(events), key=lambda event: (event.stamp, not takes_number(event)))
+        # Where a number is missing, an event couldn't be written.
+        self.is_cut = data[:PAGE].endswith(b"no room\n") or bool(events) and events[-1].stamp != sum(map(takes_number, events))
+        self.events = [event._replace(stamp=number) for number, event in enumerate(events, 1)]
+
+
+def in_order(events):
+    """The events of each thread in its order: its first piece, which it fills again and again, has its newest ones."""
+    threads = {}
+    for begin in range(0, len(events), PIECE):
+        piece = events[begin:begin + PIECE]
+        end = next((number for number, event in enumerate(piece) if event.kind == 0), len(piece))
+        thread = piece[0].address if piece[0].kind == CHUNK else None
+        threads.setdefault(thread, []).append(piece[:end])
+    for thread, pieces in threads.items():
+        if thread is not None:
+            pieces.append(pieces.pop(0))
+            if len(pieces) > 1 and len(pieces[-1]) == PIECE and pieces[-1] == pieces[-2]:
+                pieces.pop()
+    return [event for pieces in threads.values() for piece in pieces for event in piece if event.kind not in (0, CHUNK)]

@@ -17,7 +17,8 @@ sys.path.insert(0, FOLDER)
 import play  # noqa: E402
 from taskrun import answer, building  # noqa: E402
 from taskrun.finding import judge_trace  # noqa: E402
-from taskrun.session import Session  # noqa: E402
+from taskrun.part import session_of  # noqa: E402,F401
+from taskrun.session import Session, TooLarge  # noqa: E402,F401
 from taskrun.trace import FORMAT, HEADER, PAGE, Trace  # noqa: E402
 
 EXAMPLES = os.path.join(FOLDER, "examples")

@@ -1,5 +1,6 @@
 """What is advised: in the task's own words, and only what its directive takes."""
 
+import types
 import unittest
 
 import support
@@ -38,6 +39,24 @@ class Advice(support.Recorded):
         before = "#include <stdlib.h>\nstatic void set(int *to) { *to = 1; }\n"
         lines = self.told("#pragma omp task\nset(&x);\n#pragma omp task\nset(&x);", before)
         self.assertRegex(lines[0], r"program\.c:2 writes \*to, program\.c:2 writes \*to")
+
+    def test_a_clause_is_in_the_words_of_the_directives_scope(self):
+        put = "static void put(int *p, int v) {\np[0] = v;\n}\n"
+        lines = self.told("#pragma omp task\nput(&a[3], 1);\n#pragma omp task\nput(&a[3], 2);", put)
+        self.assertIn("program.c:2 writes p[0]", lines[0])
+        self.assertIn("add depend(inout: a[3]) to both", lines[0])
+        known = "static int total;\nstatic void count(void) {\ntotal++;\n}\n"
+        lines = self.told("#pragma omp task\ncount();\n#pragma omp task\ncount();", known)
+        self.assertIn("add depend(inout: total) to both", lines[0])
+        local = "static void deep(int *p) {\nint *q = p + 1;\n*q = 2;\n}\n"
+        lines = self.told("#pragma omp task\ndeep(a);\n#pragma omp task\ndeep(a);", local)
+        self.assertNotIn("depend(", lines[0])
+
+    def test_memory_without_a_name_is_told_by_its_element(self):
+        race, side = types.SimpleNamespace(block={"offset": 48}), types.SimpleNamespace(size=4)
+        self.assertEqual(support.answer.part_of_block(race, side), "element 12 of the array")
+        side.size = 32
+        self.assertEqual(support.answer.part_of_block(race, side), "byte 48 of the block")
 
     def test_a_block_is_told_by_where_it_was_taken(self):
         lines = self.told("char *p = malloc(8), *q = p;\n#pragma omp task\n*(short *)(p + 2) = 1;\n#pragma omp task\n"

@@ -2,6 +2,7 @@
 
 import contextlib
 import os
+import resource
 import signal
 import subprocess
 import time
@@ -101,6 +102,21 @@ class Ends(support.Recorded):
         status, lines = support.answer.answer(support.judge_trace(trace))
         self.assertEqual(status, 2, lines)
         self.assertIn(UNENDED, lines[-1])
+
+    def test_no_room(self):
+        """What there was room for is judged, and nothing is told twice or out of its order."""
+        program = self.compile_text("int x;\nint main(void) {\n#pragma omp parallel\n#pragma omp single\n"
+                                    "for (int i = 0; i < 20000; i++) {\n#pragma omp task\n{\n#pragma omp atomic\nx++;\n}\n}\n"
+                                    "return 0;\n}\n")
+        trace = self.path("trace")
+        for room in (400000, 1000000):
+            with self.subTest(room=room):
+                subprocess.run([program], check=True, restore_signals=False,
+                               env={**os.environ, "OMP_NUM_THREADS": "2", "TASKBACK_TRACE": trace},
+                               preexec_fn=lambda room=room: resource.setrlimit(resource.RLIMIT_FSIZE, (room, room)))
+                status, lines = support.answer.answer(support.judge_trace(trace))
+                self.assertEqual(status, 3, lines)
+                self.assertIn("no room for its trace", lines[-1])
 
     def test_tool_is_disabled(self):
         program = self.compile_text("int x;\nint main(void) {\n#pragma omp parallel\n#pragma omp single\n#pragma omp task\n"

@@ -28,11 +28,20 @@ ORDERED = """int main(void) {
 """
 
 
+def numbered(events):
+    """The events with the numbers of their order."""
+    number, found = 0, []
+    for event in events:
+        number += t.takes_number(event)
+        found.append(event._replace(stamp=number))
+    return found
+
+
 def moved(events, event, behind):
     """The events with one right behind another, numbered anew."""
     left = [each for each in events if each is not event]
     left.insert(left.index(behind) + 1, event)
-    return [each._replace(stamp=number) for number, each in enumerate(left, 1)]
+    return numbered(left)
 
 
 @support.needs_clang
@@ -57,7 +66,7 @@ class Faults(support.Recorded):
         return self.judge(moved(self.trace.events, event, behind))
 
     def test_the_run_is_right(self):
-        self.assertEqual(self.judge(self.trace.events)[0], 0)
+        self.assertEqual(self.judge(numbered(self.trace.events))[0], 0)
 
     def test_started_too_early(self):
         end = self.events(t.END, self.tasks[0])[0]
@@ -100,13 +109,12 @@ class Faults(support.Recorded):
         events = [event for event in self.trace.events if event.stamp < region_end.stamp
                   and not (event.kind == t.END and event.task == self.tasks[3])
                   and event.kind != t.BARRIER_END]
-        events = [event._replace(stamp=number) for number, event in enumerate(events, 1)]
-        status, lines = self.judge(events)
+        status, lines = self.judge(numbered(events))
         self.assertEqual(status, 3, lines)
         self.assertRegex(lines[-1], "the run didn't end by itself, and 1 tasks hadn't ended")
 
     def test_an_event_is_missing(self):
-        events = [event for event in self.trace.events if event.kind != t.MEMORY]
+        events = [event for event in numbered(self.trace.events) if event.kind != t.BARRIER_BEGIN]
         status, lines = self.judge(events)
         self.assertEqual(status, 3, lines)
         self.assertRegex(lines[-1], "events are missing from the trace")

@@ -37,6 +37,13 @@ class Guards(support.Recorded):
         # meets is the second one's, which the lock keeps apart.
         self.assertEqual(self.statuses(["critical", "critical"], "x += 5;\n"), {2})
 
+    def test_ordered_in_optimised_code(self):
+        """What is stored there isn't the loop's number, which is in no memory."""
+        built = self.compile_text("#include <stdio.h>\nint main(void) {\nint x = 0;\n#pragma omp parallel for ordered\n"
+                                  "for (int i = 0; i < 50; i++) {\n#pragma omp ordered\nx = x * 2 + i;\n}\n"
+                                  "printf(\"%d\\n\", x);\nreturn 0;\n}\n", options=("-O2",))
+        self.assertEqual({self.check(built, threads)[0] for threads in support.THREADS}, {0})
+
 
 if __name__ == "__main__":
     unittest.main()

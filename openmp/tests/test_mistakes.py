@@ -20,14 +20,15 @@ def called(name, *words, **how):
 
 class Mistakes(unittest.TestCase):
     def test_wrong_words(self):
-        for name in ("record", "session", "check"):
-            for words in ([], ["--wrong"], ["a", "b", "c", "d"]):
+        for name in ("record", "session", "check", "stress"):
+            for words in ([], ["--wrong"], ["a", "b", "c", "d"]) if name != "stress" else (["--wrong"], ["--seeds", "2..1"]):
                 status, out, told = called(name, *words)
                 self.assertEqual((status, out), (64, ""), (name, words))
                 self.assertIn(f"openmp/{name} ", told)
 
     def test_no_trace(self):
         if building.has_runtime():
+            building.judge()    # its first compilation is told
             self.assertEqual(called("check", "/no/file"), (3, "", f"check: can't read /no/file: {NO_FILE}\n"))
             self.assertEqual(called("check", __file__), (3, "", f"check: {__file__} is no whole trace\n"))
         self.assertEqual(called("session", "/no/file"), (3, "", f"session: can't read /no/file: {NO_FILE}\n"))

@@ -3,8 +3,8 @@
 import os
 import unittest
 
-import random_programs
 import support
+from taskrun import random_programs, stressing
 from taskrun import trace as t
 
 COUNT = int(os.environ.get("TASKBACK_OPENMP_RANDOM", "200"))
@@ -20,13 +20,20 @@ def is_task_lost(trace):
 
 @support.needs_clang
 class RandomPrograms(support.Recorded):
+    @classmethod
+    def setUpClass(cls):
+        cls.has_new = stressing.takes_new_types(support.building.need_clang())
+
     def test_runs_are_legal(self):
         for first in range(0, COUNT, AT_ONCE):
             seeds = range(first, min(first + AT_ONCE, COUNT))
-            program = self.compile_text(random_programs.source(seeds))
+            program = self.compile_text(random_programs.source({seed: random_programs.program(seed, self.has_new) for seed in seeds}))
             for seed in seeds:
                 with self.subTest(seed=seed):
                     self.check_seed(program, seed)
+
+    def text_of(self, seed):
+        return random_programs.function("program", random_programs.program(seed, self.has_new))
 
     def check_seed(self, program, seed):
         answers = {}
@@ -39,7 +46,7 @@ class RandomPrograms(support.Recorded):
             else:
                 answers[threads] = status, lines
         for threads, (status, lines) in answers.items():
-            self.assertIn(status, (0, 2), f"{threads} threads: {lines}\n{random_programs.function(seed)}")
+            self.assertIn(status, (0, 2), f"{threads} threads: {lines}\n{self.text_of(seed)}")
         self.assertLessEqual(len({status for status, _ in answers.values()}), 1, answers)
 
 

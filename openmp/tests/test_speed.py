@@ -1,4 +1,4 @@
-"""What a run of 100,000 events costs, in time of the processor: to record it, and to check it."""
+"""What a run of 100,000 loads and stores costs, in time of the processor: to record it, and to check it."""
 
 import os
 import subprocess
@@ -6,6 +6,7 @@ import unittest
 
 import support
 from taskrun import building
+from taskrun.actors import elements
 
 SOURCE = """#include <stdio.h>
 enum { BLOCKS = 8, SIZE = 16, STEPS = 20 };
@@ -31,7 +32,7 @@ int main(void) {
     return 0;
 }
 """
-MOST_TIMES, MOST_SECONDS = 10, 5
+MOST_TIMES, MOST_SECONDS = 8, 5
 TRIES = 40
 
 
@@ -57,7 +58,7 @@ class Speed(support.Recorded):
         subprocess.run([building.clang(), "-g", "-fopenmp", recorded + ".c", "-o", plain], check=True)
         trace = self.path("trace")
         times = least_time([recorded], TASKBACK_TRACE=trace) / least_time([plain])
-        events = len(support.Trace(trace).events)
+        events = sum(len(elements(event)) for event in support.Trace(trace).events)
         seconds, status = processor_time([os.path.join(support.FOLDER, "check"), trace])
         print(f"\n{events} events: recording takes {times:.1f} times the program's time, checking {seconds:.1f} s")
         self.assertGreater(events, 100000)
