@@ -149,7 +149,8 @@ fn pass(
     let mut of_task = indexed.is_of_task(keys, at);
     let mut later = at + 1;
     'forward: while later < indexed.len() {
-        let next = next_taker(keys, indexed, places, later)?;
+        let is_taken = of_task && indexed.follows_its_own(later);
+        let next = next_taker(keys, indexed, places, later, is_taken)?;
         if next == indexed.len() {
             return Ok(());
         }

@@ -92,6 +92,17 @@ impl<'a> Indexed<'a> {
         self.entries.action(at)
     }
 
+    /// Whether one task took the steps at this place and at the one in front of it.
+    #[inline(always)]
+    pub fn follows_its_own(&self, at: usize) -> bool
+        requires within { at < length self.now }
+        requires behind { 0 < at }
+        ensures { (e d : AnEntry) → e ≡ get_or self.now at e → d ≡ get_or self.now (at - 1) d →
+            result ≡ is_of e.event.task d.event }
+    {
+        self.entries.are_of_one(at, at - 1)
+    }
+
     /// Whether there is a key of the task of the entry at this place.
     pub fn is_of_task(&self, keys: &Keys, at: usize) -> bool
         requires { at < length self.now }

@@ -14,17 +14,22 @@ use std::alloc::AllocError;
 use tb_model::TaskName;
 
 /// A place from `from` on in front of which no entry takes one of the keys, which are those of the entries at these
-/// places. Where the keys are few, it is that of the next step of a task, or the next touch of a cell, of which there is one.
+/// places. Where the keys are few, it is that of the next step of a task, or the next touch of a cell, of which there is one;
+/// where the entry at `from` is known to take one, it isn't looked for.
 pub(crate) fn next_taker(
     keys: &Keys,
     indexed: &Indexed<'_>,
     _places: &[u32],
     from: usize,
+    is_taken: bool,
 ) -> Result<usize, AllocError>
     requires from { from ≤ length indexed.now }
     requires given { AreGivenAt indexed.now _places.now (has keys.now) }
     ensures { IfOk result (λ next. LeavesOut (has keys.now) indexed.now from next) }
 {
+    if is_taken {
+        return Ok(from);
+    }
     if !are_few(keys) {
         return Ok(from);
     }
