@@ -5,6 +5,7 @@ import functools
 import json
 import os
 import re
+import signal
 import subprocess
 import sys
 import tempfile
@@ -119,11 +120,16 @@ class Recorded(unittest.TestCase):
     def record(self, program, threads, words=()):
         """The path of the trace of one run, and what it wrote."""
         trace = self.path("trace")
-        done = subprocess.run([os.path.join(FOLDER, "record"), "run", "-o", trace, program, *words],
-                              capture_output=True, text=True, timeout=SECONDS, check=False,
-                              env={**os.environ, "OMP_NUM_THREADS": str(threads)})
-        self.assertEqual((done.returncode, done.stderr), (0, ""))
-        return trace, done.stdout
+        command = [os.path.join(FOLDER, "record"), "run", "-o", trace, program, *words]
+        with subprocess.Popen(command, stdout=subprocess.PIPE, stderr=subprocess.PIPE, text=True, start_new_session=True,
+                              env={**os.environ, "OMP_NUM_THREADS": str(threads)}) as done:
+            try:
+                stdout, stderr = done.communicate(timeout=SECONDS)
+            except subprocess.TimeoutExpired:
+                os.killpg(done.pid, signal.SIGKILL)     # the program too, whose threads would go on
+                raise
+        self.assertEqual((done.returncode, stderr), (0, ""))
+        return trace, stdout
 
     def session(self, program, threads, words=()):
         return Session(Trace(self.record(program, threads, words)[0]))

@@ -1,6 +1,7 @@
 """Runs of random programs on the runtime are legal, and whether there is a race doesn't depend on the threads."""
 
 import os
+import subprocess
 import unittest
 
 import support
@@ -38,7 +39,12 @@ class RandomPrograms(support.Recorded):
     def check_seed(self, program, seed):
         answers = {}
         for threads in support.THREADS:
-            path, _ = self.record(program, threads, [str(seed)])
+            try:
+                path, _ = self.record(program, threads, [str(seed)])
+            except subprocess.TimeoutExpired:
+                # A wait for a task that is lost never ends; nothing else may keep a run from its end.
+                self.assertTrue(is_task_lost(support.Trace(self.path("trace"))), self.text_of(seed))
+                continue
             status, lines = support.answer.answer(support.judge_trace(path))
             if is_task_lost(support.Trace(path)):
                 # So the run isn't legal, and that is told.
