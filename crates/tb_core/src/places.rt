@@ -111,7 +111,7 @@ pub fn ordinal_of(entries: &History<'_>, at: usize) -> u32
     }
 }
 
-/// The same, counted.
+/// The number of the step at this place among the steps of its task, from 1, counted over the entries in front of it.
 fn counted_ordinal(entries: &History<'_>, at: usize) -> u32
     requires within { at < length entries.now }
     requires bound { length entries.now ≤ 1000000 }

@@ -42,7 +42,7 @@ pub fn wanting(program: &Program, core: &Core, full: bool, task: &TaskName) -> S
     }
 }
 
-/// The same where memory was refused in the look for the least task that can step.
+/// Why no least task that can step is told where memory was refused in the look for it: a full journal comes first.
 #[inline(never)]
 pub fn least_wanting(program: &Program, core: &Core, full: bool) -> StepRefusal
     requires { Fits program.now core.now.run }
@@ -103,7 +103,7 @@ fn kept_from(
     }
 }
 
-/// The same by the statement at which it stands.
+/// What keeps a task that stands so at this statement from it, by name.
 fn kept_by(
     program: &Program,
     core: &Core,
