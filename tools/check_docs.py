@@ -166,8 +166,14 @@ class Check:
         elif re.fullmatch(r"[A-Za-z_][\w-]*(::[A-Za-z_][\w-]*)*(<\w+>)?", span):
             self.named += 1
             for part in re.sub(r"<\w+>", "", span).split("::"):
-                if part not in self.crates.names and part not in self.words:
+                if not self.is_named(part):
                     self.fault(page, number, f"nothing is named `{part}`")
+
+    def is_named(self, part):
+        """Whether the name is declared or known; one that begins or ends with a dash stands for names that end or begin so."""
+        if part.endswith("_"):
+            return any(it.startswith(part) for it in self.crates.names)
+        return part in self.crates.names or part in self.words or part.startswith("_") and any(it.endswith(part) for it in self.crates.names)
 
     @staticmethod
     def is_file(page, span):
