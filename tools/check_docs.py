@@ -74,8 +74,8 @@ def declared_in(text, is_source):
     if is_source:
         made = re.findall(r"\b(?:fn|struct|enum|trait|mod|type|const|ghost|ensures|requires|impl)\s+(\w+)", text)
         return set(made) | set(re.findall(r"^\s*(?:pub(?:\(\w+\))? )?(\w+)(?:,|:| \{|\(|<)", text, re.M))
-    made = re.findall(r"^(?:abbrev |pub |unfoldable |record |data |mod )+([^\s:]+)", text, re.M)
-    made += re.findall(r"^\s*(?:pub )?([^\s:(){}]+) :", text, re.M)
+    made = re.findall(r"^\s*(?:abbrev |pub |unfoldable |record |data |mod )+([^\s:]+)", text, re.M)
+    made += re.findall(r"^\s*([^\s:(){}]+) :", text, re.M)
     return set(made) | set(re.findall(r"^([^\s:]+) .*=", text, re.M))
 
 
