@@ -155,6 +155,8 @@ class Check:
                 self.check_span(page, number, span)
 
     def check_span(self, page, number, span):
+        if re.search(r"\b[A-Z_]{3,}\b", span):
+            return
         if " " in span:
             span = span.split(" ")[0]
             if not re.match(r"(\./|tools/|bench/|openmp/)", span):

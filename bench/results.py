@@ -1,0 +1,93 @@
+#!/usr/bin/env python3
+"""Runs the measurements and writes what they say into bench/RESULTS.md, with the commit, the machine and the program.
+
+    bench/results.py [--short] [PROGRAM]
+
+The program is the proved one, crates/taskback/out/taskback, or another that is named. All takes some twenty minutes on a quiet
+machine. --short takes a minute, with small sizes: it shows that the scripts work, and the page says so.
+"""
+import datetime
+import os
+import re
+import subprocess
+import sys
+
+TOP = os.path.dirname(os.path.dirname(os.path.abspath(__file__)))
+PAGE = os.path.join(TOP, "bench", "RESULTS.md")
+PROVED = os.path.join(TOP, "crates", "taskback", "out", "taskback")
+
+# What a script measures, and its words; PROGRAM stands for the program's path. The third are those of a short run.
+ROWS = [
+    ("Long rows of steps and undos", ["steps.py", "PROGRAM"], ["steps.py", "PROGRAM"]),
+    ("One big session of each kind", ["sessions.py", "PROGRAM"], ["sessions.py", "PROGRAM", "siblings"]),
+    ("How the cost grows with a session's size", ["growth.py", "--program", "PROGRAM"],
+     ["growth.py", "--program", "PROGRAM", "--seconds", "0.05", "--most", "2000"]),
+    ("What needs a step, and what it needs", ["needs.py", "PROGRAM"], ["needs.py", "PROGRAM", "500,1000"]),
+    ("Rollbacks", ["rollbacks.py", "PROGRAM"], None),
+    ("Causes of all steps", ["causes.py", "PROGRAM", "2000,10000"], ["causes.py", "PROGRAM", "500"]),
+    ("Races", ["races.py", "--program", "PROGRAM"], ["races.py", "--program", "PROGRAM", "--seconds", "0.05"]),
+    ("One worker and several", ["workers.py", "--program", "PROGRAM"], ["workers.py", "--program", "PROGRAM", "--rounds", "1"]),
+    ("Deep tasks", ["levels.py", "--program", "PROGRAM", "4000", "16384"], ["levels.py", "--program", "PROGRAM", "1000"]),
+]
+
+
+def said(*words):
+    return subprocess.run(words, cwd=TOP, capture_output=True, text=True, check=True).stdout.strip()
+
+
+def first_of(path, pattern):
+    with open(path, encoding="utf-8") as file:
+        found = re.search(pattern, file.read())
+    return found[1].strip() if found else "unknown"
+
+
+def head(program, short):
+    """What was measured, where, and beside how much other work."""
+    kind = "the proved program" if os.path.realpath(program) == os.path.realpath(PROVED) else "another build than the proved one"
+    changed = "" if not said("git", "status", "--porcelain", "--", "crates") else ", with changes in crates/"
+    memory = int(first_of("/proc/meminfo", r"MemTotal: *(\d+)")) / 1e6
+    lines = [
+        "# Results", "",
+        "Written by `bench/results.py`; what each script measures is in its first lines and in [README](README.md).", "",
+        f"- Commit {said('git', 'rev-parse', '--short', 'HEAD')}{changed}, {datetime.date.today()}: {kind}.",
+        f"- {os.cpu_count()} virtual cores, {first_of('/proc/cpuinfo', 'model name.*: (.*)')}, {memory:.0f} GB; load at the start {os.getloadavg()[0]:.1f}.",
+    ]
+    if short:
+        lines += ["- **A short run, at small sizes and beside other work**: it shows that the scripts work, and no speed."]
+    return "\n".join(lines)
+
+
+def measured(title, words, program):
+    """The output of a script, below its title."""
+    words = [program if it == "PROGRAM" else it for it in words]
+    done = subprocess.run([sys.executable, os.path.join(TOP, "bench", words[0]), *words[1:]], cwd=TOP, capture_output=True, text=True, check=False)
+    print(f"{title}: status {done.returncode}", flush=True)
+    shown = " ".join(["bench/" + words[0], *(it for it in words[1:] if it != program)]).replace(" --program", "")
+    text = done.stdout.rstrip() if done.returncode == 0 else f"failed: {done.stderr.strip().splitlines()[-1]}"
+    return f"## {title}\n\n`{shown}`\n\n```text\n{text}\n```", done.returncode == 0
+
+
+def main():
+    words = sys.argv[1:]
+    short = "--short" in words
+    named = [it for it in words if it != "--short"]
+    if len(named) > 1 or any(it.startswith("-") for it in named):
+        sys.exit(__doc__.strip())
+    program = os.path.abspath(named[0]) if named else PROVED
+    if not os.access(program, os.X_OK):
+        sys.exit(f"no program at {program}")
+    parts = [head(program, short)]
+    failed = 0
+    for title, whole, small in ROWS:
+        asked = small if short else whole
+        if asked:
+            text, right = measured(title, asked, program)
+            parts.append(text)
+            failed += not right
+    with open(PAGE, "w", encoding="utf-8") as file:
+        file.write("\n\n".join(parts) + "\n")
+    sys.exit(1 if failed else 0)
+
+
+if __name__ == "__main__":
+    main()
