@@ -17,7 +17,7 @@ PAGE = os.path.join(TOP, "bench", "RESULTS.md")
 PROVED = os.path.join(TOP, "crates", "taskback", "out", "taskback")
 
 # What a script measures, and its words; PROGRAM stands for the program's path. The third are those of a short run.
-ROWS = [
+ROWS: list[tuple[str, list[str], list[str] | None]] = [
     ("Long rows of steps and undos", ["steps.py", "PROGRAM"], ["steps.py", "PROGRAM"]),
     ("One big session of each kind", ["sessions.py", "PROGRAM"], ["sessions.py", "PROGRAM", "siblings"]),
     ("How the cost grows with a session's size", ["growth.py", "--program", "PROGRAM"],
@@ -31,17 +31,17 @@ ROWS = [
 ]
 
 
-def said(*words):
+def said(*words: str) -> str:
     return subprocess.run(words, cwd=TOP, capture_output=True, text=True, check=True).stdout.strip()
 
 
-def first_of(path, pattern):
+def first_of(path: str, pattern: str) -> str:
     with open(path, encoding="utf-8") as file:
         found = re.search(pattern, file.read())
     return found[1].strip() if found else "unknown"
 
 
-def head(program, short):
+def head(program: str, short: bool) -> str:
     """What was measured, where, and beside how much other work."""
     kind = "the proved program" if os.path.realpath(program) == os.path.realpath(PROVED) else "another build than the proved one"
     changed = "" if not said("git", "status", "--porcelain", "--", "crates") else ", with changes in crates/"
@@ -57,7 +57,7 @@ def head(program, short):
     return "\n".join(lines)
 
 
-def measured(title, words, program):
+def measured(title: str, words: list[str], program: str) -> tuple[str, bool]:
     """The output of a script, below its title."""
     words = [program if it == "PROGRAM" else it for it in words]
     done = subprocess.run([sys.executable, os.path.join(TOP, "bench", words[0]), *words[1:]], cwd=TOP, capture_output=True, text=True, check=False)
@@ -67,7 +67,7 @@ def measured(title, words, program):
     return f"## {title}\n\n`{shown}`\n\n```text\n{text}\n```", done.returncode == 0
 
 
-def main():
+def main() -> None:
     words = sys.argv[1:]
     short = "--short" in words
     named = [it for it in words if it != "--short"]

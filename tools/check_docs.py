@@ -29,12 +29,12 @@ KNOWN = set("""
     """.split())
 
 
-def text_of(path):
+def text_of(path: str) -> str:
     with open(os.path.join(TOP, path), encoding="utf-8") as file:
         return file.read()
 
 
-def files_of(pattern):
+def files_of(pattern: str) -> list[str]:
     """The files below the repository that match, without what was built."""
     found = glob.glob(os.path.join(TOP, pattern), recursive=True)
     return sorted(os.path.relpath(it, TOP) for it in found if "/out/" not in it)
@@ -43,13 +43,16 @@ def files_of(pattern):
 class Contract:
     """One function of a crate: its type, if it has one, and its clauses."""
 
-    def __init__(self, owner, name, public):
-        self.owner, self.name, self.public, self.clauses = owner, name, public, set()
+    def __init__(self, owner: str, name: str, public: bool) -> None:
+        self.owner, self.name, self.public = owner, name, public
+        self.clauses: set[str] = set()
 
 
-def contracts_of(text):
+def contracts_of(text: str) -> tuple[list[Contract], set[tuple[str, str]]]:
     """The functions of a source file, in its order, and the facts of its types."""
-    found, facts, owner, current = [], set(), "", None
+    found: list[Contract] = []
+    facts: set[tuple[str, str]] = set()
+    owner = ""
     for line in text.split("\n"):
         opened = re.match(r"(?:pub )?(?:impl|trait|struct|enum)(?:<[^{]*?>)?\s+(?:\w+ for )?(\w+)", line)
         if opened and not line.startswith(" "):
@@ -58,18 +61,17 @@ def contracts_of(text):
             owner = ""
         made = re.match(r" *(pub(?:\(\w+\))? )?fn (\w+)", line)
         if made:
-            current = Contract(owner, made[2], bool(made[1]))
-            found.append(current)
+            found.append(Contract(owner, made[2], bool(made[1])))
         clause = re.match(r" *ensures(?: (\w+))? \{", line)
-        if clause and current:
-            current.clauses.add(clause[1] or "ensures")
+        if clause and found:
+            found[-1].clauses.add(clause[1] or "ensures")
         fact = re.match(r" *(?:pub(?:\(\w+\))? )?ghost (\w+)\s*[:=]", line)
         if fact:
             facts.add((owner, fact[1]))
     return found, facts
 
 
-def declared_in(text, is_source):
+def declared_in(text: str, is_source: bool) -> set[str]:
     """The names that a file declares: the more of its words count the fewer right names are refused."""
     if is_source:
         made = re.findall(r"\b(?:fn|struct|enum|trait|mod|type|const|ghost|ensures|requires|impl)\s+(\w+)", text)
@@ -82,15 +84,18 @@ def declared_in(text, is_source):
 class Crates:
     """What the crates declare."""
 
-    def __init__(self):
-        self.names, self.contracts, self.facts, self.specs = set(), {}, {}, {}
+    def __init__(self) -> None:
+        self.names: set[str] = set()
+        self.contracts: dict[str, list[Contract]] = {}
+        self.facts: dict[str, set[tuple[str, str]]] = {}
+        self.specs: dict[str, set[str]] = {}
         for path in files_of("crates/**/*.rt") + files_of("crates/**/*.antt"):
             self.read(path, path.split("/")[1])
         self.edits = {os.path.basename(it)[:-5]: it.split("/")[1] for it in files_of("crates/*/must-fail/*.edit")}
         self.crates = {it.split(":")[0].split()[0] for it in text_of("crates.txt").splitlines() if ":" in it and not it.startswith("#")}
         self.names |= set(self.edits) | self.crates
 
-    def read(self, path, crate):
+    def read(self, path: str, crate: str) -> None:
         text, is_source = text_of(path), path.endswith(".rt")
         declared = declared_in(text, is_source)
         self.names |= declared | {os.path.basename(path).rsplit(".", 1)[0]}
@@ -106,9 +111,9 @@ class Crates:
                 self.names |= set(re.findall(r"[A-Za-z_]+", said))
 
 
-def words_of_the_notation():
+def words_of_the_notation() -> set[str]:
     """Words between backquotes, and in blocks, of the pages that say what is typed."""
-    found = set()
+    found: set[str] = set()
     for page in ("NOTATION", "COMMANDS", "SHELL", "OPENMP", "RUNS", "TUTORIAL"):
         path = f"docs/{page}.md"
         if os.path.exists(os.path.join(TOP, path)):
@@ -117,7 +122,7 @@ def words_of_the_notation():
     return found
 
 
-def anchors(path):
+def anchors(path: str) -> set[str]:
     heads = re.findall(r"^#+ (.*)$", text_of(path), re.M)
     return {re.sub(r"[^\w\- ]", "", re.sub(r"\]\([^)]*\)", "]", head).lower()).replace(" ", "-") for head in heads}
 
@@ -125,19 +130,20 @@ def anchors(path):
 class Check:
     """Counts what was looked at, and tells what isn't there."""
 
-    def __init__(self):
+    def __init__(self) -> None:
         self.crates, self.words = Crates(), words_of_the_notation() | KNOWN
-        self.faults, self.links, self.named, self.rows = [], 0, 0, 0
+        self.faults: list[str] = []
+        self.links = self.named = self.rows = 0
 
-    def fault(self, page, line, why):
+    def fault(self, page: str, line: int, why: str) -> None:
         self.faults.append(f"{page}:{line}: {why}")
 
-    def check_links(self, page):
+    def check_links(self, page: str) -> None:
         for number, line in enumerate(text_of(page).split("\n"), 1):
             for link in re.findall(r"\]\(([^)\s]+)\)", re.sub(r"`[^`]*`", "", line)):
                 self.check_link(page, number, link)
 
-    def check_link(self, page, number, link):
+    def check_link(self, page: str, number: int, link: str) -> None:
         self.links += 1
         if re.match(r"\w+:", link):
             return
@@ -148,13 +154,13 @@ class Check:
         elif anchor and anchor not in anchors(aim):
             self.fault(page, number, f"no such heading: {link}")
 
-    def check_names(self, page):
+    def check_names(self, page: str) -> None:
         text = re.sub(r"```.*?```", lambda it: "\n" * it[0].count("\n"), text_of(page), flags=re.S)
         for number, line in enumerate(text.split("\n"), 1):
             for span in re.findall(r"`([^`]+)`", line):
                 self.check_span(page, number, span)
 
-    def check_span(self, page, number, span):
+    def check_span(self, page: str, number: int, span: str) -> None:
         if re.search(r"\b[A-Z_]{3,}\b", span):
             return
         if " " in span:
@@ -171,29 +177,29 @@ class Check:
                 if not self.is_named(part):
                     self.fault(page, number, f"nothing is named `{part}`")
 
-    def is_named(self, part):
+    def is_named(self, part: str) -> bool:
         """Whether the name is declared or known; one that begins or ends with a dash stands for names that end or begin so."""
         if part.endswith("_"):
             return any(it.startswith(part) for it in self.crates.names)
         return part in self.crates.names or part in self.words or part.startswith("_") and any(it.endswith(part) for it in self.crates.names)
 
     @staticmethod
-    def is_file(page, span):
+    def is_file(page: str, span: str) -> bool:
         span = span.removeprefix("./")
         roots = ["", os.path.dirname(page), "crates/*", "crates/**", "bench", "tools", "docs"]
         return any(glob.glob(os.path.join(TOP, root, span), recursive=True) for root in roots)
 
-    def check_edits(self, page):
+    def check_edits(self, page: str) -> None:
         """The edits that the page lists, one row a crate, are those that are there."""
-        listed = {}
+        listed: dict[str, str] = {}
         for row in re.findall(r"^\| `?(\w+)`? \| (`[a-z_`, ]+`) \|$", text_of(page), re.M):
             listed.update({name: row[0] for name in re.findall(r"`(\w+)`", row[1])})
         for name in sorted(set(listed.items()) ^ set(self.crates.edits.items())):
             self.fault(page, 0, f"the edit {name[1]}/{name[0]} is {'missing here' if name[0] in self.crates.edits else 'not there'}")
 
-    def check_rows(self, page):
+    def check_rows(self, page: str) -> None:
         """The tables of promises: | promise | call | clause | tested besides |, below a line `Crates: ..`."""
-        crates = []
+        crates: list[str] = []
         for number, line in enumerate(text_of(page).split("\n"), 1):
             if line.startswith(("#", "Crates: ")):
                 crates = [it for it in re.findall(r"`(\w+)`", line) if it in self.crates.crates]
@@ -201,9 +207,10 @@ class Check:
             if line.startswith("| ") and len(cells) == 4 and cells[0] != "promise" and crates:
                 self.check_row(page, number, crates, cells[1], cells[2])
 
-    def check_row(self, page, number, crates, calls, clauses):
+    def check_row(self, page: str, number: int, crates: list[str], calls: str, clauses: str) -> None:
         self.rows += 1
-        contracts, types = [], set()
+        contracts: list[Contract] = []
+        types: set[str] = set()
         for call in re.findall(r"`([^`]+)`", calls):
             owner, _, name = call.rpartition("::")
             owner = owner.rpartition("::")[2]
@@ -213,14 +220,14 @@ class Check:
             types |= {call} if not found and name[0].isupper() else set()
             if not found and not name[0].isupper():
                 self.fault(page, number, f"no public call `{call}` in {', '.join(crates)}")
-        known = set().union(*(it.clauses for it in contracts)) if contracts else set()
+        known = {clause for it in contracts for clause in it.clauses}
         known |= {fact for crate in crates for owner, fact in self.crates.facts.get(crate, ()) if owner in types}
         for clause in re.findall(r"`([^`]+)`", clauses):
             if clause not in known and not any(clause in self.crates.specs.get(crate, ()) for crate in crates):
                 self.fault(page, number, f"no clause or definition `{clause}` of {calls}")
 
 
-def main():
+def main() -> int:
     check = Check()
     pages = [it for it in ("README.md", "CHANGELOG.md", "CONTRIBUTING.md") if os.path.exists(os.path.join(TOP, it))]
     pages += files_of("docs/*.md") + files_of("bench/*.md") + files_of("*/README.md")

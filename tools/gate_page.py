@@ -16,7 +16,7 @@ TOP = os.path.dirname(os.path.dirname(os.path.abspath(__file__)))
 PAGE = os.path.join(TOP, "docs", "GATE.md")
 
 
-def edits():
+def edits() -> str:
     """A row for each crate that has edits, in the order of crates.txt."""
     with open(os.path.join(TOP, "crates.txt"), encoding="utf-8") as file:
         crates = [line.split(":")[0].split()[0] for line in file if ":" in line and not line.startswith("#")]
@@ -30,18 +30,18 @@ def edits():
     return f"{count} edits:\n\n" + "\n".join(rows)
 
 
-def machine():
+def machine() -> str:
     """The processors and the memory of this machine, in words."""
     with open("/proc/meminfo", encoding="ascii") as file:
-        kilobytes = int(re.search(r"MemTotal: *(\d+)", file.read())[1])
+        kilobytes = int(re.findall(r"MemTotal: *(\d+)", file.read())[0])
     return f"{os.cpu_count()} virtual cores, {kilobytes / 1e6:.0f} GB"
 
 
-def said(*words):
+def said(*words: str) -> str:
     return subprocess.run(words, cwd=TOP, capture_output=True, text=True, check=True).stdout.strip()
 
 
-def costs(log):
+def costs(log: str) -> str:
     """The last table of the log, with what it was measured by."""
     with open(log, encoding="utf-8", errors="replace") as file:
         text = file.read()
@@ -52,14 +52,14 @@ def costs(log):
             f"{float(end[0]) / 60:.0f} minutes by the clock ({end[1]}). In minutes of processor:\n\n{table}")
 
 
-def put(name, text, page):
+def put(name: str, text: str, page: str) -> str:
     """The page with this text between the two marks."""
     start, end = f"<!-- {name} -->", f"<!-- end of {name} -->"
     before, rest = page.split(start, 1)
     return f"{before}{start}\n{text}\n{end}{rest.split(end, 1)[1]}"
 
 
-def main():
+def main() -> None:
     with open(PAGE, encoding="utf-8") as file:
         page = file.read()
     page = put("edits", edits(), page)

@@ -13,6 +13,7 @@ import glob
 import os
 import re
 import sys
+from typing import Iterator, NamedTuple
 
 TOP = os.path.dirname(os.path.dirname(os.path.abspath(__file__)))
 READING = ("tb_model", "tb_read", "tb_plan", "tb_commands", "tb_plain")
@@ -20,8 +21,17 @@ TABLES = ("tb_store", "tb_cells", "tb_depend", "tb_excl", "tb_wait", "tb_ready",
 HISTORY = ("tb_places", "tb_core", "tb_cause", "tb_order", "tb_roll", "tb_races")
 RUN = ("tb_journal", "tb_control", "tb_next", "tb_live", "tb_work", "tb_team")
 
-# The word with its forms, the word to take, and the words to take by the crates where it is.
-Word = collections.namedtuple("Word", "forms take by_crates")
+# How often an identifier is in each file, with the crate of the file.
+Places = collections.Counter[tuple[str, str]]
+
+
+class Word(NamedTuple):
+    """A word in its forms, the words to take in its stead, and these by the crates where it is."""
+    forms: tuple[str, ...]
+    take: str
+    by_crates: dict[tuple[str, ...], str]
+
+
 WORDS = [
     Word(("place", "places"), "location; index; slot; write-once cell", {READING: "location", TABLES: "index, location", HISTORY: "index", RUN: "slot"}),
     Word(("number", "numbers"), "value; id; ordinal; code", {READING: "value, ordinal", TABLES: "id, ordinal", HISTORY: "id", RUN: "code"}),
@@ -48,7 +58,7 @@ FIXED = set("""
     """.split())
 
 
-def code_and_text(path):
+def code_and_text(path: str) -> tuple[str, str]:
     """The identifiers of a source, and the words of its comments; texts between quotes are neither."""
     with open(path, encoding="utf-8") as file:
         source = file.read()
@@ -60,12 +70,12 @@ def code_and_text(path):
     return code, text
 
 
-def parts_of(name):
+def parts_of(name: str) -> list[str]:
     """The words of an identifier, in small letters."""
     return [part.lower() for part in re.findall(r"[A-Z]?[a-z]+|[A-Z]+(?![a-z])", name)]
 
 
-def sources():
+def sources() -> Iterator[tuple[str, str]]:
     """The files that are read, each with the crate or the folder that it belongs to."""
     for pattern in ("crates/**/*.rt", "crates/**/*.antt", "shell/**/*.py", "openmp/**/*.py", "docs/*.md", "*.md"):
         for path in sorted(glob.glob(os.path.join(TOP, pattern), recursive=True)):
@@ -74,9 +84,10 @@ def sources():
                 yield path, inner[1] if inner[0] == "crates" else inner[0]
 
 
-def counted():
+def counted() -> tuple[collections.Counter[str], dict[str, Places]]:
     """How often each word is in text, and where each identifier is."""
-    text, names = collections.Counter(), collections.defaultdict(collections.Counter)
+    text: collections.Counter[str] = collections.Counter()
+    names: dict[str, Places] = collections.defaultdict(collections.Counter)
     for path, owner in sources():
         code, said = code_and_text(path)
         text.update(re.findall(r"[a-z]+", said.lower()))
@@ -86,16 +97,16 @@ def counted():
     return text, names
 
 
-def by_meaning(word, found):
+def by_meaning(word: Word, found: dict[str, Places]) -> str:
     """The occurrences of identifiers with the word, by what it means where they are."""
-    count = collections.Counter()
+    count: collections.Counter[str] = collections.Counter()
     for places in found.values():
         for (owner, _), times in places.items():
             count[next((it for crates, it in word.by_crates.items() if owner in crates), "elsewhere")] += times
     return ", ".join(f"{meaning} {times}" for meaning, times in count.most_common()) if word.by_crates else ""
 
 
-def main():
+def main() -> None:
     wanted = sys.argv[sys.argv.index("--where") + 1] if "--where" in sys.argv else None
     text, names = counted()
     if not wanted:
