@@ -41,11 +41,26 @@ def said(*words: str) -> str:
     return subprocess.run(words, cwd=TOP, capture_output=True, text=True, check=True).stdout.strip()
 
 
+def without_small(table: str) -> str:
+    """The table with the crates that take less than a minute in one row."""
+    rows, small = [], []
+    for row in table.split("\n"):
+        taken = re.fullmatch(r"\| (tb_)?\w+ \|.* ([\d.]+) \|", row)
+        if taken and float(taken[2]) < 1:
+            small.append(float(taken[2]))
+        else:
+            rows.append(row)
+    at = next((at for at, row in enumerate(rows) if row.startswith("| all ")), len(rows))
+    if small:
+        rows.insert(at, f"| {len(small)} others |  |  |  |  | {sum(small):.1f} |")
+    return "\n".join(rows)
+
+
 def costs(log: str) -> str:
     """The last table of the log, with what it was measured by."""
     with open(log, encoding="utf-8", errors="replace") as file:
         text = file.read()
-    table = re.findall(r"^\| crate \|.*?(?=^[^|])", text, re.M | re.S)[-1].strip()
+    table = without_small(re.findall(r"^\| crate \|.*?(?=^[^|])", text, re.M | re.S)[-1].strip())
     passed = re.findall(r"(\d+ passed, \d+ failed)", text)[-1]
     end = re.findall(r"([\d.]+)  end: (.*)$", text, re.M)[-1]
     return (f"Commit {said('git', 'rev-parse', '--short', 'HEAD')}, {said('rt', 'version').split(' logic')[0]}, {machine()}: `{passed}`, "
