@@ -13,8 +13,6 @@ mod excl;
 #[cfg(test)]
 mod ready;
 #[cfg(test)]
-mod ready_random;
-#[cfg(test)]
 mod store;
 #[cfg(test)]
 mod undo;
