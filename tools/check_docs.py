@@ -40,6 +40,11 @@ def files_of(pattern: str) -> list[str]:
     return sorted(os.path.relpath(it, TOP) for it in found if "/out/" not in it)
 
 
+def is_made(path: str) -> bool:
+    """Whether a build makes the file, so that a fresh clone lacks it."""
+    return any(part in ("out", ".cache") for part in path.split("/"))
+
+
 class Contract:
     """One function of a crate: its type, if it has one, and its clauses."""
 
@@ -169,7 +174,7 @@ class Check:
                 return
         if re.fullmatch(r"(\./)?[\w.*/-]+/[\w.*/-]*|[\w-]+\.(antt|rt|py|sh|md|edit)", span):
             self.named += 1
-            if not self.is_file(page, span):
+            if not is_made(span) and not self.is_file(page, span):
                 self.fault(page, number, f"no such file: `{span}`")
         elif re.fullmatch(r"[A-Za-z_][\w-]*(::[A-Za-z_][\w-]*)*(<\w+>)?", span):
             self.named += 1
