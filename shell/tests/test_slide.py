@@ -72,9 +72,9 @@ class SlideTest(unittest.TestCase):
             svg = slide_of(lanes_of(session, "0#1"))
         self.assertEqual(drawn(svg, "step"), [])
         self.assertEqual(len(drawn(svg, "bar", "task")), 41)
-        spots = re.findall(r'class="shade" data-step="([0-9.]+)#[0-9]+" x="([0-9]+)', svg)
-        self.assertGreater(len(spots), 100)
-        self.assertEqual(len(spots), len(set(spots)))
+        shades = re.findall(r'class="shade" data-step="([0-9.]+)#[0-9]+" x="([0-9.]+)" y="[0-9.]+" width="1.0"', svg)
+        self.assertTrue(100 < len(shades) < 250, len(shades))
+        self.assertEqual(len(shades), len(set(shades)))
 
     def test_races_of_a_recorded_run_are_told_by_lines_of_c(self) -> None:
         text = RECORDED.split("---\n")[0].replace(" depend inout 0", "")
