@@ -7,7 +7,7 @@ from collections import deque
 from collections.abc import Callable, Sequence
 
 from shell.console import ROWS, counted
-from shell.group import Group, Words, count_in
+from shell.group import Group, Host, Words, count_in
 from shell.protocol import is_digits
 from shell.session import GREATEST_LIMIT, Steps, is_step
 
@@ -57,6 +57,10 @@ def options_of(words: Words) -> tuple[bool, list[str]]:
 
 class Walking(Group):
     """Commands that take steps."""
+
+    def __init__(self, shell: Host) -> None:
+        super().__init__(shell)
+        self.told_of_breakpoints = False
 
     def walk(self, prefix: str, count: int, stop: Callable[[Steps], str | None] | None = None, piece: int = 1000, verbose: bool = False) -> None:
         """A long run in pieces, which Ctrl-C or `stop` ends: that returns the word for why."""
@@ -126,6 +130,13 @@ class Walking(Group):
             self.stopping("go 1", count, verbose)
         else:
             self.walk("run", count, verbose=verbose)
+            self.tell_of_breakpoints()
+
+    def tell_of_breakpoints(self) -> None:
+        """Says once, where there are breakpoints, that `run` has passed by them."""
+        if not self.told_of_breakpoints and not self.console.exact and (self.shell.stops.there or len(self.session.view("breaks")) > 1):
+            self.told_of_breakpoints = True
+            self.note("`run` passes by breakpoints: `go` stops at them, and after `set run-breaks on` so does `run`")
 
     def do_go(self, words: Words) -> None:
         """Steps up to a breakpoint, by one worker or by several."""

@@ -77,7 +77,8 @@ class Stopping(unittest.TestCase):
         shell.ask("set run-breaks on")
         self.assertEqual(shell.plain("run")[-2:], ["0#7 store 0 2", "ran 7 break"])
         shell.ask("set run-breaks off")
-        self.assertEqual(shell.plain("run 20")[-1], "ran 20 limit")
+        self.assertEqual(shell.ask("run 20")[-2:], ["ran 20 limit", "  `run` passes by breakpoints: `go` stops at them, and after `set run-breaks on` so does `run`"])
+        self.assertEqual(shell.ask("run 20")[-1], "ran 20 limit")
         self.assertTrue(shell.ask("set zebra on")[0].startswith("set [NAME on|off]"))
 
     def test_a_watched_number_stops_backwards_too(self) -> None:
