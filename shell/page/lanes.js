@@ -129,7 +129,7 @@ const wordsAt = (step) => { const [x, y] = placeOf(step.index); return { x: x - 
 function placeLabels(curves, counts, seen, parts) {
   const few = curves.length <= MOST_LABELS, taken = seen.map(wordsAt);
   const lines = !few && !counts.length ? [] : curves.flatMap((curve) => linesOf(curve.points));
-  const isFree = (rect) => rect.x > 0 && !taken.some((other) => meet(rect, other)) && !lines.some((line) => crosses(rect, line));
+  const from = find("lanes").scrollLeft, isFree = (rect) => rect.x > from && !taken.some((other) => meet(rect, other)) && !lines.some((line) => crosses(rect, line));
   const put = (text, name, spots) => {
     const wide = 6.8 * text.length, high = 13, spot = spots(wide, high).map(([x, y]) => ({ x, y, wide, high })).find(isFree);
     if (!spot) return;
