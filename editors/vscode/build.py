@@ -52,7 +52,7 @@ def manifest_of(package: dict[str, object]) -> str:
 def build(folder: str) -> str:
     """Writes the extension; returns its path."""
     with open(os.path.join(HERE, "package.json"), encoding="utf-8") as file, open(os.path.join(TOP, "VERSION"), encoding="ascii") as version:
-        package = {**json.load(file), "version": version.read().strip()}
+        package: dict[str, object] = {**json.load(file), "version": version.read().strip()}
     path = os.path.join(folder, f"{package['name']}-{package['version']}.vsix")
     with zipfile.ZipFile(path, "w", zipfile.ZIP_DEFLATED) as made:
         def add(name: str, data: bytes) -> None:
