@@ -31,10 +31,6 @@ class Rect(NamedTuple):
         return (self.x < other.x + other.wide and other.x < self.x + self.wide
                 and self.y < other.y + other.high and other.y < self.y + self.high)
 
-    def around(self) -> Rect:
-        """It with what should be free beside it."""
-        return Rect(self.x - 2, self.y - 1, self.wide + 4, self.high + 2)
-
     def crosses(self, line: Line) -> bool:
         """Whether a straight line comes into it."""
         (x, y), (to_x, to_y) = line
@@ -99,9 +95,8 @@ class Labels:
 
     def is_free(self, rect: Rect) -> bool:
         """Whether nothing is here."""
-        around = rect.around()
-        return rect.x > 0 and not any(any(rect.meets(other) for other in self._covered.get(field, ())) or any(around.crosses(line) for line in self._lines.get(field, ()))
-                                      for field in around.fields())
+        return rect.x > 0 and not any(any(rect.meets(other) for other in self._covered.get(field, ())) or any(rect.crosses(line) for line in self._lines.get(field, ()))
+                                      for field in rect.fields())
 
     def place(self, curve: Curve) -> Rect | None:
         """A free rectangle next to an arrow, which is covered from then on; None where there is none."""
