@@ -112,9 +112,9 @@ function linesOf(points) {
   return found.slice(1).map((point, at) => [found[at], point]);
 }
 
-// Whether a straight line comes into a rectangle, or close to it.
+// Whether a straight line comes into a rectangle.
 function crosses(rect, [[x, y], [toX, toY]]) {
-  const left = rect.x - 2, right = rect.x + rect.wide + 2, top = rect.y - 1, bottom = rect.y + rect.high + 1;
+  const left = rect.x, right = rect.x + rect.wide, top = rect.y, bottom = rect.y + rect.high;
   if (Math.max(x, toX) < left || Math.min(x, toX) > right || Math.max(y, toY) < top || Math.min(y, toY) > bottom) return false;
   const sides = [[left, top], [left, bottom], [right, top], [right, bottom]].map(([a, b]) => (toX - x) * (b - y) - (toY - y) * (a - x));
   return Math.min(...sides) <= 0 && Math.max(...sides) >= 0;
