@@ -109,11 +109,14 @@ class Backwards(Group):
         if len(words) > 1 or (words and not is_step_name(words[0])):
             self.wrong("redo")
             return
-        groups = self.session.taken_back
+        groups = self.session.still_taken_back()
         at = next((place for place in range(len(groups) - 1, -1, -1)
                    if not words or any(line.split(" ")[0] == words[0] for line in groups[place])), None)
         if at is None:
-            self.refuse(f"{words[0]} wasn't taken back" if words else "nothing was taken back that isn't there again")
+            if not words:
+                self.refuse("nothing was taken back that isn't there again")
+            else:
+                self.refuse(words[0] + (" is in the history" if words[0] in self.session.history else " wasn't taken back"))
             return
         try:
             lines = needed_of(self.session, groups[at], words[0]) if words else groups[at]
@@ -127,10 +130,6 @@ class Backwards(Group):
             return
         self.shell.show(lines)
         self.say(f"redone {len(lines)}")
-        taken = set(lines)
-        groups[at] = [line for line in groups[at] if line not in taken]
-        if not groups[at]:
-            del groups[at]
 
     def do_keep(self, words: Words) -> None:
         """Takes back all that a step doesn't need."""

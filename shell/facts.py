@@ -5,10 +5,16 @@ from __future__ import annotations
 from collections.abc import Callable, Iterator, Sequence
 from dataclasses import dataclass, field
 
+from shell.needs import Needs
 from shell.session import Session
 from shell.texts import matching_pairs
 
 NOT_THERE = ["error word"]
+# Of more steps the needs are worked out from the lines of the history, with some among them that others imply: that
+# takes a tenth of the time of asking for each.
+MOST_ASKED = 20000
+# So many steps are worked out between two looks whether the user stops it.
+PIECE = 1000
 # Told how many are done, of what, and how many there are in all.
 Progress = Callable[..., None]
 
@@ -116,14 +122,30 @@ class Facts:
         return None if lines is None else causes_of(lines)
 
     def all_causes(self, steps: Sequence[Step], progress: Progress = lambda *told: None) -> dict[str, Causes] | None:
-        """The immediate needs of all steps of the history, by their names; None where the program doesn't show them."""
+        """The immediate needs of all steps of the history, by their names; None where the program doesn't show them.
+
+        Of more than MOST_ASKED steps they are the direct ones, some of which others imply.
+        """
         names = [step.name for step in steps]
         if not steps or self.causes(names[0]) is None:
             return None if steps else {}
+        if len(names) > MOST_ASKED:
+            return self.worked_out(steps, progress)
         found: dict[str, Causes] = {}
         for name, lines in zip(names, self.ask_all([f"causes {name}" for name in names])):
             found[name] = causes_of(lines or ())
             progress(len(found), "steps", len(names))
+        return found
+
+    def worked_out(self, steps: Sequence[Step], progress: Progress) -> dict[str, Causes]:
+        """The direct needs of all steps of the history, without asking for them."""
+        needs, found = Needs(), {}
+        for step in steps:
+            found[step.name] = [(kind, steps[early].name) for kind, early in needs.direct(step.name, step.did)]
+            if len(found) % PIECE == 0:
+                if self.stop():
+                    raise Stopped
+                progress(len(found), "steps", len(steps))
         return found
 
     def needs(self, step: str) -> list[str]:

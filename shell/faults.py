@@ -212,6 +212,15 @@ def from_clauses(line: str) -> str | None:
     return " ".join(mended.replace(";", " ").split()) if mended != line else None
 
 
+def with_type_first(words: Sequence[str]) -> str | None:
+    """The line where a clause has its cell in front of its type."""
+    turned = list(words)
+    for at in items_at(words):
+        if len(words) > at + 2 and words[at + 2] in TYPES and is_operand(words[at + 1]):
+            turned[at + 1:at + 3] = [words[at + 2], words[at + 1]]
+    return " ".join(turned) if turned != list(words) else None
+
+
 def from_other_languages(words: Sequence[str], line: str) -> str | None:
     """What the notation has in place of words of C and of other languages."""
     clauses = from_clauses(line)
@@ -235,6 +244,8 @@ def should_be(words: Sequence[str], line: str | None = None) -> str | None:
     if not words:
         return None
     line = " ".join(words) if line is None else line
+    if list(words[:2]) == ["body", "main"]:
+        return "body main 0"
     if words[0] == "let" and "=" in words:
         return " ".join(word for word in words if word != "=")
     if list(words[1:2]) == ["="] and re.fullmatch(r"r[0-9]+", words[0]):
@@ -243,9 +254,9 @@ def should_be(words: Sequence[str], line: str | None = None) -> str | None:
         return COMPARED[words[2]].format(*words)
     if words[0] in ("store", "print") and len(words) >= 4 and words[-2] in "+-*" and is_operand(words[-1]) and is_operand(words[-3]):
         return f"let rK {' '.join(words[-3:])}, and in the next line {' '.join(words[:-3])} rK"
-    foreign = from_other_languages(words, line)
-    if foreign:
-        return foreign
+    found = with_type_first(words) or from_other_languages(words, line)
+    if found:
+        return found
     if words[0] not in FORMS:
         near = difflib.get_close_matches(words[0], FORMS, 1)
         return FORMS[near[0]] if near else None

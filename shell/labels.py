@@ -9,10 +9,12 @@ from dataclasses import dataclass
 from typing import NamedTuple
 
 Point = tuple[float, float]
-# The size of the squares by which close things are found, and of letters.
-SQUARE = 48
+Line = tuple[Point, Point]
+# The size of the fields by which close things are found, and of letters.
+FIELD_WIDE, FIELD_HIGH = 64, 256
 WIDE, HIGH = 6.8, 13.0
-LEAST_SAMPLES, STEP = 24, 4
+# An arrow is taken for so many straight lines: of the greatest number none is a pixel off, however long the arrow is.
+LEAST_LINES, MOST_LINES, LINE = 24, 256, 16
 PLACES = (0.5, 0.4, 0.6, 0.3, 0.7, 0.2, 0.8, 0.9)
 
 
@@ -29,14 +31,19 @@ class Rect(NamedTuple):
         return (self.x < other.x + other.wide and other.x < self.x + self.wide
                 and self.y < other.y + other.high and other.y < self.y + self.high)
 
-    def holds(self, point: Point) -> bool:
-        """Whether a point lies in it, or at its edge."""
-        return self.x - 2 < point[0] < self.x + self.wide + 2 and self.y - 1 < point[1] < self.y + self.high + 1
+    def crosses(self, line: Line) -> bool:
+        """Whether a straight line comes into it."""
+        (x, y), (to_x, to_y) = line
+        right, bottom = self.x + self.wide, self.y + self.high
+        if max(x, to_x) < self.x or min(x, to_x) > right or max(y, to_y) < self.y or min(y, to_y) > bottom:
+            return False
+        sides = [(to_x - x) * (corner_y - y) - (to_y - y) * (corner_x - x) for corner_x in (self.x, right) for corner_y in (self.y, bottom)]
+        return min(sides) <= 0 <= max(sides)
 
-    def squares(self) -> Iterator[tuple[int, int]]:
-        """The squares that it touches."""
-        for column in range(int((self.x - 2) // SQUARE), int((self.x + self.wide + 2) // SQUARE) + 1):
-            for row in range(int((self.y - 1) // SQUARE), int((self.y + self.high + 1) // SQUARE) + 1):
+    def fields(self) -> Iterator[tuple[int, int]]:
+        """The fields that it touches."""
+        for column in range(int(self.x // FIELD_WIDE), int((self.x + self.wide) // FIELD_WIDE) + 1):
+            for row in range(int(self.y // FIELD_HIGH), int((self.y + self.high) // FIELD_HIGH) + 1):
                 yield column, row
 
 
@@ -53,10 +60,12 @@ class Curve:
         first, *others = (f"{x:g} {y:.0f}" for x, y in self.points)
         return f"M{first} C{' '.join(others)}"
 
-    def samples(self) -> int:
-        """So many points of it that no label fits between two of them."""
+    def lines(self) -> list[Line]:
+        """The straight lines for which it is taken."""
         length = sum(math.dist(one, two) for one, two in zip(self.points, self.points[1:]))
-        return max(LEAST_SAMPLES, math.ceil(length / STEP))
+        count = min(MOST_LINES, max(LEAST_LINES, math.ceil(length / LINE)))
+        points = [self.at(at / count) for at in range(count + 1)]
+        return list(zip(points, points[1:]))
 
     def at(self, part: float) -> Point:
         """The point at a part of the way."""
@@ -67,37 +76,36 @@ class Curve:
 
 
 class Labels:
-    """Finds places; what is taken is kept by squares, so that only the squares around are searched."""
+    """Finds where there is nothing; what is covered is listed by fields, so that only the fields around are searched."""
 
-    def __init__(self, curves: Sequence[Curve], taken: Iterable[Rect]) -> None:
-        self._points: dict[tuple[int, int], list[Point]] = defaultdict(list)
-        self._taken: dict[tuple[int, int], list[Rect]] = defaultdict(list)
-        for curve in curves:
-            samples = curve.samples()
-            for at in range(samples + 1):
-                point = curve.at(at / samples)
-                self._points[int(point[0] // SQUARE), int(point[1] // SQUARE)].append(point)
-        for rect in taken:
-            self.take(rect)
+    def __init__(self, curves: Sequence[Curve], covered: Iterable[Rect]) -> None:
+        self._lines: dict[tuple[int, int], list[Line]] = defaultdict(list)
+        self._covered: dict[tuple[int, int], list[Rect]] = defaultdict(list)
+        for line in (line for curve in curves for line in curve.lines()):
+            (x, y), (to_x, to_y) = line
+            for field in Rect(min(x, to_x), min(y, to_y), abs(to_x - x), abs(to_y - y)).fields():
+                self._lines[field].append(line)
+        for rect in covered:
+            self.cover(rect)
 
-    def take(self, rect: Rect) -> None:
-        """A place that is taken."""
-        for square in rect.squares():
-            self._taken[square].append(rect)
+    def cover(self, rect: Rect) -> None:
+        """Something is here."""
+        for field in rect.fields():
+            self._covered[field].append(rect)
 
     def is_free(self, rect: Rect) -> bool:
-        """Whether nothing lies in a place."""
-        return rect.x > 0 and not any(any(rect.meets(other) for other in self._taken[square]) or any(rect.holds(point) for point in self._points[square])
-                                      for square in rect.squares())
+        """Whether nothing is here."""
+        return rect.x > 0 and not any(any(rect.meets(other) for other in self._covered.get(field, ())) or any(rect.crosses(line) for line in self._lines.get(field, ()))
+                                      for field in rect.fields())
 
     def place(self, curve: Curve) -> Rect | None:
-        """A free place next to an arrow, which is taken then; None where there is none."""
+        """A free rectangle next to an arrow, which is covered from then on; None where there is none."""
         wide = WIDE * len(curve.text)
         for part in PLACES:
             x, y = curve.at(part)
             for left, above in ((x - wide / 2, y - HIGH - 4), (x - wide / 2, y + 4), (x + 6, y - HIGH / 2), (x - wide - 6, y - HIGH / 2)):
                 rect = Rect(left, above, wide, HIGH)
                 if self.is_free(rect):
-                    self.take(rect)
+                    self.cover(rect)
                     return rect
         return None

@@ -5,11 +5,12 @@ from __future__ import annotations
 from collections.abc import Callable, Iterable, Sequence
 from dataclasses import dataclass, field
 
-from shell.facts import Causes, Facts, Progress, Race, Step, Task, by_name
+from shell.facts import MOST_ASKED, Causes, Facts, Progress, Race, Step, Task, by_name
 from shell.session import Session
 
 NO_CAUSES = "this program shows no causes: their arrows are left out"
 NO_RACES = "this program shows no races: they are left out"
+LONG = "of a history this long some arrows are drawn that others imply, and none has a label"
 
 
 @dataclass
@@ -26,9 +27,15 @@ class Lanes:
     # Of a recorded run, the C file's line that each step's line names, as `sum.c:12`.
     recorded: dict[str, str] = field(default_factory=dict)
 
+    @property
+    def is_long(self) -> bool:
+        """Whether the needs were worked out and not asked for; then labels would take minutes."""
+        return len(self.steps) > MOST_ASKED
+
     def remarks(self) -> list[str]:
-        """What isn't drawn, since the program has no such view."""
-        return [text for view, text in ((self.causes, NO_CAUSES), (self.races, NO_RACES)) if view is None]
+        """What isn't drawn, since the program has no such view, and what is drawn besides."""
+        found = [text for view, text in ((self.causes, NO_CAUSES), (self.races, NO_RACES)) if view is None]
+        return found + [LONG] * (self.causes is not None and self.is_long)
 
     def arrows(self) -> list[tuple[str, str, str]]:
         """Each immediate need of another task's step: the earlier step, the later one, and the kind."""

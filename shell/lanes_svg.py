@@ -108,8 +108,10 @@ class Drawing:
         """The arrows for immediate needs, those of races, and the labels of both where these lie on nothing."""
         needs = [(early, late, kind, self.curve(early, late, 0, kind)) for early, late, kind in self.lanes.arrows()]
         raced = [(race, self.curve(race.first, race.second, -26, ("apart: " if race.apart else "race: ") + race.over)) for race in self.lanes.races or ()]
-        labels = Labels([curve for *_, curve in needs] + [curve for _, curve in raced], map(self.words_at, self.lanes.steps))
         parts = [self.arrow(early, late, kind, curve) for early, late, kind, curve in needs] + [self.race(race, curve) for race, curve in raced]
+        if self.lanes.is_long:
+            return parts
+        labels = Labels([curve for *_, curve in needs] + [curve for _, curve in raced], map(self.words_at, self.lanes.steps))
         for race, curve in raced:
             parts += self.label(labels.place(curve), curve.text, RED, " font-weight:bold;")
         for _, _, kind, curve in needs:

@@ -184,6 +184,12 @@ class Session:
             merged = [line for lines in reversed(self.taken_back[-count:]) for line in lines]
             self.taken_back[-count:] = [merged]
 
+    def still_taken_back(self) -> list[list[str]]:
+        """What was taken back, without the steps that are in the history again as they were."""
+        groups = [[line for line in lines if self.history.get(line.split(" ")[0]) != line.partition(" ")[2]] for lines in self.taken_back]
+        self.taken_back = [lines for lines in groups if lines]
+        return self.taken_back
+
     def run(self, prefix: str, count: int, show: Callable[[Steps], None], stop: Callable[[Steps], bool],
             piece: int = PIECE) -> Walked:
         """Many steps, asked for in pieces, and noted as one command.
@@ -206,7 +212,8 @@ class Session:
             taken += len(reply)
             if steps is not None:
                 steps += reply
-            stopped = taken < count and why == "limit" and stop(reply)
+            # Asked of each step, also of the last one: a breakpoint may be there.
+            stopped = bool(reply) and stop(reply) and taken < count and why == "limit"
             if stopped or why != "limit" or taken >= count:
                 break
         self.log.append(gone(prefix, taken if stopped else count, f"ran {taken} {why}", steps))

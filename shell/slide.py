@@ -21,6 +21,8 @@ WIDE, HIGH = 1600, 900
 LETTER, LETTER_WIDE = 20, 12.1
 TOP, BOTTOM, MARGIN = 84, 110, 40
 FOLDED = ("let", "test")
+# A step that is narrower than this, in pixels, has no tick.
+LEAST_WIDE = 0.15
 # More arrows of a kind than these could not be told apart.
 MOST_ARROWS = 120
 LONGEST_NAME, LONGEST_WORDS = 14, 16
@@ -81,14 +83,21 @@ class Slide:
         return min(18.0, self.high * 0.6)
 
     def marks(self) -> list[str]:
-        """The steps, each a tick; thick where something is stored or printed, and shaded where the rollback takes it."""
-        parts = []
+        """The steps, each a tick; thick where something is stored or printed, and shaded where the rollback takes it.
+
+        Of so many that a tick couldn't be seen there are bars alone, and one shade a pixel.
+        """
+        parts, shaded, half = [], set(), self.thick / 2
         for step in self.steps:
             x, y = self.place(step.name)
-            half = self.thick / 2
-            if step.name in self.lanes.shaded:
-                parts.append(f'<rect class="shade" data-step={quoteattr(step.name)} x="{x - self.wide / 2:.1f}" y="{y - half - 3:.1f}" '
-                             f'width="{self.wide:.1f}" height="{2 * half + 6:.1f}" fill="#ffd24a"/>')
+            pixel = (step.task, x if self.wide > 1 else int(x))
+            if step.name in self.lanes.shaded and pixel not in shaded:
+                shaded.add(pixel)
+                wide = max(1.0, self.wide)
+                parts.append(f'<rect class="shade" data-step={quoteattr(step.name)} x="{x - wide / 2:.1f}" y="{y - half - 3:.1f}" '
+                             f'width="{wide:.1f}" height="{2 * half + 6:.1f}" fill="#ffd24a"/>')
+            if self.wide < LEAST_WIDE:
+                continue
             heavy = step.word in ("store", "print")
             width = min(self.wide * 0.7, 5 if heavy else 2)
             parts.append(f'<path class="step" stroke="{INK if heavy else self.colour[self.body[step.task]]}" stroke-width="{width:.1f}" '
@@ -101,8 +110,10 @@ class Slide:
         parts = []
         for early, late in ordered[:MOST_ARROWS]:
             (x, y), (to_x, to_y) = self.place(early), self.place(late)
+            # It never goes back, however close the two are.
+            bend = min(30.0, (to_x - x) / 2)
             parts.append(f'<path class="before" stroke="{INK}" stroke-width="2" marker-end="url(#head)" '
-                         f'd="M{x:.1f} {y:.1f} C{x + 30:.1f} {y:.1f} {to_x - 30:.1f} {to_y:.1f} {to_x - 4:.1f} {to_y:.1f}"/>')
+                         f'd="M{x:.1f} {y:.1f} C{x + bend:.1f} {y:.1f} {to_x - bend:.1f} {to_y:.1f} {to_x - min(4, bend / 2):.1f} {to_y:.1f}"/>')
         for race in (self.lanes.races or [])[:MOST_ARROWS]:
             (x, y), (to_x, to_y) = self.place(race.first), self.place(race.second)
             dashes = ' stroke-dasharray="9 5"' if race.apart else ""

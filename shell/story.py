@@ -302,7 +302,7 @@ class Story:
         if len(self.there) > MOST_RACING:
             left_out.append(f"races: there are more than {MOST_RACING} tasks; `races` in the shell shows them")
         if not self.shows_causes or self.total > MOST_ASKED:
-            left_out.append("kinds: needs that others imply are drawn too")
+            left_out.append("which needs others imply: all direct ones are drawn")
         if not self.looks:
             left_out.append("who can step, and who waits for whom, but at the end")
         source = self.session.source

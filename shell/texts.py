@@ -71,7 +71,8 @@ def no_such_step(words: Sequence[str], session: Session) -> str:
     if name == "rollcell":
         cells = session.source.cells
         if int(subject) >= cells:
-            return f"the program has no cell {subject}: its cells are 0 to {cells - 1}" if cells else "the program has no cells"
+            there = f"its cells are 0 to {cells - 1}" if cells > 1 else "it has cell 0 alone"
+            return f"the program has no cell {subject}: {there}" if cells else "the program has no cells"
         return f"nothing was stored to cell {subject}"
     task = subject.partition("#")[0]
     if task not in session.places.position:

@@ -7,7 +7,7 @@ from collections import deque
 from collections.abc import Callable, Sequence
 
 from shell.console import ROWS, counted
-from shell.group import Group, Words, count_in
+from shell.group import Group, Host, Words, count_in
 from shell.protocol import is_digits
 from shell.session import GREATEST_LIMIT, Steps, is_step
 
@@ -58,15 +58,19 @@ def options_of(words: Words) -> tuple[bool, list[str]]:
 class Walking(Group):
     """Commands that take steps."""
 
-    def walk(self, prefix: str, count: int, stop: Callable[[Steps], bool] | None = None, piece: int = 1000, verbose: bool = False) -> bool:
-        """A long run in pieces, which Ctrl-C or `stop` ends; returns whether `stop` ended it."""
+    def __init__(self, shell: Host) -> None:
+        super().__init__(shell)
+        self.told_of_breakpoints = False
+
+    def walk(self, prefix: str, count: int, stop: Callable[[Steps], str | None] | None = None, piece: int = 1000, verbose: bool = False) -> None:
+        """A long run in pieces, which Ctrl-C or `stop` ends: that returns the word for why."""
         shower = Shower(self, verbose)
-        ended = False
+        ended: str | None = None
 
         def ends(steps: Steps) -> bool:
             nonlocal ended
-            ended = stop is not None and stop(steps)
-            return ended or self.interrupted
+            ended = stop(steps) if stop else None
+            return ended is not None or self.interrupted
 
         def show(steps: Steps) -> None:
             shower(steps)
@@ -74,7 +78,7 @@ class Walking(Group):
                 self.shell.focus = task_of(steps[-1])
         taken, why, _ = self.session.run(prefix, count, show, ends, piece)
         shower.end()
-        self.say(f"ran {taken} {why}")
+        self.say(f"ran {taken} {ended or why}")
         self.shell.explain(prefix, f"ran {taken} {why}")
         if why == "break" and not self.console.exact:
             self.shell.breaking.tell_met(self.session.newest)
@@ -83,7 +87,6 @@ class Walking(Group):
                       "all tasks are over; `restart` starts anew, and `rc` goes back")
         if self.interrupted:
             self.note("stopped by Ctrl-C; the session goes on")
-        return ended
 
     def one_step(self, task: str) -> bool:
         """One step of a task; returns whether it was taken."""
@@ -127,6 +130,13 @@ class Walking(Group):
             self.stopping("go 1", count, verbose)
         else:
             self.walk("run", count, verbose=verbose)
+            self.tell_of_breakpoints()
+
+    def tell_of_breakpoints(self) -> None:
+        """Says once, where there are breakpoints, that `run` has passed by them."""
+        if not self.told_of_breakpoints and not self.console.exact and (self.shell.stops.there or len(self.session.view("breaks")) > 1):
+            self.told_of_breakpoints = True
+            self.note("`run` passes by breakpoints: `go` stops at them, and after `set run-breaks on` so does `run`")
 
     def do_go(self, words: Words) -> None:
         """Steps up to a breakpoint, by one worker or by several."""
@@ -148,9 +158,9 @@ class Walking(Group):
         stops.refresh(self.session)
         met: list[str] = []
 
-        def at_stop(steps: Steps) -> bool:
+        def at_stop(steps: Steps) -> str | None:
             met[:] = [text for line in steps for text in stops.met(line, self.session)]
-            return bool(met)
+            return "break" if met else None
         self.walk(prefix, count, at_stop, 1, verbose)
         for text in met:
             self.note(f"breakpoint {text}")
@@ -175,7 +185,7 @@ class Walking(Group):
         if wanted in self.session.history:
             self.refuse(f"{wanted} is in the history already; `roll {wanted}` takes it back")
             return
-        self.walk("run", GREATEST_LIMIT, lambda steps: any(line.split(" ")[0] == wanted for line in steps), 1)
+        self.walk("run", GREATEST_LIMIT, lambda steps: "limit" if any(line.split(" ")[0] == wanted for line in steps) else None, 1)
         if wanted not in self.session.history and not self.interrupted:
             self.refuse(f"{wanted} was never reached")
 

@@ -1,7 +1,7 @@
 #!/usr/bin/env python3
-"""Makes the extension for VS Code, a .vsix, without a network: a zip file with a manifest.
+"""Makes the extension for VS Code, a .vsix, without a network: a zip file with a manifest. Its version is the one of the file VERSION.
 
-    editors/vscode/build.py [FOLDER]     the file goes into FOLDER (none: the current one), and its name is told
+    editors/vscode/build.py [FOLDER]     the file goes into FOLDER (none: the current one), and its name is printed
 """
 
 import json
@@ -12,7 +12,7 @@ from xml.sax.saxutils import escape, quoteattr
 
 HERE = os.path.dirname(os.path.abspath(__file__))
 TOP = os.path.dirname(os.path.dirname(HERE))
-FILES = ("package.json", "extension.js", "language-configuration.json", "README.md", "syntaxes/taskback.tmLanguage.json")
+FILES = ("extension.js", "language-configuration.json", "README.md", "syntaxes/taskback.tmLanguage.json")
 # The time of each file in it, so that the same files give the same bytes.
 MOMENT = (1980, 1, 1, 0, 0, 0)
 TYPES = ('<?xml version="1.0" encoding="utf-8"?>\n<Types xmlns="http://schemas.openxmlformats.org/package/2006/content-types">'
@@ -51,14 +51,15 @@ def manifest_of(package: dict[str, object]) -> str:
 
 def build(folder: str) -> str:
     """Writes the extension; returns its path."""
-    with open(os.path.join(HERE, "package.json"), encoding="utf-8") as file:
-        package = json.load(file)
+    with open(os.path.join(HERE, "package.json"), encoding="utf-8") as file, open(os.path.join(TOP, "VERSION"), encoding="ascii") as version:
+        package: dict[str, object] = {**json.load(file), "version": version.read().strip()}
     path = os.path.join(folder, f"{package['name']}-{package['version']}.vsix")
     with zipfile.ZipFile(path, "w", zipfile.ZIP_DEFLATED) as made:
         def add(name: str, data: bytes) -> None:
             made.writestr(zipfile.ZipInfo(name, MOMENT), data, zipfile.ZIP_DEFLATED)
         add("extension.vsixmanifest", manifest_of(package).encode())
         add("[Content_Types].xml", TYPES.encode())
+        add("extension/package.json", (json.dumps(package, indent=2) + "\n").encode())
         for name, source in [(f"extension/{name}", os.path.join(HERE, name)) for name in FILES] + [("extension/LICENSE.txt", os.path.join(TOP, "LICENSE"))]:
             with open(source, "rb") as part:
                 add(name, part.read())

@@ -105,8 +105,20 @@ function pointOn([a, b, c, d], part) {
   return [mix(0), mix(1)];
 }
 
-// So many points of an arrow that no label fits between two of them.
-const pointsOf = (points) => Math.max(24, Math.ceil(points.slice(1).reduce((sum, [x, y], at) => sum + Math.hypot(x - points[at][0], y - points[at][1]), 0) / 4));
+// An arrow as straight lines, of which none is a pixel off: so many suffice, however long the arrow is.
+function linesOf(points) {
+  const length = points.slice(1).reduce((sum, [x, y], at) => sum + Math.hypot(x - points[at][0], y - points[at][1]), 0);
+  const count = Math.max(24, Math.min(256, Math.ceil(length / 16))), found = [...Array(count + 1).keys()].map((at) => pointOn(points, at / count));
+  return found.slice(1).map((point, at) => [found[at], point]);
+}
+
+// Whether a straight line comes into a rectangle.
+function crosses(rect, [[x, y], [toX, toY]]) {
+  const left = rect.x, right = rect.x + rect.wide, top = rect.y, bottom = rect.y + rect.high;
+  if (Math.max(x, toX) < left || Math.min(x, toX) > right || Math.max(y, toY) < top || Math.min(y, toY) > bottom) return false;
+  const sides = [[left, top], [left, bottom], [right, top], [right, bottom]].map(([a, b]) => (toX - x) * (b - y) - (toY - y) * (a - x));
+  return Math.min(...sides) <= 0 && Math.max(...sides) >= 0;
+}
 
 const meet = (one, two) => one.x < two.x + two.wide && two.x < one.x + one.wide && one.y < two.y + two.high && two.y < one.y + one.high;
 
@@ -116,8 +128,8 @@ const wordsAt = (step) => { const [x, y] = placeOf(step.index); return { x: x - 
 // where it lies on no arrow, no step's words and no other label.
 function placeLabels(curves, counts, seen, parts) {
   const few = curves.length <= MOST_LABELS, taken = seen.map(wordsAt);
-  const onArrows = !few && !counts.length ? [] : curves.flatMap((curve) => { const count = pointsOf(curve.points); return [...Array(count + 1).keys()].map((at) => pointOn(curve.points, at / count)); });
-  const isFree = (rect) => rect.x > 0 && !taken.some((other) => meet(rect, other)) && !onArrows.some(([a, b]) => a > rect.x - 2 && a < rect.x + rect.wide + 2 && b > rect.y - 1 && b < rect.y + rect.high + 1);
+  const lines = !few && !counts.length ? [] : curves.flatMap((curve) => linesOf(curve.points));
+  const from = find("lanes").scrollLeft, isFree = (rect) => rect.x > from && !taken.some((other) => meet(rect, other)) && !lines.some((line) => crosses(rect, line));
   const put = (text, name, spots) => {
     const wide = 6.8 * text.length, high = 13, spot = spots(wide, high).map(([x, y]) => ({ x, y, wide, high })).find(isFree);
     if (!spot) return;

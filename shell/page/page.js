@@ -7,13 +7,13 @@ const page = {
 let playing = null;
 
 function showAll() {
-  const at = view.at, command = commandAt(at), slider = find("at");
+  const at = view.at, command = view.command, last = data.commands.length - 1, slider = find("at");
   slider.value = at;
   const happened = whatHappened(at);
   slider.setAttribute("aria-valuetext", at ? "step " + at + ": " + happened : "in front of the first step");
   find("where").textContent = at + " of " + data.moments + (at ? ": " + happened : ", in front of the first step") + (command < 0 ? "" : "  |  command " + (command + 1) + " of " + data.commands.length + ": " + data.commands[command][0].replace(/\s+#.*$/, ""));
   find("reply").textContent = command < 0 ? "" : data.commands[command][1].join("\n");
-  for (const [id, off] of [["back", at === 0], ["command-back", at === 0], ["on", at === data.moments], ["command-on", at === data.moments]]) find(id).disabled = off;
+  for (const [id, off] of [["back", at === 0], ["command-back", command < 0], ["on", at === data.moments], ["command-on", command === last && (last < 0 || at === data.commands[last][2])]]) find(id).disabled = off;
   showProgram();
   showCells();
   showRaces();
@@ -38,10 +38,13 @@ function goTo(at) {
   if (view.rows.length) scrollTo(view.rows[view.rows.length - 1].index);
 }
 
+// To the end of the command before or after, also of one that only looked.
 function goToCommand(by) {
-  const ends = [0, ...data.commands.map((command) => command[2])];
-  const next = by > 0 ? ends.find((end) => end > view.at) : ends.filter((end) => end < view.at).pop();
-  goTo(next === undefined ? (by > 0 ? data.moments : 0) : next);
+  const at = view.at, here = view.command, end = (index) => index < 0 ? 0 : data.commands[index][2];
+  const to = by > 0 && here >= 0 && at < end(here) ? here : here + by;
+  if (to < -1 || to >= data.commands.length) return;
+  setMoment(end(to), to);
+  if (view.rows.length) scrollTo(view.rows[view.rows.length - 1].index);
 }
 
 function play(on) {
@@ -103,9 +106,10 @@ function load(told) {
     line.addEventListener("click", () => setWish({ line: wish.line === at + 1 ? null : at + 1 }));
   });
   find("at").max = data.moments;
-  find("left-out").textContent = data.leftOut.map((text) => "Left out: " + text).join("; ");
+  find("left-out").textContent = data.leftOut.length ? "Left out: " + data.leftOut.join("; ") : "";
   listBodies();
   showMarks();
-  goTo(data.moments);
+  setMoment(data.moments, data.commands.length - 1);
+  if (view.rows.length) scrollTo(view.rows[view.rows.length - 1].index);
   if (opens) showBusyLanes();
 }

@@ -3,7 +3,7 @@
 const find = (id) => document.getElementById(id);
 let data, steps, tasks;
 // What there is at the moment that is shown. `rows` are the steps that are shown in the history, by the filter.
-const view = { at: 0, steps: [], rows: [], row: null, tasks: [], lanes: [], lane: new Map(), letters: new Map(), left: [0], lives: new Map(), races: [], chosen: null, pinned: false, lit: null };
+const view = { at: 0, command: -1, steps: [], rows: [], row: null, tasks: [], lanes: [], lane: new Map(), letters: new Map(), left: [0], lives: new Map(), races: [], chosen: null, pinned: false, lit: null };
 // What the user chose: a line of the program, tasks by their names, words and bodies that are folded away, and the zoom.
 const wish = { line: null, tasks: "", folded: new Set(), bodies: new Set(), spawns: true, zoom: 1, opened: new Set() };
 
@@ -113,9 +113,10 @@ function isShown(step, wished) {
   return wished.has(step.task) && !wish.folded.has(step.word) && (wish.line === null || step.line === wish.line);
 }
 
-// What is there at a moment, and which of it is shown.
-function setMoment(at) {
+// What is there at a moment, and which of it is shown; where several commands end there it is at the first, if none is given.
+function setMoment(at, command) {
   view.at = Math.max(0, Math.min(data.moments, at));
+  view.command = command === undefined ? commandAt(view.at) : command;
   view.steps = steps.filter(stands);
   view.tasks = tasks.filter(stands).sort(byName);
   view.races = view.steps.filter((step) => step.race);

@@ -21,6 +21,7 @@ function showGraph() {
   for (const task of shown) edgesOf(task, place, shown.length <= 40, isPlain(task), parts);
   raceEdges((step) => step.task, place, parts);
   for (const node of plan.nodes.filter((some) => some.isWait)) waitOf(node, place, parts);
+  putLabels(parts);
   for (const task of shown) boxOf(task, place.get(task.name), plan.inside.get(task.name), parts);
   svg.setAttribute("width", plan.wide * WIDE + 50);
   svg.setAttribute("height", plan.high * HIGH + 26);
@@ -35,43 +36,67 @@ function groupBox(box, line, parts) {
   parts.push(rect, element("text", { class: "kind", x: x + 6, y: y + 13 }, title.slice(0, 26)));
 }
 
-// An edge from one box down to another, or below both where they stand side by side.
+// An edge from one box down to another, or below both where they stand side by side: one back, and a race, go lower.
+function pointsBetween(place, one, two, racing) {
+  const [x, y] = place.get(one), [toX, toY] = place.get(two), part = (toX - x) / 3, low = y + (racing ? 112 : toX > x ? 79 : 97), aside = racing ? 84 : 70;
+  return y === toY ? [[x + aside, y + 58], [x + aside + part, low], [toX + aside - part, low], [toX + aside, y + 58]]
+    : [[x + aside, y + 58], [x + aside, y + 84], [toX + aside, toY - 26], [toX + aside, toY]];
+}
+
 function edgeOf(place, one, two, name, label, text, parts) {
   if (!place.has(one) || !place.has(two)) return null;
-  const [x, y] = place.get(one), [toX, toY] = place.get(two), flat = y === toY, part = (toX - x) / 3;
-  const points = flat ? [[x + 70, y + 58], [x + 70 + part, y + 79], [toX + 70 - part, y + 79], [toX + 70, y + 58]]
-    : [[x + 70, y + 58], [x + 70, y + 84], [toX + 70, toY - 26], [toX + 70, toY]];
+  const points = pointsBetween(place, one, two, name.startsWith("racing"));
   const made = element("path", { class: "edge " + name, d: "M" + points[0].join(" ") + " C" + points.slice(1).map((point) => point.join(" ")).join(" "), "data-from": one, "data-to": two });
   if (!/apart|racing/.test(name)) made.setAttribute("marker-end", "url(#head)");
   made.append(element("title", {}, label));
   parts.push(made);
-  const spot = text && spotOf(points, text);
-  if (spot) parts.push(element("text", { class: "kind" + (name.startsWith("racing") ? " racing" : ""), x: spot.x + spot.wide / 2, y: spot.y + 10, "text-anchor": "middle" }, text));
+  (name === "spawn" ? covered.thin : covered.lines).push(...linesOf(points));
+  if (text) covered.wanted.push({ points, text, name });
   return made;
 }
 
-// A place on an edge where its label covers no box and no other label, if there is one.
-const covered = { rects: [] };
-function spotOf(points, text) {
-  const wide = 6.8 * text.length + 4, high = 13;
-  const spots = [0.5, 0.4, 0.6, 0.3, 0.7, 0.2, 0.8].map((part) => { const [x, y] = pointOn(points, part); return { x: x - wide / 2, y: y - high / 2, wide, high }; });
-  const spot = spots.find((some) => !covered.rects.some((other) => meet(some, other)));
-  if (spot) covered.rects.push(spot);
-  return spot;
+// What is drawn: boxes and labels, edges as straight lines, the thin ones of them, and the labels that are wanted.
+const covered = { rects: [], lines: [], thin: [], wanted: [] };
+// So many lines are looked at for each label.
+const MOST_LINES = 6000;
+
+// The labels, each beside its edge where it covers nothing, or else thin edges alone. Where there is no such place a
+// race's and a count's may lie on its own edge; another one is left out, and its edge says it when it is pointed at.
+function putLabels(parts) {
+  const [lines, thin] = [covered.lines, covered.thin].map((some) => some.length > MOST_LINES ? [] : some);
+  for (const { points, text, name } of covered.wanted) {
+    const wide = 6.8 * text.length + 4, high = 13, rect = ([x, y]) => ({ x, y, wide, high });
+    const on = [0.5, 0.4, 0.6, 0.3, 0.7, 0.2, 0.8].map((part) => pointOn(points, part));
+    const beside = on.flatMap(([x, y]) => [[x + 5, y - high / 2], [x - wide - 5, y - high / 2], [x - wide / 2, y + 3], [x - wide / 2, y - high - 3]]).map(rect);
+    const isFree = (some) => some.x > 0 && !covered.rects.some((other) => meet(some, other));
+    const may = name.startsWith("racing") || /^[0-9]+$/.test(text);
+    const free = beside.filter((some) => isFree(some) && !lines.some((line) => crosses(some, line)));
+    const spot = free.find((some) => !thin.some((line) => crosses(some, line))) || free[0] || (may && on.map(([x, y]) => rect([x - wide / 2, y - high / 2])).find(isFree));
+    if (!spot) continue;
+    covered.rects.push(spot);
+    parts.push(element("text", { class: "kind" + (name.startsWith("racing") ? " racing" : ""), x: spot.x + wide / 2, y: spot.y + 10, "text-anchor": "middle" }, text));
+  }
 }
 
 // The boxes that are drawn, which no label may cover.
 function coverBoxes(place) {
-  covered.rects = [...place.values()].map(([x, y]) => ({ x, y, wide: 140, high: 58 }));
+  Object.assign(covered, { rects: [...place.values()].map(([x, y]) => ({ x, y, wide: 140, high: 58 })), lines: [], thin: [], wanted: [] });
+}
+
+// Whether an edge passes below boxes that are neither of its ends.
+function passesBoxes(place, one, two) {
+  if (!place.has(one) || !place.has(two)) return false;
+  const lines = linesOf(pointsBetween(place, one, two, false));
+  return [...place].some(([name, [x, y]]) => name !== one && name !== two && lines.some((line) => crosses({ x, y, wide: 140, high: 58 }, line)));
 }
 
 const parentOf = (task) => task.name.split(".").slice(0, -1).join(".");
 
-// An arrow from who generated a task is left out where that one generated many and this one comes after another, and in a
-// row that goes on below: the names tell who it was.
+// An arrow from who generated a task is left out where this one comes after another, and that one generated many or other
+// boxes are in between; and in a row that goes on below: the names tell who it was.
 function edgesOf(task, place, labelled, isPlain, parts) {
   const parent = parentOf(task);
-  if (parent && wish.spawns && isPlain) edgeOf(place, parent, task.name, "spawn", parent + " generates " + task.name, "", parts);
+  if (parent && wish.spawns && isPlain && !(task.before.length && passesBoxes(place, parent, task.name))) edgeOf(place, parent, task.name, "spawn", parent + " generates " + task.name, "", parts);
   for (const [other, label] of task.before) edgeOf(place, tasks[other].name, task.name, "before", label.join("; "), labelled ? label[0] : "", parts);
   for (const [other, label] of task.apart) edgeOf(place, tasks[other].name, task.name, "apart", label.join("; "), labelled ? label[0] : "", parts);
 }
@@ -101,6 +126,7 @@ function waitOf(wait, place, parts) {
   for (const child of wait.children) {
     if (many || !place.has(child)) continue;
     const [childX, childY] = place.get(child);
+    covered.lines.push([[childX + 70, childY + 58], [x + 70, y + 9]]);
     parts.push(element("path", { class: "edge wait", "data-from": child, "data-to": wait.name, "marker-end": "url(#head)", d: "M" + (childX + 70) + " " + (childY + 58) + " L" + (x + 70) + " " + (y + 9) }));
   }
   const group = element("g", { "data-wait": wait.name });
@@ -153,6 +179,7 @@ function drawClusters(svg, parts, shown) {
   coverBoxes(place);
   clusterEdges(clusters, standing, place, parts);
   raceEdges((step) => clusterOf(standing.get(step.task)), place, parts);
+  putLabels(parts);
   for (const cluster of clusters.values()) clusterBox(cluster, place.get(cluster.key), parts);
   for (const task of shown) boxOf(task, place.get(task.name), "", parts);
   svg.setAttribute("width", (shown.length ? across : wide) * WIDE + 50);

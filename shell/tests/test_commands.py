@@ -28,7 +28,7 @@ RACE: Rows = (
     ("breaks", ["breaks 1", "1 cell 0", "s1 line 14"]),
     ("go 50", ["0.1#1 start", "0.1#2 load r1 0 0", "ran 2 break"]),
     ("c", ["0.1#3 let r1 1", "0.1#4 store 0 1", "ran 2 break"]),
-    ("c", ["0.1#5 end", "ran 1 limit", "  breakpoint s1: line 14"]),
+    ("c", ["0.1#5 end", "ran 1 break", "  breakpoint s1: line 14"]),
     ("clear 1", ["cleared 1"]),
     ("clear line 14", ["cleared line 14"]),
     ("clear line 14", ["no breakpoint is at line 14"]),

@@ -35,7 +35,7 @@ class Stopping(unittest.TestCase):
             shell.ask(stop)
             shown = shell.plain("go")
             self.assertEqual(shown[-2], wanted, stop)
-            self.assertEqual(shown[-1].split(" ")[2], "limit", stop)
+            self.assertEqual(shown[-1].split(" ")[2], "break", stop)
 
     def test_how_they_are_told(self) -> None:
         shell = Typed(self, LOOP)
@@ -50,6 +50,18 @@ class Stopping(unittest.TestCase):
                          [["cleared s2"], ["no breakpoint s2; `breaks` shows them"], ["cleared line 5"], ["no breakpoint s9; `breaks` shows them"]])
         self.assertEqual(shell.plain("go")[-1], "ran 60 done")
 
+    def test_one_at_the_last_step_that_was_asked_for(self) -> None:
+        shell = Typed(self, example("race.task"))
+        shell.ask("break line 5")
+        shell.ask("break cell 0")
+        self.assertEqual(shell.ask("go 3")[-2:], ["ran 3 break", "  breakpoint s1: line 5"])
+        shell.ask("break line 11")
+        self.assertEqual(shell.ask("go 9")[-3:], ["ran 2 break", "  breakpoint 1: cell 0", "  breakpoint s2: line 11"])
+        self.assertEqual(shell.plain("until 0.1#4")[-1], "ran 2 limit")
+        for typed in ("clear 1", "clear s1", "clear s2", "break line 9"):
+            shell.ask(typed)
+        self.assertEqual(shell.ask("go 100")[-2:], ["ran 10 break", "  breakpoint s3: line 9"])
+
     def test_what_can_not_be_a_breakpoint(self) -> None:
         shell = Typed(self, LOOP)
         for typed, wanted in (("break cell 7 if 1", "the program has no cell 7"), ("break body x if 1", "no body of the program is named x"),
@@ -63,9 +75,10 @@ class Stopping(unittest.TestCase):
         shell.ask("break line 5 if r0 == 2")
         self.assertEqual(shell.ask("set"), ["run-breaks off", "pager on"])
         shell.ask("set run-breaks on")
-        self.assertEqual(shell.plain("run")[-2:], ["0#7 store 0 2", "ran 7 limit"])
+        self.assertEqual(shell.plain("run")[-2:], ["0#7 store 0 2", "ran 7 break"])
         shell.ask("set run-breaks off")
-        self.assertEqual(shell.plain("run 20")[-1], "ran 20 limit")
+        self.assertEqual(shell.ask("run 20")[-2:], ["ran 20 limit", "  `run` passes by breakpoints: `go` stops at them, and after `set run-breaks on` so does `run`"])
+        self.assertEqual(shell.ask("run 20")[-1], "ran 20 limit")
         self.assertTrue(shell.ask("set zebra on")[0].startswith("set [NAME on|off]"))
 
     def test_a_watched_number_stops_backwards_too(self) -> None:
@@ -90,7 +103,7 @@ class Stopping(unittest.TestCase):
         for typed, wanted in (
                 ("break sum.c:5", ["error word", "  did you mean `break line sum.c:5`?"]), ("break line sum.c:99", ["no step is taken at sum.c:99"]),
                 ("break line sum.c:5", ["break s1 line sum.c:5", "  go stops after each step at 2 lines of the session"]),
-                ("go", ["0.1#2 load r1 0 0", "ran 5 limit", "  breakpoint s1: line sum.c:5"]), ("go", ["0.1#3 store 0 1", "ran 1 limit", "  breakpoint s1: line sum.c:5"]),
+                ("go", ["0.1#2 load r1 0 0", "ran 5 break", "  breakpoint s1: line sum.c:5"]), ("go", ["0.1#3 store 0 1", "ran 1 break", "  breakpoint s1: line sum.c:5"]),
                 ("breaks", ["breaks 0", "s1 line sum.c:5"]), ("clear line sum.c:6", ["no breakpoint is at line sum.c:6"])):
             self.assertEqual([line if line.startswith("  ") else line.split("   ")[0] for line in shell.ask(typed)][-len(wanted):], wanted, typed)
         self.assertEqual([line.split()[1 - line.startswith("*")] for line in shell.ask("list 8") if "*" in line[:3]], ["8", "9"])
@@ -129,8 +142,18 @@ class BackAndAgain(unittest.TestCase):
         self.assertEqual(shell.plain("redo"), ["0.2#2 load r1 0 0", "redone 1"])
         shell.ask("finish 0.2")
         self.assertEqual(shell.ask("redo 0.1#4"), ["0.1#4 store 0 1                 13: store 0 r1", "redone 1"])
-        self.assertEqual(shell.ask("redo 0.1#4"), ["0.1#4 wasn't taken back"])
+        self.assertEqual(shell.ask("redo 0.1#4"), ["0.1#4 is in the history"])
         self.assertIn("redo [T#K]", shell.ask("redo x")[0])
+
+    def test_redo_passes_over_what_was_taken_by_hand(self) -> None:
+        shell = Typed(self, example("race.task"))
+        shell.ask("run 6")
+        shell.ask("back 3")
+        shell.ask("step 0.1 2")
+        self.assertEqual(shell.plain("redo"), ["0.1#3 let r1 1", "redone 1"])
+        self.assertEqual(shell.ask("redo"), ["nothing was taken back that isn't there again"])
+        self.assertEqual(shell.ask("redo 0.1#2"), ["0.1#2 is in the history"])
+        self.assertEqual(shell.ask("redo 0.2#2"), ["0.2#2 wasn't taken back"])
 
     def test_a_store_between_is_named(self) -> None:
         shell = Typed(self, example("race.task"))

@@ -109,10 +109,12 @@ class VsCode(unittest.TestCase):
             return json.load(file)
 
     def test_the_extension_is_built_without_a_network(self) -> None:
+        with open(os.path.join(TOP, "VERSION"), encoding="ascii") as file:
+            version = file.read().strip()
         with tempfile.TemporaryDirectory() as folder:
             build = [sys.executable, os.path.join(EDITORS, "vscode", "build.py"), folder]
             path = subprocess.run(build, capture_output=True, text=True, timeout=60, check=True).stdout.strip()
-            self.assertEqual(os.path.basename(path), f"taskback-{self.package()['version']}.vsix")
+            self.assertEqual(os.path.basename(path), f"taskback-{version}.vsix")
             with open(path, "rb") as file:
                 first = file.read()
             subprocess.run(build, capture_output=True, timeout=60, check=True)
@@ -121,10 +123,12 @@ class VsCode(unittest.TestCase):
             with zipfile.ZipFile(path) as made:
                 self.assertIsNone(made.testzip())
                 names = set(made.namelist())
+                self.assertEqual(json.loads(made.read("extension/package.json"))["version"], version)
                 manifest, types = (tree.fromstring(made.read(name)) for name in ("extension.vsixmanifest", "[Content_Types].xml"))
         self.assertLessEqual({"extension/package.json", "extension/extension.js", "extension/LICENSE.txt", "extension/syntaxes/taskback.tmLanguage.json"}, names)
         space = "{http://schemas.microsoft.com/developer/vsx-schema/2011}"
-        self.assertEqual(manifest.find(f"{space}Metadata/{space}Identity").get("Id"), "taskback")
+        identity = manifest.find(f"{space}Metadata/{space}Identity")
+        self.assertEqual((identity.get("Id"), identity.get("Version")), ("taskback", version))
         for asset in manifest.iter(f"{space}Asset"):
             self.assertIn(asset.get("Path"), names)
         endings = {os.path.splitext(name)[1] for name in names if name != "[Content_Types].xml"}

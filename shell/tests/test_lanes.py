@@ -3,13 +3,14 @@
 import os
 import random
 import unittest
+import unittest.mock
 import xml.etree.ElementTree as tree
 from typing import Any
 
 from programs import random_program
 from support import EXAMPLES, PROGRAM, Terminal, contrast, example, needs_program, write_file
-from shell import lanes_svg
-from shell.labels import Labels, Rect
+from shell import facts, lanes, lanes_svg
+from shell.labels import Curve, Labels, Rect
 from shell.lanes import NO_CAUSES, NO_RACES, lanes_of, text_rows
 from shell.lanes_pages import parts_of, write_lanes
 from shell.lanes_svg import svg_of
@@ -121,9 +122,42 @@ class LanesTest(unittest.TestCase):
             for at, rect in enumerate(found):
                 self.assertFalse(any(rect.meets(other) for other in words + found[:at]))
                 inner = Rect(rect.x + 3, rect.y + 2, rect.wide - 6, rect.high - 4)
-                self.assertFalse(any(inner.holds(point) for point in points))
+                self.assertFalse(any(inner.meets(Rect(*point, 0, 0)) for point in points))
             placed += len(found)
         self.assertGreater(placed, 30)
+
+    def test_lines_that_come_into_a_rectangle(self) -> None:
+        rect = Rect(10, 10, 20, 5)
+        for line, wanted in ((((0, 0), (40, 100)), False), (((0, 0), (40, 20)), True), (((12, 12), (13, 13)), True), (((0, 12), (9, 12)), False),
+                             (((0, 12), (100000, 12)), True), (((25, -90000), (25, 90000)), True), (((31, -90000), (31, 90000)), False), (((5, 12), (12, 30)), False)):
+            self.assertEqual(rect.crosses(line), wanted, line)
+            self.assertEqual(rect.crosses(line[::-1]), wanted, line)
+
+    def test_arrows_of_any_length_are_few_lines(self) -> None:
+        for height in (40, 4000, 4000000):
+            curve = Curve(((0, 0), (30, height / 4), (900, height * 0.9), (1000, height)), "wait")
+            lines = curve.lines()
+            self.assertLessEqual(len(lines), 256)
+            for at in range(1001):
+                point = curve.at(at / 1000)
+                self.assertTrue(any(Rect(point[0] - 1, point[1] - 1, 2, 2).crosses(line) for line in lines), (height, at))
+        labels = Labels([Curve(((0, 0), (30, 25e5), (60, 75e5), (90, 1e7)), "wait")] * 400, ())
+        rect = labels.place(curve)
+        self.assertIsNotNone(rect)
+
+    def test_a_long_history_is_drawn_by_needs_from_its_lines_and_without_labels(self) -> None:
+        session = Session(PROGRAM, Source(example("race.task"), "race.task"))
+        self.addCleanup(session.close)
+        session.do("run 99")
+        whole = lanes_of(session)
+        with unittest.mock.patch.object(facts, "MOST_ASKED", 5), unittest.mock.patch.object(lanes, "MOST_ASKED", 5):
+            long = lanes_of(session)
+            self.assertEqual(list(long.causes), list(whole.causes))
+            for name, needed in whole.causes.items():
+                self.assertLessEqual({early for _, early in needed}, {early for _, early in long.causes[name]} | {early for early in long.causes if early.split("#")[0] == name.split("#")[0]})
+            self.assertIn("some arrows are drawn that others imply", long.remarks()[-1])
+            self.assertNotIn("font-size:11px", lanes_svg.svg_of(long))
+        self.assertEqual(whole.remarks(), [])
 
     def test_many_tasks_are_pages_with_an_overview(self) -> None:
         text = "cells 1\nbody main 0\n  while r0 < 299\n    task t depend inout 0\n    let r0 r0 + 1\n  end\nend\nbody t 0\n  load r1 0\n  store 0 r1\nend\n"

@@ -62,20 +62,21 @@ class Ways(unittest.TestCase):
           const where = () => find("where").textContent, box = find("lanes").getBoundingClientRect(), told = [];
           const newest = [...document.querySelectorAll(".step")].pop();
           told.push(where(), newest.dataset.step, newest.getBoundingClientRect().bottom <= box.bottom + 1, document.querySelectorAll("#marks i").length);
-          find("command-back").click(); told.push(where());
-          find("command-on").click(); told.push(where());
+          const turn = (id) => { find(id).click(); return where(); };
+          told.push([find("command-on").disabled, turn("command-back"), turn("command-on"), turn("command-back"), turn("command-back"), turn("command-back"), turn("command-on")]);
           move(9); told.push(where()); find("on").click(); told.push(where()); find("back").click(); told.push(where());
           move(0); told.push(where(), find("back").disabled);
           window.setInterval = (act) => { act(); act(); return 7; };
           find("play").click(); told.push(where().split(" ")[0], find("play").ariaLabel);
           find("play").click(); told.push(find("play").ariaLabel);
           return told;""", "1400,900")
-        self.assertEqual(told[:4], ["28 of 28: 0#7 end  |  command 10 of 12: run 100", "0#7", True, 8])
-        self.assertEqual(told[4:11], [
-            "18 of 28: 0.2#2 and 9 more steps taken back  |  command 9 of 12: roll 0.2#2", "28 of 28: 0#7 end  |  command 10 of 12: run 100",
+        self.assertEqual(told[:4], ["28 of 28: 0#7 end  |  command 12 of 12: out", "0#7", True, 8])
+        looked = [f"28 of 28: 0#7 end  |  command {number} of 12: {text}" for number, text in ((11, "cells"), (12, "out"), (11, "cells"), (10, "run 100"))]
+        self.assertEqual(told[4], [True, *looked, "18 of 28: 0.2#2 and 9 more steps taken back  |  command 9 of 12: roll 0.2#2", looked[-1]])
+        self.assertEqual(told[5:10], [
             "9 of 28: 0.1#4 store 0 1  |  command 6 of 12: run 100", "10 of 28: 0.1#5 end  |  command 6 of 12: run 100",
             "9 of 28: 0.1#4 store 0 1  |  command 6 of 12: run 100", "0 of 28, in front of the first step", True])
-        self.assertEqual(told[11:], ["2", "pause", "play"])
+        self.assertEqual(told[10:], ["2", "pause", "play"])
 
     def test_races_in_the_graph_and_side_by_side(self) -> None:
         told = self.tried(self.page("right_sum.session"), """

@@ -49,7 +49,7 @@ class Forms(unittest.TestCase):
         return path
 
     def test_wrong_words_are_one_line_and_status_2(self) -> None:
-        for words in (["-i"], ["--limit"], ["--workers"], ["a", "b"], ["-i", "a", "b"], ["no such file"], ["-i", "no such file"],
+        for words in (["-i"], ["--limit"], ["--workers"], ["--check"], ["--json", "--limit", "5"], ["a", "b"], ["-i", "a", "b"], ["no such file"], ["-i", "no such file"],
                       [self.folder], ["-i", self.folder]):
             with self.subTest(words=words):
                 out, told, status = ran(*words)

@@ -119,7 +119,7 @@ class TerminalTest(unittest.TestCase):
         self.assertIn("break 1\n", shell.type("b line 10"))
         self.assertIn("no step is taken at line 2", shell.type("b line 2"))
         self.assertIn("0.1#1 start                     10: body add 1\nran 4 break\n  breakpoint 1: body add\n", shell.type("go"))
-        self.assertIn("13: store 0 r1\nran 3 limit\n  breakpoint s1: line 13", shell.type("c"))
+        self.assertIn("13: store 0 r1\nran 3 break\n  breakpoint s1: line 13", shell.type("c"))
         self.assertIn("s1 line 13", shell.type("breaks"))
         self.assertIn("cleared line 13", shell.type("clear line 13"))
         self.assertIn("with 1 breakpoint", shell.type("restart"))

@@ -3,6 +3,7 @@
 import re
 import tempfile
 import unittest
+import unittest.mock
 import xml.etree.ElementTree as tree
 from collections.abc import Iterator
 from typing import Any
@@ -46,6 +47,10 @@ class SlideTest(unittest.TestCase):
             self.assertEqual(int(root.get("width")) * 9, int(root.get("height")) * 16)
             sizes = [int(size) for size in re.findall(r"font(?:-size)?:(\d+)px", svg)]
             self.assertGreaterEqual(min(sizes) * 45, int(root.get("height")))
+            for path in root.iter(SVG + "path"):
+                if path.get("class") == "before":
+                    begin, *_, bent, end = (float(pair.split(" ")[0]) for pair in re.findall(r"[0-9.]+ [0-9.]+", path.get("d")))
+                    self.assertTrue(begin <= bent < end, path.get("d"))
             there = list(rects(root))
             self.assertGreaterEqual(len(there), 17)
             for at, one in enumerate(there):
@@ -60,6 +65,16 @@ class SlideTest(unittest.TestCase):
         self.assertEqual({name for name, in drawn(svg, "shade", "step")}, taken)
         self.assertEqual(drawn(svg, "race", "from", "to")[:8], [tuple(line.split(" ")[:2]) for line in session.view("races")[1:]])
         self.assertEqual(len(drawn(svg, "step")), 77 - sum(" let " in line or " test " in line for line in session.view("hist")[1:]))
+
+    def test_of_very_many_steps_there_are_bars_alone_and_a_shade_a_pixel(self) -> None:
+        session, _ = self.looped(40)
+        with unittest.mock.patch.object(slide, "WIDE", 400), unittest.mock.patch.object(slide, "LEAST_WIDE", 20):
+            svg = slide_of(lanes_of(session, "0#1"))
+        self.assertEqual(drawn(svg, "step"), [])
+        self.assertEqual(len(drawn(svg, "bar", "task")), 41)
+        shades = re.findall(r'class="shade" data-step="([0-9.]+)#[0-9]+" x="([0-9.]+)" y="[0-9.]+" width="1.0"', svg)
+        self.assertTrue(100 < len(shades) < 250, len(shades))
+        self.assertEqual(len(shades), len(set(shades)))
 
     def test_races_of_a_recorded_run_are_told_by_lines_of_c(self) -> None:
         text = RECORDED.split("---\n")[0].replace(" depend inout 0", "")

@@ -26,7 +26,7 @@ MEANT = (
     ("info threads", "tasks 3"), ("info breakpoints", "breaks 0"), ("i locals", "task 0"), ("info registers 0.1", "task 0.1"), ("info zebra", "no such view: zebra"),
     ("list add", "=>   10  body add 1   <- 0.1, 0.2"),
     ("rverse", "no such command"), ("reverse-continue", "did you mean `rc`?"), ("xyzzy", "no such command; `help` lists them"),
-    ("rollcell 9", "the program has no cell 9: its cells are 0 to 0"), ("rollcell 0", "nothing was stored to cell 0"),
+    ("rollcell 9", "the program has no cell 9: it has cell 0 alone"), ("rollcell 0", "nothing was stored to cell 0"),
     ("rolltask 0.7", "task 0.7 hasn't been generated"), ("rolltask 0.2", "task 0.2 hasn't started"), ("rollprint", "nothing was printed"),
     ("undo 0.7#1", "task 0.7 hasn't been generated"), ("undo 0.1#9", "step 0.1#9 isn't in the history"), ("break cell 7", "the program has no cell 7"),
     ("until 0.1#99", "0.1#99 was never reached"), ("help ro", "ambiguous: roll, rolltask, rollcell, rollprint"),
@@ -52,6 +52,7 @@ FAULTY = (
 # A line as other languages have it, and the notation's.
 FOREIGN = (
     ("for (int i = 0; i < 3; i++)", "while A CMP B .. end, with a `let` in front and one at its end"), ("int x", "let rK A"),
+    ("task f depend 0 in depend r1 out", "task f depend in 0 depend out r1"), ("body main 2", "body main 0"),
     ("task f depend(in: 0)", "task f depend in 0"), ("task f depend(in: 0, r1) depend(out: 2)", "task f depend in 0 depend in r1 depend out 2"),
     ("r1 += 2", "let r1 r1 + 2"), ("r2++", "let r2 r2 + 1"), ("printf(\"%d\", r0);", "print VAL"), ("return r0;", "end"), ("}", "end"),
     ("Task f 0", "task f 0"), ("r1 = r2 + 3", "let r1 r2 + 3"),

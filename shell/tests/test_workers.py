@@ -136,7 +136,7 @@ class Typed(Stalling):
         shown = shell.ask("go 4 100")
         self.assertEqual(shown[-1], "  breakpoint s1: line 10")
         self.assertEqual([line.split(" ")[1] for line in shown if "#" in line].count("print"), 1)
-        self.assertRegex(shown[-2], "^ran 28 limit$")
+        self.assertRegex(shown[-2], "^ran 28 break$")
 
     def test_ctrl_c_keeps_the_session(self) -> None:
         shell = self.shell(LOOPS, "--limit", "1000000")
