@@ -1,6 +1,7 @@
 //! The places that a core lends, against a scan of its steps: after each step, undo and rollback of
-//! histories that are made by a fixed rule.
+//! histories that are made by a fixed rule. At the end of each, what its steps need and what needs them.
 
+use crate::causes;
 use crate::taking::fits;
 use std::alloc::AllocGlobal;
 use std::mem;
@@ -11,8 +12,7 @@ use tb_plan::plan;
 use tb_read::{Program, read};
 use tb_roll::roll;
 
-/// Programs without `taskgroup`.
-const PROGRAMS: [&[u8]; 4] = [
+const PROGRAMS: [&[u8]; 6] = [
     b"cells 2\nbody main 0\ntask a\ntask b\nstore 1 4\nprint 1\nend\nbody a 0\nload r0 0\nprint r0\n\
     store 1 7\nend\nbody b 0\nload r0 1\nstore 0 9\nload r1 0\nprint r1\nend\n",
     b"cells 3\nbody main 0\ntask a 1\ntask a 2\ntask a 3\ntaskwait\nload r0 1\nprint r0\nend\n\
@@ -21,6 +21,10 @@ const PROGRAMS: [&[u8]; 4] = [
     body a 0\ntask b\nstore 0 6\nend\nbody b 0\nload r0 0\nprint r0\nprint r0\nend\n",
     b"cells 2\nbody main 0\nlet r0 3\nwhile 0 < r0\nstore 1 r0\nprint r0\nlet r0 r0 - 1\nend\ntask a\n\
     end\nbody a 0\nload r0 1\nstore 7 0\nend\n",
+    b"cells 1\nbody main 0\ntaskgroup\ntask f\ntaskgroup\ntask f\nend\nprint 1\nend\ntask g\nend\n\
+    body f 0\ntask g\nstore 0 2\nend\nbody g 0\nload r0 0\nend\n",
+    b"cells 1\nbody main 0\ntask e 1 depend mutexinoutset 0\ntask e 2 depend mutexinoutset 0\n\
+    task e 3 depend mutexinoutset 0\ntaskwait\nend\nbody e 1\nload r1 0\nlet r1 r1 + r0\nstore 0 r1\nend\n",
 ];
 
 const TASKS: [&str; 5] = ["0", "0.1", "0.2", "0.3", "0.1.1"];
@@ -122,13 +126,14 @@ fn run_history(rt: &(impl Abort + AllocGlobal), text: &[u8], first: u32) {
         make_move(rt, &program, &mut core, seed);
         compare_all(rt, &core);
     }
+    causes::compare_all(rt, &core);
     mem::forget(core);
     mem::forget(program);
 }
 
 #[test]
-fn places_are_those_that_a_scan_finds(rt: HostRuntime) {
+fn places_and_needs_are_those_that_a_scan_finds(rt: HostRuntime) {
     for history in 0..200_u32 {
-        run_history(&rt, PROGRAMS[history as usize % 4], history);
+        run_history(&rt, PROGRAMS[history as usize % 6], history);
     }
 }

@@ -6,7 +6,7 @@ use std::mem;
 use std::process::Abort;
 use tb_cause::{needed_by, needs};
 use tb_core::{Core, Removed, StepRefusal};
-use tb_model::StepId;
+use tb_model::{StepId, TaskName};
 use tb_read::read;
 use tb_roll::{finish, ready, roll, same_run};
 
@@ -18,27 +18,53 @@ const OTHER: &[u8] = b"cells 1\nbody main 0\ntask s\ntask s\nend\nbody s 0\nstor
 
 const FIRST_THEN_SECOND: [&str; 9] = ["0", "0", "0", "0.1", "0.1", "0.1", "0.2", "0.2", "0.2"];
 
-/// The program and the order of the steps, and whether it is the run in which the first task goes
-/// in front of the second. All leave one state but the last two.
-const RUNS: [(&[u8], &[&str], bool); 5] = [
-    (TWICE, &FIRST_THEN_SECOND, true),
+/// The program and the order of the steps, whether all is as where the first task goes in front of the second, and whether
+/// that is the run: of two runs with one state the other may be another.
+const RUNS: [(&[u8], &[&str], bool, bool); 5] = [
+    (TWICE, &FIRST_THEN_SECOND, true, true),
     (
         TWICE,
         &["0", "0", "0", "0.2", "0.2", "0.2", "0.1", "0.1", "0.1"],
+        true,
         false,
     ),
     (
         TWICE,
         &["0", "0", "0", "0.2", "0.1", "0.1", "0.1", "0.2", "0.2"],
         true,
+        true,
     ),
-    (OTHER, &FIRST_THEN_SECOND, false),
+    (OTHER, &FIRST_THEN_SECOND, false, false),
     (
         TWICE,
         &["0", "0", "0", "0.1", "0.1", "0.1", "0.2", "0.2"],
         false,
+        false,
     ),
 ];
+
+/// Whether the task stands in both as it does in the one.
+fn stands_alike(rt: &(impl Abort + AllocGlobal), core: &Core, other: &Core, text: &str) -> bool {
+    let task = TaskName::parse(rt.alloc(), text.as_bytes()).expect(rt, text);
+    let alike = match (core.standing(&task), other.standing(&task)) {
+        (Some(one), Some(two)) => {
+            one.steps() == two.steps() && one.at() == two.at() && one.regs() == two.regs()
+        }
+        _ => false,
+    };
+    let over = core.has_ended(&task) == other.has_ended(&task);
+    mem::forget(task);
+    alike && over
+}
+
+/// Whether the cells, what was printed and where the tasks stand are alike.
+fn has_one_state(rt: &(impl Abort + AllocGlobal), core: &Core, other: &Core) -> bool {
+    core.cells() == other.cells()
+        && core.output() == other.output()
+        && stands_alike(rt, core, other, "0")
+        && stands_alike(rt, core, other, "0.1")
+        && stands_alike(rt, core, other, "0.2")
+}
 
 fn compare(rt: &(impl Abort + AllocGlobal), core: &Core, other: &Core, same: bool) {
     let found = same_run(rt.alloc(), core, other).expect(rt, "memory is there");
@@ -52,16 +78,18 @@ fn compare_with(
     core: &Core,
     text: &[u8],
     names: &[&str],
+    state: bool,
     same: bool,
 ) {
     let other = taken(rt, text, names);
+    assert_eq!(rt; has_one_state(rt, core, &other), state);
     compare(rt, core, &other, same);
     mem::forget(other);
 }
 
 fn compare_all(rt: &(impl Abort + AllocGlobal), core: &Core) {
-    for (text, names, same) in RUNS {
-        compare_with(rt, core, text, names, same);
+    for (text, names, state, same) in RUNS {
+        compare_with(rt, core, text, names, state, same);
     }
 }
 

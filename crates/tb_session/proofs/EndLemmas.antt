@@ -1,26 +1,21 @@
 -- What a session's stages come to, at each way to end.
-use Rattle.std.proofs.Common.{◌≡◌, ℕ, true, List, [], ◌∷◌, ◌++◌, refl, sym, ap, ◌∙◌, subst, append_assoc, append-nil, inl, inr, Option, Some, None, Result, Ok, Err}
+use Rattle.std.proofs.Common.{◌≡◌, ◌≤◌, ℕ, length, true, List, [], ◌∷◌, ◌++◌, refl, sym, ap, ◌∙◌, subst, append_assoc, append-nil, inl, inr, Option, Some, None, Result, Ok, Err}
 use Rattle.std.specs.Prelude.{IsErrOf}
 use Rattle.std.specs.Io.KnownBytes.{Consumes, IsAtEnd, prepend_known}
 use Rattle.tb_read.specs.declared.fault.ReadFault.{ReadFault}
 use Rattle.tb_read.specs.Text.{lines_of}
-use Rattle.tb_lines.specs.Lines.{AreUnbroken, spelled}
+use Rattle.tb_lines.specs.Lines.{AreUnbroken, spelled, most_ahead}
 use Rattle.tb_live.specs.Session.{Session, opened}
 use Rattle.tb_replies.specs.Reading.{IsProgram}
 use Rattle.tb_session.specs.Divider.{is_divider}
-use Rattle.tb_session.specs.Answer.{command_lines, program_text, AreUndivided, Replies, RepliesWith, AnswerTo, AnswersWith, Ran, Refuses}
+use Rattle.tb_session.specs.Answer.{Stopped, command_lines, program_text, AreUndivided, Replies, RepliesWith, AnswerTo, AnswersWith, Ran, Refuses}
 use Rattle.tb_session.specs.Stages.{Divides, Ends, Begun, Served}
 use Rattle.tb_session.specs.declared.halt.Halt.{Halt}
 use Rattle.tb_session.specs.declared.halt.Halt.TheVariants.{Refused, Read, Write, Memory, Journal}
 use Rattle.tb_lines.proofs.KnownLemmas.{consumes_trans, appends_nil}
 use Rattle.tb_session.proofs.LineLemmas.{lines_of_spelled, spelled_append}
+use Rattle.tb_session.proofs.StopLemmas.{from_unread, stopped_ahead}
 use Rattle.tb_session.proofs.GatherLemmas.{program_of_divided, commands_of_divided}
-
--- what was taken of the unread bytes, and what is still held, was read
-from_unread : (a b : Option (List ℕ)) (held bytes : List ℕ) → Consumes (prepend_known [] a) (prepend_known held b) bytes → Consumes a b (bytes ++ held)
-from_unread None b held bytes p = tt
-from_unread (Some x) None held bytes p = absurd p
-from_unread (Some x) (Some y) held bytes p = p ∙ sym (append_assoc bytes held y)
 
 -- where nothing is held
 from_unread_all : (a b : Option (List ℕ)) (held bytes : List ℕ) → Consumes (prepend_known [] a) (prepend_known held b) bytes → held ≡ [] → Consumes a b bytes
@@ -46,26 +41,26 @@ refuses_left (Some x) fault r = r
 pub ran_no_command : (workers limit : ℕ) (left rest before : Option (List ℕ)) (held : List ℕ) → Ends (prepend_known [] left) (prepend_known held rest) → Ran workers limit left rest before before (Ok tt)
 ran_no_command workers limit left rest before held e =
     let w = e.whole in
-    let read = from_unread_end left rest held w.all w.bytes w.end in
+    let whole = spelled w.lines ++ w.last in
+    let read = from_unread_end left rest held whole w.bytes w.end in
     let P : List ℕ → Type 0 = λ l. IsProgram l e.program in
     let R : List (List ℕ) → Type 0 = λ ls. Replies workers (opened e.program limit 65) ls [] in
-    (w.all, [], read.0, read.1, (e.program, subst P w.is_text e.says, subst R (sym w.no_commands) (opened e.program limit 65, (refl, refl))), appends_nil before)
+    (whole, [], read.0, read.1, (e.program, subst P w.is_text e.says, subst R (sym w.no_commands) (opened e.program limit 65, (refl, refl))), appends_nil before)
 
-not_begun : (workers limit : ℕ) (left rest before : Option (List ℕ)) (held : List ℕ) (halt : Halt) → Begun limit (prepend_known [] left) (prepend_known held rest) (Err halt) → (halt ≡ Read → held ≡ []) → Ran workers limit left rest before before (Err halt)
-not_begun workers limit left rest before held (Refused fault) b emptied = (refuses_left left fault b, appends_nil before)
-not_begun workers limit left rest before held Read b emptied =
+not_begun : (workers limit : ℕ) (left rest before : Option (List ℕ)) (held : List ℕ) (halt : Halt) → Begun limit (prepend_known [] left) (prepend_known held rest) (Err halt) → (halt ≡ Read → held ≡ []) → length held ≤ most_ahead → Ran workers limit left rest before before (Err halt)
+not_begun workers limit left rest before held (Refused fault) b emptied few = (refuses_left left fault b, appends_nil before)
+not_begun workers limit left rest before held Read b emptied few =
     (b.0, b.1, [], from_unread_all left rest held _ b.2 (emptied refl), b.3, b.4, inl (b.5, refl), appends_nil before)
-not_begun workers limit left rest before held Write b emptied = absurd b
-not_begun workers limit left rest before held Journal b emptied = absurd b
-not_begun workers limit left rest before held Memory b emptied =
-    let P : List ℕ → Type 0 = λ l. Consumes left rest l in
-    inl (b.0, b.1 ++ held, [], subst P (append_assoc (spelled b.0) b.1 held) (from_unread left rest held _ b.2), b.3, inl (b.4, refl), appends_nil before)
+not_begun workers limit left rest before held Write b emptied few = absurd b
+not_begun workers limit left rest before held Journal b emptied few = absurd b
+not_begun workers limit left rest before held Memory b emptied few =
+    inl (record { stopped = stopped_ahead most_ahead left rest held b.0 few; out = []; replies = inl (b.1, refl); wrote = appends_nil before })
 
 -- the reader holds nothing at first
-pub ran_not_begun : (workers limit : ℕ) (left rest before : Option (List ℕ)) (first held : List ℕ) (halt : Halt) → first ≡ [] → Begun limit (prepend_known first left) (prepend_known held rest) (Err halt) → (halt ≡ Read → held ≡ []) → Ran workers limit left rest before before (Err halt)
-ran_not_begun workers limit left rest before first held halt none b emptied =
+pub ran_not_begun : (workers limit : ℕ) (left rest before : Option (List ℕ)) (first held : List ℕ) (halt : Halt) → first ≡ [] → Begun limit (prepend_known first left) (prepend_known held rest) (Err halt) → (halt ≡ Read → held ≡ []) → length held ≤ most_ahead → Ran workers limit left rest before before (Err halt)
+ran_not_begun workers limit left rest before first held halt none b emptied few =
     let P : List ℕ → Type 0 = λ l. Begun limit (prepend_known l left) (prepend_known held rest) (Err halt) in
-    not_begun workers limit left rest before held halt (subst P none b) emptied
+    not_begun workers limit left rest before held halt (subst P none b) emptied few
 
 -- ---- a session with commands
 
@@ -105,13 +100,15 @@ module _ (workers limit : ℕ) (left mid : Option (List ℕ)) (s : Session) (d :
       let S : Session → Type 0 = λ t. Replies workers t lines out in
       (d.program, says lines, subst R (sym (commands lines)) (subst S d.opens r))
 
-  -- the same with a line more
+  has_divider : (lines : List (List ℕ)) → AreUndivided (head ++ lines) → ⊥
+  has_divider lines none = divided d.divided.program d.divided.divider lines d.divided.divides (subst AreUndivided (joined lines) none)
+
+  -- so it is with a line more
   answers_with : (lines : List (List ℕ)) (out line reply : List ℕ) → RepliesWith workers s lines out line reply → AnswersWith workers limit (head ++ lines) out line reply
   answers_with lines out line reply r =
       let R : List (List ℕ) → Type 0 = λ ls. RepliesWith workers (opened d.program limit 65) ls out line reply in
       let S : Session → Type 0 = λ t. RepliesWith workers t lines out line reply in
-      let found : AreUndivided (head ++ lines) → ⊥ = λ none. divided d.divided.program d.divided.divider lines d.divided.divides (subst AreUndivided (joined lines) none) in
-      (found, (d.program, says lines, subst R (sym (commands lines)) (subst S d.opens r)))
+      (has_divider lines, (d.program, says lines, subst R (sym (commands lines)) (subst S d.opens r)))
 
   taken : (new : Option (List ℕ)) (bytes : List ℕ) → Consumes mid new bytes → Consumes (prepend_known [] left) new (spelled head ++ bytes)
   unfolding head
@@ -133,46 +130,53 @@ module _ (workers limit : ℕ) (left mid : Option (List ℕ)) (s : Session) (d :
   answers_all : (bytes out : List ℕ) → Replies workers s (lines_of bytes) out → AnswerTo workers limit (lines_of (spelled head ++ bytes)) out
   answers_all bytes out r = let P : List (List ℕ) → Type 0 = λ ls. AnswerTo workers limit ls out in subst P (sym (lines_all bytes)) (answers (lines_of bytes) out r)
 
-  pub ran_commands : (rest before after : Option (List ℕ)) (held : List ℕ) (result : Result (Unit {0}) Halt) → Served workers s mid (prepend_known held rest) before after result → (IsErrOf result Read → held ≡ []) → Ran workers limit left rest before after result
-  ran_commands rest before after held (Ok u) r emptied =
+  -- the commands' whole lines stand behind the head
+  abbrev stopped_behind : (new : Option (List ℕ)) → Stopped 0 mid new → Stopped 0 (prepend_known [] left) new
+  stopped_behind new stop = record {
+    lines = head ++ stop.lines;
+    line = stop.line;
+    feed = stop.feed;
+    ahead = stop.ahead;
+    read = taken_lines new stop.lines (stop.line ++ (stop.feed ++ stop.ahead)) stop.read;
+    unbroken = unbroken stop.lines stop.unbroken;
+    next = stop.next;
+    ended = stop.ended;
+    few = stop.few;
+  }
+
+  pub ran_commands : (rest before after : Option (List ℕ)) (held : List ℕ) (result : Result (Unit {0}) Halt) → Served workers s mid (prepend_known held rest) before after result → (IsErrOf result Read → held ≡ []) → length held ≤ most_ahead → Ran workers limit left rest before after result
+  ran_commands rest before after held (Ok u) r emptied few =
       let read = from_unread_end left rest held _ (taken (prepend_known held rest) r.0 r.2) r.3 in
       (spelled head ++ r.0, r.1, read.0, read.1, answers_all r.0 r.1 r.4, r.5)
-  ran_commands rest before after held (Err (Refused fault)) r emptied = absurd r
-  ran_commands rest before after held (Err Journal) r emptied =
-      let P : List ℕ → Type 0 = λ l. Consumes left rest l in
-      let taken' = from_unread left rest held _ (taken_lines (prepend_known held rest) r.0 (r.1 ++ r.2) r.4) in (
-        head ++ r.0,
-        r.1,
-        r.2 ++ held,
-        r.3,
-        subst P (append_assoc (spelled (head ++ r.0)) (r.1 ++ r.2) held ∙ ap (λ l. spelled (head ++ r.0) ++ l) (append_assoc r.1 r.2 held)) taken',
-        unbroken r.0 r.5,
-        r.6,
-        r.7,
-        inr (answers r.0 r.3 r.8),
-        r.9,
-      )
-  ran_commands rest before after held (Err Read) r emptied =
+  ran_commands rest before after held (Err (Refused fault)) r emptied few = absurd r
+  ran_commands rest before after held (Err Read) r emptied few =
       (head ++ r.0, r.1, r.2, from_unread_all left rest held _ (taken_lines (prepend_known held rest) r.0 r.1 r.3) (emptied refl), unbroken r.0 r.4, r.5, inr (answers r.0 r.2 r.6), r.7)
-  ran_commands rest before after held (Err Write) r emptied =
+  ran_commands rest before after held (Err Write) r emptied few =
       (spelled head ++ r.0, held, r.1, r.2, from_unread left rest held _ (taken (prepend_known held rest) r.0 r.3), answers_all r.0 r.1 r.4, r.5)
-  ran_commands rest before after held (Err Memory) (inl r) emptied =
-      let P : List ℕ → Type 0 = λ l. Consumes left rest l in
-      inl (head ++ r.0, r.1 ++ held, r.2, subst P (append_assoc (spelled (head ++ r.0)) r.1 held) (from_unread left rest held _ (taken_lines (prepend_known held rest) r.0 r.1 r.3)), unbroken r.0 r.4, inr (answers r.0 r.2 r.5), r.6)
-  ran_commands rest before after held (Err Memory) (inr r) emptied =
-      let P : List ℕ → Type 0 = λ l. Consumes left rest l in
-      let taken' = from_unread left rest held _ (taken_lines (prepend_known held rest) r.lines (r.line ++ r.more) r.read) in
+  ran_commands rest before after held (Err Journal) r emptied few =
+      let stop = r.halts.stopped in record {
+        halts = record {
+          stopped = stopped_ahead most_ahead left rest held (stopped_behind (prepend_known held rest) stop) few;
+          out = r.halts.out;
+          replies = (has_divider stop.lines, answers stop.lines r.halts.out r.halts.replies);
+          wrote = r.halts.wrote;
+        };
+        asks = r.asks;
+      }
+  ran_commands rest before after held (Err Memory) (inl r) emptied few =
+      inl (record {
+        stopped = stopped_ahead most_ahead left rest held (stopped_behind (prepend_known held rest) r.stopped) few;
+        out = r.out;
+        replies = inr (answers r.stopped.lines r.out r.replies);
+        wrote = r.wrote;
+      })
+  ran_commands rest before after held (Err Memory) (inr r) emptied few =
       inr (record {
-        lines = head ++ r.lines;
-        line = r.line;
-        more = r.more ++ held;
+        stopped = stopped_ahead most_ahead left rest held (stopped_behind (prepend_known held rest) r.stopped) few;
         out = r.out;
         reply = r.reply;
         n = r.n;
-        read = subst P (append_assoc (spelled (head ++ r.lines)) (r.line ++ r.more) held ∙ ap (λ l. spelled (head ++ r.lines) ++ l) (append_assoc r.line r.more held)) taken';
-        unbroken = unbroken r.lines r.unbroken;
-        next = r.next;
         asks = r.asks;
-        replies = answers_with r.lines r.out r.line r.reply r.replies;
+        replies = answers_with r.stopped.lines r.out r.stopped.line r.reply r.replies;
         wrote = r.wrote;
       })

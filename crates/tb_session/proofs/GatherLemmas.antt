@@ -12,6 +12,7 @@ use Rattle.tb_lines.specs.declared.line_reader.LineFault.{LineFault}
 use Rattle.tb_lines.specs.declared.line_reader.LineFault.TheVariants.{Read as NotRead, Memory as NoMemory}
 use Rattle.tb_lines.proofs.KnownLemmas.{consumes_nil, consumes_trans}
 use Rattle.tb_session.proofs.LineLemmas.{lines_of_spelled, lines_of_last, spelled_append, all_more}
+use Rattle.tb_session.proofs.StopLemmas.{stopped_at, stopped_within}
 
 -- ---- the first divider
 
@@ -46,11 +47,10 @@ gather_starts start text e = record { lines = []; bytes = consumes_nil start; un
 
 pub gather_fails : (start now new : Option (List ℕ)) (text line : List ℕ) (fault : LineFault) → Gathering start now text → GaveLine now new line (Err fault) → Gathered start new text (Err fault)
 gather_fails start now new text line NotRead g t = (g.lines, line, consumes_trans start now new _ line g.bytes t.0, g.unbroken, t.1, g.undivided)
-gather_fails start now new text line NoMemory g t = (g.lines, line, consumes_trans start now new _ line g.bytes t.0, g.unbroken, g.undivided)
+gather_fails start now new text line NoMemory g t = (stopped_within start now new g.lines line NoMemory g.bytes g.unbroken t, g.undivided)
 
 pub gather_halts : (start now new : Option (List ℕ)) (text line : List ℕ) (end : LineEnd) → Gathering start now text → GaveLine now new line (Ok end) → Halted start new
-gather_halts start now new text line Feed g t = (g.lines, line ++ 10 ∷ [], consumes_trans start now new _ _ g.bytes t.0, g.unbroken, g.undivided)
-gather_halts start now new text line Input g t = (g.lines, line, consumes_trans start now new _ _ g.bytes t.0, g.unbroken, g.undivided)
+gather_halts start now new text line end g t = (stopped_at start now new g.lines line end g.bytes g.unbroken t, g.undivided)
 
 spelled_more : (lines : List (List ℕ)) (line : List ℕ) → spelled lines ++ (line ++ 10 ∷ []) ≡ spelled (lines ++ line ∷ [])
 spelled_more lines line = sym (spelled_append lines (line ∷ []))
@@ -75,8 +75,12 @@ divided_by start now new text text' line Feed g t d e = record {
 divided_by start now new text text' line Input g t d e =
     let all : lines_of (spelled g.lines ++ line) ≡ g.lines ++ line ∷ [] = lines_of_spelled g.lines line g.unbroken ∙ ap (λ l. g.lines ++ l) (lines_of_last line t.1 ∙ last_is_line line d) in
     record {
-      all = spelled g.lines ++ line;
+      lines = g.lines;
+      last = line;
       bytes = consumes_trans start now new _ _ g.bytes t.0;
+      unbroken = g.unbroken;
+      unfed = t.1;
+      undivided = g.undivided;
       end = t.2;
       no_commands = ap command_lines all ∙ commands_of_divided g.lines line [] g.undivided d;
       is_text = e ∙ (g.is_text ∙ sym (ap program_text all ∙ ap spelled (program_of_divided g.lines line [] g.undivided d)));
@@ -97,8 +101,12 @@ whole_by start now new text text' line Input g t d e i =
     let all : lines_of (spelled g.lines ++ line) ≡ lines = lines_of_spelled g.lines line g.unbroken ∙ ap (λ l. g.lines ++ l) (lines_of_last line t.1) in
     let none = undivided_append g.lines (last_line line) g.undivided (undivided_last line d) in
     record {
-      all = spelled g.lines ++ line;
+      lines = g.lines;
+      last = line;
       bytes = consumes_trans start now new _ _ g.bytes t.0;
+      unbroken = g.unbroken;
+      unfed = t.1;
+      undivided = g.undivided;
       end = t.2;
       no_commands = ap command_lines all ∙ commands_of_undivided lines none;
       is_text = e ∙ (ap (λ l. l ++ spelled (last_line line)) g.is_text ∙ (sym (spelled_append g.lines (last_line line)) ∙ sym (ap program_text all ∙ ap spelled (program_of_undivided lines none))));

@@ -1,7 +1,9 @@
 pub mod LineLemmas
+pub mod StopLemmas
 pub mod GatherLemmas
 pub mod RunLemmas
 pub mod ServeLemmas
 pub mod BeginLemmas
 pub mod EndLemmas
 pub mod DividerLemmas
+pub mod OneTextLemmas

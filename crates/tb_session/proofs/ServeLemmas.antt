@@ -20,6 +20,7 @@ use Rattle.tb_lines.proofs.KnownLemmas.{consumes_nil, consumes_trans, appends_ni
 use Rattle.tb_replies.proofs.ToldLemmas.{begins_cut, reply_extends}
 use Rattle.tb_session.proofs.LineLemmas.{lines_of_spelled, lines_of_whole, lines_of_last, spelled_append, all_more}
 use Rattle.tb_session.proofs.RunLemmas.{run_append, run_one}
+use Rattle.tb_session.proofs.StopLemmas.{stopped_at, stopped_within}
 
 module _ (workers : ℕ) where
   -- what waits of a reply was written
@@ -49,7 +50,7 @@ module _ (workers : ℕ) where
 
   pub serve_memory : (s new : Session) (start now next before after : Option (List ℕ)) (line : List ℕ) (fault : LineFault) → Serving s start now before after new → GaveLine now next line (Err fault) → Served workers s start next before after (Err Memory)
   serve_memory s new start now next before after line fault g t =
-      inl (g.lines, line, g.out, consumes_trans start now next _ line g.bytes t.0, g.unbroken, (new, g.ran), g.wrote)
+      inl (record { stopped = stopped_within start now next g.lines line fault g.bytes g.unbroken t; out = g.out; replies = (new, g.ran); wrote = g.wrote })
 
   -- the bytes of a line, with its line feed where it has one
   bytes_at : LineEnd → List ℕ → List ℕ
@@ -60,16 +61,6 @@ module _ (workers : ℕ) where
   unfolding bytes_at
   taken_at now next line Feed t = t.0
   taken_at now next line Input t = t.0
-
-  -- the line, and what stood behind it
-  split_at : (now next : Option (List ℕ)) (line : List ℕ) (end : LineEnd) → GaveLine now next line (Ok end) → (more : List ℕ) × (bytes_at end line ≡ line ++ more)
-  unfolding bytes_at
-  split_at now next line Feed t = (10 ∷ [], refl)
-  split_at now next line Input t = ([], sym (append-nil line))
-
-  unbroken_at : (now next : Option (List ℕ)) (line : List ℕ) (end : LineEnd) → GaveLine now next line (Ok end) → IsUnbroken line
-  unbroken_at now next line Feed t = t.1
-  unbroken_at now next line Input t = t.1
 
   lines_at : (now next : Option (List ℕ)) (lines : List (List ℕ)) (line : List ℕ) (end : LineEnd) → AreUnbroken lines → GaveLine now next line (Ok end) → lines_of (spelled lines ++ bytes_at end line) ≡ lines ++ line_at end line
   unfolding bytes_at
@@ -95,21 +86,19 @@ module _ (workers : ℕ) where
       → Appends after last [] ⊎ (AsksSteps workers seen × Begins (Answers workers mid seen) after last) → Served workers s start next before last (Err Memory)
   breaks_off s mid start now next before after last line seen end g t same (inl a) =
       let W : List ℕ → Type 0 = λ l. Appends before last l in
-      inl (g.lines, bytes_at end line, g.out, consumes_trans start now next _ _ g.bytes (taken_at now next line end t), g.unbroken, (mid, g.ran), subst W (append-nil g.out) (appends_trans before after last g.out [] g.wrote a))
+      inl (record {
+        stopped = stopped_at start now next g.lines line end g.bytes g.unbroken t;
+        out = g.out;
+        replies = (mid, g.ran);
+        wrote = subst W (append-nil g.out) (appends_trans before after last g.out [] g.wrote a);
+      })
   breaks_off s mid start now next before after last line seen end g t same (inr a) =
       let A : List ℕ → Type 0 = λ l. Answers workers mid l a.1.0 a.1.1 in
-      let B : List ℕ → Type 0 = λ l. Consumes start next (spelled g.lines ++ l) in
-      let split = split_at now next line end t in
       inr (record {
-        lines = g.lines;
-        line = line;
-        more = split.0;
+        stopped = stopped_at start now next g.lines line end g.bytes g.unbroken t;
         out = g.out;
         reply = a.1.0;
         n = a.1.2;
-        read = subst B split.1 (consumes_trans start now next _ _ g.bytes (taken_at now next line end t));
-        unbroken = g.unbroken;
-        next = unbroken_at now next line end t;
         asks = subst (AsksSteps workers) same a.0;
         replies = (mid, a.1.1, g.ran, subst A same a.1.3);
         wrote = appends_trans before after last g.out (take a.1.2 a.1.0) g.wrote a.1.4;
@@ -120,20 +109,15 @@ module _ (workers : ℕ) where
   serve_halts s mid start now next before after last line seen end (Refused fault) g t same a = absurd a
   serve_halts s mid start now next before after last line seen end Read g t same a = absurd a
   serve_halts s mid start now next before after last line seen end Journal g t same a =
-      let W : List ℕ → Type 0 = λ l. Appends before last l in
-      let B : List ℕ → Type 0 = λ l. Consumes start next (spelled g.lines ++ l) in
-      let split = split_at now next line end t in (
-        g.lines,
-        line,
-        split.0,
-        g.out,
-        subst B split.1 (consumes_trans start now next _ _ g.bytes (taken_at now next line end t)),
-        g.unbroken,
-        unbroken_at now next line end t,
-        subst (AsksSeveral workers) same a.0,
-        (mid, g.ran),
-        subst W (append-nil g.out) (appends_trans before after last g.out [] g.wrote a.1),
-      )
+      let W : List ℕ → Type 0 = λ l. Appends before last l in record {
+        halts = record {
+          stopped = stopped_at start now next g.lines line end g.bytes g.unbroken t;
+          out = g.out;
+          replies = (mid, g.ran);
+          wrote = subst W (append-nil g.out) (appends_trans before after last g.out [] g.wrote a.1);
+        };
+        asks = subst (AsksSeveral workers) same a.0;
+      }
   serve_halts s mid start now next before after last line seen end Memory g t same a = breaks_off s mid start now next before after last line seen end g t same a
   serve_halts s mid start now next before after last line seen end Write g t same a =
       let A : List ℕ → Type 0 = λ l. Answers workers mid l a.0 a.1 in

@@ -1,11 +1,11 @@
 -- The answer to what was read.
-use Rattle.std.specs.Prelude.{◌≡◌, ◌⊎◌, ℕ, List, [], ◌∷◌, ◌++◌, take, if◌then◌else◌, Option, None, Some, Result, Ok, Err, false, ⊤}
+use Rattle.std.specs.Prelude.{◌≡◌, ◌≤◌, ◌⊎◌, ℕ, List, [], ◌∷◌, ◌++◌, length, take, if◌then◌else◌, Option, None, Some, Result, Ok, Err, false, ⊤}
 use Rattle.std.specs.List.{AllByRecursion}
 use Rattle.std.specs.Io.KnownBytes.{Consumes, IsAtEnd, Appends}
 use Rattle.tb_model.specs.Program.{Program}
 use Rattle.tb_read.specs.declared.fault.ReadFault.{ReadFault}
 use Rattle.tb_read.specs.Text.{lines_of}
-use Rattle.tb_lines.specs.Lines.{spelled, AreUnbroken, IsUnbroken}
+use Rattle.tb_lines.specs.Lines.{spelled, AreUnbroken, IsUnbroken, most_ahead}
 use Rattle.tb_session.specs.Divider.{is_divider}
 use Rattle.tb_replies.specs.Reading.{IsProgram, IsRefused}
 use Rattle.tb_live.specs.Session.{Session, opened}
@@ -54,31 +54,55 @@ IsAnswer workers limit bytes out = AnswerTo workers limit (lines_of bytes) out
 abbrev pub Replied : (workers limit : ℕ) → List (List ℕ) → List ℕ → Type 0
 Replied workers limit lines out = (AreUndivided lines × (out ≡ [])) ⊎ AnswerTo workers limit lines out
 
--- ---- a reply that breaks off
+-- ---- a session that stops at a line
+
+-- whole lines were read, a line after them that is not answered, with its line feed or in part, and of what comes after it no
+-- more than so many bytes
+pub record Stopped (most : ℕ) (left rest : Option (List ℕ)) : Type 0 where
+  pub lines : List (List ℕ)
+  pub line : List ℕ
+  pub feed : List ℕ
+  pub ahead : List ℕ
+  pub read : Consumes left rest (spelled lines ++ (line ++ (feed ++ ahead)))
+  pub unbroken : AreUnbroken lines
+  pub next : IsUnbroken line
+  pub ended : (feed ≡ []) ⊎ (feed ≡ 10 ∷ [])
+  pub few : length ahead ≤ most
+
+-- the replies to the whole lines were written, and nothing of the line after them
+pub record Halts (most : ℕ) (AreReplies : List (List ℕ) → List ℕ → Type 0) (left rest before after : Option (List ℕ)) : Type 0 where
+  pub stopped : Stopped most left rest
+  pub out : List ℕ
+  pub replies : AreReplies stopped.lines out
+  pub wrote : Appends before after out
+
+-- so it is where the line after them asks for a `go` of two or more workers
+pub record Loses (workers most : ℕ) (AreReplies : List (List ℕ) → List ℕ → Type 0) (left rest before after : Option (List ℕ)) : Type 0 where
+  pub halts : Halts most AreReplies left rest before after
+  pub asks : AsksSeveral workers halts.stopped.line
 
 -- these may be the replies to these lines, and this one to the line after them
 abbrev pub RepliesWith : ℕ → Session → List (List ℕ) → List ℕ → List ℕ → List ℕ → Type 0
 RepliesWith workers s lines out line reply = (mid : Session) × (new : Session) × RunOf (Answers workers) s lines out mid × Answers workers mid line reply new
 
--- the same where the program is accepted, and its divider is among the lines
+-- the program is accepted, its divider is among the lines, and these may be the replies to the commands after it
+abbrev pub Commanded : (workers limit : ℕ) → List (List ℕ) → List ℕ → Type 0
+Commanded workers limit lines out = (AreUndivided lines → ⊥) × AnswerTo workers limit lines out
+
+-- so it is, and this may be the reply to the line after them
 abbrev pub AnswersWith : (workers limit : ℕ) → List (List ℕ) → List ℕ → List ℕ → List ℕ → Type 0
 AnswersWith workers limit lines out line reply =
     (AreUndivided lines → ⊥) × ((P : Program) × IsProgram (program_text lines) P × RepliesWith workers (opened P limit 65) (command_lines lines) out line reply)
 
 -- the replies to whole lines were written, and a beginning of a reply to the next one, which asks for steps that are told in
 -- pieces
-pub record BrokeOff (workers : ℕ) (AreReplies : List (List ℕ) → List ℕ → List ℕ → List ℕ → Type 0) (left rest before after : Option (List ℕ)) : Type 0 where
-  pub lines : List (List ℕ)
-  pub line : List ℕ
-  pub more : List ℕ
+pub record BrokeOff (workers most : ℕ) (AreReplies : List (List ℕ) → List ℕ → List ℕ → List ℕ → Type 0) (left rest before after : Option (List ℕ)) : Type 0 where
+  pub stopped : Stopped most left rest
   pub out : List ℕ
   pub reply : List ℕ
   pub n : ℕ
-  pub read : Consumes left rest (spelled lines ++ (line ++ more))
-  pub unbroken : AreUnbroken lines
-  pub next : IsUnbroken line
-  pub asks : AsksSteps workers line
-  pub replies : AreReplies lines out line reply
+  pub asks : AsksSteps workers stopped.line
+  pub replies : AreReplies stopped.lines out stopped.line reply
   pub wrote : Appends before after (out ++ take n reply)
 
 -- the program of all that was to come is refused, where that is known
@@ -100,12 +124,8 @@ Ran workers limit left rest before after (Err Read) =
 Ran workers limit left rest before after (Err Write) =
     (bytes : List ℕ) × (more : List ℕ) × (out : List ℕ) × (n : ℕ) × Consumes left rest (bytes ++ more)
     × IsAnswer workers limit bytes out × Appends before after (take n out)
--- the replies to the whole lines that were worked on, or these and a beginning of the next one
+-- the replies to all whole lines in front of the one that wants memory, or these and a beginning of its own
 Ran workers limit left rest before after (Err Memory) =
-    ((lines : List (List ℕ)) × (more : List ℕ) × (out : List ℕ) × Consumes left rest (spelled lines ++ more)
-    × AreUnbroken lines × Replied workers limit lines out × Appends before after out)
-    ⊎ BrokeOff workers (AnswersWith workers limit) left rest before after
--- the same in front of a line that asks for a go of two or more workers
-Ran workers limit left rest before after (Err Journal) =
-    (lines : List (List ℕ)) × (line : List ℕ) × (more : List ℕ) × (out : List ℕ) × Consumes left rest (spelled lines ++ (line ++ more))
-    × AreUnbroken lines × IsUnbroken line × AsksSeveral workers line × Replied workers limit lines out × Appends before after out
+    Halts most_ahead (Replied workers limit) left rest before after ⊎ BrokeOff workers most_ahead (AnswersWith workers limit) left rest before after
+-- the replies to all commands in front of one that asks for a go of two or more workers
+Ran workers limit left rest before after (Err Journal) = Loses workers most_ahead (Commanded workers limit) left rest before after

@@ -10,7 +10,7 @@ use Rattle.tb_live.specs.Session.{Session, Held, opened}
 use Rattle.tb_commands.specs.Commands.{AsksSeveral}
 use Rattle.tb_replies.specs.Replies.{Answers}
 use Rattle.tb_replies.specs.Told.{AsksSteps, Begins}
-use Rattle.tb_session.specs.Answer.{BrokeOff, Replies, RepliesWith, AreUndivided, program_text, command_lines, Refuses}
+use Rattle.tb_session.specs.Answer.{Stopped, Halts, Loses, BrokeOff, Replies, RepliesWith, AreUndivided, program_text, command_lines, Refuses}
 use Rattle.tb_session.specs.declared.halt.Halt.{Halt}
 use Rattle.tb_session.specs.declared.halt.Halt.TheVariants.{Refused, Read, Write, Memory, Journal}
 use Rattle.tb_lines.specs.declared.line_reader.LineEnd.{LineEnd}
@@ -22,9 +22,9 @@ use Rattle.tb_lines.specs.declared.line_reader.LineFault.TheVariants.{Read as No
 abbrev pub Cut : Option (List ℕ) → Option (List ℕ) → Type 0
 Cut old new = (lines : List (List ℕ)) × (part : List ℕ) × Consumes old new (spelled lines ++ part) × AreUnbroken lines × IsUnbroken part × AreUndivided lines
 
--- the same, with whole lines left
+-- so it stopped at a line, of the program or its divider
 abbrev pub Halted : Option (List ℕ) → Option (List ℕ) → Type 0
-Halted old new = (lines : List (List ℕ)) × (more : List ℕ) × Consumes old new (spelled lines ++ more) × AreUnbroken lines × AreUndivided lines
+Halted old new = (stopped : Stopped 0 old new) × AreUndivided stopped.lines
 
 -- the lines of the program, and the divider behind them
 pub record Divided (old new : Option (List ℕ)) (text : List ℕ) : Type 0 where
@@ -36,13 +36,17 @@ pub record Divided (old new : Option (List ℕ)) (text : List ℕ) : Type 0 wher
   pub divides : is_divider divider ≡ true
   pub is_text : text ≡ spelled program
 
--- all that came is the program, and perhaps its divider
+-- all that came is the program, and perhaps its divider, by whole lines and a last piece
 pub record Whole (old new : Option (List ℕ)) (text : List ℕ) : Type 0 where
-  pub all : List ℕ
-  pub bytes : Consumes old new all
+  pub lines : List (List ℕ)
+  pub last : List ℕ
+  pub bytes : Consumes old new (spelled lines ++ last)
+  pub unbroken : AreUnbroken lines
+  pub unfed : IsUnbroken last
+  pub undivided : AreUndivided lines
   pub end : IsAtEnd new
-  pub no_commands : command_lines (lines_of all) ≡ []
-  pub is_text : text ≡ program_text (lines_of all)
+  pub no_commands : command_lines (lines_of (spelled lines ++ last)) ≡ []
+  pub is_text : text ≡ program_text (lines_of (spelled lines ++ last))
 
 -- the program text was taken, and is this
 abbrev pub Gathered : Option (List ℕ) → Option (List ℕ) → List ℕ → Result LineEnd LineFault → Type 0
@@ -58,13 +62,8 @@ Served workers s old new before after (Err Read) =
     (lines : List (List ℕ)) × (part : List ℕ) × (out : List ℕ) × Consumes old new (spelled lines ++ part)
     × AreUnbroken lines × IsUnbroken part × Replies workers s lines out × Appends before after out
 Served workers s old new before after (Err Write) = (bytes : List ℕ) × (out : List ℕ) × (n : ℕ) × Consumes old new bytes × Replies workers s (lines_of bytes) out × Appends before after (take n out)
-Served workers s old new before after (Err Memory) =
-    ((lines : List (List ℕ)) × (more : List ℕ) × (out : List ℕ) × Consumes old new (spelled lines ++ more)
-    × AreUnbroken lines × Replies workers s lines out × Appends before after out)
-    ⊎ BrokeOff workers (RepliesWith workers s) old new before after
-Served workers s old new before after (Err Journal) =
-    (lines : List (List ℕ)) × (line : List ℕ) × (more : List ℕ) × (out : List ℕ) × Consumes old new (spelled lines ++ (line ++ more))
-    × AreUnbroken lines × IsUnbroken line × AsksSeveral workers line × Replies workers s lines out × Appends before after out
+Served workers s old new before after (Err Memory) = Halts 0 (Replies workers s) old new before after ⊎ BrokeOff workers 0 (RepliesWith workers s) old new before after
+Served workers s old new before after (Err Journal) = Loses workers 0 (Replies workers s) old new before after
 Served workers s old new before after (Err _) = ⊥
 
 -- one line was answered, or a part of its reply was written

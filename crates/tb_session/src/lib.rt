@@ -3,6 +3,7 @@
 
 mod divider;
 mod halt;
+pub mod laws;
 mod opening;
 mod serving;
 mod session;

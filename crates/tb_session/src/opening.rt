@@ -1,7 +1,8 @@
 //! Reads the program of a session.
 
-ghost use Rattle.std.specs.Prelude.{◌≡◌, ◌+◌, ◌-◌, ◌<◌, ◌≤◌, ◌^◌, [], IfOk, OnOk, IsErrOf};
+ghost use Rattle.std.specs.Prelude.{◌≡◌, ◌+◌, ◌-◌, ◌<◌, ◌≤◌, ◌^◌, [], length, IfOk, OnOk, IsErrOf};
 ghost use Rattle.std.specs.Io.KnownBytes.{prepend_known};
+ghost use Rattle.tb_lines.specs.Lines.{most_ahead};
 ghost use Rattle.tb_live.specs.Session.{opened};
 ghost use Rattle.tb_session.specs.Stages.{Gathered, Kept, Opens};
 
@@ -46,6 +47,7 @@ pub fn gather<R: Wait, S: Source>(
         → S.failures source.new ≡ S.failures source.old }
     ensures read { IsErrOf result LineFault.Read
         → (S.failures source.new ≡ S.failures source.old + 1) × (reader.new ≡ []) }
+    ensures ahead { length reader.new ≤ most_ahead }
 {
     let mut line = Vec::new(alloc);
     'lines: for _ in rt.forever() {

@@ -1,7 +1,8 @@
 //! Works on the commands of a session.
 
-ghost use Rattle.std.specs.Prelude.{◌≡◌, ◌+◌, ◌-◌, ◌<◌, ◌^◌, ◌↔◌, [], IfOk, OnOk, IsErrOf};
+ghost use Rattle.std.specs.Prelude.{◌≡◌, ◌+◌, ◌-◌, ◌<◌, ◌≤◌, ◌^◌, ◌↔◌, [], length, IfOk, OnOk, IsErrOf};
 ghost use Rattle.std.specs.Io.KnownBytes.{prepend_known};
+ghost use Rattle.tb_lines.specs.Lines.{most_ahead};
 ghost use Rattle.tb_session.specs.Stages.{Answered, Served};
 ghost use Rattle.tb_team.specs.Gone.{HasSeats};
 
@@ -72,6 +73,7 @@ pub fn serve<R: Threads + Wait + Sync, S: Source, K: Sink>(
     ensures read { IsErrOf result Halt.Read ↔ (S.failures source.old < S.failures source.new) }
     ensures write { IsErrOf result Halt.Write ↔ (K.failures sink.old < K.failures sink.new) }
     ensures emptied { IsErrOf result Halt.Read → reader.new ≡ [] }
+    ensures ahead { length reader.new ≤ most_ahead }
 {
     let mut line = Vec::new(alloc);
     let mut live = live;

@@ -1,7 +1,8 @@
 //! A session: a program, the commands behind it, and the replies.
 
-ghost use Rattle.std.specs.Prelude.{◌≡◌, ◌+◌, ◌-◌, ◌<◌, ◌≤◌, ◌^◌, ◌↔◌, [], OnOk, IsErrOf};
+ghost use Rattle.std.specs.Prelude.{◌≡◌, ◌+◌, ◌-◌, ◌<◌, ◌≤◌, ◌^◌, ◌↔◌, [], length, OnOk, IsErrOf};
 ghost use Rattle.std.specs.Io.KnownBytes.{prepend_known};
+ghost use Rattle.tb_lines.specs.Lines.{most_ahead};
 ghost use Rattle.tb_session.specs.Answer.{Ran};
 ghost use Rattle.tb_session.specs.Stages.{Begun};
 
@@ -32,6 +33,7 @@ fn begin<R: Wait, S: Source>(
     ensures read { IsErrOf result Halt.Read ↔ (S.failures source.old < S.failures source.new) }
     ensures ok { OnOk result (S.failures source.new ≡ S.failures source.old) }
     ensures emptied { IsErrOf result Halt.Read → reader.new ≡ [] }
+    ensures ahead { length reader.new ≤ most_ahead }
 {
     let mut text = Vec::new(alloc);
     let end = match gather(rt, alloc, reader, source, &mut text) {

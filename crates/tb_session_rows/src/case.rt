@@ -19,9 +19,18 @@ fn settings(limit: &str) -> Settings {
     }
 }
 
+/// Whether these are the bytes that are wanted, or end with them.
+fn is_met(got: &[u8], want: &[u8], last: bool) -> bool {
+    if last {
+        got.ends_with(want)
+    } else {
+        got == want
+    }
+}
+
 /// The first line that differs, or `ok`.
-fn compared(alloc: Global, got: &[u8], want: &[u8]) -> Result<String, AllocError> {
-    if got == want {
+fn compared(alloc: Global, got: &[u8], want: &[u8], last: bool) -> Result<String, AllocError> {
+    if is_met(got, want, last) {
         return String::from_str(alloc, "ok");
     }
     let same = got
@@ -33,15 +42,19 @@ fn compared(alloc: Global, got: &[u8], want: &[u8]) -> Result<String, AllocError
     format!(in alloc; "differs behind {line} lines")
 }
 
-/// Runs the case, and tells whether it writes what it is to write.
+/// Runs the case, and tells whether it writes what it is to write, or last this, where the limit is followed by a word.
 pub fn tell<R: Files + AllocGlobal + Threads + Wait + Sync>(
     rt: &R,
     name: &str,
     limit: &str,
 ) -> io::Result<String> {
     let alloc = rt.alloc();
+    let (limit, last) = match limit.split_once(' ') {
+        Some((limit, _)) => (limit, true),
+        None => (limit, false),
+    };
     let session = fs::read(rt, format!(in alloc; "{name}.session")?)?;
     let want = fs::read(rt, format!(in alloc; "{name}.out")?)?;
     let got = outcome(rt, &session, settings(limit))?;
-    Ok(compared(alloc, &got, &want)?)
+    Ok(compared(alloc, &got, &want, last)?)
 }

@@ -2,7 +2,7 @@
 
 ghost use Rattle.std.specs.Prelude.{◌<◌, ◌≤◌, length};
 
-use crate::asking::{burst_committed, burst_planned, planned, rolled, step_all};
+use crate::asking::{burst_committed, burst_planned, committed, planned, rolled, step_all, undone};
 use crate::gates::Counting;
 use crate::goes::go;
 use crate::scenario::{Left, Scenario};
@@ -59,7 +59,7 @@ pub fn go_by_bursts<N: Team + Send + Sync, R: Threads + Wait + Abort + AllocGlob
     assert_eq!(rt; gate.calls(), 7);
 }
 
-/// A rollback withdraws a burst; without plans it ends the claim.
+/// A rollback withdraws a burst, behind a step that goes and of a task that goes. Without plans a burst ends the claim.
 pub fn withdraw_a_burst<N: Team + Send + Sync, R: Threads + Wait + Abort + AllocGlobal + Sync>(
     rt: &R,
     shared: &Shared<N>,
@@ -70,11 +70,20 @@ pub fn withdraw_a_burst<N: Team + Send + Sync, R: Threads + Wait + Abort + Alloc
     };
     step_all(rt, shared, zero, ROOT.as_slice());
     step_all(rt, shared, zero, ["0.1"].as_slice());
-    let plans = burst_planned(rt, shared, one);
+    let first = burst_planned(rt, shared, one);
+    let second = burst_planned(rt, shared, two);
+    assert_eq!(rt; burst_committed(rt, shared, two, second), (1, 0));
     assert_eq!(rt; rolled(rt, shared, zero, "0.1#1"), 1);
-    assert_eq!(rt; burst_committed(rt, shared, one, plans), (0, 10));
+    assert_eq!(rt; burst_committed(rt, shared, one, first), (0, 10));
     commit_nothing(rt, shared, one);
-    step_all(rt, shared, two, ["0.1"].as_slice());
+    // four steps of the root and one are left, and eight entries
+    let plan = planned(rt, shared, two, "0.2");
+    assert_eq!(rt; committed(rt, shared, two, plan), 8);
+    assert_eq!(rt; rolled(rt, shared, zero, "0.2#1"), 2);
+    let pending = burst_planned(rt, shared, one);
+    assert_eq!(rt; rolled(rt, shared, zero, "0#2"), 3);
+    assert_eq!(rt; burst_committed(rt, shared, one, pending), (0, 10));
+    assert_eq!(rt; undone(rt, shared, zero, "0#1"), 1);
 }
 
 fn commit_nothing<N: Team, R: Wait + Abort + AllocGlobal>(
@@ -106,11 +115,11 @@ fn a_worker_takes_bursts(rt: HostRuntime) {
 }
 
 #[test]
-fn a_burst_behind_a_removed_step_is_withdrawn(rt: HostRuntime) {
+fn bursts_behind_what_is_removed_are_withdrawn(rt: HostRuntime) {
     let live = opened(rt.alloc(), SPAWNED, 20, 3).expect(&rt, "an accepted program");
     let left = Left {
-        steps: 5,
-        entries: Some(8),
+        steps: 0,
+        entries: Some(12),
         cells: Some(&[0, 0]),
     };
     play(&rt, live, Scenario::WithdrawBurst, &left);

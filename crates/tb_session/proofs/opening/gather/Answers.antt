@@ -1,6 +1,9 @@
 use Rattle.std.proofs.Common.{rules}
-use Rattle.tb_session.proofs.GatherLemmas.{gather_divided, gather_halts, gather_whole, gather_more}
+use Rattle.tb_session.proofs.GatherLemmas.{gather_fails, gather_divided, gather_halts, gather_whole, gather_more}
 use Rattle.tb_session.proofs.opening.gather.Goals as goal
+
+pub returns-in-Err-clause-gathered : goal.returns-in-Err-clause-gathered
+returns-in-Err-clause-gathered g c = gather_fails _ _ _ _ _ c.in-Err.fault c.lines.invariant.taken c.in-Err.ensures.line
 
 pub returns-in-Ok-true-clause-gathered : goal.returns-in-Ok-true-clause-gathered
 returns-in-Ok-true-clause-gathered g c =

@@ -6,13 +6,13 @@ use Rattle.tb_session.proofs.session.run.Goals as goal
 pub returns-in-Err-clause-ran : goal.returns-in-Err-clause-ran
 returns-in-Err-clause-ran g c =
     let emptied : c.in-Err.halt ≡ Read → c.begin.new.reader ≡ [] = λ e. c.in-Err.ensures.emptied (cc) in
-    ran_not_begun c.args.settings.workers c.args.settings.limit _ _ _ _ _ c.in-Err.halt c.new-reader.ensures c.in-Err.ensures.begun emptied
+    ran_not_begun c.args.settings.workers c.args.settings.limit _ _ _ _ _ c.in-Err.halt c.new-reader.ensures c.in-Err.ensures.begun emptied c.in-Err.ensures.ahead
 
 pub returns-in-Feed-clause-ran : goal.returns-in-Feed-clause-ran
 returns-in-Feed-clause-ran g c =
     let begun = rw (c.new-reader.ensures, c.in-Feed.is) at c.in-Ok.ensures.begun in
     let served = rw c.new-workers.ensures at c.serve.ensures.served in
-    ran_commands c.args.settings.workers c.args.settings.limit _ _ c.in-Ok.begun.0.session begun _ _ _ _ c.serve.result served c.serve.ensures.emptied
+    ran_commands c.args.settings.workers c.args.settings.limit _ _ c.in-Ok.begun.0.session begun _ _ _ _ c.serve.result served c.serve.ensures.emptied c.serve.ensures.ahead
 
 pub returns-in-Feed-clause-read : goal.returns-in-Feed-clause-read
 returns-in-Feed-clause-read g c = rw (← c.in-Ok.ensures.ok) c.serve.ensures.read
