@@ -28,7 +28,7 @@ void Memory::take(std::size_t at) {
     const event &e = run_.trace[at];
     if (e.kind == BARRIER_END || e.kind == REGION_END)
         copied_at_.clear();
-    if (e.kind == MEMORY || (e.kind == END && e.mark == STACK))
+    if (e.kind == MEMORY || ((e.kind == START || e.kind == END) && e.mark == STACK))
         return is_new(at, e);
     if (e.kind == GROUP_CLOSE) {
         auto found = run_.combined.find(at);
@@ -49,7 +49,21 @@ void Memory::take(std::size_t at) {
     }
     if (run_.segments[run_.segment_of[at]].actor == 0 && run_.trace.thread(at) != 0)
         strangers++;
+    if (e.size == SET)
+        return touch_set(at, e);
     touch(at, e.address, size ? size : 1, e.kind == WRITE, e.mark);
+}
+
+// Elements that stand in a row are touched together.
+void Memory::touch_set(std::size_t at, const event &e) {
+    const u64 size = u64{1} << ((e.mark >> ROW_SHIFT) - 1);
+    for (u64 i = 0, count; i < 64; i += count) {
+        for (count = 0; i + count < 64 && e.value >> (i + count) & 1; count++) {}
+        if (count)
+            touch(at, e.address + i * size, count * size, e.kind == WRITE, e.mark);
+        else
+            count = 1;
+    }
 }
 
 // What a block is given back for reaches over many places; only those that somebody has touched are looked at.
@@ -216,7 +230,7 @@ void Memory::is_new(std::size_t at, const event &e) {
     freed_.erase(freed_.lower_bound(e.address), freed_.lower_bound(e.address + e.value));
     auto last = blocks.lower_bound(e.address + e.value);
     auto first = blocks.lower_bound(e.address);
-    if (e.kind == MEMORY && e.mark == STACK && run_.segment_of[at] != NONE)
+    if (e.kind != END && e.mark == STACK && run_.segment_of[at] != NONE)
         stacks_.emplace(run_.segments[run_.segment_of[at]].actor, std::make_pair(e.address, e.value));
     blocks.erase(first, last);
     blocks[e.address] = Block{e.value, static_cast<u32>(at), run_.segment_of[at]};

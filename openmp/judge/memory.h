@@ -69,6 +69,7 @@ private:
     };
 
     void take(std::size_t at);
+    void touch_set(std::size_t at, const event &e);
     void touch(std::size_t at, u64 address, u64 size, bool is_write, u8 mark);
     void touch_place(Now &now, u32 &place);
     bool compare(const Now &now, Bucket &bucket);

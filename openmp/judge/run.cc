@@ -99,7 +99,12 @@ void Run::take_sync(std::size_t at, const event &e) {
     case ITEM:
         actors[state_of(e).actor].items.push_back(Item{e.address, e.value, e.mark});
         return;
-    case START: return start(e, trace.thread(at));
+    case START:
+        start(e, trace.thread(at));
+        segment_of[at] = state_of(e).segment;
+        if (e.mark == STACK)
+            forget_released(e);
+        return;
     case END:
         segment_of[at] = state_of(e).segment;
         return end(e);
@@ -122,11 +127,16 @@ void Run::take_sync(std::size_t at, const event &e) {
     case COPY: return copy(e);
     case MEMORY:
         segment_of[at] = state_of(e).segment;
-        released_.erase(released_.lower_bound(e.address), released_.lower_bound(e.address + e.value));
+        forget_released(e);
         return;
     case ENDED: return;
     default: return take_share(e);
     }
+}
+
+// What was released in memory that is new was somebody else's.
+void Run::forget_released(const event &e) {
+    released_.erase(released_.lower_bound(e.address), released_.lower_bound(e.address + e.value));
 }
 
 void Run::take_share(const event &e) {

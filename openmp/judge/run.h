@@ -189,6 +189,7 @@ private:
     void take(std::size_t at);
     void take_sync(std::size_t at, const event &e);
     void take_share(const event &e);
+    void forget_released(const event &e);
 
     u32 add_segment(u32 actor, u32 node, u32 flags);
     u32 node_of(State &s);              // of the segment, which gets one where it has none
