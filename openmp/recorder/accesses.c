@@ -107,7 +107,7 @@ static inline uint64_t alone(enum kind kind, uint64_t address) { return address 
 
 /* An access that comes again in one part of a task changes no order: it is written down once, a write with the number that
    it leaves in the end. */
-static inline void touch_again(struct own *own, struct event *first, enum kind kind, int has_number) {
+__attribute__((always_inline)) static inline void touch_again(struct own *own, struct event *first, enum kind kind, int has_number) {
     own->last = first;
     if (kind != WRITE || !has_number || own->unread == first)
         return;
@@ -116,7 +116,7 @@ static inline void touch_again(struct own *own, struct event *first, enum kind k
 }
 
 /* Whether the element has been written down; in a part that isn't busy each element that is written has its own number. */
-static inline int is_known(struct own *own, const struct touched *touched, enum kind kind, uint64_t address, uint64_t bit) {
+__attribute__((always_inline)) static inline int is_known(struct own *own, const struct touched *touched, enum kind kind, uint64_t address, uint64_t bit) {
     if (!(touched->bits & bit))
         return 0;
     if (touched->first->address == address) {
@@ -142,32 +142,50 @@ static struct event *note_touch(struct own *own, enum kind kind, uint64_t addres
     return event;
 }
 
-/* One more element of a block that the place has touched, by the same chain of callers: the next one behind the first is
-   the same event. Where the part has much to tell, all others of the block are a second one. */
-static inline int joins(struct own *own, struct touched *touched, enum kind kind, uint64_t address, uint32_t shift,
-                        uint64_t place) {
+/* One more element of a block that the place has touched, by one chain of callers: the next one behind the first is the
+   same event. Where the part has much to tell, all others of the block are a second one. */
+enum { UNKNOWN, GROWS, STAYS };
+
+__attribute__((always_inline)) static inline int joins(struct own *own, struct touched *touched, uint64_t address, uint32_t shift, uint64_t bit,
+                        const struct frame *frame) {
     struct event *first = touched->first;
-    uint8_t mark = row_mark(shift);
-    if (first->mark != mark && first->mark != 0)
+    const struct frame *user = frame->outer;
+    if (touched->growth != GROWS || first->mark & ATOMIC || touched->frame != (uint64_t)user || touched->caller != user->back)
         return 0;
-    if (!touched->set && address == first->address + first->size) {
-        taskback_settle(own);
+    if (touched->set) {
+        touched->set->value |= bit;
+    } else if (address == first->address + first->size) {
         first->size = (uint16_t)(first->size + (1u << shift));
-        first->mark = mark;
-    } else if (is_busy(own)) {
-        if (!touched->set && own->next == own->end)
-            return 0;       /* the page is turned, and all in it forgotten */
-        if (!touched->set) {
-            touched->set = taskback_note_access(own, kind, address >> (shift + 6) << (shift + 6), place, mark);
-            touched->set->size = SET;
-        }
-        touched->set->value |= 1ull << (address >> shift & 63);
+        first->mark = row_mark(shift);
     } else {
         return 0;
     }
     own->last = 0;
-    touched->bits |= 1ull << (address >> shift & 63);
+    touched->bits |= bit;
     return 1;
+}
+
+/* Begins the second event, where there is room in the page: else all that is in it is forgotten. */
+static void begin_set(struct own *own, struct touched *touched, enum kind kind, uint64_t address, uint32_t shift,
+                      uint64_t place) {
+    if (touched->set || !is_busy(own) || own->next == own->end)
+        return;
+    touched->set = taskback_note_access(own, kind, address >> (shift + 6) << (shift + 6), place, row_mark(shift));
+    touched->set->size = SET;
+}
+
+/* Whether nothing of the block is left out, and the place has a frame by which its callers are told apart. */
+static uint64_t may_grow(const struct own *own, enum kind kind, uint64_t address, uint32_t shift, const struct frame *frame) {
+    uint64_t low = address >> (shift + 6) << (shift + 6), size = 64ull << shift;
+    const struct running *running = own->depth > 0 && own->depth <= RUNNING_MOST ? &own->running[own->depth - 1] : 0;
+    uint64_t starts[] = {own->record, own->tls_low, own->sorted.array, own->sorted.room,
+                         running ? running->record : 0, running ? running->shared : 0};
+    uint64_t sizes[] = {own->record_size, own->tls_size, own->sorted.size, own->sorted.size,
+                        kind == READ ? RECORD_HEAD : 0, kind == READ ? SHARED_MOST : 0};
+    for (int i = 0; i < 6; i++)
+        if (sizes[i] && starts[i] - low + sizes[i] < size + sizes[i])
+            return 0;
+    return !own->muted && outer_of(own, frame) != 0;
 }
 
 /* An element that its place hasn't touched in this part; `frame` is that of the call. */
@@ -178,16 +196,20 @@ __attribute__((noinline)) static void touch_more(struct own *own, enum kind kind
     uint64_t bit = is_aligned ? 1ull << (address >> shift & 63) : 1;
     struct touched *touched = touched_at(own, block, place);
     int is_same = touched->key == key_of(own, place) && touched->block == block;
-    if (is_left_out(own, kind, address))
+    if (is_left_out(own, kind, address) || (is_same && is_known(own, touched, kind, address, bit)))
         return;
-    if (is_same && (touched->bits & bit ? is_known(own, touched, kind, address, bit)
-                                        : is_aligned && are_callers_known(own, chain_of(own), outer_of(own, frame))
-                                              && joins(own, touched, kind, address, shift, place)))
-        return;
+    if (is_same && touched->growth == UNKNOWN)
+        touched->growth = is_aligned && may_grow(own, kind, address, shift, frame) ? GROWS : STAYS;
+    if (is_same && touched->growth == GROWS && !(touched->bits & bit) && !(touched->first->mark & ATOMIC)) {
+        begin_set(own, touched, kind, address, shift, place);
+        if (joins(own, touched, address, shift, bit, frame))
+            return;
+    }
     struct event *event = note_touch(own, kind, address, 1u << shift, place, 0);
-    uint64_t key = key_of(own, place);
+    uint64_t key = key_of(own, place), outer = (uint64_t)outer_of(own, frame);
     is_same = is_same && touched->key == key;   /* else the page was turned */
-    *touched = (struct touched){key, block, bit | (is_same ? touched->bits : 0), event, is_same ? touched->set : 0};
+    *touched = (struct touched){key, block, bit | (is_same ? touched->bits : 0), event, is_same ? touched->set : 0, outer,
+                                outer ? frame->outer->back : 0, is_same ? touched->growth : UNKNOWN};
 }
 
 void taskback_access(enum kind kind, uint64_t address, uint64_t size, uint64_t place, int mark) {
@@ -200,7 +222,7 @@ void taskback_access(enum kind kind, uint64_t address, uint64_t size, uint64_t p
         return;
     }
     struct event *event = note_touch(own, kind, address, size, place, mark);
-    *touched = (struct touched){key_of(own, place), alone(kind, address), size, event, 0};
+    *touched = (struct touched){key_of(own, place), alone(kind, address), size, event, 0, 0, 0, 0};
 }
 
 /* A store in a worksharing loop: where it is the loop's number that is stored, an iteration begins. The first store
@@ -281,12 +303,13 @@ static inline int is_quiet(const struct own *own, const void *address) {
 }
 
 /* Most calls end here. */
-static inline void touch(struct own *own, enum kind kind, uint64_t address, uint32_t shift, uint64_t place, struct frame *frame) {
+__attribute__((always_inline)) static inline void touch(struct own *own, enum kind kind, uint64_t address, uint32_t shift, uint64_t place, struct frame *frame) {
     uint64_t block = address >> (shift + 6), bit = 1ull << (address >> shift & 63);
-    const struct touched *touched = touched_at(own, block, place);
-    int is_here = touched->key == key_of(own, place) && touched->block == block && (address & ((1u << shift) - 1)) == 0;
-    if (!is_here || !is_known(own, touched, kind, address, bit))
-        touch_more(own, kind, address, shift, place, frame);
+    struct touched *touched = touched_at(own, block, place);
+    if (touched->key == key_of(own, place) && touched->block == block && (address & ((1u << shift) - 1)) == 0
+        && (touched->bits & bit ? is_known(own, touched, kind, address, bit) : joins(own, touched, address, shift, bit, frame)))
+        return;
+    touch_more(own, kind, address, shift, place, frame);
 }
 
 #define FRAME_HERE ((struct frame *)__builtin_frame_address(0))

@@ -72,14 +72,34 @@ private:
         std::vector<std::pair<Instruction *, Value *>> found;
         DenseMap<const AllocaInst *, bool> known;
         const bool is_loop = has_loop(function);
-        for (Instruction &one : instructions(function)) {
-            Value *pointer = isa<LoadInst>(one) ? cast<LoadInst>(one).getPointerOperand()
-                             : isa<StoreInst>(one) ? cast<StoreInst>(one).getPointerOperand() : nullptr;
-            if (pointer && is_seen(one, pointer, known, is_loop))
-                found.emplace_back(&one, pointer);
+        for (BasicBlock &block : function) {
+            DenseSet<const Value *> loaded;
+            for (Instruction &one : block) {
+                Value *pointer = isa<LoadInst>(one) ? cast<LoadInst>(one).getPointerOperand()
+                                 : isa<StoreInst>(one) ? cast<StoreInst>(one).getPointerOperand() : nullptr;
+                if (begins_part(one, pointer, is_loop))
+                    loaded.clear();
+                if (isa<StoreInst>(one))
+                    loaded.erase(pointer);
+                if (pointer && is_seen(one, pointer, known, is_loop) && !(isa<LoadInst>(one) && !one.isAtomic() && !loaded.insert(pointer).second))
+                    found.emplace_back(&one, pointer);
+            }
         }
         for (auto &access : found)
             put_call(*access.first, access.second);
+    }
+
+    // Whether the recorder may begin a new part of the task there: up to it a pointer that is loaded from again tells nothing.
+    static bool begins_part(const Instruction &one, const Value *pointer, bool is_loop) {
+        if (pointer)
+            return one.isAtomic() || is_number(one, pointer, is_loop);
+        return (isa<CallBase>(one) && !keeps_nothing(&one)) || one.isAtomic();
+    }
+
+    // Whether a store may be that of a loop's number.
+    static bool is_number(const Instruction &one, const Value *pointer, bool is_loop) {
+        const auto *variable = dyn_cast<AllocaInst>(pointer);
+        return is_loop && variable && isa<StoreInst>(one) && variable->getAllocatedType()->isIntegerTy();
     }
 
     static bool is_seen(const Instruction &one, const Value *pointer, DenseMap<const AllocaInst *, bool> &known, bool is_loop) {
@@ -89,7 +109,7 @@ private:
         const auto *variable = dyn_cast<AllocaInst>(object);
         if (!variable)
             return true;
-        if (is_loop && pointer == variable && isa<StoreInst>(one) && variable->getAllocatedType()->isIntegerTy())
+        if (is_number(one, pointer, is_loop))
             return true;
         auto added = known.try_emplace(variable, true);
         if (added.second)

@@ -14,7 +14,7 @@ static inline void set_size(struct event *event, uint64_t size) {
         event->value = size;
 }
 
-enum { RUNNING_MOST = 1024, TOUCHED_BITS = 11, BUSY = 64, BUFFER = 2048, FENCED = 4, NESTED = 8 };
+enum { RUNNING_MOST = 1024, TOUCHED_BITS = 10, BUSY = 64, BUFFER = 2048, FENCED = 4, NESTED = 8 };
 
 /* The function whose callers were written down last for a task. */
 struct chain {
@@ -40,6 +40,8 @@ struct touched {
     uint64_t bits;             /* of the elements that are written down; or the size of what stands alone */
     struct event *first;       /* one of them, or some that stand in a row */
     struct event *set;         /* the others; 0: there are none */
+    uint64_t frame, caller;    /* of the function that touched them, and where it was called */
+    uint64_t growth;           /* whether more of them may be told by these events */
 };
 
 /* A worksharing loop that the thread is in: how its number is found, which unoptimised code keeps in memory. */
