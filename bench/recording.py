@@ -14,8 +14,7 @@ import sys
 import tempfile
 
 TOP = os.path.dirname(os.path.dirname(os.path.abspath(__file__)))
-sys.path.insert(0, os.path.join(TOP, "openmp"))
-from taskrun import building  # noqa: E402
+RECORD = os.path.join(TOP, "openmp", "record")
 
 MAIN = """#include <stdio.h>
 #include <stdlib.h>
@@ -92,12 +91,13 @@ def measure(name, folder, threads, tries):
     source, plain, recorded, trace = (os.path.join(folder, name + ending) for ending in (".c", "", ".recorded", ".trace"))
     with open(source, "w", encoding="utf-8") as file:
         file.write(PROGRAMS[name])
-    subprocess.run([building.clang(), "-g", "-fopenmp", source, "-o", plain], check=True)
-    subprocess.run([os.path.join(TOP, "openmp", "record"), "cc", source, "-o", recorded], check=True)
+    clang, _, judge = subprocess.run([RECORD, "which"], capture_output=True, text=True, check=True).stdout.split("\n")[:3]
+    subprocess.run([clang, "-g", "-fopenmp", source, "-o", plain], check=True)
+    subprocess.run([RECORD, "cc", source, "-o", recorded], check=True)
     count = {"OMP_NUM_THREADS": str(threads)}
     alone = min(used([plain], **count)[0] for _ in range(tries))
     kept = min(used([recorded], **count, TASKBACK_TRACE=trace)[0] for _ in range(tries))
-    judged = min(used([building.judge(), trace]) for _ in range(max(1, tries // 3)))
+    judged = min(used([judge, trace]) for _ in range(max(1, tries // 3)))
     events = os.path.getsize(trace) // 32
     os.remove(trace)
     return (f"| {name} | {events:,} | {alone:.2f} | {kept:.2f} | {kept / max(alone, 0.01):.1f} | {judged[0]:.1f} |"

@@ -69,10 +69,10 @@ void Run::take(std::size_t at) {
         state_of(e).callers = static_cast<u32>(at);
         return;
     }
-    if (e.kind != START && e.kind != END && e.kind != ITEM && e.kind != IMPLICIT_BEGIN && e.kind != NOTE) {
+    if (e.kind != START && e.kind != ITEM && e.kind != IMPLICIT_BEGIN && e.kind != NOTE) {
         State &s = state_of(e);
         if (s.pending != NONE && e.kind != MEMORY && e.kind != COPY)
-            return refuse("Undeferred", "goes on", s, s.pending, e);
+            return refuse("Undeferred", e.kind == END ? "ends" : "goes on", s, s.pending, e);
     }
     take_sync(at, e);
 }

@@ -206,6 +206,7 @@ private:
     void fulfil(const event &e);
     void wait(const event &e);
     void wait_items(const event &e);
+    u32 least_unended(const std::vector<u32> &members) const;
     void open_group(const event &e);
     void close_group(std::size_t at, const event &e);
     void begin_region(const event &e);
@@ -215,6 +216,7 @@ private:
     void end_barrier(const event &e);
     u32 close_phase(u32 phase, const State &s, const event &e);
     u32 open_phase(u32 region, u32 open);
+    bool is_one_by_clause(const State &s) const;
     void begin_loop(const event &e);
     void iterate(const event &e);
     void enter_unit(State &s, u32 segment);

@@ -186,6 +186,17 @@ def instrumenting(compiler):
     return COMPILING + ([f"-fpass-plugin={plugin}"] if plugin else COVERAGE)
 
 
+def tell_tools():
+    """Writes the paths of the compilers of C and C++ and of the judge, for scripts; the exit status."""
+    try:
+        compiler = need_clang()
+    except CannotBuild as fault:
+        print(f"record: {fault}", file=sys.stderr)
+        return 64
+    print(compiler, driver_of(compiler, True), judge(), sep="\n")
+    return 0
+
+
 def compile_options(words):
     """The words that aren't files, and don't speak of what is linked."""
     options, skip = [], False
