@@ -1,5 +1,7 @@
 """Compiles a program with its instrumentation, links the recorder, and runs it."""
 
+import contextlib
+import fcntl
 import hashlib
 import os
 import shutil
@@ -111,6 +113,14 @@ def is_newer(made, *sources):
     return os.path.exists(made) and os.path.getmtime(made) > max(os.path.getmtime(source) for source in sources)
 
 
+@contextlib.contextmanager
+def alone_at(made):
+    """While one process makes this file, others wait."""
+    with open(made + ".lock", "w", encoding="ascii") as file:
+        fcntl.flock(file, fcntl.LOCK_EX)
+        yield
+
+
 def compile_whole(command, made, told=None):
     """Runs the command with ` -o FILE`, and puts the file in its place when it is whole; what it says goes to `told`."""
     handle, part = tempfile.mkstemp(dir=os.path.dirname(made), suffix=os.path.splitext(made)[1])
@@ -143,7 +153,7 @@ def recorder_objects(compiler, names):
         objects.append(made)
         if not is_newer(made, source, *headers):
             compile_whole([compiler, "-O2", "-fPIE", "-fno-builtin", "-fno-omit-frame-pointer",
-                            "-Wall", "-Wextra", "-Wno-frame-address", "-c", source], made)
+                           "-Wall", "-Wextra", "-Wno-frame-address", "-c", source], made)
     return objects
 
 
@@ -152,10 +162,14 @@ def judge():
     compiler = need_clang()
     sources = [os.path.join(JUDGE, name) for name in sorted(os.listdir(JUDGE)) if name.endswith((".cc", ".h"))]
     made = os.path.join(folder_for(compiler), "judge")
-    if not is_newer(made, os.path.join(RECORDER, "event.h"), *sources):
-        print(f"the judge is compiled by {compiler}, once; it takes half a minute", file=sys.stderr, flush=True)
-        texts = [source for source in sources if source.endswith(".cc")]
-        compile_whole([driver_of(compiler, True), "-std=c++17", "-O2", "-Wall", "-Wextra", *texts], made)
+    parts = [os.path.join(RECORDER, "event.h"), *sources]
+    if is_newer(made, *parts):
+        return made
+    with alone_at(made):
+        if not is_newer(made, *parts):
+            print(f"the judge is compiled by {compiler}, once; it takes half a minute", file=sys.stderr, flush=True)
+            texts = [source for source in sources if source.endswith(".cc")]
+            compile_whole([driver_of(compiler, True), "-std=c++17", "-O2", "-Wall", "-Wextra", *texts], made)
     return made
 
 
@@ -173,10 +187,12 @@ def pass_plugin(compiler):
     if not os.path.exists(config):
         return None
     options = subprocess.run([config, "--cxxflags"], capture_output=True, text=True, check=False).stdout.split()
-    try:
-        compile_whole([driver_of(compiler, True), *options, "-O2", "-fPIC", "-shared", source], made, subprocess.DEVNULL)
-    except subprocess.CalledProcessError:
-        return None
+    with alone_at(made):
+        try:
+            if not is_newer(made, source):
+                compile_whole([driver_of(compiler, True), *options, "-O2", "-fPIC", "-shared", source], made, subprocess.DEVNULL)
+        except subprocess.CalledProcessError:
+            return None
     return made
 
 

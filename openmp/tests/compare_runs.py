@@ -146,11 +146,11 @@ class Made:
         self._stamp += t.takes_number(event)
         self.events.append(event._replace(stamp=self._stamp))
 
-    def _items(self, kind, task, words):
+    def _items(self, kind, task, words, line):
         while words[:1] == ["depend"]:
             is_all = words[2] == "all"
             mark = ALL_MEMORY | 3 if is_all else TYPES[words[1]]
-            self._add(kind, task, 0 if is_all else BASE + 8 * int(words[2]), 8, mark=mark)
+            self._add(kind, task, 0 if is_all else BASE + 8 * int(words[2]), 8, line, mark=mark)
             words = words[3:]
         return words
 
@@ -166,7 +166,7 @@ class Made:
         elif kind == "spawn":
             self._spawn(task, line, words)
         elif kind == "wait":
-            self._items(t.WAIT_ITEM, task, words[1:])
+            self._items(t.WAIT_ITEM, task, words[1:], line)
             self._add(t.WAIT_ITEMS if len(words) > 1 else t.WAIT, task, place=line)
         elif kind in ("open", "close"):
             self._add(t.GROUP_OPEN if kind == "open" else t.GROUP_CLOSE, task, place=line)
@@ -178,7 +178,7 @@ class Made:
         flags = EXPLICIT | (UNDEFERRED if words[-1] == "undeferred" else 0)
         self._add(t.CREATE, task, child, flags, line)
         at = words.index("depend") if "depend" in words else len(words)
-        self._items(t.ITEM, child, words[at:])
+        self._items(t.ITEM, child, words[at:], line)
 
 
 def judged(judge, folder, events, *words):

@@ -2,7 +2,6 @@
 
 import concurrent.futures
 import functools
-import json
 import os
 import re
 import signal
@@ -10,15 +9,15 @@ import subprocess
 import tempfile
 import unittest
 
-FOLDER = os.path.dirname(os.path.dirname(os.path.abspath(__file__)))
-TOP = os.path.dirname(FOLDER)
-
 import play
 from taskrun import answer, building
 from taskrun.finding import judge_trace
 from taskrun.part import session_of  # noqa: F401
 from taskrun.session import Session, TooLarge  # noqa: F401
 from taskrun.trace import FORMAT, HEADER, PAGE, Trace
+
+FOLDER = os.path.dirname(os.path.dirname(os.path.abspath(__file__)))
+TOP = os.path.dirname(FOLDER)
 
 EXAMPLES = os.path.join(FOLDER, "examples")
 THREADS = (1, 2, 8)

@@ -9,6 +9,9 @@ import support
 RUNS = int(os.environ.get("TASKBACK_OPENMP_RUNS", "10"))
 SENTENCE = "for this input, every schedule has this outcome"
 
+# The coverage's calls have no loads and stores of ten bytes.
+BY_THE_PASS = ("long_double_race.c",)
+
 
 def expected(name):
     """The words after `expect:` in an example."""
@@ -19,6 +22,8 @@ def expected(name):
 @support.needs_clang
 class Examples(support.Recorded):
     def check_all(self, name):
+        if name in BY_THE_PASS and not support.building.pass_plugin(support.building.need_clang()):
+            self.skipTest("LLVM's headers aren't there: apt-get install llvm-14-dev")
         program = self.example(name)
         for threads in support.THREADS:
             for run in range(RUNS):
@@ -50,6 +55,8 @@ class Examples(support.Recorded):
         names = sorted(os.listdir(support.EXAMPLES))[::1 if RUNS >= 10 else 3]
         support.Compiled.start(names, "-O2")
         for name in names:
+            if name in BY_THE_PASS:
+                continue
             with self.subTest(example=name):
                 status, lines = self.check_example(self.example(name, "-O2"), 2)
                 self.assertEqual(status, 2 if expected(name)[0] == "race" else 0, lines)
