@@ -3,8 +3,8 @@
 
     bench/recording.py [--threads N] [--tries N] [PROGRAM ..]
 
-The least of some runs counts. `loads` takes 10,000,000 loads and stores that are an event each, `many` ten times that
-(the trace takes 3.2 GB). TASKBACK_CLANG names another clang.
+The least of some runs counts. `loads` stores 10,000,000 times in an order in which no two elements stand behind each other,
+`far` so that each is an event of its own, `many` ten times that (the trace takes 3.2 GB). TASKBACK_CLANG names another clang.
 """
 
 import argparse
@@ -55,6 +55,14 @@ SCATTER = """{
 #pragma omp taskwait
         }
     }"""
+FAR = """{
+        for (long t = 0; t < %d; t++) {
+#pragma omp task firstprivate(t)
+            for (long i = 0; i < 10000; i++)
+                x[i * 7919 %% 10007 * 64] = t;
+#pragma omp taskwait
+        }
+    }"""
 LIST = """for (struct node *p = head; p; p = p->next) {
 #pragma omp task firstprivate(p)
         p->value = p->value * 2 + 1;
@@ -75,7 +83,8 @@ PROGRAMS = {
     "stencil": MAIN % ("static double f[2][202][64];", "", STENCIL),
     "list": MAIN % ("struct node { int value; struct node *next; };", MAKE_LIST, LIST),
     "loads": MAIN % ("static long x[64][10007];", "", SCATTER % 1000),
-    "many": MAIN % ("static long x[64][10007];", "", SCATTER % 10000),
+    "far": MAIN % ("static long x[10007 * 64];", "", FAR % 1000),
+    "many": MAIN % ("static long x[10007 * 64];", "", FAR % 10000),
 }
 
 

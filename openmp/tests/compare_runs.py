@@ -137,9 +137,6 @@ class Made:
         self._stamp = 0
         for line, event in enumerate(events, 1):
             self._take(line, *event.split(maxsplit=1))
-        if not any(event.split()[1:] == ["end"] and event.split()[0].partition("#")[0] == "0" for event in events):
-            return
-        self._add(t.ENDED, 0)
 
     def _add(self, kind, task, address=0, value=0, place=0, size=0, mark=0):
         event = t.Event(address, value, 0, task, place, size, kind, mark)
@@ -160,6 +157,8 @@ class Made:
         if kind in ("start", "end"):
             if task:
                 self._add(t.START if kind == "start" else t.END, task, place=line)
+            elif kind == "end":
+                self._add(t.ENDED, 0, place=line)
         elif kind in ("load", "store"):
             cell = words[2] if kind == "load" else words[1]
             self._add(t.READ if kind == "load" else t.WRITE, task, BASE + 8 * int(cell), 0, line, 8)
