@@ -235,7 +235,8 @@ private:
     void release(const event &e);
     void acquire(const event &e);
     void note(const event &e);
-    void copy(const event &e);
+    void copy(std::size_t at, const event &e);
+    u32 locks_with_copy(const State &s, const event &e);
     void access(std::size_t at, const event &e);
     void part_ways(const State &s, std::size_t at);
     Shared *next_shared(State &s);
@@ -252,6 +253,13 @@ private:
     };
     std::map<u64, Released> released_;
     std::map<u64, u64> sizes_;      // of reduced variables
+    std::multiset<u64> originals_;  // the reduced variables of open groups
+    // A thread's copy of a variable that its region reduces with the tasks in it.
+    struct RegionCopy {
+        u64 size;
+        u32 region;
+    };
+    std::map<u64, RegionCopy> region_copies_;
     std::vector<u32> number_of_;    // the task number of each actor
     std::set<u32> leagues_;         // the first tasks of the teams of a league
     bool is_next_one_ = false;

@@ -215,6 +215,8 @@ void Run::close_group(std::size_t at, const event &e) {
     }
     s.segment = add_segment(s.actor, node, segments[s.segment].flags);
     if (!group.reduced.empty()) {
+        for (const auto &reduced : group.reduced)
+            originals_.erase(originals_.find(reduced.first));
         combined[at] = std::move(group.reduced);
         segment_of[at] = s.segment;
     }

@@ -8,6 +8,12 @@ import support
 
 RUNS = int(os.environ.get("TASKBACK_OPENMP_RUNS", "10"))
 SENTENCE = "for this input, every schedule has this outcome"
+BY_ONE = "for this input, every schedule by one thread has this outcome"
+
+# Of programs whose threads go by their numbers a team of one doesn't show what more threads do: `hidden` is a race of
+# these, `number` is none.
+RACES = ("race", "hidden")
+GO_BY_NUMBERS = ("hidden", "number")
 
 # The coverage's calls have no loads and stores of ten bytes.
 BY_THE_PASS = ("long_double_race.c",)
@@ -28,18 +34,30 @@ class Examples(support.Recorded):
         for threads in support.THREADS:
             for run in range(RUNS):
                 with self.subTest(example=name, threads=threads, run=run):
-                    self.compare(expected(name), *self.check_example(program, threads))
+                    self.compare(expected(name), threads, *self.check_example(program, threads))
 
     def check_example(self, program, threads):
         return support.answer.answer(support.judge_trace(self.run_alone(program, threads)))
 
-    def compare(self, wanted, status, lines):
+    def compare(self, wanted, threads, status, lines):
         told = "\n".join(lines)
-        if wanted[0] == "race":
-            self.assertEqual(status, 2, told)
-            names = support.names_told(lines)
-            self.assertTrue(names and names <= set(wanted[1:]), f"{names}: {told}")
-            return
+        if threads == 1 and wanted[0] in GO_BY_NUMBERS:
+            self.assertEqual(status, 0, told)
+            self.assertIn("a team of one thread asks for its number", told)
+            self.assertIn(BY_ONE, lines[-1])
+        elif wanted[0] in RACES:
+            self.compare_races(wanted, status, lines)
+        else:
+            self.compare_none(wanted, status, lines)
+
+    def compare_races(self, wanted, status, lines):
+        told = "\n".join(lines)
+        self.assertEqual(status, 2, told)
+        names = support.names_told(lines)
+        self.assertTrue(names and names <= set(wanted[1:]), f"{names}: {told}")
+
+    def compare_none(self, wanted, status, lines):
+        told = "\n".join(lines)
         self.assertEqual(status, 0, told)
         self.assertIn(SENTENCE, lines[-1])
         if wanted[0] == "none":
@@ -59,12 +77,12 @@ class Examples(support.Recorded):
                 continue
             with self.subTest(example=name):
                 status, lines = self.check_example(self.example(name, "-O2"), 2)
-                self.assertEqual(status, 2 if expected(name)[0] == "race" else 0, lines)
+                self.assertEqual(status, 2 if expected(name)[0] in RACES else 0, lines)
 
     def test_there_are_enough(self):
         wanted = [expected(name)[0] for name in os.listdir(support.EXAMPLES)]
         self.assertGreaterEqual(len(wanted), 120)
-        self.assertGreaterEqual(2 * wanted.count("race"), len(wanted) - 8)
+        self.assertGreaterEqual(2 * sum(kind in RACES for kind in wanted), len(wanted) - 8)
 
 
 def add_tests():
