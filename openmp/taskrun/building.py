@@ -183,8 +183,9 @@ def pass_plugin(compiler):
     if is_newer(made, source):
         return made
     told = subprocess.run([compiler, "-print-resource-dir"], capture_output=True, text=True, check=False).stdout.strip()
-    config = os.path.join(told, "..", "..", "..", "bin", "llvm-config")
-    if not os.path.exists(config):
+    root = os.path.join(told, "..", "..", "..")
+    config = os.path.join(root, "bin", "llvm-config")
+    if not os.path.exists(config) or not os.path.isdir(os.path.join(root, "include", "llvm")):
         return None
     options = subprocess.run([config, "--cxxflags"], capture_output=True, text=True, check=False).stdout.split()
     with alone_at(made):

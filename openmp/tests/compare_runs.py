@@ -237,6 +237,8 @@ def differences(oracle, judge, folder, head, events):
     rule, line, whom, races, unended = of_oracle(told, len(head))
     if rule is not None and rule not in RULES:
         return differences(oracle, judge, folder, head, events[:line - 1]) if line > 1 else ([], "empty")
+    if rule is not None:
+        events = events[:line]
     plain = judged(judge, folder, events, "plain")
     fault = plain["fault"]
     if (rule is None) != (fault is None):

@@ -3,6 +3,7 @@
 import os
 import re
 import unittest
+import unittest.mock
 
 import support
 
@@ -25,16 +26,8 @@ def expected(name):
         return re.search(r"expect: (.*?) \*/", file.read(), re.S)[1].split()
 
 
-@support.needs_clang
-class Examples(support.Recorded):
-    def check_all(self, name):
-        if name in BY_THE_PASS and not support.building.pass_plugin(support.building.need_clang()):
-            self.skipTest("LLVM's headers aren't there: apt-get install llvm-14-dev")
-        program = self.example(name)
-        for threads in support.THREADS:
-            for run in range(RUNS):
-                with self.subTest(example=name, threads=threads, run=run):
-                    self.compare(expected(name), threads, *self.check_example(program, threads))
+class Answers(support.Recorded):
+    """Compares an answer with the words of an example."""
 
     def check_example(self, program, threads):
         return support.answer.answer(support.judge_trace(self.run_alone(program, threads)))
@@ -68,6 +61,18 @@ class Examples(support.Recorded):
         else:
             self.assertTrue(lines[0].startswith("not ordered, or only as seen: "), told)
 
+
+@support.needs_clang
+class Examples(Answers):
+    def check_all(self, name):
+        if name in BY_THE_PASS and not support.building.pass_plugin(support.building.need_clang()):
+            self.skipTest("LLVM's headers aren't there: apt-get install llvm-14-dev")
+        program = self.example(name)
+        for threads in support.THREADS:
+            for run in range(RUNS):
+                with self.subTest(example=name, threads=threads, run=run):
+                    self.compare(expected(name), threads, *self.check_example(program, threads))
+
     def test_optimised(self):
         """With `-O2` the names may be others, but not whether there is a race."""
         names = sorted(os.listdir(support.EXAMPLES))[::1 if RUNS >= 10 else 3]
@@ -83,6 +88,31 @@ class Examples(support.Recorded):
         wanted = [expected(name)[0] for name in os.listdir(support.EXAMPLES)]
         self.assertGreaterEqual(len(wanted), 120)
         self.assertGreaterEqual(2 * sum(kind in RACES for kind in wanted), len(wanted) - 8)
+
+
+@support.needs_clang
+class WithoutPass(Answers):
+    """Where LLVM's headers aren't there, clang's coverage makes the calls for loads and stores."""
+
+    def setUp(self):
+        super().setUp()
+        off = unittest.mock.patch.dict(os.environ, TASKBACK_PLUGIN="0")
+        off.start()
+        self.addCleanup(off.stop)
+
+    def test_the_coverage_is_asked_for(self):
+        compiler = support.building.need_clang()
+        self.assertIsNone(support.building.pass_plugin(compiler))
+        self.assertIn(support.building.COVERAGE[0], support.building.instrumenting(compiler))
+
+    def test_examples(self):
+        for name in sorted(os.listdir(support.EXAMPLES))[::5]:
+            if name in BY_THE_PASS:
+                continue
+            program = self.compile(os.path.join(support.EXAMPLES, name), name + ".program")
+            for threads in support.THREADS:
+                with self.subTest(example=name, threads=threads):
+                    self.compare(expected(name), threads, *self.check_example(program, threads))
 
 
 def add_tests():
