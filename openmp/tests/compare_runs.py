@@ -212,16 +212,81 @@ def ids_of(events):
     return found
 
 
-def races_of(told, events):
-    """{later step: (the newest earlier one, whether all are apart)} as the judge has them."""
-    ids, pairs = ids_of(events), {}
+def pairs_of(told):
+    """{the line of a later step: [(the line of an earlier one, whether they are apart)]} as the judge has them."""
+    pairs = {}
     for race in told["races"]:
         pairs.setdefault(race["later"]["place"], []).append((race["earlier"]["place"], race["apart"]))
-    found = {}
+    return pairs
+
+
+def races_of(told, events):
+    """{later step: (the newest earlier one, whether all are apart)} as the judge has them."""
+    ids, pairs, found = ids_of(events), pairs_of(told), {}
     for later, earlier in pairs.items():
         bare = [place for place, apart in earlier if not apart]
         found[ids[later - 1]] = ids[max(bare or [place for place, _ in earlier]) - 1], not bare
     return found
+
+
+class Exclusion:
+    """Which steps no schedule has at once, since each is of a task, or comes in front of its end, and the two tasks
+    exclude each other. A run text's `apart` is of its own order: it holds too where a child goes on past such an end."""
+
+    def __init__(self, oracle, head, events):
+        self.oracle, self.cells = oracle, int(head[0].split()[1])
+        self.head = [f"cells {self.cells + 1}", *head[1:]]
+        self.events = [re.sub(r"#\d+", "", event, count=1) for event in events]
+        self.places = {}
+        for words in map(str.split, self.events):
+            if words[1] == "spawn":
+                self.places[words[2]] = {place for kind, place in zip(words, words[1:]) if kind == "mutexinoutset"}
+
+    def _is_in_front(self, line, task):
+        """Whether the step comes in front of the task's end: a store behind it and a load there, of one more cell, race
+        where it doesn't."""
+        own, end = self.events[line - 1].split()[0], f"{task} end"
+        if own == task:
+            return True
+        if end not in self.events[line:]:
+            return False
+        at = self.events.index(end)
+        text = [*self.head, *self.events[:line], f"{own} store {self.cells} 1", *self.events[line:at],
+                f"{task} load r1 {self.cells} 1", *self.events[at:]]
+        told = self.oracle("\n".join(text) + "\n")
+        return not re.search(rf" cell {self.cells}( apart)?$", told, re.M)
+
+    def pairs(self, earlier, later):
+        """The tasks that exclude each other of which these steps are, or from which their tasks come."""
+        def outer(line):
+            name = self.events[line - 1].split()[0].split(".")
+            return [".".join(name[:count]) for count in range(2, len(name) + 1)]
+        return [(a, b) for a in outer(earlier) for b in outer(later)
+                if a != b and a.rpartition(".")[0] == b.rpartition(".")[0] and self.places[a] & self.places[b]]
+
+    def keeps_apart(self, earlier, later):
+        """Whether no schedule has these two at once."""
+        return any(self._is_in_front(earlier, a) and self._is_in_front(later, b) for a, b in self.pairs(earlier, later))
+
+
+def are_alike(told, races, events, exclusion):
+    """Whether both have the same races, and the judge's `apart` is that of every schedule."""
+    ids, pairs = ids_of(events), pairs_of(told)
+    if {ids[later - 1] for later in pairs} != set(races):
+        return False
+    for later, earlier in pairs.items():
+        newest, is_apart = races[ids[later - 1]]
+        if newest not in {ids[line - 1] for line, _ in earlier}:
+            return False
+        for line, word in earlier:
+            is_newest = ids[line - 1] == newest
+            # What the run text calls apart: all of them, or those behind the newest that isn't.
+            is_told_apart = is_apart or line > max(place for place, _ in earlier if ids[place - 1] == newest)
+            if word != exclusion.keeps_apart(line, later) or (is_newest and word and not is_apart):
+                return False
+            if is_told_apart and not word and not exclusion.pairs(line, later):
+                return False
+    return True
 
 
 def kinds(apart):
@@ -250,9 +315,9 @@ def differences(oracle, judge, folder, head, events):
         return [] if is_alike else [f"oracle: {told.splitlines()[0]} (event {line}); judge: {fault}, {other}"], "refused " + RULES[rule]
     short = judged(judge, folder, events)
     wrong = []
-    if races_of(plain, events) != races:
+    if not are_alike(plain, races, events, Exclusion(oracle, head, events)):
         wrong.append(f"races: oracle {races}; judge {races_of(plain, events)}")
-    if kinds({race["apart"] for race in short["races"]}) != kinds({apart for _, apart in races.values()}):
+    if kinds({race["apart"] for race in short["races"]}) != kinds({race["apart"] for race in plain["races"]}):
         wrong.append(f"races with short cuts: oracle {races}; judge {races_of(short, events)}")
     if plain["unended"] != len(unended):
         wrong.append(f"unended: oracle {unended}; judge {plain['unended']}")
