@@ -1,6 +1,6 @@
 /* Each thread adds to its own element, and to those of the iterations that it takes, without a barrier between. One thread
    doesn't show it.
-   expect: hidden parts[me] parts[i] */
+   expect: hidden parts */
 #include <omp.h>
 #include <stdio.h>
 
