@@ -264,6 +264,14 @@ class Exclusion:
         return [(a, b) for a in outer(earlier) for b in outer(later)
                 if a != b and a.rpartition(".")[0] == b.rpartition(".")[0] and self.places[a] & self.places[b]]
 
+    def may_order(self, earlier, later):
+        """Whether between the two one task has ended in front of the start of another one that it excludes."""
+        ends = [event.split()[0] for event in self.events[earlier - 1:later] if event.endswith(" end")]
+        starts = [event.split()[0] for event in self.events[earlier - 1:later] if event.endswith(" start")]
+        return any(a != b and a.rpartition(".")[0] == b.rpartition(".")[0] and self.places[a] & self.places[b]
+                   and self.events.index(f"{a} end") < self.events.index(f"{b} start")
+                   for a in ends for b in starts if a in self.places and b in self.places)
+
     def keeps_apart(self, earlier, later):
         """Whether no schedule has these two at once."""
         return any(self._is_in_front(earlier, a) and self._is_in_front(later, b) for a, b in self.pairs(earlier, later))
@@ -284,7 +292,7 @@ def are_alike(told, races, events, exclusion):
             is_told_apart = is_apart or line > max(place for place, _ in earlier if ids[place - 1] == newest)
             if word != exclusion.keeps_apart(line, later) or (is_newest and word and not is_apart):
                 return False
-            if is_told_apart and not word and not exclusion.pairs(line, later):
+            if is_told_apart and not word and not exclusion.may_order(line, later):
                 return False
     return True
 
