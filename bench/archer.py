@@ -17,11 +17,14 @@ import tempfile
 import time
 
 TOP = os.path.dirname(os.path.dirname(os.path.abspath(__file__)))
-sys.path.insert(0, os.path.join(TOP, "openmp"))
-from taskrun import building  # noqa: E402
-
+CXX_ENDINGS = (".cc", ".cpp", ".cxx")
 EXAMPLES = os.path.join(TOP, "openmp", "examples")
 SECONDS = 120
+
+
+def compilers():
+    """The recorder's compilers, of C and of C++."""
+    return subprocess.run([os.path.join(TOP, "openmp", "record"), "which"], capture_output=True, text=True, check=True).stdout.split("\n")[:2]
 
 
 def archer_library(compiler):
@@ -61,13 +64,12 @@ class Archer:
 
     name = "Archer"
 
-    def __init__(self, compiler):
-        self._compiler = compiler
+    def __init__(self, compiler, cxx):
+        self._compilers = compiler, cxx
         self._library = archer_library(compiler)
 
     def compile(self, source, program):
-        is_cxx = source.endswith(building.CXX_ENDINGS)
-        return subprocess.run([building.driver_of(self._compiler, is_cxx), "-g", "-fopenmp", "-fsanitize=thread", source,
+        return subprocess.run([self._compilers[source.endswith(CXX_ENDINGS)], "-g", "-fopenmp", "-fsanitize=thread", source,
                                "-o", program, "-lm"], check=False, capture_output=True).returncode == 0
 
     def finds(self, program, threads):
@@ -103,11 +105,11 @@ def main():
     options.add_argument("examples", nargs="*")
     given = options.parse_args()
     names = given.examples or sorted(os.listdir(EXAMPLES))
-    compiler = building.need_clang()
+    compiler, cxx = compilers()
     print(f"{given.runs} runs each of {len(names)} examples with {given.threads} threads")
     print("| tool | races found | silent where there is none | seconds |\n|---|---|---|---|")
     with tempfile.TemporaryDirectory() as folder:
-        for tool in (Recorder(), Archer(compiler)):
+        for tool in (Recorder(), Archer(compiler, cxx)):
             found, racy, silent, clean, seconds = measure(tool, names, given.threads, given.runs, folder)
             print(f"| {tool.name} | {found} of {racy} | {silent} of {clean} | {seconds:.1f} |", flush=True)
     return 0

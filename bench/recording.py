@@ -3,8 +3,8 @@
 
     bench/recording.py [--threads N] [--tries N] [PROGRAM ..]
 
-The least of some runs counts. `loads` takes 10,000,000 loads and stores that are an event each, `many` ten times that
-(the trace takes 3.2 GB). TASKBACK_CLANG names another clang.
+The least of some runs counts. `loads` stores 10,000,000 times in an order in which no two elements stand behind each other,
+`far` so that each is an event of its own, `many` ten times that (the trace takes 3.2 GB). TASKBACK_CLANG names another clang.
 """
 
 import argparse
@@ -14,8 +14,7 @@ import sys
 import tempfile
 
 TOP = os.path.dirname(os.path.dirname(os.path.abspath(__file__)))
-sys.path.insert(0, os.path.join(TOP, "openmp"))
-from taskrun import building  # noqa: E402
+RECORD = os.path.join(TOP, "openmp", "record")
 
 MAIN = """#include <stdio.h>
 #include <stdlib.h>
@@ -56,6 +55,14 @@ SCATTER = """{
 #pragma omp taskwait
         }
     }"""
+FAR = """{
+        for (long t = 0; t < %d; t++) {
+#pragma omp task firstprivate(t)
+            for (long i = 0; i < 10000; i++)
+                x[i * 7919 %% 10007 * 64] = t;
+#pragma omp taskwait
+        }
+    }"""
 LIST = """for (struct node *p = head; p; p = p->next) {
 #pragma omp task firstprivate(p)
         p->value = p->value * 2 + 1;
@@ -76,7 +83,8 @@ PROGRAMS = {
     "stencil": MAIN % ("static double f[2][202][64];", "", STENCIL),
     "list": MAIN % ("struct node { int value; struct node *next; };", MAKE_LIST, LIST),
     "loads": MAIN % ("static long x[64][10007];", "", SCATTER % 1000),
-    "many": MAIN % ("static long x[64][10007];", "", SCATTER % 10000),
+    "far": MAIN % ("static long x[10007 * 64];", "", FAR % 1000),
+    "many": MAIN % ("static long x[10007 * 64];", "", FAR % 10000),
 }
 
 
@@ -92,12 +100,13 @@ def measure(name, folder, threads, tries):
     source, plain, recorded, trace = (os.path.join(folder, name + ending) for ending in (".c", "", ".recorded", ".trace"))
     with open(source, "w", encoding="utf-8") as file:
         file.write(PROGRAMS[name])
-    subprocess.run([building.clang(), "-g", "-fopenmp", source, "-o", plain], check=True)
-    subprocess.run([os.path.join(TOP, "openmp", "record"), "cc", source, "-o", recorded], check=True)
+    clang, _, judge = subprocess.run([RECORD, "which"], capture_output=True, text=True, check=True).stdout.split("\n")[:3]
+    subprocess.run([clang, "-g", "-fopenmp", source, "-o", plain], check=True)
+    subprocess.run([RECORD, "cc", source, "-o", recorded], check=True)
     count = {"OMP_NUM_THREADS": str(threads)}
     alone = min(used([plain], **count)[0] for _ in range(tries))
     kept = min(used([recorded], **count, TASKBACK_TRACE=trace)[0] for _ in range(tries))
-    judged = min(used([building.judge(), trace]) for _ in range(max(1, tries // 3)))
+    judged = min(used([judge, trace]) for _ in range(max(1, tries // 3)))
     events = os.path.getsize(trace) // 32
     os.remove(trace)
     return (f"| {name} | {events:,} | {alone:.2f} | {kept:.2f} | {kept / max(alone, 0.01):.1f} | {judged[0]:.1f} |"

@@ -1,5 +1,5 @@
 #!/usr/bin/env bash
-# Installs by apt what tests want and this machine lacks: Chromium, Graphviz, groff, Emacs with dap-mode, the schema of the debug protocol, Vim, zsh, mypy, flake8, clang and its OpenMP runtime.
+# Installs by apt what tests want and this machine lacks: Chromium, Graphviz, groff, Emacs with dap-mode, the schema of the debug protocol, Vim, zsh, mypy, flake8, clang, its OpenMP runtime and LLVM's headers.
 # It takes ten minutes at most. What can't be installed is told, and the tests that want it are left out.
 #   tools/install_for_tests.sh
 set -u
@@ -24,6 +24,22 @@ sys.exit(not building.has_runtime())
 PROBE
 }
 
+# The pass of the recorder is compiled with the headers of the clang that it finds.
+has_headers() {
+    local folder
+    folder=$(clang-14 -print-resource-dir 2> /dev/null || clang -print-resource-dir 2> /dev/null) || return 1
+    [ -x "$folder/../../../bin/llvm-config" ] && [ -d "$folder/../../../include/llvm" ]
+}
+
+# 14 where there is no clang yet, which is then installed too.
+clang_version() {
+    if command -v clang-14 > /dev/null || ! command -v clang > /dev/null; then
+        echo 14
+    else
+        clang -dumpversion | cut -d. -f1
+    fi
+}
+
 cd "$(dirname "${BASH_SOURCE[0]}")/.." || exit 2
 lacking=()
 command -v dot > /dev/null || lacking+=(graphviz)
@@ -36,6 +52,7 @@ command -v mypy > /dev/null || lacking+=(mypy)
 command -v flake8 > /dev/null || lacking+=(flake8)
 command -v clang-14 > /dev/null || command -v clang > /dev/null || lacking+=(clang-14)
 has_runtime || lacking+=(libomp-14-dev)
+has_headers || lacking+=("llvm-$(clang_version)-dev")
 # The largest comes last, so that no other waits for it.
 command -v chromium > /dev/null || command -v chromium-browser > /dev/null || command -v google-chrome > /dev/null || lacking+=(chromium)
 [ ${#lacking[@]} != 0 ] || exit 0

@@ -1,5 +1,5 @@
 /* Each thread writes its own element, and reads another's behind the barrier.
-   expect: told thread */
+   expect: number */
 #include <omp.h>
 #include <stdio.h>
 

@@ -1,5 +1,5 @@
 /* Each thread counts in an element of its own.
-   expect: told thread */
+   expect: number */
 #include <omp.h>
 #include <stdio.h>
 

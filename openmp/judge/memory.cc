@@ -28,28 +28,46 @@ void Memory::take(std::size_t at) {
     const event &e = run_.trace[at];
     if (e.kind == BARRIER_END || e.kind == REGION_END)
         copied_at_.clear();
-    if (e.kind == MEMORY || (e.kind == END && e.mark == STACK))
+    if (e.kind == MEMORY || ((e.kind == START || e.kind == END) && e.mark == STACK))
         return is_new(at, e);
-    if (e.kind == GROUP_CLOSE) {
+    if (e.kind == GROUP_CLOSE || e.kind == COPY) {
         auto found = run_.combined.find(at);
         if (found != run_.combined.end())
             for (const auto &written : found->second)
-                touch(at, written.first, written.second, true, 0);
+                if (!is_copy(written.first))
+                    touch(at, written.first, written.second, true, 0);
         return;
     }
     if ((e.kind != READ && e.kind != WRITE) || run_.segment_of[at] == NONE)
         return;
     u64 size = e.size == LARGE ? e.value : e.size;
-    if (!run_.copies.empty()) {
-        auto copy = run_.copies.upper_bound(e.address);
-        if (copy != run_.copies.begin() && e.address - std::prev(copy)->first < std::prev(copy)->second) {
-            copies++;
-            return;
-        }
+    if (is_copy(e.address)) {
+        copies++;
+        return;
     }
     if (run_.segments[run_.segment_of[at]].actor == 0 && run_.trace.thread(at) != 0)
         strangers++;
+    if (e.size == SET)
+        return touch_set(at, e);
     touch(at, e.address, size ? size : 1, e.kind == WRITE, e.mark);
+}
+
+// Whether it is a thread's copy of a reduced variable.
+bool Memory::is_copy(u64 address) const {
+    auto copy = run_.copies.upper_bound(address);
+    return copy != run_.copies.begin() && address - std::prev(copy)->first < std::prev(copy)->second;
+}
+
+// Elements that stand in a row are touched together.
+void Memory::touch_set(std::size_t at, const event &e) {
+    const u64 size = u64{1} << ((e.mark >> ROW_SHIFT) - 1);
+    for (u64 i = 0, count; i < 64; i += count) {
+        for (count = 0; i + count < 64 && e.value >> (i + count) & 1; count++) {}
+        if (count)
+            touch(at, e.address + i * size, count * size, e.kind == WRITE, e.mark);
+        else
+            count = 1;
+    }
 }
 
 // What a block is given back for reaches over many places; only those that somebody has touched are looked at.
@@ -216,7 +234,7 @@ void Memory::is_new(std::size_t at, const event &e) {
     freed_.erase(freed_.lower_bound(e.address), freed_.lower_bound(e.address + e.value));
     auto last = blocks.lower_bound(e.address + e.value);
     auto first = blocks.lower_bound(e.address);
-    if (e.kind == MEMORY && e.mark == STACK && run_.segment_of[at] != NONE)
+    if (e.kind != END && e.mark == STACK && run_.segment_of[at] != NONE)
         stacks_.emplace(run_.segments[run_.segment_of[at]].actor, std::make_pair(e.address, e.value));
     blocks.erase(first, last);
     blocks[e.address] = Block{e.value, static_cast<u32>(at), run_.segment_of[at]};
@@ -302,9 +320,11 @@ bool Memory::is_own(const Now &now, const Touch &earlier) {
         return true;
     bool asked = one == other && a.flags & Actor::IS_PART ? run_.regions[a.region].has_number
                                                          : (a.flags & b.flags & Actor::HAS_NUMBER) != 0;
-    if (is_one_thread && asked)
-        by_thread_number++;
-    return is_one_thread && asked;
+    if (!is_one_thread || !asked)
+        return false;
+    by_thread_number++;
+    by_one_number += a.region != NONE && run_.regions[a.region].stands_for_more() ? 1 : 0;
+    return true;
 }
 
 // In a team of one thread: what all threads of a larger one would do, to memory that they share, each would do at once.
@@ -316,14 +336,18 @@ void Memory::look_for_copies(const Now &now) {
     if (!is_copied || actor.region == NONE)
         return;
     const Region &region = run_.regions[actor.region];
-    if (!region.stands_for_more() || region.has_number || is_on_stack(segment.actor, now.address))
+    if (!region.stands_for_more() || is_on_stack(segment.actor, now.address))
         return;
     const Block *block = block_at(now.address);
     if (block && block->at > region.begun)
         return;
-    meet_copies(now, now.at < actor.parted);
+    meet_copies(now, now.at < actor.parted, region.has_number);
     if (!now.is_write || now.is_atomic || now.locks != 0)
         return;
+    if (region.has_number) {
+        by_one_number++;
+        return;
+    }
     auto added = copied_.emplace(std::make_pair(segment.actor, run_.trace[now.at].place),
                                  Copied{now, now.at < actor.parted});
     Copied &known = added.first->second;
@@ -331,8 +355,9 @@ void Memory::look_for_copies(const Now &now) {
         known.now.size = 0;
 }
 
-// What one thread does under a lock and then without it, another one may do at once.
-void Memory::meet_copies(Now now, bool is_sure) {
+// What one thread does under a lock and then without it, another one may do at once. Where the threads go by their numbers,
+// it may do something else.
+void Memory::meet_copies(Now now, bool is_sure, bool has_number) {
     u64 end = (now.address + now.size + GRANULE - 1) / GRANULE;
     for (now.granule = now.address / GRANULE; now.granule < end && copied_at_.size() < MOST_COPIED; now.granule++) {
         auto &all = copied_at_[now.granule];
@@ -345,6 +370,10 @@ void Memory::meet_copies(Now now, bool is_sure) {
             if (!(then.mask & now.mask) || !(then.is_write || now.is_write) || (then.is_atomic && now.is_atomic)
                 || run_.locks.exclude(then.locks, now.locks))
                 continue;
+            if (has_number) {
+                by_one_number++;
+                continue;
+            }
             Race *race = add_race(now, then.at, then.segment, false, true);
             if (race)
                 race->is_sure = is_sure && other.is_sure;

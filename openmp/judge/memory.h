@@ -44,6 +44,7 @@ public:
 
     std::vector<Race> races;
     u64 by_thread_number = 0;      // kept out, since the program asked for the thread's number
+    u64 by_one_number = 0;         // of these, and of what more threads would do, in a team of one that might have more
     u64 by_atomics = 0, by_locks = 0, copies = 0, strangers = 0;
     std::map<u64, Block> blocks;   // as they were at the end
     // The block that an address was in when it was touched, for each race.
@@ -69,6 +70,8 @@ private:
     };
 
     void take(std::size_t at);
+    bool is_copy(u64 address) const;
+    void touch_set(std::size_t at, const event &e);
     void touch(std::size_t at, u64 address, u64 size, bool is_write, u8 mark);
     void touch_place(Now &now, u32 &place);
     bool compare(const Now &now, Bucket &bucket);
@@ -81,7 +84,7 @@ private:
     bool is_on_stack(u32 part, u64 address) const;
     bool is_private(u32 part, u64 address) const;
     void look_for_copies(const Now &now);
-    void meet_copies(Now now, bool is_sure);
+    void meet_copies(Now now, bool is_sure, bool has_number);
     void tell_copies();
     Race *add_race(const Now &now, u32 at, u32 segment, bool is_apart, bool is_copied);
     void keep_freed(const Now &now);

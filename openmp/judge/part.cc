@@ -14,6 +14,14 @@ bool is_access(const event &e) { return (e.kind == READ || e.kind == WRITE) && !
 template <typename Take>
 void each_place(const event &e, Take take) {
     u64 size = e.size == LARGE ? e.value : e.size;
+    if (e.size == SET) {
+        const u64 element = u64{1} << ((e.mark >> ROW_SHIFT) - 1);
+        for (u64 i = 0; i < 64; i++)
+            if (e.value >> i & 1)
+                for (u64 place = (e.address + i * element) / 8; place < (e.address + (i + 1) * element + 7) / 8; place++)
+                    take(place);
+        return;
+    }
     for (u64 place = e.address / 8; place < (e.address + (size ? size : 1) + 7) / 8; place++)
         take(place);
 }
@@ -124,7 +132,7 @@ bool Part::is_left(const event &e, std::size_t at, const std::unordered_set<u64>
     bool is_gone = e.task < is_out_.size() && is_out_[e.task];
     if ((e.kind == CREATE || e.kind == FULFIL) && e.address < is_out_.size() && is_out_[e.address])
         return false;
-    if (is_gone && (e.kind == MEMORY || (e.kind == END && e.mark == STACK))) {
+    if (is_gone && (e.kind == MEMORY || ((e.kind == START || e.kind == END) && e.mark == STACK))) {
         changed.kind = MEMORY;
         changed.mark = 0;
         changed.task = 0;

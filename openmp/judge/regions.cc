@@ -124,6 +124,8 @@ void Run::end_region(const event &e) {
         return;
     Region &region = regions[known->second];
     region.is_ended = true;
+    for (auto copy = region_copies_.begin(); copy != region_copies_.end();)
+        copy = copy->second.region == known->second ? region_copies_.erase(copy) : std::next(copy);
     for (u32 part : region.parts) {
         State &own = state(part);
         if (own.phase != region.phases.back())

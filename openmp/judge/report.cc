@@ -65,6 +65,7 @@ void Report::write_counts(std::ostream &out) const {
     if (memory_)
         out << ", \"by_atomics\": " << memory_->by_atomics << ", \"by_locks\": " << memory_->by_locks
             << ", \"copies\": " << memory_->copies << ", \"by_thread_number\": " << memory_->by_thread_number
+            << ", \"by_one_number\": " << memory_->by_one_number
             << ", \"strangers\": " << memory_->strangers;
     out << "},\n";
 }
@@ -99,10 +100,10 @@ void Report::write_side(std::ostream &out, u32 at, u32 segment) {
     const event &e = run_.trace[at];
     u32 actor = run_.segments[segment].actor;
     name(actor);
-    const char *done = e.kind == GROUP_CLOSE ? "writes" : e.mark & FREED ? "frees" : e.kind == WRITE ? "writes" : "reads";
+    const char *done = e.kind == GROUP_CLOSE || e.kind == COPY ? "writes" : e.mark & FREED ? "frees" : e.kind == WRITE ? "writes" : "reads";
     out << "{\"done\": \"" << done << "\", \"place\": " << e.place << ", \"actor\": " << actor << ", \"address\": " << e.address
         << ", \"size\": " << (e.mark >> ROW_SHIFT ? 1u << ((e.mark >> ROW_SHIFT) - 1) : e.size) << ", \"unit\": " << (run_.segments[segment].flags & Segment::IS_UNIT ? "true" : "false")
-        << ", \"frame\": " << (e.mark & FRAME && e.kind == WRITE ? "true" : "false") << ", \"library\": " << (e.mark & LIBRARY && e.kind != GROUP_CLOSE ? "true" : "false")
+        << ", \"frame\": " << (e.mark & FRAME && e.kind == WRITE ? "true" : "false") << ", \"library\": " << (e.mark & LIBRARY && e.kind != GROUP_CLOSE && e.kind != COPY ? "true" : "false")
         << ", \"callers\": ";
     write_callers(out, at);
     out << "}";

@@ -69,10 +69,10 @@ void Run::take(std::size_t at) {
         state_of(e).callers = static_cast<u32>(at);
         return;
     }
-    if (e.kind != START && e.kind != END && e.kind != ITEM && e.kind != IMPLICIT_BEGIN && e.kind != NOTE) {
+    if (e.kind != START && e.kind != ITEM && e.kind != IMPLICIT_BEGIN && e.kind != NOTE) {
         State &s = state_of(e);
         if (s.pending != NONE && e.kind != MEMORY && e.kind != COPY)
-            return refuse("Undeferred", "goes on", s, s.pending, e);
+            return refuse("Undeferred", e.kind == END ? "ends" : "goes on", s, s.pending, e);
     }
     take_sync(at, e);
 }
@@ -82,10 +82,21 @@ void Run::access(std::size_t at, const event &e) {
     if (s.pending != NONE)
         return refuse("Undeferred", e.kind == READ ? "reads" : "writes", s, s.pending, e);
     segment_of[at] = s.segment;
-    locks_of[at] = s.locks;
+    locks_of[at] = region_copies_.empty() ? s.locks : locks_with_copy(s, e);
     chain_of[at] = s.callers;
     if (e.mark & ATOMIC)
         part_ways(s, at);
+}
+
+// A thread whose copy its region's reduction puts together takes part in that itself: a task that has no other copy adds to
+// it under a lock of its own, which keeps that thread apart too.
+u32 Run::locks_with_copy(const State &s, const event &e) {
+    auto copy = region_copies_.upper_bound(e.address);
+    if (copy == region_copies_.begin() || !(actors[s.actor].flags & Actor::IS_PART))
+        return s.locks;
+    --copy;
+    bool is_in = e.address - copy->first < copy->second.size && actors[s.actor].region == copy->second.region;
+    return is_in ? locks.with(s.locks, copy->first, false) : s.locks;
 }
 
 // What is read under a lock or by an atomic operation may be another value for each thread.
@@ -99,7 +110,12 @@ void Run::take_sync(std::size_t at, const event &e) {
     case ITEM:
         actors[state_of(e).actor].items.push_back(Item{e.address, e.value, e.mark});
         return;
-    case START: return start(e, trace.thread(at));
+    case START:
+        start(e, trace.thread(at));
+        segment_of[at] = state_of(e).segment;
+        if (e.mark == STACK)
+            forget_released(e);
+        return;
     case END:
         segment_of[at] = state_of(e).segment;
         return end(e);
@@ -119,14 +135,19 @@ void Run::take_sync(std::size_t at, const event &e) {
     case RELEASE: return release(e);
     case ACQUIRE: return acquire(e);
     case NOTE: return note(e);
-    case COPY: return copy(e);
+    case COPY: return copy(at, e);
     case MEMORY:
         segment_of[at] = state_of(e).segment;
-        released_.erase(released_.lower_bound(e.address), released_.lower_bound(e.address + e.value));
+        forget_released(e);
         return;
     case ENDED: return;
     default: return take_share(e);
     }
+}
+
+// What was released in memory that is new was somebody else's.
+void Run::forget_released(const event &e) {
+    released_.erase(released_.lower_bound(e.address), released_.lower_bound(e.address + e.value));
 }
 
 void Run::take_share(const event &e) {
@@ -166,20 +187,30 @@ void Run::note(const event &e) {
     }
 }
 
-// A thread's copy of a reduced variable: nobody else touches it.
-void Run::copy(const event &e) {
+// A thread's copy of a reduced variable: nobody else touches it. What a group's task adds to its copy may be put into the
+// variable at any time from there to the group's end, one task's after the other's (OpenMP 5.2, 5.5.8).
+void Run::copy(std::size_t at, const event &e) {
     State &s = state_of(e);
     if (e.size) {
         u64 size = e.size == LARGE ? e.value : e.size;
         sizes_[e.address] = size;
-        if (s.group != NONE)
+        if (s.group != NONE) {
             groups[s.group].reduced.emplace_back(e.address, size);
+            originals_.insert(e.address);
+        } else if (actors[s.actor].flags & Actor::IS_PART) {
+            region_copies_[e.address] = RegionCopy{size, actors[s.actor].region};
+        }
         return;
     }
     auto known = sizes_.find(e.value);
     u64 size = known == sizes_.end() ? 8 : known->second;
     sizes_[e.address] = size;
     copies[e.address] = std::max(copies[e.address], size);
+    if (originals_.count(e.value)) {
+        combined[at].emplace_back(e.value, size);
+        segment_of[at] = s.segment;
+        locks_of[at] = locks.with(s.locks, e.value, false);
+    }
 }
 
 void Run::finish() {

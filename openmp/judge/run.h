@@ -189,6 +189,7 @@ private:
     void take(std::size_t at);
     void take_sync(std::size_t at, const event &e);
     void take_share(const event &e);
+    void forget_released(const event &e);
 
     u32 add_segment(u32 actor, u32 node, u32 flags);
     u32 node_of(State &s);              // of the segment, which gets one where it has none
@@ -205,6 +206,7 @@ private:
     void fulfil(const event &e);
     void wait(const event &e);
     void wait_items(const event &e);
+    u32 least_unended(const std::vector<u32> &members) const;
     void open_group(const event &e);
     void close_group(std::size_t at, const event &e);
     void begin_region(const event &e);
@@ -214,6 +216,7 @@ private:
     void end_barrier(const event &e);
     u32 close_phase(u32 phase, const State &s, const event &e);
     u32 open_phase(u32 region, u32 open);
+    bool is_one_by_clause(const State &s) const;
     void begin_loop(const event &e);
     void iterate(const event &e);
     void enter_unit(State &s, u32 segment);
@@ -232,7 +235,8 @@ private:
     void release(const event &e);
     void acquire(const event &e);
     void note(const event &e);
-    void copy(const event &e);
+    void copy(std::size_t at, const event &e);
+    u32 locks_with_copy(const State &s, const event &e);
     void access(std::size_t at, const event &e);
     void part_ways(const State &s, std::size_t at);
     Shared *next_shared(State &s);
@@ -249,6 +253,13 @@ private:
     };
     std::map<u64, Released> released_;
     std::map<u64, u64> sizes_;      // of reduced variables
+    std::multiset<u64> originals_;  // the reduced variables of open groups
+    // A thread's copy of a variable that its region reduces with the tasks in it.
+    struct RegionCopy {
+        u64 size;
+        u32 region;
+    };
+    std::map<u64, RegionCopy> region_copies_;
     std::vector<u32> number_of_;    // the task number of each actor
     std::set<u32> leagues_;         // the first tasks of the teams of a league
     bool is_next_one_ = false;

@@ -20,9 +20,15 @@ bool has_share(const State &s, const std::vector<Actor> &actors) {
 
 }  // namespace
 
+// Where a clause wants one thread, that thread does all in its order.
+bool Run::is_one_by_clause(const State &s) const {
+    const Region &region = regions[phases[s.phase].region];
+    return region.size == 1 && region.is_one_by_clause;
+}
+
 void Run::begin_loop(const event &e) {
     State &s = state_of(e);
-    if (!has_share(s, actors))
+    if (!has_share(s, actors) || is_one_by_clause(s))
         return;
     leave_unit(s);
     s.loop = Loop{};
@@ -106,7 +112,7 @@ void Run::begin_single(const event &e) {
         return;
     leave_unit(s);
     next_shared(s);
-    if (!e.mark)
+    if (!e.mark || is_one_by_clause(s))
         return;
     s.chain = s.segment;
     enter_unit(s, add_segment(s.actor, graph_.add(phases[s.phase].open), Segment::IS_UNIT | Segment::IS_SINGLE));

@@ -43,6 +43,8 @@ void Run::create(const event &e) {
     if (parent.phase != NONE)
         phases[parent.phase].tasks.push_back(child);
     split(parent);
+    if (made.flags & Actor::IS_UNDEFERRED)
+        parent.pending = child;
 }
 
 // Of a team's thread two tasks are siblings where it surely makes both: another one might take one of the units.
@@ -107,16 +109,15 @@ void Run::start(const event &e, u32 thread) {
     actor.start = node;
     actor.thread = thread;
     s.segment = add_segment(s.actor, node, 0);
-    if (actor.flags & Actor::IS_UNDEFERRED) {
-        parent.pending = s.actor;
+    if (actor.flags & Actor::IS_UNDEFERRED)
         s.locks = parent.locks;
-    }
 }
 
 void Run::end(const event &e) {
     State &s = state_of(e);
     if (s.actor == 0 || actors[s.actor].is_ended || !actors[s.actor].is_started)
         return;
+    settle_items(s);
     Actor &actor = actors[s.actor];
     actor.is_ended = true;
     actor.end = node_of(s);
@@ -172,6 +173,24 @@ void Run::wait_items(const event &e) {
     s.segment = add_segment(s.actor, node, segments[s.segment].flags);
 }
 
+// By their names: of a group's members one may be made before another one that stands in front of it.
+u32 Run::least_unended(const std::vector<u32> &members) const {
+    u32 found = NONE;
+    std::vector<u32> least;
+    for (u32 member : members) {
+        if (actors[member].is_ended)
+            continue;
+        std::vector<u32> path;
+        for (u32 at = home(member); at != 0; at = home(actors[at].parent))
+            path.insert(path.begin(), actors[at].child);
+        if (found == NONE || path < least) {
+            found = member;
+            least = std::move(path);
+        }
+    }
+    return found;
+}
+
 void Run::open_group(const event &e) {
     State &s = state_of(e);
     s.outer_groups.push_back(s.group);
@@ -187,14 +206,17 @@ void Run::close_group(std::size_t at, const event &e) {
         return;
     Group &group = groups[s.group];
     u32 node = graph_.add(node_of(s));
+    u32 unended = least_unended(group.members);
+    if (unended != NONE)
+        return refuse("Group", "closes the group", s, unended, e);
     for (u32 member : group.members) {
-        if (!actors[member].is_ended)
-            return refuse("Group", "closes the group", s, member, e);
         graph_.lead(actors[member].end, node);
         actors[member].is_joined = true;
     }
     s.segment = add_segment(s.actor, node, segments[s.segment].flags);
     if (!group.reduced.empty()) {
+        for (const auto &reduced : group.reduced)
+            originals_.erase(originals_.find(reduced.first));
         combined[at] = std::move(group.reduced);
         segment_of[at] = s.segment;
     }

@@ -61,19 +61,22 @@ static inline struct frame *frame_of(const struct own *own, uint64_t place, stru
     return frame ? outer_of(own, frame) : 0;
 }
 
-static inline int are_callers_known(const struct own *own, const struct frame *frame) {
-    return !frame || (own->chain_frame == (uint64_t)frame && own->chain_caller == frame->back
-                      && own->chain_outer == (uint64_t)frame->outer && own->chain_task == own->task);
+static struct chain *chain_of(struct own *own) {
+    struct running *running = top_task(own);
+    return running && running->task == own->task ? &running->chain : &own->chain;
 }
 
-/* Writes down who called the function that makes the access, where that isn't known from the access before. */
+static inline int are_callers_known(const struct own *own, const struct chain *chain, const struct frame *frame) {
+    return !frame || (chain->frame == (uint64_t)frame && chain->caller == frame->back
+                      && chain->outer == (uint64_t)frame->outer && chain->task == own->task);
+}
+
+/* Writes down who called the function that makes the access, where that isn't known from the task's access before. */
 static void note_callers(struct own *own, struct frame *frame) {
-    if (are_callers_known(own, frame))
+    struct chain *chain = chain_of(own);
+    if (are_callers_known(own, chain, frame))
         return;
-    own->chain_frame = (uint64_t)frame;
-    own->chain_caller = frame->back;
-    own->chain_outer = (uint64_t)frame->outer;
-    own->chain_task = own->task;
+    *chain = (struct chain){(uint64_t)frame, frame->back, (uint64_t)frame->outer, own->task};
     struct running *running = top_task(own);
     uint64_t places[CALLERS] = {0}, callers = 0;
     uint64_t base = running ? running->base : 0;
@@ -91,79 +94,135 @@ static void note_callers(struct own *own, struct frame *frame) {
     event->place = (int32_t)places[0];
 }
 
-/* An access that comes again in one part of a task changes no order: it is written down once. */
-static struct seen *seen_at(struct own *own, uint64_t address, uint32_t place) {
-    return &own->seen[(address >> 2 ^ place * 31) * 0x9E3779B97F4A7C15u >> 53];
+static inline uint8_t row_mark(uint32_t shift) { return (uint8_t)((1 + shift) << ROW_SHIFT); }
+
+static inline struct touched *touched_at(struct own *own, uint64_t block, uint64_t place) {
+    return &own->touched[(block ^ place * 31) * 0x9E3779B97F4A7C15u >> (64 - TOUCHED_BITS)];
 }
 
-static inline int is_of(const struct own *own, const struct seen *seen, enum kind kind, uint32_t place) {
-    return seen->epoch == own->epoch && seen->place == place && seen->event->kind == kind;
+static inline uint64_t key_of(const struct own *own, uint64_t place) { return (uint64_t)own->epoch << 32 | (uint32_t)place; }
+
+/* What is no element of a block of its size stands alone: its block is its address, and no other block's number. */
+static inline uint64_t alone(enum kind kind, uint64_t address) { return address | 1ull << 63 | (uint64_t)kind << 56; }
+
+/* An access that comes again in one part of a task changes no order: it is written down once, a write with the number that
+   it leaves in the end. */
+__attribute__((always_inline)) static inline void touch_again(struct own *own, struct event *first, enum kind kind, int has_number) {
+    own->last = first;
+    if (kind != WRITE || !has_number || own->unread == first)
+        return;
+    taskback_settle(own);
+    own->unread = first;
 }
 
-static inline int row_mark(uint64_t size) { return (1 + __builtin_ctzll(size)) << ROW_SHIFT; }
-
-/* Whether the access is in what its place has touched already, or goes on from there: elements that are touched in their
-   order, in one part of a task and by one chain of callers, are one event. */
-static inline int is_in_row(struct own *own, enum kind kind, uint64_t address, uint64_t size, uint64_t place) {
-    struct seen *row = &own->rows[(place ^ place >> 6) % ROWS];
-    if (!is_of(own, row, kind, (uint32_t)place))
+/* Whether the element has been written down; in a part that isn't busy each element that is written has its own number. */
+__attribute__((always_inline)) static inline int is_known(struct own *own, const struct touched *touched, enum kind kind, uint64_t address, uint64_t bit) {
+    if (!(touched->bits & bit))
         return 0;
-    struct event *event = row->event;
-    int is_row = event->mark == row_mark(size);
-    if (is_row && address - event->address < event->size) {
-        if (kind == WRITE && address == event->address)
-            own->unread = event;
+    if (touched->first->address == address) {
+        touch_again(own, touched->first, kind, 1);
         return 1;
     }
-    if (address != event->address + event->size || event->size > LONGEST_ROW || !(is_row || (event->mark == 0 && event->size == size)))
-        return 0;
-    if (!are_callers_known(own, frame_of(own, place, __builtin_frame_address(0))))
-        return 0;
     own->last = 0;
-    event->size = (uint16_t)(event->size + size);
-    event->mark = (uint8_t)row_mark(size);
-    return 1;
+    return kind == READ || is_busy(own);
 }
 
-/* Whether the same access has been written down in this part of the task; of a row, that begins so. */
-static int is_known(struct own *own, enum kind kind, uint64_t address, uint64_t size, uint64_t place) {
-    struct seen *seen = seen_at(own, address, (uint32_t)place);
-    struct event *event = seen->event;
-    if (!is_of(own, seen, kind, (uint32_t)place) || event->address != address)
-        return 0;
-    int is_number = size <= LONGEST_NUMBER && !(event->mark & FREED), is_row = event->mark >> ROW_SHIFT != 0;
-    if (is_row ? event->mark != row_mark(size) : is_number ? event->size != size : event->size != LARGE || event->value != size)
-        return 0;
-    if (is_row)
-        own->rows[(place ^ place >> 6) % ROWS] = *seen;
-    own->last = is_row ? 0 : event;
-    if (kind == WRITE && is_number)
-        own->unread = event;
-    return 1;
-}
-
-void taskback_access(enum kind kind, uint64_t address, uint64_t size, uint64_t place, int mark) {
-    struct own *own = own_state();
+static struct event *note_touch(struct own *own, enum kind kind, uint64_t address, uint64_t size, uint64_t place, int mark) {
     taskback_settle(own);
-    if (is_left_out(own, kind, address) || (own->is_alone && kind == READ))
-        return;
-    int is_number = size <= LONGEST_NUMBER && !(mark & FREED), may_go_on = is_number && mark == 0;
-    if (is_known(own, kind, address, size, place))
-        return;
     if (own->stack_high)
         note_callers(own, frame_of(own, place, __builtin_frame_address(0)));
     struct event *event = own->last = taskback_note_access(own, kind, address, place, mark);
-    struct seen seen = {(uint32_t)place, own->epoch, event};
     set_size(event, size);
-    *seen_at(own, address, (uint32_t)place) = seen;
-    if (!is_number)
-        return;
-    if (may_go_on)
-        own->rows[(place ^ place >> 6) % ROWS] = seen;
+    if (size > LONGEST_NUMBER || mark & FREED)
+        return event;
     if (kind == READ)
         event->value = number_at(address, (uint32_t)size);
     else
         own->unread = event;
+    return event;
+}
+
+/* One more element of a block that the place has touched, by one chain of callers: the next one behind the first is the
+   same event. Where the part has much to tell, all others of the block are a second one. */
+enum { UNKNOWN, GROWS, STAYS };
+
+__attribute__((always_inline)) static inline int joins(struct own *own, struct touched *touched, uint64_t address, uint32_t shift, uint64_t bit,
+                        const struct frame *frame) {
+    struct event *first = touched->first;
+    const struct frame *user = frame->outer;
+    if (touched->growth != GROWS || first->mark & ATOMIC || touched->frame != (uint64_t)user || touched->caller != user->back)
+        return 0;
+    if (touched->set) {
+        touched->set->value |= bit;
+    } else if (address == first->address + first->size) {
+        first->size = (uint16_t)(first->size + (1u << shift));
+        first->mark = row_mark(shift);
+    } else {
+        return 0;
+    }
+    own->last = 0;
+    touched->bits |= bit;
+    return 1;
+}
+
+/* Begins the second event, where there is room in the page: else all that is in it is forgotten. */
+static void begin_set(struct own *own, struct touched *touched, enum kind kind, uint64_t address, uint32_t shift,
+                      uint64_t place) {
+    if (touched->set || !is_busy(own) || own->next == own->end)
+        return;
+    touched->set = taskback_note_access(own, kind, address >> (shift + 6) << (shift + 6), place, row_mark(shift));
+    touched->set->size = SET;
+}
+
+/* Whether nothing of the block is left out, and the place has a frame by which its callers are told apart. */
+static uint64_t may_grow(const struct own *own, enum kind kind, uint64_t address, uint32_t shift, const struct frame *frame) {
+    uint64_t low = address >> (shift + 6) << (shift + 6), size = 64ull << shift;
+    const struct running *running = own->depth > 0 && own->depth <= RUNNING_MOST ? &own->running[own->depth - 1] : 0;
+    uint64_t starts[] = {own->record, own->tls_low, own->sorted.array, own->sorted.room,
+                         running ? running->record : 0, running ? running->shared : 0};
+    uint64_t sizes[] = {own->record_size, own->tls_size, own->sorted.size, own->sorted.size,
+                        kind == READ ? RECORD_HEAD : 0, kind == READ ? SHARED_MOST : 0};
+    for (int i = 0; i < 6; i++)
+        if (sizes[i] && starts[i] - low + sizes[i] < size + sizes[i])
+            return 0;
+    return !own->muted && outer_of(own, frame) != 0;
+}
+
+/* An element that its place hasn't touched in this part; `frame` is that of the call. */
+__attribute__((noinline)) static void touch_more(struct own *own, enum kind kind, uint64_t address, uint32_t shift,
+                                                 uint64_t place, struct frame *frame) {
+    int is_aligned = (address & ((1u << shift) - 1)) == 0;
+    uint64_t block = is_aligned ? address >> (shift + 6) : alone(kind, address);
+    uint64_t bit = is_aligned ? 1ull << (address >> shift & 63) : 1;
+    struct touched *touched = touched_at(own, block, place);
+    int is_same = touched->key == key_of(own, place) && touched->block == block;
+    if (is_left_out(own, kind, address) || (is_same && is_known(own, touched, kind, address, bit)))
+        return;
+    if (is_same && touched->growth == UNKNOWN)
+        touched->growth = is_aligned && may_grow(own, kind, address, shift, frame) ? GROWS : STAYS;
+    if (is_same && touched->growth == GROWS && !(touched->bits & bit) && !(touched->first->mark & ATOMIC)) {
+        begin_set(own, touched, kind, address, shift, place);
+        if (joins(own, touched, address, shift, bit, frame))
+            return;
+    }
+    struct event *event = note_touch(own, kind, address, 1u << shift, place, 0);
+    uint64_t key = key_of(own, place), outer = (uint64_t)outer_of(own, frame);
+    is_same = is_same && touched->key == key;   /* else the page was turned */
+    *touched = (struct touched){key, block, bit | (is_same ? touched->bits : 0), event, is_same ? touched->set : 0, outer,
+                                outer ? frame->outer->back : 0, is_same ? touched->growth : UNKNOWN};
+}
+
+void taskback_access(enum kind kind, uint64_t address, uint64_t size, uint64_t place, int mark) {
+    struct own *own = own_state();
+    if (is_left_out(own, kind, address) || (own->is_alone && kind == READ))
+        return;
+    struct touched *touched = touched_at(own, alone(kind, address), place);
+    if (touched->key == key_of(own, place) && touched->block == alone(kind, address) && touched->bits == size) {
+        touch_again(own, touched->first, kind, size <= LONGEST_NUMBER && !(mark & FREED));
+        return;
+    }
+    struct event *event = note_touch(own, kind, address, size, place, mark);
+    *touched = (struct touched){key_of(own, place), alone(kind, address), size, event, 0, 0, 0, 0};
 }
 
 /* A store in a worksharing loop: where it is the loop's number that is stored, an iteration begins. The first store
@@ -210,7 +269,14 @@ void __tsan_func_entry(void *caller) {
     if (running->base)
         return;
     running->base = top;
-    taskback_new_memory(own, own->stack_low, top - own->stack_low, 0)->mark = STACK;
+    struct event *start = own->next - 1;
+    if (start != own->started) {
+        taskback_new_memory(own, own->stack_low, top - own->stack_low, 0)->mark = STACK;
+        return;
+    }
+    start->address = own->stack_low;
+    start->value = top - own->stack_low;
+    start->mark = STACK;
 }
 
 /* What a function has on the stack ends with it, as a block that is given back. A task's first function is that task's to
@@ -231,30 +297,35 @@ void __tsan_func_exit(void) {
     taskback_pop_task(own, running->task);
 }
 
+/* What no other task can know of yet: what the function has on the stack, and what the task has in its record. */
 static inline int is_quiet(const struct own *own, const void *address) {
-    return (uint64_t)address - own->stack_low < own->quiet_span;
+    return (uint64_t)address - own->stack_low < own->quiet_span || (uint64_t)address - own->quiet_record < own->quiet_size;
 }
 
 /* Most calls end here. */
-#define TOUCH(kind, address, bytes)                                              \
-    taskback_settle(own);                                                        \
-    if (!is_in_row(own, kind, (uint64_t)(address), bytes, PLACE))                \
-        taskback_access(kind, (uint64_t)(address), bytes, PLACE, 0)
-#define LOAD(bytes)                                                              \
-    void __sanitizer_cov_load##bytes(void *address) {                            \
-        struct own *own = own_state();                                           \
-        if (is_quiet(own, address) || own->is_alone)                             \
-            return;                                                              \
-        TOUCH(READ, address, bytes);                                             \
+__attribute__((always_inline)) static inline void touch(struct own *own, enum kind kind, uint64_t address, uint32_t shift, uint64_t place, struct frame *frame) {
+    uint64_t block = address >> (shift + 6), bit = 1ull << (address >> shift & 63);
+    struct touched *touched = touched_at(own, block, place);
+    if (touched->key == key_of(own, place) && touched->block == block && (address & ((1u << shift) - 1)) == 0
+        && (touched->bits & bit ? is_known(own, touched, kind, address, bit) : joins(own, touched, address, shift, bit, frame)))
+        return;
+    touch_more(own, kind, address, shift, place, frame);
+}
+
+#define FRAME_HERE ((struct frame *)__builtin_frame_address(0))
+#define LOAD(bytes)                                                                           \
+    void __sanitizer_cov_load##bytes(void *address) {                                         \
+        struct own *own = own_state();                                                        \
+        if (!is_quiet(own, address) && !own->is_alone)                                        \
+            touch(own, READ, (uint64_t)address, __builtin_ctz(bytes), PLACE, FRAME_HERE);     \
     }
-#define STORE(bytes)                                                             \
-    void __sanitizer_cov_store##bytes(void *address) {                           \
-        struct own *own = own_state();                                           \
-        if (__builtin_expect(own->loop.is_on, 0))                                   \
-            stored_in_loop(own, (uint64_t)address, bytes);                       \
-        if (is_quiet(own, address))                                              \
-            return;                                                              \
-        TOUCH(WRITE, address, bytes);                                            \
+#define STORE(bytes)                                                                          \
+    void __sanitizer_cov_store##bytes(void *address) {                                        \
+        struct own *own = own_state();                                                        \
+        if (__builtin_expect(own->loop.is_on, 0))                                             \
+            stored_in_loop(own, (uint64_t)address, bytes);                                    \
+        if (!is_quiet(own, address))                                                          \
+            touch(own, WRITE, (uint64_t)address, __builtin_ctz(bytes), PLACE, FRAME_HERE);    \
     }
 #define BOTH(bytes) LOAD(bytes) STORE(bytes)
 BOTH(1)
@@ -262,6 +333,17 @@ BOTH(2)
 BOTH(4)
 BOTH(8)
 BOTH(16)
+
+/* Of other sizes, as the pass of our own has them. */
+void taskback_load(void *address, uint64_t size) {
+    if (!is_quiet(own_state(), address))
+        taskback_access(READ, (uint64_t)address, size, PLACE, 0);
+}
+
+void taskback_store(void *address, uint64_t size) {
+    if (!is_quiet(own_state(), address))
+        taskback_access(WRITE, (uint64_t)address, size, PLACE, 0);
+}
 
 /* The thread instrumentation tells virtual tables' pointers apart; coverage has their loads and stores already. */
 void __tsan_vptr_update(void **address, void *value) { (void)address, (void)value; }

@@ -23,9 +23,12 @@ static void note_order(struct own *own, enum kind kind, uint64_t address, uint8_
 /* `way`: KEEPS where the operation goes on from what is there, and DOWN where it counts down. */
 static void before_write(uint64_t address, uint32_t size, int order, int way, uint64_t place) {
     struct own *own = own_state();
-    if (way)
-        touch(own, READ, address, size, place);
-    touch(own, WRITE, address, size, place);
+    if (way) {      /* no call for a load or a store stands in front of it */
+        taskback_access(READ, address, size, place, ATOMIC);
+        taskback_access(WRITE, address, size, place, ATOMIC);
+    } else {
+        touch(own, WRITE, address, size, place);
+    }
     if (releases(order) || (own->fenced && own->fenced == own->task))
         note_order(own, RELEASE, address, (uint8_t)way, place);
     else if (!way)

@@ -13,6 +13,8 @@
 
 #include "recorder.h"
 
+void *__real_mmap(void *, size_t, int, int, int, off_t);
+
 enum { HEADER = 4096, PIECE = BUFFER * sizeof(struct event) };
 
 __thread struct own *taskback_own;
@@ -42,14 +44,15 @@ static void find_stack(struct own *own) {
 }
 
 static void *fresh_memory(size_t size) {
-    void *memory = mmap(0, size, PROT_READ | PROT_WRITE, MAP_PRIVATE | MAP_ANONYMOUS, -1, 0);
+    void *memory = __real_mmap(0, size, PROT_READ | PROT_WRITE, MAP_PRIVATE | MAP_ANONYMOUS, -1, 0);
     if (memory == MAP_FAILED)
         abort();
     return memory;
 }
 
 static void use_piece(struct own *own, struct event *piece) {
-    own->events = own->next = piece;
+    own->events = own->next = own->part = piece;
+    own->started = 0;
     own->end = piece + BUFFER;
 }
 
@@ -58,7 +61,7 @@ static struct event *map_piece(void) {
     uint64_t at = __atomic_fetch_add(&file_end, PIECE, __ATOMIC_ACQ_REL);
     if (posix_fallocate(file, (off_t)at, PIECE) != 0)
         return 0;
-    void *piece = mmap(0, PIECE, PROT_READ | PROT_WRITE, MAP_SHARED | MAP_POPULATE, file, (off_t)at);
+    void *piece = __real_mmap(0, PIECE, PROT_READ | PROT_WRITE, MAP_SHARED | MAP_POPULATE, file, (off_t)at);
     return piece == MAP_FAILED ? 0 : piece;
 }
 
@@ -92,7 +95,8 @@ static void run_out_of_room(void) {
 __attribute__((noinline)) static void turn_page(struct own *own) {
     begin_part(own);
     int is_recording = __atomic_load_n(&taskback_is_recording, __ATOMIC_ACQUIRE);
-    own->next = own->events + 1;
+    own->next = own->part = own->events + 1;
+    own->started = 0;
     if (is_recording && keep_piece(own))
         return;
     if (is_recording)

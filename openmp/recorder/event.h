@@ -8,7 +8,7 @@
 enum kind {
     CREATE = 1,     /* task: the creator; address: the child; value: its flags; place: the directive */
     ITEM,           /* task: the child; address; value: the length; mark: the type's bits */
-    START,          /* task */
+    START,          /* task; mark: STACK where address, value are its part of the stack, which is new */
     END,            /* task; mark: STACK where address, value are its part of the stack, which is new from here on */
     WAIT,           /* task: it has passed a taskwait */
     WAIT_ITEM,      /* task; the rest as of ITEM; in front of its WAIT_ITEMS */
@@ -21,7 +21,8 @@ enum kind {
     BARRIER_BEGIN,  /* task: an implicit task; address: its region */
     BARRIER_END,    /* the same */
     READ,           /* task; address; value: the number read; size; place; mark. Of elements that one place touches in
-                       their order it is one event: the size is that of all, the number that of the first */
+                       their order it is one event: the size is that of all, the number that of the first; so it is of
+                       a SET of elements, whose numbers aren't kept: the address is that of the first of 64 */
     WRITE,          /* the same; the number written */
     MEMORY,         /* task; address, value: from here on this many bytes are new; place: who took them; mark: STACK */
     LOCK,           /* task; address: the lock; value: 1 where it is a reduction's; mark: SHARED */
@@ -61,7 +62,7 @@ enum note {
 enum mark { ATOMIC = 1, FREED = 2, LIBRARY = 4, FRAME = 8, OUTERMOST = 16 };
 
 /* Above these marks stands, of several elements, 1 and the power of two that is the size of each. */
-enum { ROW_SHIFT = 5, LONGEST_ROW = 32768 };
+enum { ROW_SHIFT = 5 };
 
 /* Marks of a loop, of an iteration, of a release, of a lock that several may hold, and of a task's
    own part of a stack. */
@@ -75,7 +76,7 @@ struct event {
     uint32_t stamp;
     uint32_t task;
     int32_t place;  /* from where the program is loaded; 0: not in it */
-    uint16_t size;  /* LARGE: the size is the value */
+    uint16_t size;  /* or LARGE, SET */
     uint8_t kind;
     uint8_t mark;
 };
@@ -93,5 +94,6 @@ static inline int takes_number(uint8_t kind, uint8_t mark) {
 /* The end of a trace's first page, where events are missing. */
 #define NO_ROOM "no room\n"
 
-enum { LARGE = 0xffff, LONGEST_NUMBER = 16, CALLERS = 5 };
+/* The sizes of a READ or WRITE that are none: the size is the value; the value has a bit for each of 64 elements. */
+enum { LARGE = 0xffff, SET = 0xfffe, LONGEST_NUMBER = 16, CALLERS = 5 };
 #endif

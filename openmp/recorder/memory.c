@@ -2,6 +2,7 @@
 #include <malloc.h>
 #include <stdlib.h>
 #include <string.h>
+#include <sys/mman.h>
 
 #include "recorder.h"
 
@@ -58,6 +59,25 @@ void *__wrap_realloc(void *block, size_t size) {
 void __wrap_free(void *block) {
     taskback_given_back(block, PLACE);
     __real_free(block);
+}
+
+/* Memory of the system, whole pages of it. */
+#define MAPS(name)                                                                                              \
+    void *__real_##name(void *, size_t, int, int, int, off_t);                                                 \
+    void *__wrap_##name(void *wanted, size_t size, int rights, int flags, int file, off_t offset) {             \
+        void *block = __real_##name(wanted, size, rights, flags, file, offset);                                \
+        if (block != MAP_FAILED)                                                                               \
+            taskback_new_memory(own_state(), (uint64_t)block, size, PLACE);                                    \
+        return block;                                                                                          \
+    }
+MAPS(mmap)
+MAPS(mmap64)
+
+int __real_munmap(void *, size_t);
+int __wrap_munmap(void *block, size_t size) {
+    taskback_access(WRITE, (uint64_t)block, size, PLACE, FREED);
+    taskback_settle(own_state());
+    return __real_munmap(block, size);
 }
 
 static void copied(void *to, const void *from, size_t size, uint64_t place) {

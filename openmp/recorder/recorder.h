@@ -14,7 +14,13 @@ static inline void set_size(struct event *event, uint64_t size) {
         event->value = size;
 }
 
-enum { RUNNING_MOST = 1024, SEEN = 2048, ROWS = 64, BUFFER = 2048, FENCED = 4, NESTED = 8 };
+enum { RUNNING_MOST = 1024, TOUCHED_BITS = 10, BUSY = 64, BUFFER = 2048, FENCED = 4, NESTED = 8 };
+
+/* The function whose callers were written down last for a task. */
+struct chain {
+    uint64_t frame, caller, outer;
+    uint32_t task;
+};
 
 /* A task that runs on this thread, where its part of the stack begins (0: not yet known), and what the runtime has of it. */
 struct running {
@@ -24,13 +30,18 @@ struct running {
     uint8_t has_callers;       /* some of its accesses have callers that were written down */
     uint64_t base;
     uint64_t record, shared;   /* the runtime's record, and its pointers to what the task shares; 0: not known */
+    struct chain chain;
 };
 
-/* An access of the part of a task that is under way: the same one again isn't written down again. */
-struct seen {
-    uint32_t place;
-    uint32_t epoch;
-    struct event *event;
+/* What one place has touched of 64 elements of one size that stand together, in the part of a task that is under way. */
+struct touched {
+    uint64_t key;              /* the part's number, and the place's lower half */
+    uint64_t block;            /* which 64 elements; or an address that stands alone */
+    uint64_t bits;             /* of the elements that are written down; or the size of what stands alone */
+    struct event *first;       /* one of them, or some that stand in a row */
+    struct event *set;         /* the others; 0: there are none */
+    uint64_t frame, caller;    /* of the function that touched them, and where it was called */
+    uint64_t growth;           /* whether more of them may be told by these events */
 };
 
 /* A worksharing loop that the thread is in: how its number is found, which unoptimised code keeps in memory. */
@@ -55,8 +66,10 @@ struct own {
     int is_mapped;
     struct own *link;
     uint64_t stack_high;
-    uint64_t chain_frame, chain_caller, chain_outer; /* the function whose callers were written down last */
-    uint32_t chain_task;
+    struct chain chain;        /* of a task that isn't among those that run here */
+    struct event *part;        /* behind what was written down in front of the part that is under way */
+    struct event *started;     /* the last task's start */
+    uint64_t quiet_record, quiet_size; /* the task's record, while no other task can know of it */
     uint64_t quiet_span;       /* from stack_low on: memory that no other task can know of */
     uint64_t stack_low;
     struct event *unread;      /* a write whose number is read at the thread's next call */
@@ -70,6 +83,7 @@ struct own {
     uint64_t tls_low, tls_size;
     struct sorted sorted;
     uint64_t record, record_size; /* a task's record that is being filled, before its task is created */
+    uint64_t made_size;        /* of the record that was filled last */
     uint32_t record_creator;
     int undeferred;            /* the children are that `caller` creates */
     uint32_t caller;           /* the task in a call of the runtime that creates children */
@@ -86,8 +100,7 @@ struct own {
     struct loop outer[NESTED]; /* those around the regions that the thread has met */
     uint32_t nesting;
     struct running running[RUNNING_MOST];
-    struct seen rows[ROWS];    /* by their places, the last accesses, which may go on */
-    struct seen seen[SEEN];
+    struct touched touched[1 << TOUCHED_BITS];
 };
 
 extern __thread struct own *taskback_own;
@@ -119,8 +132,12 @@ static inline void taskback_settle(struct own *own) {
 static inline void begin_part(struct own *own) {
     taskback_settle(own);
     own->last = 0;
+    own->part = own->next;
     own->epoch++;
 }
+
+/* Whether the part has so much to tell that not each number is kept. */
+static inline int is_busy(const struct own *own) { return own->next - own->part > BUSY; }
 
 /* The task meets the runtime: another task may now know of what is on its stack. */
 static inline void begin_loud_part(struct own *own) {
@@ -128,6 +145,7 @@ static inline void begin_loud_part(struct own *own) {
     begin_part(own);
     if (used < own->quiet_span)
         own->quiet_span = used;
+    own->quiet_size = 0;
 }
 
 /* A place, counted from where the program is loaded; 0: it isn't in it. */

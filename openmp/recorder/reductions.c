@@ -15,6 +15,7 @@ void __real___kmpc_end_reduce_nowait(void *, int32_t, void *);
 /* Until `speak` the accesses of the thread's task are the runtime's. */
 static uint32_t mute(struct own *own) {
     uint32_t before = own->muted;
+    begin_part(own);
     own->muted = own->task;
     return before;
 }

@@ -188,6 +188,7 @@ void __wrap_qsort(void *array, size_t count, size_t size, compare_function *comp
     struct own *own = own_state();
     struct sorted before = own->sorted;
     taskback_settle(own);
+    begin_part(own);
     own->sorted = (struct sorted){(uint64_t)array, (uint64_t)room, count * size};
     merge_sort(array, room, count, &(struct sort){size, compare});
     taskback_settle(own);

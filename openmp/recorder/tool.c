@@ -3,8 +3,8 @@
 
 #include "recorder.h"
 
-/* A task's data is its number with these below. */
-enum { STARTED = 1, UNTIED = 2, NUMBER_SHIFT = 2 };
+/* A task's data is its number with these below, and above it the size of its record. */
+enum { STARTED = 1, UNTIED = 2, NUMBER_SHIFT = 2, SIZE_SHIFT = 34, SIZE_MOST = 1 << 16 };
 
 int taskback_has_tool;
 int taskback_has_strangers;
@@ -41,7 +41,9 @@ static void push_task(struct own *own, uint32_t task, uint32_t prior, int is_unt
     if (own->depth < RUNNING_MOST) {
         uint64_t record = data && record_distance ? (uint64_t)data + record_distance : 0;
         uint64_t shared = record ? *(const uint64_t *)record : 0;
-        own->running[own->depth] = (struct running){task, prior, (uint8_t)is_untied, 0, 0, record, shared};
+        own->running[own->depth] = (struct running){task, prior, (uint8_t)is_untied, 0, 0, record, shared, {0}};
+        own->quiet_record = record;
+        own->quiet_size = record ? data->value >> SIZE_SHIFT : 0;
     } else {
         taskback_note(own, NOTE, task, 0, NOTE_DEEP, 0);
     }
@@ -69,6 +71,13 @@ void taskback_pop_task(struct own *own, uint32_t task) {
         taskback_new_memory(own, own->stack_low, size, 0);
 }
 
+/* The size of the record that the creator has filled for the child; 0 where it isn't known. */
+static uint64_t record_size(struct own *own, uint32_t creator) {
+    uint64_t size = own->record_size ? own->record_size : own->made_size;
+    own->made_size = 0;
+    return own->record_creator == creator && size < SIZE_MOST ? size : 0;
+}
+
 static void note_items(struct own *own, uint32_t child, int count, const void *items) {
     const struct runtime_item *item = items;
     for (int i = 0; i < count; i++)
@@ -83,6 +92,7 @@ static void on_create(ompt_data_t *creator, const ompt_frame_t *frame, ompt_data
         return;
     begin_loud_part(own);
     name_task(child, flags & ompt_task_untied ? UNTIED : 0);
+    child->value |= record_size(own, number_of(creator)) << SIZE_SHIFT;
     uint64_t kept = (uint32_t)flags & ~(uint32_t)ompt_task_undeferred;
     uint64_t where = (uint64_t)place;
     if (own->caller && own->caller == number_of(creator)) {
@@ -126,7 +136,7 @@ static void go_on(struct own *own, ompt_data_t *next, uint32_t before) {
         return;
     }
     next->value |= STARTED;
-    taskback_note(own, START, own->task, 0, 0, 0);
+    own->started = taskback_note(own, START, own->task, 0, 0, 0);
     push_task(own, own->task, before, is_untied, next);
 }
 

@@ -48,6 +48,7 @@ static struct call enter(uint64_t place, int undeferred) {
     struct own *own = own_state();
     struct call before = {own, own->caller, own->caller_place, own->undeferred};
     begin_loud_part(own);
+    own->made_size = own->record_size;
     own->record_size = 0;
     own->caller = own->task;
     own->caller_place = place;

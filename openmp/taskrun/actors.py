@@ -118,6 +118,7 @@ class Run:
         self._locks = {}
         self._wait_items = {}
         self._sizes = {}
+        self._numbers = {}     # what each task touched last at each place, for those of which only the first's is known
         handlers = self._handlers()
         for event in trace.events:
             handler = handlers.get(event.kind)
@@ -163,6 +164,8 @@ class Run:
 
     def _start(self, event):
         self.actor_of(event.task).started = event.stamp
+        if event.mark == t.STACK:
+            self.memory.append((event.stamp, event.address, event.value))
 
     def _end(self, event):
         actor = self.actor_of(event.task)
@@ -230,7 +233,10 @@ class Run:
         if not event.mark & t.FRAME:
             self._busy.add(task)
         actor, locks = self._now.get(task, self.root), self._locks.get(task, NO_LOCKS)
-        self.accesses += [Access(element, actor, locks) for element in elements(event)]
+        whose = event.task, event.place
+        if event.size != t.SET:
+            self._numbers[whose] = event.value
+        self.accesses += [Access(element, actor, locks) for element in elements(event, self._numbers.get(whose, 0))]
 
     def _lock(self, event):
         self.counts["reductions" if event.value else "critical sections and locks"] += 1
@@ -285,11 +291,13 @@ class Run:
                     part.ended = phase.closed
 
 
-def elements(event):
-    """The event for each element that it touches; all have the number of the first."""
+def elements(event, number=0):
+    """The event for each element that it touches; all have the number of the first, those of a set this one."""
     if not event.mark >> t.ROW_SHIFT:
         return (event,)
     size = 1 << (event.mark >> t.ROW_SHIFT) - 1
+    if event.size == t.SET:
+        return [event._replace(address=event.address + size * i, size=size, value=number) for i in range(64) if event.value >> i & 1]
     return [event._replace(address=address, size=size)
             for address in range(event.address, event.address + event.size, size)]
 

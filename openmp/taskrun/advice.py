@@ -133,5 +133,3 @@ def kind_of(finding, side):
     writes = any(other.done != "reads" and other.actor is side.actor and other.address == side.address
                  for race in finding.races for other in (race.earlier, race.later))
     return "inout" if writes or side.done != "reads" else "in"
-
-

@@ -12,6 +12,8 @@ RULES = {
     "Undeferred": ("went on", "a child that isn't deferred ends first (OpenMP 5.2, 12.5)"),
 }
 FOR_EVERY = "for this input, every schedule has this outcome"
+BY_ONE = "for this input, every schedule by one thread has this outcome"
+MORE_THREADS = "a team of one thread asks for its number: what more threads would do isn't known (run it with two or more)"
 AS_SEEN = "no race as far as was seen: nothing is said of other schedules"
 
 # What orders nothing, or is this run's alone: where one of these is there, what is said of every schedule says less.
@@ -201,9 +203,12 @@ def tell_outcome(finding):
         f"a legal run of {told['regions']} parallel regions, without a task and without a race"
     if what_is_unseen(finding):
         return lines + [f"a legal run of {told['tasks']} tasks; {AS_SEEN}"]
+    sentence = FOR_EVERY
+    if finding.counts.get("by_one_number"):
+        lines, sentence = [*lines, MORE_THREADS], BY_ONE
     if pairs or what_is_alike(finding):
-        return lines + [f"{kind}: {FOR_EVERY}, as far as what is told above comes out alike in either order"]
-    return lines + [f"{kind}: {FOR_EVERY}"]
+        sentence += ", as far as what is told above comes out alike in either order"
+    return lines + [f"{kind}: {sentence}"]
 
 
 def as_json(finding, status, lines):

@@ -1,5 +1,7 @@
 """Compiles a program with its instrumentation, links the recorder, and runs it."""
 
+import contextlib
+import fcntl
 import hashlib
 import os
 import shutil
@@ -15,13 +17,13 @@ PARTS = ["buffers.c", "accesses.c", "atomics.c", "tool.c", "wraps.c", "reduction
 CXX_ENDINGS = (".cc", ".cpp", ".cxx", ".C", ".c++", ".cp", ".CPP")
 SOURCE_ENDINGS = (".c",) + CXX_ENDINGS
 OBJECT_ENDINGS = (".o", ".a", ".so")
-# Loads and stores by the coverage's calls, which have those of parts of local variables; functions and atomic operations
-# by the thread instrumentation's. No runtime of either is linked. Frames keep their pointers, by which the recorder sees
-# where a task's part of the stack begins. With its assertions the C++ library has its strings made in the program, where
-# they are seen.
+# Functions and atomic operations by the thread instrumentation's calls; loads and stores by a pass of our own, or, where
+# LLVM's headers aren't there, by the coverage's calls, which are made for variables too that nobody else can know of. No
+# runtime of either is linked. Frames keep their pointers, by which the recorder sees where a task's part of the stack
+# begins. With its assertions the C++ library has its strings made in the program, where they are seen.
 COMPILING = ["-g", "-fopenmp", "-fsanitize=thread", "-fno-omit-frame-pointer", "-fno-optimize-sibling-calls",
-             "-mllvm", "-tsan-instrument-memory-accesses=0", "-fsanitize-coverage=func,trace-loads,trace-stores",
-             "-U_FORTIFY_SOURCE", "-D_GLIBCXX_ASSERTIONS"]
+             "-mllvm", "-tsan-instrument-memory-accesses=0", "-U_FORTIFY_SOURCE", "-D_GLIBCXX_ASSERTIONS"]
+COVERAGE = ["-fsanitize-coverage=func,trace-loads,trace-stores"]
 LOOP_KINDS = ("4", "4u", "8", "8u")
 RUNTIME_CALLS = ["omp_task_alloc", "omp_task", "omp_task_with_deps", "omp_task_begin_if0", "omp_wait_deps",
                  "omp_taskwait_deps_51", "taskloop", "task_allow_completion_event", "taskred_init",
@@ -33,7 +35,7 @@ RUNTIME_CALLS = ["omp_task_alloc", "omp_task", "omp_task_with_deps", "omp_task_b
                    for kind in LOOP_KINDS)]
 OTHER_CALLS = ["omp_get_thread_num", "omp_set_num_threads",
                "malloc", "calloc", "realloc", "reallocarray", "aligned_alloc", "posix_memalign", "memalign", "valloc",
-               "free", "memcpy", "memmove", "memset", "strcpy", "stpcpy", "strcat", "strncpy", "strncat", "strlen", "atoi",
+               "free", "mmap", "mmap64", "munmap", "memcpy", "memmove", "memset", "strcpy", "stpcpy", "strcat", "strncpy", "strncat", "strlen", "atoi",
                "atol", "atof", "strtol", "strtoul", "strtod", "strchr", "strrchr", "strcmp", "strcasecmp", "strstr",
                "strncmp", "memcmp", "strdup", "strndup", "qsort", "bsearch", "printf", "fprintf", "sprintf", "snprintf",
                "puts", "fputs", "fgets", "fread", "fwrite", "strpbrk", "strspn", "strcspn", "strtok", "strtok_r", "memchr",
@@ -111,12 +113,24 @@ def is_newer(made, *sources):
     return os.path.exists(made) and os.path.getmtime(made) > max(os.path.getmtime(source) for source in sources)
 
 
-def compile_whole(command, made):
-    """Runs the command with ` -o FILE`, and puts the file in its place when it is whole."""
+@contextlib.contextmanager
+def alone_at(made):
+    """While one process makes this file, others wait."""
+    with open(made + ".lock", "w", encoding="ascii") as file:
+        fcntl.flock(file, fcntl.LOCK_EX)
+        yield
+
+
+def compile_whole(command, made, told=None):
+    """Runs the command with ` -o FILE`, and puts the file in its place when it is whole; what it says goes to `told`."""
     handle, part = tempfile.mkstemp(dir=os.path.dirname(made), suffix=os.path.splitext(made)[1])
     os.close(handle)
-    subprocess.run([*command, "-o", part], check=True)
-    os.replace(part, made)
+    try:
+        subprocess.run([*command, "-o", part], check=True, stderr=told)
+        os.replace(part, made)
+    finally:
+        if os.path.exists(part):
+            os.remove(part)
 
 
 def folder_for(compiler):
@@ -139,7 +153,7 @@ def recorder_objects(compiler, names):
         objects.append(made)
         if not is_newer(made, source, *headers):
             compile_whole([compiler, "-O2", "-fPIE", "-fno-builtin", "-fno-omit-frame-pointer",
-                            "-Wall", "-Wextra", "-Wno-frame-address", "-c", source], made)
+                           "-Wall", "-Wextra", "-Wno-frame-address", "-c", source], made)
     return objects
 
 
@@ -148,11 +162,56 @@ def judge():
     compiler = need_clang()
     sources = [os.path.join(JUDGE, name) for name in sorted(os.listdir(JUDGE)) if name.endswith((".cc", ".h"))]
     made = os.path.join(folder_for(compiler), "judge")
-    if not is_newer(made, os.path.join(RECORDER, "event.h"), *sources):
-        print(f"the judge is compiled by {compiler}, once; it takes half a minute", file=sys.stderr, flush=True)
-        texts = [source for source in sources if source.endswith(".cc")]
-        compile_whole([driver_of(compiler, True), "-std=c++17", "-O2", "-Wall", "-Wextra", *texts], made)
+    parts = [os.path.join(RECORDER, "event.h"), *sources]
+    if is_newer(made, *parts):
+        return made
+    with alone_at(made):
+        if not is_newer(made, *parts):
+            print(f"the judge is compiled by {compiler}, once; it takes half a minute", file=sys.stderr, flush=True)
+            texts = [source for source in sources if source.endswith(".cc")]
+            compile_whole([driver_of(compiler, True), "-std=c++17", "-O2", "-Wall", "-Wextra", *texts], made)
     return made
+
+
+def pass_plugin(compiler):
+    """The pass that puts calls in front of loads and stores, compiled where it isn't or is older than its text; None where
+    LLVM's headers aren't there (llvm-14-dev), or TASKBACK_PLUGIN is 0."""
+    source = os.path.join(RECORDER, "instrument.cc")
+    made = os.path.join(folder_for(compiler), "instrument.so")
+    if os.environ.get("TASKBACK_PLUGIN") == "0":
+        return None
+    if is_newer(made, source):
+        return made
+    told = subprocess.run([compiler, "-print-resource-dir"], capture_output=True, text=True, check=False).stdout.strip()
+    root = os.path.join(told, "..", "..", "..")
+    config = os.path.join(root, "bin", "llvm-config")
+    if not os.path.exists(config) or not os.path.isdir(os.path.join(root, "include", "llvm")):
+        return None
+    options = subprocess.run([config, "--cxxflags"], capture_output=True, text=True, check=False).stdout.split()
+    with alone_at(made):
+        try:
+            if not is_newer(made, source):
+                compile_whole([driver_of(compiler, True), *options, "-O2", "-fPIC", "-shared", source], made, subprocess.DEVNULL)
+        except subprocess.CalledProcessError:
+            return None
+    return made
+
+
+def instrumenting(compiler):
+    """The words by which clang puts the recorder's calls into a program."""
+    plugin = pass_plugin(compiler)
+    return COMPILING + ([f"-fpass-plugin={plugin}"] if plugin else COVERAGE)
+
+
+def tell_tools():
+    """Writes the paths of the compilers of C and C++ and of the judge, for scripts; the exit status."""
+    try:
+        compiler = need_clang()
+    except CannotBuild as fault:
+        print(f"record: {fault}", file=sys.stderr)
+        return 64
+    print(compiler, driver_of(compiler, True), judge(), sep="\n")
+    return 0
 
 
 def compile_options(words):
@@ -221,14 +280,14 @@ def compile_program(words, is_cxx=False):
     is_cxx = is_cxx or is_in_cxx(inputs, sources)
     driver = driver_of(compiler, is_cxx)
     if {"-c", "-S", "-E", "-M", "-MM", "-fsyntax-only"} & set(words) or not inputs:
-        return subprocess.run([driver, *COMPILING, *words], check=False).returncode
+        return subprocess.run([driver, *instrumenting(compiler), *words], check=False).returncode
     with tempfile.TemporaryDirectory() as folder:
         linking = list(words)
         options = compile_options(words)
         for number, source in enumerate(sources):
             made = os.path.join(folder, f"{number}.o")
             one = driver if source.endswith(CXX_ENDINGS) or is_cxx else compiler
-            status = subprocess.run([one, *COMPILING, *options, "-c", source, "-o", made], check=False).returncode
+            status = subprocess.run([one, *instrumenting(compiler), *options, "-c", source, "-o", made], check=False).returncode
             if status != 0:
                 return status
             replace_input(linking, source, made)

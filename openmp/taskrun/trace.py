@@ -1,22 +1,48 @@
 """A trace as the recorder wrote it: one line, and then its events, thread by thread."""
 
+import os
+import re
 import struct
 from typing import NamedTuple
 
-(CREATE, ITEM, START, END, WAIT, WAIT_ITEM, WAIT_ITEMS, GROUP_OPEN, GROUP_CLOSE, REGION_BEGIN, REGION_END,
- IMPLICIT_BEGIN, BARRIER_BEGIN, BARRIER_END, READ, WRITE, MEMORY, LOCK, UNLOCK, NOTE, COPY, CHUNK, ENDED, LOOP_BEGIN,
- ITERATION, LOOP_END, SINGLE_BEGIN, SINGLE_END, MASKED_BEGIN, MASKED_END, ORDERED_BEGIN, ORDERED_END, POST, AWAIT,
- RELEASE, ACQUIRE, FULFIL, RESUME, CHAIN) = range(1, 40)
+EVENTS = os.path.join(os.path.dirname(os.path.dirname(os.path.abspath(__file__))), "recorder", "event.h")
+
+
+def numbers_of(text):
+    """The numbers of all names in the enumerations of a C text."""
+    text = re.sub(r"/\*.*?\*/", "", text, flags=re.S)
+    found = {}
+    for body in re.findall(r"enum\s*\w*\s*\{(.*?)\}", text, re.S):
+        number = -1
+        for name, value in re.findall(r"(\w+)\s*(?:=\s*(\w+))?\s*(?:,|$)", body.strip()):
+            number = int(value, 0) if value else number + 1
+            found[name] = number
+    return found
+
+
+def numbers(names):
+    """Those of these names, as the recorder and the judge have them."""
+    with open(EVENTS, encoding="utf-8") as file:
+        found = numbers_of(file.read())
+    return [found[name] for name in names.split()]
+
+
+(CREATE, ITEM, START, END, WAIT, WAIT_ITEM, WAIT_ITEMS, GROUP_OPEN, GROUP_CLOSE, REGION_BEGIN, REGION_END, IMPLICIT_BEGIN,
+ BARRIER_BEGIN, BARRIER_END, READ, WRITE, MEMORY, LOCK, UNLOCK, NOTE, COPY, CHUNK, ENDED, LOOP_BEGIN, ITERATION, LOOP_END,
+ SINGLE_BEGIN, SINGLE_END, MASKED_BEGIN, MASKED_END, ORDERED_BEGIN, ORDERED_END, POST, AWAIT, RELEASE, ACQUIRE, FULFIL,
+ RESUME, CHAIN) = numbers("CREATE ITEM START END WAIT WAIT_ITEM WAIT_ITEMS GROUP_OPEN GROUP_CLOSE REGION_BEGIN REGION_END "
+                          "IMPLICIT_BEGIN BARRIER_BEGIN BARRIER_END READ WRITE MEMORY LOCK UNLOCK NOTE COPY CHUNK ENDED "
+                          "LOOP_BEGIN ITERATION LOOP_END SINGLE_BEGIN SINGLE_END MASKED_BEGIN MASKED_END ORDERED_BEGIN "
+                          "ORDERED_END POST AWAIT RELEASE ACQUIRE FULFIL RESUME CHAIN")
 NOTES = ("", "reductions", "detach clauses", "priority clauses", "cancellations", "tasks too deep to follow",
          "calls that ask for the thread's number", "teams of one thread by the program", "runs without OMPT",
          "pieces without room", "processes that were forked")
-ATOMIC, FREED, LIBRARY, FRAME, OUTERMOST = 1, 2, 4, 8, 16
-STACK = 1
-ROW_SHIFT, MARKS = 5, 31
+ATOMIC, FREED, LIBRARY, FRAME, OUTERMOST, STACK, ROW_SHIFT, LARGE, SET = numbers(
+    "ATOMIC FREED LIBRARY FRAME OUTERMOST STACK ROW_SHIFT LARGE SET")
+MARKS = (1 << ROW_SHIFT) - 1
 WRITES = 32      # of a step: the program writes there, be the step a load or a store
 UNDEFERRED, FINAL = 0x8000000, 0x20000000
 FORMAT = struct.Struct("<QqIIiHBB")
-LARGE = 0xffff
 HEADER = b"taskback trace 2 "
 PAGE = 4096     # bytes of text in front of the events
 PIECE = 2048    # events

@@ -2,25 +2,22 @@
 
 import concurrent.futures
 import functools
-import json
 import os
 import re
 import signal
 import subprocess
-import sys
 import tempfile
 import unittest
 
+import play
+from taskrun import answer, building
+from taskrun.finding import judge_trace
+from taskrun.part import session_of  # noqa: F401
+from taskrun.session import Session, TooLarge  # noqa: F401
+from taskrun.trace import FORMAT, HEADER, PAGE, Trace
+
 FOLDER = os.path.dirname(os.path.dirname(os.path.abspath(__file__)))
 TOP = os.path.dirname(FOLDER)
-sys.path.insert(0, FOLDER)
-
-import play  # noqa: E402
-from taskrun import answer, building  # noqa: E402
-from taskrun.finding import judge_trace  # noqa: E402
-from taskrun.part import session_of  # noqa: E402,F401
-from taskrun.session import Session, TooLarge  # noqa: E402,F401
-from taskrun.trace import FORMAT, HEADER, PAGE, Trace  # noqa: E402
 
 EXAMPLES = os.path.join(FOLDER, "examples")
 THREADS = (1, 2, 8)

@@ -7,7 +7,7 @@ import unittest
 import support
 
 # What the judge says of all schedules of the threads; a session says what the threads of this run did.
-OF_THREADS = ("loop_", "team_", "masked", "barrier_", "single_nowait", "thread_number", "last_private", "copy_private",
+OF_THREADS = ("loop_", "team_", "masked", "barrier_", "single_nowait", "thread_", "last_private", "copy_private",
               "ordered", "doacross", "phases")
 # Of the teams of a league a session says nothing.
 OF_LEAGUES = ("teams",)

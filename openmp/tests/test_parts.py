@@ -1,5 +1,6 @@
 """What goes on from an answer: the page, a part of a run as a session, and what is told of programs and limits."""
 
+import json
 import os
 import shutil
 import subprocess
@@ -128,7 +129,7 @@ class Stress(support.Recorded):
                 self.made = programs
 
             def refused(self, made, number, threads, turn=0):
-                is_bad = "depend(in: x[3])" in support.json.dumps(self.made[number])
+                is_bad = "depend(in: x[3])" in json.dumps(self.made[number])
                 return stressing.Refused("trace", "Waiting", ["told"]) if is_bad else None
 
         with stressing.ThreadPoolExecutor(2) as pool:

@@ -1,5 +1,6 @@
 """The recorder as build systems use it: other names, objects, libraries, and compilers that aren't clang."""
 
+import json
 import os
 import subprocess
 import unittest
@@ -78,7 +79,7 @@ class Tools(support.Recorded):
         program = self.compile_text(C_PROGRAM)
         done = subprocess.run([os.path.join(support.FOLDER, "check"), "--json", self.run_alone(program, 1)],
                               capture_output=True, text=True, check=False)
-        found = support.json.loads(done.stdout)
+        found = json.loads(done.stdout)
         self.assertEqual((done.returncode, found["status"], found["tasks"], len(found["races"])), (2, 2, 2, 1))
         self.assertEqual([step["line"] for step in found["races"][0]["steps"]], [7, 9])
 

@@ -1,0 +1,17 @@
+/* Two sections write the same long double of 16 bytes.
+   expect: race x */
+#include <stdio.h>
+
+static long double x, y;
+
+int main(void) {
+#pragma omp parallel sections
+    {
+#pragma omp section
+        x = 1.5L;
+#pragma omp section
+        x = 2.5L;
+    }
+    printf("%Lf\n", x + y);
+    return 0;
+}

@@ -1,0 +1,13 @@
+/* A clause wants one thread, which does the iterations in their order.
+   expect: none */
+#include <stdio.h>
+
+static int a[64];
+
+int main(void) {
+#pragma omp parallel for num_threads(1)
+    for (int i = 0; i < 63; i++)
+        a[i] = a[i + 1] + 1;
+    printf("%d\n", a[5]);
+    return 0;
+}
