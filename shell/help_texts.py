@@ -87,10 +87,11 @@ OF_THE_PROGRAM = ("step", "run", "go", "undo", "roll", "rolltask", "rollcell", "
 ELSEWHERE = {"next": "step", "n": "step", "ni": "step", "si": "step", "stepi": "step", "nexti": "step", "delete": "clear N", "d": "clear N", "disable": "clear N",
              "bt": "task T", "backtrace": "task T", "thread": "task T", "where": "tasks", "threads": "tasks", "locals": "task T",
              "reverse-continue": "rc", "reverse-step": "rs T", "reverse-next": "rs T", "reverse-stepi": "rs T", "rn": "rs T", "rsi": "rs T",
-             "reverse-finish": "rolltask T", "restart-frame": "rolltask T", "x": "print c[0]", "inspect": "print EXPR", "until-line": "break line L", "tbreak": "break line L",
+             "reverse-finish": "rolltask T", "restart-frame": "rolltask T",
+             "x": "print c[0]", "inspect": "print EXPR", "until-line": "break line L", "tbreak": "break line L",
              "tb": "break line L", "advance": "break line L", "condition": "break line L if EXPR", "rwatch": "watch EXPR",
-             "awatch": "watch EXPR", "start": "step 0", "kill": "restart", "frame": "list T", "up": "list T", "down": "list T", "disassemble": "list T", "disas": "list T", "set-var": "roll T#K",
-             "load": "source FILE", "open": "source FILE", "checkpoint": "save FILE"}
+             "awatch": "watch EXPR", "start": "step 0", "kill": "restart", "frame": "list T", "up": "list T", "down": "list T", "disassemble": "list T", "disas": "list T",
+             "set-var": "roll T#K", "load": "source FILE", "open": "source FILE", "checkpoint": "save FILE"}
 PLACE = re.compile(r" (T|N|L|FILE|EXPR)$")
 FITS = {"T": r"0(\.[1-9][0-9]*)*", "N": r"s?[0-9]+", "L": r"[0-9]+", "FILE": r".+", "EXPR": r".+"}
 KINDS = ("task", "cell", "body", "print", "fault", "line")
