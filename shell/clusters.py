@@ -65,5 +65,5 @@ def clusters_in_dot(graph: Graph) -> list[str]:
         lines.append(f'  {names[key]} [label="{text}", style="filled,rounded", fillcolor="#f3f3f3", peripheries={2 if sum(states.values()) > 1 else 1}]')
     for (kind, first, second), count in counts.items():
         if first != second or kind == "spawn":
-            lines.append(f'  {names[first]} -> {names[second]} [class={kind}, {STYLES[kind]}, label="{count}"]')
+            lines.append(f'  {names[first]} -> {names[second]} [class={kind}, {STYLES[kind]}, label=" {count}"]')
     return lines
