@@ -4,6 +4,7 @@ from __future__ import annotations
 
 import re
 
+from shell import help_texts
 from shell.console import counted
 from shell.expressions import Unknown, Unreadable, parsed
 from shell.group import Group, Host, Words
@@ -66,7 +67,11 @@ class Breaking(Group):
         kind, what = where[0] if where else "", where[1] if len(where) == 2 else ""
         source = self.session.source
         if len(where) != (1 if kind in ("print", "fault") else 2) or kind not in ("print", "fault", "task", "cell", "body"):
-            self.wrong("break")
+            found = help_texts.break_meant(["break", *where, "if", condition], list(source.bodies))
+            if found:
+                self.fail(f"did you mean `{found}`?")
+            else:
+                self.wrong("break")
         elif kind == "task" and not TASK.fullmatch(what):
             self.fail("a task is written 0.1")
         elif kind == "cell" and not (is_digits(what) and int(what) < source.cells):

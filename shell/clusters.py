@@ -33,7 +33,7 @@ def key_of(graph: Graph, name: str) -> Key:
 
 
 def counts_of(graph: Graph) -> Counter[tuple[str, Key, Key]]:
-    """How many arrows of each kind lead from one cluster to another."""
+    """How many arrows of each kind lead from one cluster to another; of races each one counts."""
     found: Counter[tuple[str, Key, Key]] = Counter()
     for name, task in graph.tasks.items():
         own = key_of(graph, name)
@@ -44,8 +44,8 @@ def counts_of(graph: Graph) -> Counter[tuple[str, Key, Key]]:
         for other in task.apart:
             if by_name(other) < by_name(name):
                 found["apart", key_of(graph, other), own] += 1
-    for first, second in graph.pairs_of_races():
-        found["race", key_of(graph, first), key_of(graph, second)] += 1
+    for (first, second), races in graph.pairs_of_races().items():
+        found["race", key_of(graph, first), key_of(graph, second)] += len(races)
     return found
 
 
@@ -65,5 +65,5 @@ def clusters_in_dot(graph: Graph) -> list[str]:
         lines.append(f'  {names[key]} [label="{text}", style="filled,rounded", fillcolor="#f3f3f3", peripheries={2 if sum(states.values()) > 1 else 1}]')
     for (kind, first, second), count in counts.items():
         if first != second or kind == "spawn":
-            lines.append(f'  {names[first]} -> {names[second]} [class={kind}, {STYLES[kind]}, label="{count}"]')
+            lines.append(f'  {names[first]} -> {names[second]} [class={kind}, {STYLES[kind]}, label=" {count}"]')
     return lines

@@ -107,6 +107,11 @@ def graph_of(session: Session, stop: Callable[[], bool] = lambda: False, progres
                  waits or [], races or [], [NO_CAUSES] * (waits is None) + [NO_RACES] * (races is None))
 
 
+def beside(label: str) -> str:
+    """A label that doesn't touch its arrow: Graphviz draws it right beside it."""
+    return f" {label}" if label else ""
+
+
 def quoted(text: str) -> str:
     """A text as a word of the dot language."""
     return '"' + text.replace("\\", "\\\\").replace('"', '\\"').replace("\n", "\\n") + '"'
@@ -163,11 +168,11 @@ def arrows(graph: Graph) -> list[str]:
     lines = []
     for name, task in graph.tasks.items():
         if task.parent is not None:
-            label = " undeferred" if name in graph.undeferred else ""
-            lines.append(f'{quoted(task.parent)} -> {quoted(name)} [class=spawn, color="#8c8c8c", arrowhead=open, label={quoted(label)}]')
+            label = "undeferred" if name in graph.undeferred else ""
+            lines.append(f'{quoted(task.parent)} -> {quoted(name)} [class=spawn, color="#8c8c8c", arrowhead=open, label={quoted(beside(label))}]')
         for other in graph.drawn[name]:
             label = "\n".join(label_of(task, graph.tasks[other], "after"))
-            lines.append(f"{quoted(other)} -> {quoted(name)} [class=before, penwidth=1.8, label={quoted(label)}]")
+            lines.append(f"{quoted(other)} -> {quoted(name)} [class=before, penwidth=1.8, label={quoted(beside(label))}]")
         for other in task.apart:
             if by_name(other) < by_name(name):
                 label = "\n".join(["not together"] + label_of(task, graph.tasks[other], "apart"))

@@ -84,13 +84,14 @@ OF_THE_PROGRAM = ("step", "run", "go", "undo", "roll", "rolltask", "rollcell", "
                   "out", "ready", "waits", "deps", "hist", "why", "who", "races", "causes")
 
 # What other debuggers call it; the last word in capitals stands for what was typed after theirs.
-ELSEWHERE = {"next": "step", "n": "step", "ni": "step", "si": "step", "stepi": "step", "nexti": "step", "delete": "clear N", "disable": "clear N",
+ELSEWHERE = {"next": "step", "n": "step", "ni": "step", "si": "step", "stepi": "step", "nexti": "step", "delete": "clear N", "d": "clear N", "disable": "clear N",
              "bt": "task T", "backtrace": "task T", "thread": "task T", "where": "tasks", "threads": "tasks", "locals": "task T",
              "reverse-continue": "rc", "reverse-step": "rs T", "reverse-next": "rs T", "reverse-stepi": "rs T", "rn": "rs T", "rsi": "rs T",
-             "reverse-finish": "rolltask T", "x": "print c[0]", "inspect": "print EXPR", "until-line": "break line L", "tbreak": "break line L",
+             "reverse-finish": "rolltask T", "restart-frame": "rolltask T",
+             "x": "print c[0]", "inspect": "print EXPR", "until-line": "break line L", "tbreak": "break line L",
              "tb": "break line L", "advance": "break line L", "condition": "break line L if EXPR", "rwatch": "watch EXPR",
-             "awatch": "watch EXPR", "start": "step 0", "kill": "restart", "frame": "list T", "up": "list T", "down": "list T", "set-var": "roll T#K",
-             "load": "source FILE", "open": "source FILE", "checkpoint": "save FILE"}
+             "awatch": "watch EXPR", "start": "step 0", "kill": "restart", "frame": "list T", "up": "list T", "down": "list T", "disassemble": "list T", "disas": "list T",
+             "set-var": "roll T#K", "load": "source FILE", "open": "source FILE", "checkpoint": "save FILE"}
 PLACE = re.compile(r" (T|N|L|FILE|EXPR)$")
 FITS = {"T": r"0(\.[1-9][0-9]*)*", "N": r"s?[0-9]+", "L": r"[0-9]+", "FILE": r".+", "EXPR": r".+"}
 KINDS = ("task", "cell", "body", "print", "fault", "line")
@@ -147,13 +148,18 @@ def meant(words: Sequence[str], bodies: Sequence[str]) -> str:
     if slash and len(fitting) == 1:
         return f"did you mean `{' '.join([fitting[0], *words[1:]])}`?"
     if len(fitting) > 1:
-        return "ambiguous: " + ", ".join(fitting)
+        other = f"; or did you mean `{from_elsewhere(word, ' '.join(words[1:]))}`?" if word in ELSEWHERE else ""
+        return "ambiguous: " + ", ".join(fitting) + other
     if fitting == ["break"]:
         found = break_meant(words, bodies)
     elif word in ELSEWHERE:
         found = from_elsewhere(word, " ".join(words[1:]))
     else:
+        swapped = [word[:at] + word[at:at + 2][::-1] + word[at + 2:] for at in range(len(word) - 1)]
         near = difflib.get_close_matches(word, HELP, 1)
+        # A shorter word is less likely than two letters that changed places.
+        if not near or len(near[0]) < len(word):
+            near = [other for other in swapped if other in HELP] or near
         found = " ".join([near[0], *words[1:]]) if near else None
         if near == ["break"]:
             found = break_meant(["break", *words[1:]], bodies) or found

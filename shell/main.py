@@ -101,12 +101,11 @@ def console_of(given: argparse.Namespace, typed: bool) -> Console:
 def play_script(given: argparse.Namespace, shell: Shell, commands: list[str]) -> int:
     """Plays the commands of a session file, and then those of a script; returns the status."""
     try:
-        lines = lines_of(given.script)
+        lines = itertools.chain(lines_of(given.file) if commands else (), lines_of(given.script))
     except OSError as fault:
-        print(f"run: can't read {given.script}: {fault.strerror}", file=sys.stderr)
+        print(f"run: can't read {fault.filename}: {fault.strerror}", file=sys.stderr)
         return 2
-    own = [(0, command) for command in commands]
-    return Script(shell, given.check).play(itertools.chain(own, lines), os.path.basename(given.script))
+    return Script(shell, given.check).play(lines)
 
 
 def hold_talk(given: argparse.Namespace, shell: Shell) -> int:

@@ -1,5 +1,6 @@
 """Plays a list of commands, and says by a status how that went."""
 
+import os
 import select
 import sys
 from collections.abc import Iterable, Iterator
@@ -15,14 +16,19 @@ INTERRUPTED = 130
 # Whoever is waited for so long, in seconds, has perhaps left a pipe open by mistake.
 PATIENCE = 5
 
+# The number of a command's line, and the command.
 Line = tuple[int, str]
 
 
-def lines_of(path: str) -> Iterable[Line]:
-    """The commands of a file with their lines; of a session, those after its `---`. Those of standard input, `-`, as they come."""
+def lines_of(path: str) -> Iterator[tuple[str, str]]:
+    """The commands of a file with their places, as `a.script:3`; of a session, those after its `---`. Those of standard input, `-`, as they come."""
+    lines: Iterable[Line]
     if path == "-":
-        return piped(sys.stdin) if sys.stdin else ()
-    return lines_in(read_text(path))
+        lines = piped(sys.stdin) if sys.stdin else ()
+    else:
+        lines = lines_in(read_text(path))
+    name = os.path.basename(path)
+    return ((f"{name}:{number}", command) for number, command in lines)
 
 
 def lines_in(text: str) -> list[Line]:
@@ -62,23 +68,23 @@ class Script:
         self.shell = shell
         self.checks = checks
 
-    def play(self, lines: Iterable[Line], name: str) -> int:
-        """Plays all lines; returns the status."""
-        for number, command in lines:
+    def play(self, lines: Iterable[tuple[str, str]]) -> int:
+        """Plays all commands, each with its place; returns the status."""
+        for place, command in lines:
             ends = self.shell.onecmd(command)
             if self.shell.status:
                 return self.shell.status
             if self.checks and self.shell.outcome is not Outcome.DONE:
-                return self.stop(number, command, name)
+                return self.stop(place, command)
             if ends or self.shell.interrupted:
                 break
         return INTERRUPTED if self.shell.interrupted else 0
 
-    def stop(self, number: int, command: str, name: str) -> int:
+    def stop(self, place: str, command: str) -> int:
         """Says at which line the script was ended, and why; returns the status."""
         console = self.shell.console
         reason = console.last_words or self.shell.outcome.name.lower()
         console.begin("", paged=False)
-        console.say(f"{name}:{number}: {' '.join(words_of(command))}: {reason}")
+        console.say(f"{place}: {' '.join(words_of(command))}: {reason}")
         console.finish(self.shell.outcome)
         return int(self.shell.outcome)

@@ -7,6 +7,7 @@ from __future__ import annotations
 
 import math
 from collections import Counter
+from collections.abc import Sequence
 from xml.sax.saxutils import escape, quoteattr
 
 from shell.console import counted
@@ -23,7 +24,7 @@ TOP, BOTTOM, MARGIN = 84, 110, 40
 FOLDED = ("let", "test")
 # A step that is narrower than this, in pixels, has no tick.
 LEAST_WIDE = 0.15
-# More arrows of a kind than these could not be told apart.
+# More arrows of a kind than these could not be told apart: every second is drawn, or every third, over the whole picture.
 MOST_ARROWS = 120
 LONGEST_NAME, LONGEST_WORDS = 14, 16
 STYLE = (f"text{{font:{LETTER}px ui-monospace,Menlo,Consolas,'DejaVu Sans Mono',monospace;fill:{INK}}}.title{{font-size:30px;font-weight:bold}}"
@@ -33,6 +34,16 @@ STYLE = (f"text{{font:{LETTER}px ui-monospace,Menlo,Consolas,'DejaVu Sans Mono',
 def cut(text: str, most: int) -> str:
     """A text of so many letters at most."""
     return text if len(text) <= most else text[:most - 1] + "…"
+
+
+def every(arrows: Sequence[object]) -> int:
+    """Each how many-th arrow is drawn."""
+    return max(1, -(-len(arrows) // MOST_ARROWS))
+
+
+def drawn_of(arrows: Sequence[object]) -> str:
+    """What the legend says of arrows that aren't all drawn."""
+    return f" ({counted(len(arrows[::every(arrows)]), 'arrow')} of {len(arrows):,})" if every(arrows) > 1 else ""
 
 
 class Slide:
@@ -104,17 +115,21 @@ class Slide:
                          f'd="M{x:.1f} {y - half:.1f} V{y + half:.1f}"><title>{escape(f"{step.name} {step.did}")}</title></path>')
         return parts
 
+    def ordered(self) -> list[tuple[str, str]]:
+        """The steps of which one comes before the other, by depend clauses or exclusion."""
+        return [(early, late) for early, late, kind in self.lanes.arrows() if kind in ("before", "apart") and early in self.column and late in self.column]
+
     def arrows(self) -> list[str]:
-        """What comes before what, by depend clauses or exclusion; and the races in red."""
-        ordered = [(early, late) for early, late, kind in self.lanes.arrows() if kind in ("before", "apart") and early in self.column and late in self.column]
+        """What comes before what, and the races in red."""
+        ordered, races = self.ordered(), self.lanes.races or []
         parts = []
-        for early, late in ordered[:MOST_ARROWS]:
+        for early, late in ordered[::every(ordered)]:
             (x, y), (to_x, to_y) = self.place(early), self.place(late)
             # It never goes back, however close the two are.
             bend = min(30.0, (to_x - x) / 2)
             parts.append(f'<path class="before" stroke="{INK}" stroke-width="2" marker-end="url(#head)" '
                          f'd="M{x:.1f} {y:.1f} C{x + bend:.1f} {y:.1f} {to_x - bend:.1f} {to_y:.1f} {to_x - min(4, bend / 2):.1f} {to_y:.1f}"/>')
-        for race in (self.lanes.races or [])[:MOST_ARROWS]:
+        for race in races[::every(races)]:
             (x, y), (to_x, to_y) = self.place(race.first), self.place(race.second)
             dashes = ' stroke-dasharray="9 5"' if race.apart else ""
             parts.append(f'<path class="race" data-from={quoteattr(race.first)} data-to={quoteattr(race.second)} stroke="{RED}" stroke-width="3"{dashes} '
@@ -146,10 +161,11 @@ class Slide:
         """The colours of the bodies, and what is red, shaded and an arrow."""
         parts, x = [], float(MARGIN)
         entries = [(f'stroke="{colour}" stroke-opacity="0.45" stroke-width="16"', body) for body, colour in self.colour.items()]
-        if self.lanes.races:
-            entries.append((f'stroke="{RED}" stroke-width="4"', "a race"))
-        if any(kind in ("before", "apart") for _, _, kind in self.lanes.arrows()):
-            entries.append((f'stroke="{INK}" stroke-width="2"', "comes before"))
+        ordered, races = self.ordered(), self.lanes.races
+        if races:
+            entries.append((f'stroke="{RED}" stroke-width="4"', "a race" + drawn_of(races)))
+        if ordered:
+            entries.append((f'stroke="{INK}" stroke-width="2"', "comes before" + drawn_of(ordered)))
         if self.lanes.chosen:
             entries.append(('stroke="#ffd24a" stroke-width="18"', f"roll {self.lanes.chosen} takes {len(self.lanes.shaded)}"))
         for look, text in entries:

@@ -302,9 +302,9 @@ class Story:
         if len(self.there) > MOST_RACING:
             left_out.append(f"races: there are more than {MOST_RACING} tasks; `races` in the shell shows them")
         if not self.shows_causes or self.total > MOST_ASKED:
-            left_out.append("which needs others imply: all direct ones are drawn")
+            left_out.append("which needs follow from others, so all direct ones are drawn")
         if not self.looks:
-            left_out.append("who can step, and who waits for whom, but at the end")
+            left_out.append("who can step and who waits for whom, except at the last moment")
         source = self.session.source
         return {"title": source.name, "source": source.lines, "commands": self.commands, "moments": self.moment, "leftOut": left_out,
                 "steps": [step.row() for step in self.steps], "tasks": [task.row() for task in self.tasks],

@@ -152,7 +152,7 @@ const letters = (task) => Math.max(4, Math.floor(wideOf(task) / size.letter - 5)
 
 function stepOf(step) {
   const [x, y] = placeOf(step.index), group = element("g", { class: "step", id: "step-" + step.index, "data-step": step.name, "data-index": step.index, role: "option" });
-  const lit = view.lit && view.lit.get(step.index), wide = wideOf(step.task), room = letters(step.task) - (lit ? 1 : 0);
+  const lit = view.lit && view.lit.get(step.index), wide = wideOf(step.task), room = letters(step.task);
   const label = step.did.length > room ? step.did.slice(0, Math.max(1, room - 1)) + "…" : step.did;
   if (lit) group.classList.add(lit);
   if (step.index === view.chosen) group.setAttribute("aria-selected", "true");
@@ -162,7 +162,8 @@ function stepOf(step) {
     element("path", { class: "shape " + colour + (FULL.includes(step.word) ? " full" : ""), transform: "translate(" + x + " " + y + ")", d: SHAPES[step.word] || ROUND }),
     element("text", { class: "label", x: x + 12, y: y + 4 }, label));
   const mark = { needs: "▲", needers: "▼" }[lit];
-  if (mark) group.append(element("text", { x: x + wide - 16 - 1.6 * size.letter, y: y + 4, "font-weight": "bold" }, mark));
+  // In the gap between the lanes, so that no word is cut for it.
+  if (mark) group.append(element("text", { x: x + wide - 24, y: y + 4, "font-size": 11, "font-weight": "bold" }, mark));
   return group;
 }
 

@@ -106,7 +106,7 @@ function load(told) {
     line.addEventListener("click", () => setWish({ line: wish.line === at + 1 ? null : at + 1 }));
   });
   find("at").max = data.moments;
-  find("left-out").textContent = data.leftOut.length ? "Left out: " + data.leftOut.join("; ") : "";
+  find("left-out").textContent = data.leftOut.length ? "Not shown: " + data.leftOut.join("; ") : "";
   listBodies();
   showMarks();
   setMoment(data.moments, data.commands.length - 1);

@@ -50,8 +50,9 @@ function edgeOf(place, one, two, name, label, text, parts) {
   if (!/apart|racing/.test(name)) made.setAttribute("marker-end", "url(#head)");
   made.append(element("title", {}, label));
   parts.push(made);
-  (name === "spawn" ? covered.thin : covered.lines).push(...linesOf(points));
-  if (text) covered.wanted.push({ points, text, name });
+  const lines = linesOf(points);
+  (name === "spawn" ? covered.thin : covered.lines).push(...lines);
+  if (text) covered.wanted.push({ points, lines, text, name });
   return made;
 }
 
@@ -60,18 +61,20 @@ const covered = { rects: [], lines: [], thin: [], wanted: [] };
 // So many lines are looked at for each label.
 const MOST_LINES = 6000;
 
-// The labels, each beside its edge where it covers nothing, or else thin edges alone. Where there is no such place a
+// The labels, each beside its edge where it covers nothing and is far from other edges, or else thin edges alone. Where there is no such place a
 // race's and a count's may lie on its own edge; another one is left out, and its edge says it when it is pointed at.
 function putLabels(parts) {
   const [lines, thin] = [covered.lines, covered.thin].map((some) => some.length > MOST_LINES ? [] : some);
-  for (const { points, text, name } of covered.wanted) {
+  for (const { points, lines: own, text, name } of covered.wanted) {
     const wide = 6.8 * text.length + 4, high = 13, rect = ([x, y]) => ({ x, y, wide, high });
     const on = [0.5, 0.4, 0.6, 0.3, 0.7, 0.2, 0.8].map((part) => pointOn(points, part));
     const beside = on.flatMap(([x, y]) => [[x + 5, y - high / 2], [x - wide - 5, y - high / 2], [x - wide / 2, y + 3], [x - wide / 2, y - high - 3]]).map(rect);
     const isFree = (some) => some.x > 0 && !covered.rects.some((other) => meet(some, other));
     const may = name.startsWith("racing") || /^[0-9]+$/.test(text);
     const free = beside.filter((some) => isFree(some) && !lines.some((line) => crosses(some, line)));
-    const spot = free.find((some) => !thin.some((line) => crosses(some, line))) || free[0] || (may && on.map(([x, y]) => rect([x - wide / 2, y - high / 2])).find(isFree));
+    const clear = free.filter((some) => !thin.some((line) => crosses(some, line)));
+    const others = [...lines, ...thin].filter((line) => !own.includes(line)), around = ({ x, y }) => ({ x: x - 7, y: y - 7, wide: wide + 14, high: high + 14 });
+    const spot = clear.find((some) => !others.some((line) => crosses(around(some), line))) || clear[0] || free[0] || (may && on.map(([x, y]) => rect([x - wide / 2, y - high / 2])).find(isFree));
     if (!spot) continue;
     covered.rects.push(spot);
     parts.push(element("text", { class: "kind" + (name.startsWith("racing") ? " racing" : ""), x: spot.x + wide / 2, y: spot.y + 10, "text-anchor": "middle" }, text));

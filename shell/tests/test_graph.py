@@ -103,7 +103,7 @@ class GraphTest(unittest.TestCase):
         self.assertRegex(dot, r'"0.1.1" \[label="0.1.1  grandchild\\npending\\ncan step", style="filled,dashed".*penwidth=3\]')
         session = play_file(os.path.join(EXAMPLES, "tasks.session"), PROGRAM)
         self.addCleanup(session.close)
-        self.assertIn('"0.2" -> "0.3" [class=before, penwidth=1.8, label="cell 0: inout, in"]', dot_of(graph_of(session)))
+        self.assertIn('"0.2" -> "0.3" [class=before, penwidth=1.8, label=" cell 0: inout, in"]', dot_of(graph_of(session)))
         self.assertIn("      after 0.2, cell 0: inout, in", tree_of(graph_of(session)))
         session = play_file(os.path.join(EXAMPLES, "exclusion.session"), PROGRAM)
         self.addCleanup(session.close)
@@ -140,7 +140,7 @@ class GraphTest(unittest.TestCase):
         self.assertLess(taken, 5)
         dot = dot_of(graph_of(session))
         self.assertIn("1000 x writer\\nof line 4\\n1000 ended\\n992 ordered among them", dot)
-        edges = re.findall(r'^  (c\d) -> (c\d) \[class=(\w+).*label="(\d+)"\]', dot, re.M)
+        edges = re.findall(r'^  (c\d) -> (c\d) \[class=(\w+).*label=" (\d+)"\]', dot, re.M)
         self.assertEqual(sorted(edges), [("c0", "c1", "spawn", "1000"), ("c0", "c2", "spawn", "1"), ("c1", "c2", "race", "1")])
 
     @needs_dot

@@ -40,6 +40,11 @@ LABELS = """
   const clash = labels.filter((box, at) => words.some((other) => lap(box, other)) || labels.some((other, place) => place !== at && lap(box, other)) ||
     points.some((point) => point.x > box[0] && point.x < box[2] && point.y > box[1] && point.y < box[3]));
 """
+# Eight tasks one after another, and two that race.
+CHAIN = "cells 12\nbody main 0\n  task first depend out 0\n  while r0 < 7\n    let r1 r0 + 1\n    task next r0 r1 depend in r0 depend out r1\n    let r0 r0 + 1\n  end\n" \
+        "  task note\n  task note\n  taskwait\nend\nbody first 0\nend\nbody next 2\n  load r2 r0\n  store r1 r2\nend\nbody note 0\n  load r1 11\n  store 11 r1\nend\n"
+# The graph's labels, and those that lie on a box, on each other or on a thick edge.
+IN_THE_GRAPH = LABELS.replace("#drawn .kind", "#graph .kind").replace(".step .label", "#graph .box").replace("#drawn .arrow", "#graph .edge:not(.spawn)")
 
 
 @needs_program
@@ -139,6 +144,21 @@ class Ways(unittest.TestCase):
         self.assertNotIn("0", told[0])
         self.assertEqual((told[2], told[4]), (True, 0))
         self.assertIn("wait: 50 steps", told[3])
+
+    def test_the_mark_of_the_last_command_is_below_the_thumb(self) -> None:
+        told = self.tried(self.page("right_sum.session"), """
+          const slider = find("at"), style = getComputedStyle(slider), mark = [...document.querySelectorAll("#marks i")].pop().getBoundingClientRect();
+          return [slider.value === slider.max, mark.left + mark.width / 2 - (slider.getBoundingClientRect().right - parseFloat(style.paddingRight) - 8)];""", "1400,900")
+        self.assertTrue(told[0])
+        self.assertLess(abs(told[1]), 2)
+
+    def test_labels_in_the_graph_lie_on_nothing(self) -> None:
+        session = Session(PROGRAM, Source(CHAIN, "chain.task"))
+        self.addCleanup(session.close)
+        session.do("run 20000")
+        told = self.tried(page_file(self, session), IN_THE_GRAPH + "return [labels.length, texts('#graph .kind').filter((text) => /^cell/.test(text)).length, clash.length];", "1400,2400")
+        self.assertGreater(told[1], 3)
+        self.assertEqual(told[2], 0, told)
 
     def test_a_long_row_of_tasks_goes_on_below(self) -> None:
         in_a_group = LOOP.replace("  while", "  taskgroup\n  while").replace("  taskwait\n", "  end\n")

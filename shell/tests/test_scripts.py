@@ -105,6 +105,12 @@ class Checked(unittest.TestCase):
         self.assertEqual((out.split("\n")[4:], told, status), (
             ["refused 5 Children 0.1", "a.script:3: step 0: 0 stands at a taskwait, and its child 0.1 hasn't ended", ""][-len(out.split("\n")[4:]):], "", 1))
 
+    def test_a_refused_command_of_the_session_itself_has_its_line(self) -> None:
+        session = write_file(self, "cells 1\nbody main 0\nend\n---\nstep 0\n# a comment\nstep 0.1\n", "own.session")
+        for more in ((), ("-x", self.script("step 0\n"))):
+            out, told, status = ran("--check", *more, session)
+            self.assertEqual((out.split("\n")[-2], told, status), ("own.session:7: step 0.1: task 0.1 hasn't been generated", "", 1))
+
     def test_what_the_shell_refuses_is_1_and_no_command_is_2(self) -> None:
         for line, status, reason in (("until 0.9#1", 1, "0.9#1 was never reached"), ("fly", 2, "no such command; `help` lists them"),
                                      ("finish 0 0", 2, "finish [T], for example: finish 0.1"), ("redo", 1, "nothing was taken back")):

@@ -66,6 +66,13 @@ class SlideTest(unittest.TestCase):
         self.assertEqual(drawn(svg, "race", "from", "to")[:8], [tuple(line.split(" ")[:2]) for line in session.view("races")[1:]])
         self.assertEqual(len(drawn(svg, "step")), 77 - sum(" let " in line or " test " in line for line in session.view("hist")[1:]))
 
+    def test_of_too_many_arrows_some_are_drawn_over_the_whole_picture(self) -> None:
+        session, _ = self.looped(9)
+        with unittest.mock.patch.object(slide, "MOST_ARROWS", 3):
+            svg = slide_of(lanes_of(session))
+        self.assertEqual(drawn(svg, "race", "from", "to")[:3], [tuple(line.split(" ")[:2]) for line in session.view("races")[1::3]])
+        self.assertIn(">a race (3 arrows of 8)</text>", svg)
+
     def test_of_very_many_steps_there_are_bars_alone_and_a_shade_a_pixel(self) -> None:
         session, _ = self.looped(40)
         with unittest.mock.patch.object(slide, "WIDE", 400), unittest.mock.patch.object(slide, "LEAST_WIDE", 20):

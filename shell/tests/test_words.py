@@ -20,6 +20,8 @@ MEANT = (
     ("delete", "did you mean `clear N`?"), ("next 5", "did you mean `step T 5`?"), ("next", "did you mean `step`?"), ("tbreak 12", "did you mean `break line 12`?"),
     ("x 0", "did you mean `print c[0]`?"), ("x/4 0", "did you mean `print c[0]`?"), ("p/x r1", "did you mean `print r1`?"), ("thread 0.1", "did you mean `task 0.1`?"),
     ("disable s1", "did you mean `clear s1`?"), ("reverse-finish 0.1", "did you mean `rolltask 0.1`?"), ("up", "did you mean `list T`?"),
+    ("d 1", "ambiguous: display, deps; or did you mean `clear 1`?"), ("restart-frame 0.1", "did you mean `rolltask 0.1`?"), ("disas", "did you mean `list T`?"), ("setp 0.1", "did you mean `step 0.1`?"),
+    ("b 12 if r1 > 1", "did you mean `break line 12 if r1 > 1`?"),
     ("rwatch c[0]", "did you mean `watch c[0]`?"), ("condition 1 r0 > 1", "did you mean `break line L if r0 > 1`?"), ("load a b", "did you mean `source a b`?"),
     ("start", "did you mean `step 0`?"), ("step 5", "a task is written 0.1, and a step 0.1#2; `step 0 5` takes 5 steps of task 0"),
     ("p $r1", "`$r1` can't stand in an expression; a register is written r1"), ("p c", "a cell is written c[3]"), ("p c + 1", "a cell is written c[3]"),
