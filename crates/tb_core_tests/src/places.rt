@@ -12,6 +12,8 @@ use tb_plan::plan;
 use tb_read::{Program, read};
 use tb_roll::roll;
 
+/// Among these a `taskwait`, tasks that depend on and exclude each other, tasks of tasks, loops, a bad address, and a group in a
+/// group.
 const PROGRAMS: [&[u8]; 6] = [
     b"cells 2\nbody main 0\ntask a\ntask b\nstore 1 4\nprint 1\nend\nbody a 0\nload r0 0\nprint r0\n\
     store 1 7\nend\nbody b 0\nload r0 1\nstore 0 9\nload r1 0\nprint r1\nend\n",

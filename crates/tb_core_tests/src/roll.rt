@@ -18,8 +18,8 @@ const OTHER: &[u8] = b"cells 1\nbody main 0\ntask s\ntask s\nend\nbody s 0\nstor
 
 const FIRST_THEN_SECOND: [&str; 9] = ["0", "0", "0", "0.1", "0.1", "0.1", "0.2", "0.2", "0.2"];
 
-/// The program and the order of the steps, whether all is as where the first task goes in front of the second, and whether
-/// that is the run: of two runs with one state the other may be another.
+/// A program, an order of its steps, whether that leaves the state which `FIRST_THEN_SECOND` leaves, and whether it is one run
+/// with that: two runs may leave one state and be different.
 const RUNS: [(&[u8], &[&str], bool, bool); 5] = [
     (TWICE, &FIRST_THEN_SECOND, true, true),
     (
@@ -43,7 +43,7 @@ const RUNS: [(&[u8], &[&str], bool, bool); 5] = [
     ),
 ];
 
-/// Whether the task stands in both as it does in the one.
+/// Whether the task is at one line in both cores, after as many steps, with the same registers, and over in both or in none.
 fn stands_alike(rt: &(impl Abort + AllocGlobal), core: &Core, other: &Core, text: &str) -> bool {
     let task = TaskName::parse(rt.alloc(), text.as_bytes()).expect(rt, text);
     let alike = match (core.standing(&task), other.standing(&task)) {
@@ -57,7 +57,7 @@ fn stands_alike(rt: &(impl Abort + AllocGlobal), core: &Core, other: &Core, text
     alike && over
 }
 
-/// Whether the cells, what was printed and where the tasks stand are alike.
+/// Whether both cores have the same cells and prints, and each of the three tasks is in one state in both.
 fn has_one_state(rt: &(impl Abort + AllocGlobal), core: &Core, other: &Core) -> bool {
     core.cells() == other.cells()
         && core.output() == other.output()

@@ -103,7 +103,7 @@ module _ (workers limit : ℕ) (left mid : Option (List ℕ)) (s : Session) (d :
   has_divider : (lines : List (List ℕ)) → AreUndivided (head ++ lines) → ⊥
   has_divider lines none = divided d.divided.program d.divided.divider lines d.divided.divides (subst AreUndivided (joined lines) none)
 
-  -- so it is with a line more
+  -- replies to commands, and one to the line after them, are those to a text that begins with the program
   answers_with : (lines : List (List ℕ)) (out line reply : List ℕ) → RepliesWith workers s lines out line reply → AnswersWith workers limit (head ++ lines) out line reply
   answers_with lines out line reply r =
       let R : List (List ℕ) → Type 0 = λ ls. RepliesWith workers (opened d.program limit 65) ls out line reply in

@@ -16,15 +16,12 @@ use Rattle.tb_session.specs.Laws.{AskNoSeveral}
 
 -- ---- commands
 
-pub some_run : (workers : ℕ) (s : Session) (lines : List (List ℕ)) → (out : List ℕ) × Replies workers s lines out
-some_run workers s [] = ([], (s, (refl, refl)))
-some_run workers s (line ∷ lines) =
-    let first = some_answer workers s line in
-    let rest = some_run workers first.1 lines in
-    (first.0 ++ rest.0, (rest.1.0, (first.0, first.1, rest.0, first.2, rest.1.1, refl)))
-
 pub some_replies : (workers : ℕ) (s : Session) (lines : List (List ℕ)) → (out : List ℕ) × Replies workers s lines out
-some_replies workers s lines = some_run workers s lines
+some_replies workers s [] = ([], (s, (refl, refl)))
+some_replies workers s (line ∷ lines) =
+    let first = some_answer workers s line in
+    let rest = some_replies workers first.1 lines in
+    (first.0 ++ rest.0, (rest.1.0, (first.0, first.1, rest.0, first.2, rest.1.1, refl)))
 
 one_run : (workers : ℕ) (lines : List (List ℕ)) (s new other : Session) (out more : List ℕ) → AskNoSeveral workers lines → RunOf (Answers workers) s lines out new → RunOf (Answers workers) s lines more other → out ≡ more
 one_run workers [] s new other out more few a b = a.0 ∙ sym b.0

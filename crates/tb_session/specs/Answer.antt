@@ -76,7 +76,7 @@ pub record Halts (most : ℕ) (AreReplies : List (List ℕ) → List ℕ → Typ
   pub replies : AreReplies stopped.lines out
   pub wrote : Appends before after out
 
--- so it is where the line after them asks for a `go` of two or more workers
+-- the replies to the whole lines were written, and nothing of the line after them, which asks for a `go` of two or more workers
 pub record Loses (workers most : ℕ) (AreReplies : List (List ℕ) → List ℕ → Type 0) (left rest before after : Option (List ℕ)) : Type 0 where
   pub halts : Halts most AreReplies left rest before after
   pub asks : AsksSeveral workers halts.stopped.line
@@ -89,7 +89,8 @@ RepliesWith workers s lines out line reply = (mid : Session) × (new : Session) 
 abbrev pub Commanded : (workers limit : ℕ) → List (List ℕ) → List ℕ → Type 0
 Commanded workers limit lines out = (AreUndivided lines → ⊥) × AnswerTo workers limit lines out
 
--- so it is, and this may be the reply to the line after them
+-- the program is accepted, its divider is among the lines, these may be the replies to the commands after it, and this one to
+-- the line after them all
 abbrev pub AnswersWith : (workers limit : ℕ) → List (List ℕ) → List ℕ → List ℕ → List ℕ → Type 0
 AnswersWith workers limit lines out line reply =
     (AreUndivided lines → ⊥) × ((P : Program) × IsProgram (program_text lines) P × RepliesWith workers (opened P limit 65) (command_lines lines) out line reply)

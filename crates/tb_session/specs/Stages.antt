@@ -22,7 +22,7 @@ use Rattle.tb_lines.specs.declared.line_reader.LineFault.TheVariants.{Read as No
 abbrev pub Cut : Option (List ℕ) → Option (List ℕ) → Type 0
 Cut old new = (lines : List (List ℕ)) × (part : List ℕ) × Consumes old new (spelled lines ++ part) × AreUnbroken lines × IsUnbroken part × AreUndivided lines
 
--- so it stopped at a line, of the program or its divider
+-- the program was read up to a line of its own or its divider, at which the session stopped
 abbrev pub Halted : Option (List ℕ) → Option (List ℕ) → Type 0
 Halted old new = (stopped : Stopped 0 old new) × AreUndivided stopped.lines
 

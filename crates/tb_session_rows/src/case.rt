@@ -19,7 +19,7 @@ fn settings(limit: &str) -> Settings {
     }
 }
 
-/// Whether these are the bytes that are wanted, or end with them.
+/// Whether these are the bytes that are wanted, or, where only the `last` ones are asked for, end with them.
 fn is_met(got: &[u8], want: &[u8], last: bool) -> bool {
     if last {
         got.ends_with(want)
@@ -42,7 +42,8 @@ fn compared(alloc: Global, got: &[u8], want: &[u8], last: bool) -> Result<String
     format!(in alloc; "differs behind {line} lines")
 }
 
-/// Runs the case, and tells whether it writes what it is to write, or last this, where the limit is followed by a word.
+/// Runs the case, and says whether it writes what is stored beside it. Where the word `last` follows the limit, what it writes
+/// has to end so, and what is in front of that may be anything.
 pub fn tell<R: Files + AllocGlobal + Threads + Wait + Sync>(
     rt: &R,
     name: &str,
@@ -50,7 +51,7 @@ pub fn tell<R: Files + AllocGlobal + Threads + Wait + Sync>(
 ) -> io::Result<String> {
     let alloc = rt.alloc();
     let (limit, last) = match limit.split_once(' ') {
-        Some((limit, _)) => (limit, true),
+        Some((limit, word)) => (limit, word == "last"),
         None => (limit, false),
     };
     let session = fs::read(rt, format!(in alloc; "{name}.session")?)?;
