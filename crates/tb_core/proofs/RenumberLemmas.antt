@@ -1,5 +1,6 @@
 -- The places of the entries, where some of these go.
 use Rattle.std.proofs.Common.{◌≡◌, ◌<◌, ◌≤◌, ◌+◌, ◌==◌, ℕ, zero, suc, List, [], ◌∷◌, ◌++◌, Bool, true, false, length, take, drop, get_or, reverse, remove, refl, sym, ap, ap₂, ◌∙◌, subst, arith, rules, append_assoc, append-nil, add-one, if◌then◌else◌, not}
+use Rattle.std.specs.List.{AllByRecursion}
 use Rattle.std.proofs.lemmas.List.{length-append, length-map, length-reverse, length-take-le, reverse-append, take-append-drop}
 use Rattle.std.proofs.lemmas.Bool.Decides.{nat_tests}
 use Rattle.tb_model.specs.declared.event.Event.{Event}
@@ -12,7 +13,8 @@ use Rattle.tb_core.specs.Rolled.{removed_places}
 use Rattle.tb_places.specs.declared.places.Places.{Places}
 use Rattle.tb_places.specs.Places.{IsIndexOf, IsNamed, HasRoomFor, HasRoomForAll, KeepsRoom}
 use Rattle.tb_places.proofs.RoomLemmas.{room_of_index, room_next, room_without, room_kept, named_next}
-use Rattle.tb_core.specs.Renumbering.{events_in, goes_at, left_from, Refills, Cuts}
+use Rattle.tb_places.specs.Renumbering.{RiseFrom, goes_at, left_from}
+use Rattle.tb_core.specs.Renumbering.{events_in, Refills, Cuts}
 
 -- ---- nothing goes in front of the first
 
@@ -99,6 +101,35 @@ later k (g ∷ gs) (e ∷ es) n h = by (g == k) refl (later (k + 1) gs es n (ome
 
 reverse_cons : {A : Type 0} (x : A) (xs : List A) → reverse (x ∷ xs) ≡ reverse xs ++ x ∷ []
 reverse_cons x xs = reverse-append (x ∷ []) xs
+
+-- the places of what goes rise
+rise_push : (low n : ℕ) (xs : List ℕ) → low ≤ n → RiseFrom low xs → AllByRecursion (λ x. x < n) xs → RiseFrom low (xs ++ n ∷ [])
+rise_push low n [] l rise under = (l, tt)
+rise_push low n (x ∷ xs) l rise under = (rise.0, rise_push (suc x) n xs (omega (arith, under.0)) rise.1 under.1)
+
+under_push : (n : ℕ) (xs : List ℕ) → AllByRecursion (λ x. x < n) xs → AllByRecursion (λ x. x < suc n) (xs ++ n ∷ [])
+under_push n [] under = (omega arith, tt)
+under_push n (x ∷ xs) under = (omega (arith, under.0), under_push n xs under.1)
+
+under_more : (n : ℕ) (xs : List ℕ) → AllByRecursion (λ x. x < n) xs → AllByRecursion (λ x. x < suc n) xs
+under_more n [] under = tt
+under_more n (x ∷ xs) under = (omega (arith, under.0), under_more n xs under.1)
+
+record Risen (n : ℕ) (xs : List ℕ) : Type 0 where
+  rise : RiseFrom 0 xs
+  under : AllByRecursion (λ x. x < n) xs
+
+risen : (e : StepId) (H : History) → Risen (length H) (reverse (removed_places e H))
+risen e [] = record { rise = tt; under = tt }
+risen e (v ∷ H) = by (is_removed e H v) (risen e H)
+  where
+    by : (b : Bool) → Risen (length H) (reverse (removed_places e H)) → Risen (suc (length H)) (reverse (prepend_if b (length H) (removed_places e H)))
+    by true r = subst (Risen (suc (length H))) (sym (reverse_cons (length H) (removed_places e H)))
+        (record { rise = rise_push 0 (length H) (reverse (removed_places e H)) (omega arith) r.rise r.under; under = under_push (length H) (reverse (removed_places e H)) r.under })
+    by false r = record { rise = r.rise; under = under_more (length H) (reverse (removed_places e H)) r.under }
+
+pub removed_rise : (e : StepId) (H : History) (going : List ℕ) → going ≡ reverse (removed_places e H) → RiseFrom 0 going
+removed_rise e H going is = subst (RiseFrom 0) (sym is) (risen e H).rise
 
 -- the places of what goes are used up, and what stays is left
 record Sweeps (e : StepId) (H : History) : Type 0 where

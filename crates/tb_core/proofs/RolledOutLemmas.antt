@@ -10,7 +10,8 @@ use Rattle.tb_places.specs.Places.{IsIndexOf}
 use Rattle.tb_core.specs.declared.entry.Entry.{Entry as Stored}
 use Rattle.tb_core.specs.declared.removed.Removed.{Removed}
 use Rattle.tb_core.specs.Entries.{Entry}
-use Rattle.tb_core.specs.Renumbering.{events_in, left_from}
+use Rattle.tb_places.specs.Renumbering.{left_from}
+use Rattle.tb_core.specs.Renumbering.{events_in}
 use Rattle.tb_core.specs.Rolled.{removed_places, RollsBack}
 use Rattle.tb_core.specs.Seen.{Seen, history}
 use Rattle.tb_core.specs.Soundness.{names_in, seen, IsSound}

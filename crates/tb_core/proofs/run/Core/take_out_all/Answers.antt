@@ -3,6 +3,7 @@ use Rattle.tb_core.specs.Seen.{Held}
 use Rattle.tb_core.specs.Storing.{entries_in}
 use Rattle.tb_core.proofs.HeldLemmas.{few_stored}
 use Rattle.tb_core.proofs.TakenLemmas.{none_reserved}
+use Rattle.tb_core.proofs.RenumberLemmas.{removed_rise}
 use Rattle.tb_core.proofs.RolledOutLemmas.{all_out}
 use Rattle.tb_core.proofs.run.Core.take_out_all.Goals as goal
 
@@ -10,6 +11,9 @@ pub renumber-requires-clause-bound : goal.renumber-requires-clause-bound
 renumber-requires-clause-bound c =
     let i = c.self.inside in
     omega (arith, ap length c.as_slice.ensures.value, few_stored i.first.items i.root_line i.limit i.entries.items (entries_in i.tables i.entries.items) i.tables c.self.invariant.3 c.self.invariant.0)
+
+pub renumber-requires-clause-rise : goal.renumber-requires-clause-rise
+renumber-requires-clause-rise c = removed_rise c.args.rollback.step _ _ (c.as_slice-2.ensures.value ∙ c.requires.places)
 
 pub invariant_of-self : goal.invariant_of-self
 invariant_of-self c =
