@@ -6,6 +6,7 @@ pub mod WalkLemmas
 pub mod NeedsLemmas
 pub mod FirstLemmas
 pub mod LendingLemmas
+pub mod NeedingLemmas
 pub mod FillingLemmas
 pub mod ShownLemmas
 pub mod MiddleLemmas
