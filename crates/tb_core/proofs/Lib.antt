@@ -21,6 +21,7 @@ pub mod StoringLemmas
 pub mod HeldLemmas
 pub mod StoredLemmas
 pub mod UnwoundLemmas
+pub mod CloseLemmas
 pub mod OutLemmas
 pub mod RolledOutLemmas
 pub mod IndexLemmas

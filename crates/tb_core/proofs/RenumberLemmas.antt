@@ -18,14 +18,14 @@ use Rattle.tb_core.specs.Renumbering.{events_in, Refills, Cuts}
 
 -- ---- nothing goes in front of the first
 
-pub left_front : (k n : ℕ) (gs : List ℕ) (es : List Event) → ((at : ℕ) → at < k + n → goes_at at gs ≡ false) → take n es ++ left_from (k + n) gs (drop n es) ≡ left_from k gs es
+pub left_front : {X : Type 0} (k n : ℕ) (gs : List ℕ) (es : List X) → ((at : ℕ) → at < k + n → goes_at at gs ≡ false) → take n es ++ left_from (k + n) gs (drop n es) ≡ left_from k gs es
 left_front k zero gs es none = ap (λ j. left_from j gs es) (omega arith)
 left_front k (suc n) gs [] none = refl
 left_front k (suc n) gs (e ∷ es) none =
     ap (λ l. e ∷ l) (ap (λ j. take n es ++ left_from j gs (drop n es)) (omega arith) ∙ left_front (k + 1) n gs es (λ at below. none at (omega (arith, below))))
     ∙ sym (ap (λ b. if b then left_from (k + 1) (drop 1 gs) es else e ∷ left_from (k + 1) gs es) (none k (omega arith)))
 
-pub left_whole : (n : ℕ) (gs : List ℕ) (es : List Event) → ((at : ℕ) → at < n → goes_at at gs ≡ false) → take n es ++ left_from n gs (drop n es) ≡ left_from 0 gs es
+pub left_whole : {X : Type 0} (n : ℕ) (gs : List ℕ) (es : List X) → ((at : ℕ) → at < n → goes_at at gs ≡ false) → take n es ++ left_from n gs (drop n es) ≡ left_from 0 gs es
 left_whole n gs es none = ap (λ j. take n es ++ left_from j gs (drop n es)) (omega arith) ∙ left_front 0 n gs es (λ at below. none at (omega (arith, below)))
 
 -- ---- what is left of the places that go
@@ -34,13 +34,14 @@ abbrev rest_from : ℕ → List ℕ → List Event → List ℕ
 rest_from at gs [] = gs
 rest_from at gs (e ∷ es) = if goes_at at gs then rest_from (at + 1) (drop 1 gs) es else rest_from (at + 1) gs es
 
-module _ (k : ℕ) (gs : List ℕ) (e : Event) (es : List Event) where
-  left_gone : goes_at k gs ≡ true → left_from k gs (e ∷ es) ≡ left_from (k + 1) (drop 1 gs) es
+module _ {X : Type 0} (k : ℕ) (gs : List ℕ) (e : X) (es : List X) where
+  pub left_gone : goes_at k gs ≡ true → left_from k gs (e ∷ es) ≡ left_from (k + 1) (drop 1 gs) es
   left_gone h = ap (λ b. if b then left_from (k + 1) (drop 1 gs) es else e ∷ left_from (k + 1) gs es) h
 
-  left_kept : goes_at k gs ≡ false → left_from k gs (e ∷ es) ≡ e ∷ left_from (k + 1) gs es
+  pub left_kept : goes_at k gs ≡ false → left_from k gs (e ∷ es) ≡ e ∷ left_from (k + 1) gs es
   left_kept h = ap (λ b. if b then left_from (k + 1) (drop 1 gs) es else e ∷ left_from (k + 1) gs es) h
 
+module _ (k : ℕ) (gs : List ℕ) (e : Event) (es : List Event) where
   rest_gone : goes_at k gs ≡ true → rest_from k gs (e ∷ es) ≡ rest_from (k + 1) (drop 1 gs) es
   rest_gone h = ap (λ b. if b then rest_from (k + 1) (drop 1 gs) es else rest_from (k + 1) gs es) h
 
@@ -73,10 +74,10 @@ record Later (k : ℕ) (gs : List ℕ) (es : List Event) (n : ℕ) : Type 0 wher
   left : left_from k (gs ++ n ∷ []) es ≡ left_from k gs es
   rest : rest_from k (gs ++ n ∷ []) es ≡ rest_from k gs es ++ n ∷ []
 
-apart : (n k : ℕ) → k < n → (n == k) ≡ false
+pub apart : (n k : ℕ) → k < n → (n == k) ≡ false
 apart n k h = grind (arith, nat_tests)
 
-same_place : (n k : ℕ) → n ≡ k → (n == k) ≡ true
+pub same_place : (n k : ℕ) → n ≡ k → (n == k) ≡ true
 same_place n k h = grind (arith, nat_tests)
 
 later : (k : ℕ) (gs : List ℕ) (es : List Event) (n : ℕ) → k + length es ≤ n → Later k gs es n
@@ -209,14 +210,14 @@ drop_next [] i x h is = absurd (omega (arith, h))
 drop_next (e ∷ es) zero x h is = ap (λ (y : Entry). y.event ∷ events_in es) (sym is)
 drop_next (e ∷ es) (suc i) x h is = drop_next es i x (omega (arith, h)) is
 
-pub some_entry : (es : List Entry) (at : ℕ) → at < length es → (x : Entry) × (x ≡ get_or es at x)
+pub some_entry : {X : Type 0} (es : List X) (at : ℕ) → at < length es → (x : X) × (x ≡ get_or es at x)
 some_entry [] at h = absurd (omega (arith, h))
 some_entry (e ∷ es) zero h = (e, refl)
 some_entry (e ∷ es) (suc at) h = some_entry es at (omega (arith, h))
 
 -- ---- the loops
 
-drop_one : (n : ℕ) (ns : List ℕ) → drop 1 (drop n ns) ≡ drop (n + 1) ns
+pub drop_one : (n : ℕ) (ns : List ℕ) → drop 1 (drop n ns) ≡ drop (n + 1) ns
 drop_one zero [] = refl
 drop_one (suc n) [] = search (rules, add-one)
 drop_one zero (m ∷ ns) = refl

@@ -36,7 +36,7 @@ pub fn renumber(places: &mut Places, tables: &Tables, entries: &[Entry], going: 
 }
 
 /// The first place that goes, or the end.
-fn first_of(going: &[u32], end: usize) -> usize
+pub fn first_of(going: &[u32], end: usize) -> usize
     ensures within { result ≤ end }
     ensures first { (at : ℕ) → at < result → goes_at at going.now ≡ false }
 {
@@ -88,7 +88,7 @@ fn refill(places: &mut Places, _tables: &Tables, entries: &[Entry], first: usize
 }
 
 /// Whether the next that goes is the one at this place.
-fn goes(going: &[u32], next: usize, at: usize) -> bool
+pub fn goes(going: &[u32], next: usize, at: usize) -> bool
     ensures goes { result ≡ goes_at at (drop next going.now) }
     ensures within { IsTrue result → next < length going.now }
 {

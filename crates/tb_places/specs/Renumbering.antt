@@ -1,7 +1,6 @@
--- The events that stay where those at some places go, and how their places change.
+-- What stays of events, or of what stands for them, where those at some places go, and how places change.
 use Rattle.std.specs.Prelude.{◌≤◌, ◌+◌, ◌-◌, ◌==◌, ℕ, suc, List, [], ◌∷◌, Bool, false, ltb, drop, if◌then◌else◌, ⊤}
 use Rattle.std.specs.List.{prefix_len}
-use Rattle.tb_model.specs.declared.event.Event.{Event}
 
 -- each of these is above the one in front of it, and the first isn't below this one
 abbrev pub RiseFrom : ℕ → List ℕ → Type 0
@@ -13,10 +12,10 @@ abbrev pub goes_at : ℕ → List ℕ → Bool
 goes_at at [] = false
 goes_at at (n ∷ ns) = n == at
 
--- what stays of events from this place on, where those at these places go, which rise
-abbrev pub left_from : ℕ → List ℕ → List Event → List Event
+-- what stays of these from this place on, where those at these places go, which rise
+abbrev pub left_from : {X : Type 0} → ℕ → List ℕ → List X → List X
 left_from at going [] = []
-left_from at going (e ∷ es) = if goes_at at going then left_from (at + 1) (drop 1 going) es else e ∷ left_from (at + 1) going es
+left_from at going (x ∷ xs) = if goes_at at going then left_from (at + 1) (drop 1 going) xs else x ∷ left_from (at + 1) going xs
 
 -- ---- some places of these
 
