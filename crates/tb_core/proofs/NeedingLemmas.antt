@@ -1,21 +1,22 @@
 -- The entries that are passed over, where the first that needs a step is looked for, don't need it.
-use Rattle.std.proofs.Common.{◌≡◌, ◌<◌, ◌≤◌, ◌+◌, ◌-◌, ◌==◌, ℕ, zero, suc, List, Bool, true, false, ◌&&◌, ◌||◌, Some, None, length, take, get_or, refl, sym, ap, ◌∙◌, subst, arith, rules, tests}
-use Rattle.std.proofs.lemmas.Bool.{true≢false}
+use Rattle.std.proofs.Common.{◌≡◌, ◌<◌, ◌≤◌, ◌+◌, ◌-◌, ◌==◌, ℕ, zero, suc, List, Bool, true, false, ◌&&◌, ◌||◌, Some, None, length, take, get_or, refl, sym, ap, ◌∙◌, subst, arith, rules, tests, ltb}
+use Rattle.std.proofs.lemmas.Bool.{true≢false, ltb-true, ltb-false}
 use Rattle.std.proofs.lemmas.List.{get_or_default}
 use Rattle.tb_model.specs.declared.action.Action.{Action}
 use Rattle.tb_model.specs.declared.action.Action.TheVariants.{Start, Let, Load, Store, Print, Spawn, Wait, Open, Close, Test, End, Fault}
 use Rattle.tb_model.specs.declared.event.Event.{Event}
 use Rattle.tb_model.specs.declared.step_id.StepId.{StepId}
-use Rattle.tb_model.specs.Names.{Name, same_name}
-use Rattle.tb_model.specs.Facts.{History, is_end, is_of, is_print, is_spawn_of, is_store_to, touches}
-use Rattle.tb_model.specs.Needs.{conflicts, needs, needs_end_of}
+use Rattle.tb_model.specs.Names.{Name, same_name, is_child}
+use Rattle.tb_model.specs.Facts.{History, holds, is_end, is_of, own, is_print, is_spawn_of, is_store_to, touches}
+use Rattle.tb_model.specs.Needs.{conflicts, needs, needs_end_of, waits_for}
 use Rattle.tb_model.specs.Needers.{first_needer}
 use Rattle.tb_model.proofs.TestLemmas.{same_true, same_refl}
 use Rattle.tb_core.specs.Entries.{Entry}
 use Rattle.tb_core.specs.Lending.{IsNoneBetween}
-use Rattle.tb_core.specs.Needing.{NoneNeeds, meets}
+use Rattle.tb_core.specs.Needing.{NoneNeeds, may_wait, may_wait_for, meets}
 use Rattle.tb_core.specs.Scans.{AreLegal, history_of, step_at}
-use Rattle.tb_core.proofs.FirstLemmas.{there, none_next}
+use Rattle.tb_core.proofs.FirstLemmas.{front_legal, there, none_next}
+use Rattle.tb_core.proofs.NeedsLemmas.{held_within}
 
 -- ---- what each part of the test says
 
@@ -102,6 +103,75 @@ not_needed H v u other none going =
     let p = apart u.action v none in
     no_part (is_of v.task u) (is_spawn_of v.task u.action) (conflicts v.action u.action) (is_end u.action) (is_print v.action && is_print u.action) (needs_end_of H v.task v.action u.task)
     (other_way v.task u.task other) p.spawns (conflict_none v.action u.action p.cells) going p.prints
+
+-- ---- an event that doesn't wait for the end of the task
+
+ended_meets : (b : Action) (v : Event) → is_end b ≡ true → meets b v ≡ false
+ended_meets End v h = refl
+ended_meets Fault v h = refl
+ended_meets Start v h = absurd (true≢false (sym h))
+ended_meets (Let r x) v h = absurd (true≢false (sym h))
+ended_meets (Load r c x) v h = absurd (true≢false (sym h))
+ended_meets (Store c x) v h = absurd (true≢false (sym h))
+ended_meets (Print x) v h = absurd (true≢false (sym h))
+ended_meets (Spawn s) v h = absurd (true≢false (sym h))
+ended_meets (Wait items) v h = absurd (true≢false (sym h))
+ended_meets Open v h = absurd (true≢false (sym h))
+ended_meets Close v h = absurd (true≢false (sym h))
+ended_meets (Test b) v h = absurd (true≢false (sym h))
+
+waits_none : (H : History) (t : Name) (a : Action) (u : Name) → may_wait a ≡ false → waits_for H t a u ≡ false
+waits_none H t Start u h = absurd (true≢false h)
+waits_none H t (Wait items) u h = absurd (true≢false h)
+waits_none H t Close u h = absurd (true≢false h)
+waits_none H t (Let r x) u h = refl
+waits_none H t (Load r c x) u h = refl
+waits_none H t (Store c x) u h = refl
+waits_none H t (Print x) u h = refl
+waits_none H t (Spawn s) u h = refl
+waits_none H t Open u h = refl
+waits_none H t (Test b) u h = refl
+waits_none H t End u h = refl
+waits_none H t Fault u h = refl
+
+first_false : (a b : Bool) → (a || b) ≡ false → a ≡ false
+first_false false b h = refl
+first_false true b h = absurd (true≢false h)
+
+second_false : (a b : Bool) → (a || b) ≡ false → b ≡ false
+second_false false b h = h
+second_false true b h = absurd (true≢false h)
+
+no_wait : (a b c d e x y : Bool) → a ≡ false → b ≡ false → c ≡ false → x ≡ false → y ≡ false → e ≡ false → (a || (b || (c || ((d && (x || y)) || e)))) ≡ false
+no_wait a b c d e x y pa pb pc px py pe = rw (pa, pb, pc, px, py, pe) (ap (λ z. z || false) (no_right d))
+
+-- the entry may not need the end
+end_not_needed : (front : List Entry) (v u : Event) → AreLegal front → is_end u.action ≡ true → may_wait_for v.action v.task u.task ≡ false → needs (history_of front) v u ≡ false
+end_not_needed front v u legal ends none =
+    let H = history_of front in
+    let p = apart u.action v (ended_meets u.action v ends) in
+    let names = second_false (may_wait v.action) _ none in
+    let held : (b : Bool) → holds (own v.task H) u.task ≡ b → b ≡ false =
+    λ b. elim b as (λ b. holds (own v.task H) u.task ≡ b → b ≡ false) [ false ↦ λ _. refl | true ↦ λ h. absurd (true≢false (sym (held_within front v.task u.task legal h) ∙ first_false (is_child v.task u.task) _ names)) ] in
+    no_wait (is_of v.task u) (is_spawn_of v.task u.action) (conflicts v.action u.action) (is_end u.action) (is_print v.action && is_print u.action) (holds (own v.task H) u.task) (waits_for H v.task v.action u.task)
+    (other_way v.task u.task (second_false (is_child v.task u.task) _ names)) p.spawns (conflict_none v.action u.action p.cells) (held (holds (own v.task H) u.task) refl)
+    (waits_none H v.task v.action u.task (first_false (may_wait v.action) _ none)) p.prints
+
+-- one entry more
+pub none_waits : (entries : List Entry) (at from next : ℕ) (u w : Entry) → AreLegal entries → at < length entries → next < length entries → u ≡ get_or entries at u → w ≡ get_or entries next w → is_end u.event.action ≡ true
+    → may_wait_for w.event.action w.event.task u.event.task ≡ false → NoneNeeds entries at from next → NoneNeeds entries at from (next + 1)
+none_waits entries at from next u w legal within inside here there ends apart none k v x low high v_there x_there = by (ltb k next) refl
+  where
+    by : (b : Bool) → ltb k next ≡ b → needs (history_of (take k entries)) v.event x.event ≡ false
+    by true t = none k v x low (ltb-true k next t) v_there x_there
+    by false f =
+        let same : k ≡ next = omega (arith, high, ltb-false k next f) in
+        let one : u ≡ x = here ∙ get_or_default entries at u x within ∙ sym x_there in
+        let other : w ≡ v = there ∙ get_or_default entries next w v inside ∙ ap (λ n. get_or entries n v) (sym same) ∙ sym v_there in
+        subst (λ n. needs (history_of (take n entries)) v.event x.event ≡ false) (sym same)
+        (subst (λ (y : Entry). needs (history_of (take next entries)) v.event y.event ≡ false) one
+        (subst (λ (y : Entry). needs (history_of (take next entries)) y.event u.event ≡ false) other
+        (end_not_needed (take next entries) w.event u.event (front_legal entries next w inside there legal) ends apart)))
 
 -- ---- those that are passed over
 

@@ -6,6 +6,9 @@ use Rattle.tb_core.proofs.FirstLemmas.{there}
 use Rattle.tb_core.proofs.NeedingLemmas.{none_needs}
 use Rattle.tb_core.proofs.needing.next_chance.Goals as goal
 
+pub next_wait-requires-clause-end : goal.next_wait-requires-clause-end
+next_wait-requires-clause-end c = λ e here. ap is_end (sym (c.action-action.ensures e here)) ∙ sym c.is_end.ensures ∙ c.if-is_end.true
+
 pub returns-clause-none : goal.returns-clause-none
 returns-clause-none c =
     let es = c.args.entries.now in

@@ -1,5 +1,5 @@
 use Rattle.std.proofs.Common.{◌<◌, ◌∙◌, length, sym, arith}
-use Rattle.tb_core.proofs.CloseLemmas.{closes_first, closes_gone, closes_kept, closes_last}
+use Rattle.tb_core.proofs.CloseLemmas.{closes_first, closes_gone, closes_kept}
 use Rattle.tb_core.proofs.unwinding.close.Goals.{then-goes, else-goes}
 use Rattle.tb_core.proofs.unwinding.close.Goals as goal
 

@@ -1,4 +1,4 @@
-use Rattle.std.proofs.Common.{◌≡◌, ◌≤◌, ◌+◌, ℕ, length, take, drop, vec_len, vec_capacity}
+use Rattle.std.proofs.Common.{◌≤◌, ◌+◌, ℕ, length, take, drop, vec_len, vec_capacity}
 use Rattle.tb_wait.specs.Kin.{KeepsNames}
 use Rattle.tb_core.specs.Storing.{entries_in}
 use Rattle.tb_core.specs.UnwindingStored.{UnwindsAt}
