@@ -119,12 +119,12 @@ fn lone_spawn(indexed: &Indexed<'_>, at: usize) -> Option<usize>
     match indexed.action_at(at) {
         Action::Start => {
             let task = indexed.task_at(at);
-            let spawn = indexed.spawn_of(task)?;
-            if indexed.items_of(task).is_empty() && spawn < at {
-                Some(spawn)
-            } else {
-                None
+            if !indexed.items_of(task).is_empty() {
+                return None;
             }
+            // the spawn is looked for from the newest entry on, so the items are asked first
+            let spawn = indexed.spawn_of(task)?;
+            if spawn < at { Some(spawn) } else { None }
         }
         _ => None,
     }

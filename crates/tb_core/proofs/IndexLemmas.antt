@@ -20,7 +20,8 @@ use Rattle.tb_core.specs.Seen.{Seen, history}
 use Rattle.tb_core.specs.Soundness.{departure, names_in, seen, IsSound}
 use Rattle.tb_wait.specs.Kin.{KeepsNames}
 use Rattle.tb_core.proofs.NumberLemmas.{index_kept}
-use Rattle.tb_core.specs.Renumbering.{events_in, left_from}
+use Rattle.tb_places.specs.Renumbering.{left_from}
+use Rattle.tb_core.specs.Renumbering.{events_in}
 use Rattle.tb_core.specs.Unwinding.{Unwound}
 use Rattle.tb_core.proofs.MiddleLemmas.{departures_append}
 use Rattle.tb_core.proofs.RenumberLemmas.{left_without, left_removed}

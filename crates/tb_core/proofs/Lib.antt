@@ -6,6 +6,7 @@ pub mod WalkLemmas
 pub mod NeedsLemmas
 pub mod FirstLemmas
 pub mod LendingLemmas
+pub mod NeedingLemmas
 pub mod FillingLemmas
 pub mod ShownLemmas
 pub mod MiddleLemmas
@@ -20,6 +21,7 @@ pub mod StoringLemmas
 pub mod HeldLemmas
 pub mod StoredLemmas
 pub mod UnwoundLemmas
+pub mod CloseLemmas
 pub mod OutLemmas
 pub mod RolledOutLemmas
 pub mod IndexLemmas

@@ -15,7 +15,8 @@ use Rattle.tb_core.specs.declared.removed.Removed.{Removed}
 use Rattle.tb_core.specs.Entries.{Entry}
 use Rattle.tb_core.specs.Outcomes.{IsFree, IsPlaceOfStep, TakesBack}
 use Rattle.tb_core.specs.Packing.{replaced_in}
-use Rattle.tb_core.specs.Renumbering.{events_in, left_from}
+use Rattle.tb_places.specs.Renumbering.{left_from}
+use Rattle.tb_core.specs.Renumbering.{events_in}
 use Rattle.tb_core.specs.Seen.{Seen}
 use Rattle.tb_core.specs.Soundness.{names_in, seen, IsSound}
 use Rattle.tb_core.specs.Storing.{IsStored, entries_in, replaced_stored}

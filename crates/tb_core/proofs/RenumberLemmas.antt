@@ -1,5 +1,6 @@
 -- The places of the entries, where some of these go.
 use Rattle.std.proofs.Common.{◌≡◌, ◌<◌, ◌≤◌, ◌+◌, ◌==◌, ℕ, zero, suc, List, [], ◌∷◌, ◌++◌, Bool, true, false, length, take, drop, get_or, reverse, remove, refl, sym, ap, ap₂, ◌∙◌, subst, arith, rules, append_assoc, append-nil, add-one, if◌then◌else◌, not}
+use Rattle.std.specs.List.{AllByRecursion}
 use Rattle.std.proofs.lemmas.List.{length-append, length-map, length-reverse, length-take-le, reverse-append, take-append-drop}
 use Rattle.std.proofs.lemmas.Bool.Decides.{nat_tests}
 use Rattle.tb_model.specs.declared.event.Event.{Event}
@@ -12,18 +13,19 @@ use Rattle.tb_core.specs.Rolled.{removed_places}
 use Rattle.tb_places.specs.declared.places.Places.{Places}
 use Rattle.tb_places.specs.Places.{IsIndexOf, IsNamed, HasRoomFor, HasRoomForAll, KeepsRoom}
 use Rattle.tb_places.proofs.RoomLemmas.{room_of_index, room_next, room_without, room_kept, named_next}
-use Rattle.tb_core.specs.Renumbering.{events_in, goes_at, left_from, Refills, Cuts}
+use Rattle.tb_places.specs.Renumbering.{RiseFrom, goes_at, left_from}
+use Rattle.tb_core.specs.Renumbering.{events_in, Refills, Cuts}
 
 -- ---- nothing goes in front of the first
 
-pub left_front : (k n : ℕ) (gs : List ℕ) (es : List Event) → ((at : ℕ) → at < k + n → goes_at at gs ≡ false) → take n es ++ left_from (k + n) gs (drop n es) ≡ left_from k gs es
+pub left_front : {X : Type 0} (k n : ℕ) (gs : List ℕ) (es : List X) → ((at : ℕ) → at < k + n → goes_at at gs ≡ false) → take n es ++ left_from (k + n) gs (drop n es) ≡ left_from k gs es
 left_front k zero gs es none = ap (λ j. left_from j gs es) (omega arith)
 left_front k (suc n) gs [] none = refl
 left_front k (suc n) gs (e ∷ es) none =
     ap (λ l. e ∷ l) (ap (λ j. take n es ++ left_from j gs (drop n es)) (omega arith) ∙ left_front (k + 1) n gs es (λ at below. none at (omega (arith, below))))
     ∙ sym (ap (λ b. if b then left_from (k + 1) (drop 1 gs) es else e ∷ left_from (k + 1) gs es) (none k (omega arith)))
 
-pub left_whole : (n : ℕ) (gs : List ℕ) (es : List Event) → ((at : ℕ) → at < n → goes_at at gs ≡ false) → take n es ++ left_from n gs (drop n es) ≡ left_from 0 gs es
+pub left_whole : {X : Type 0} (n : ℕ) (gs : List ℕ) (es : List X) → ((at : ℕ) → at < n → goes_at at gs ≡ false) → take n es ++ left_from n gs (drop n es) ≡ left_from 0 gs es
 left_whole n gs es none = ap (λ j. take n es ++ left_from j gs (drop n es)) (omega arith) ∙ left_front 0 n gs es (λ at below. none at (omega (arith, below)))
 
 -- ---- what is left of the places that go
@@ -32,13 +34,14 @@ abbrev rest_from : ℕ → List ℕ → List Event → List ℕ
 rest_from at gs [] = gs
 rest_from at gs (e ∷ es) = if goes_at at gs then rest_from (at + 1) (drop 1 gs) es else rest_from (at + 1) gs es
 
-module _ (k : ℕ) (gs : List ℕ) (e : Event) (es : List Event) where
-  left_gone : goes_at k gs ≡ true → left_from k gs (e ∷ es) ≡ left_from (k + 1) (drop 1 gs) es
+module _ {X : Type 0} (k : ℕ) (gs : List ℕ) (e : X) (es : List X) where
+  pub left_gone : goes_at k gs ≡ true → left_from k gs (e ∷ es) ≡ left_from (k + 1) (drop 1 gs) es
   left_gone h = ap (λ b. if b then left_from (k + 1) (drop 1 gs) es else e ∷ left_from (k + 1) gs es) h
 
-  left_kept : goes_at k gs ≡ false → left_from k gs (e ∷ es) ≡ e ∷ left_from (k + 1) gs es
+  pub left_kept : goes_at k gs ≡ false → left_from k gs (e ∷ es) ≡ e ∷ left_from (k + 1) gs es
   left_kept h = ap (λ b. if b then left_from (k + 1) (drop 1 gs) es else e ∷ left_from (k + 1) gs es) h
 
+module _ (k : ℕ) (gs : List ℕ) (e : Event) (es : List Event) where
   rest_gone : goes_at k gs ≡ true → rest_from k gs (e ∷ es) ≡ rest_from (k + 1) (drop 1 gs) es
   rest_gone h = ap (λ b. if b then rest_from (k + 1) (drop 1 gs) es else rest_from (k + 1) gs es) h
 
@@ -71,10 +74,10 @@ record Later (k : ℕ) (gs : List ℕ) (es : List Event) (n : ℕ) : Type 0 wher
   left : left_from k (gs ++ n ∷ []) es ≡ left_from k gs es
   rest : rest_from k (gs ++ n ∷ []) es ≡ rest_from k gs es ++ n ∷ []
 
-apart : (n k : ℕ) → k < n → (n == k) ≡ false
+pub apart : (n k : ℕ) → k < n → (n == k) ≡ false
 apart n k h = grind (arith, nat_tests)
 
-same_place : (n k : ℕ) → n ≡ k → (n == k) ≡ true
+pub same_place : (n k : ℕ) → n ≡ k → (n == k) ≡ true
 same_place n k h = grind (arith, nat_tests)
 
 later : (k : ℕ) (gs : List ℕ) (es : List Event) (n : ℕ) → k + length es ≤ n → Later k gs es n
@@ -99,6 +102,35 @@ later k (g ∷ gs) (e ∷ es) n h = by (g == k) refl (later (k + 1) gs es n (ome
 
 reverse_cons : {A : Type 0} (x : A) (xs : List A) → reverse (x ∷ xs) ≡ reverse xs ++ x ∷ []
 reverse_cons x xs = reverse-append (x ∷ []) xs
+
+-- the places of what goes rise
+rise_push : (low n : ℕ) (xs : List ℕ) → low ≤ n → RiseFrom low xs → AllByRecursion (λ x. x < n) xs → RiseFrom low (xs ++ n ∷ [])
+rise_push low n [] l rise under = (l, tt)
+rise_push low n (x ∷ xs) l rise under = (rise.0, rise_push (suc x) n xs (omega (arith, under.0)) rise.1 under.1)
+
+under_push : (n : ℕ) (xs : List ℕ) → AllByRecursion (λ x. x < n) xs → AllByRecursion (λ x. x < suc n) (xs ++ n ∷ [])
+under_push n [] under = (omega arith, tt)
+under_push n (x ∷ xs) under = (omega (arith, under.0), under_push n xs under.1)
+
+under_more : (n : ℕ) (xs : List ℕ) → AllByRecursion (λ x. x < n) xs → AllByRecursion (λ x. x < suc n) xs
+under_more n [] under = tt
+under_more n (x ∷ xs) under = (omega (arith, under.0), under_more n xs under.1)
+
+record Risen (n : ℕ) (xs : List ℕ) : Type 0 where
+  rise : RiseFrom 0 xs
+  under : AllByRecursion (λ x. x < n) xs
+
+risen : (e : StepId) (H : History) → Risen (length H) (reverse (removed_places e H))
+risen e [] = record { rise = tt; under = tt }
+risen e (v ∷ H) = by (is_removed e H v) (risen e H)
+  where
+    by : (b : Bool) → Risen (length H) (reverse (removed_places e H)) → Risen (suc (length H)) (reverse (prepend_if b (length H) (removed_places e H)))
+    by true r = subst (Risen (suc (length H))) (sym (reverse_cons (length H) (removed_places e H)))
+        (record { rise = rise_push 0 (length H) (reverse (removed_places e H)) (omega arith) r.rise r.under; under = under_push (length H) (reverse (removed_places e H)) r.under })
+    by false r = record { rise = r.rise; under = under_more (length H) (reverse (removed_places e H)) r.under }
+
+pub removed_rise : (e : StepId) (H : History) (going : List ℕ) → going ≡ reverse (removed_places e H) → RiseFrom 0 going
+removed_rise e H going is = subst (RiseFrom 0) (sym is) (risen e H).rise
 
 -- the places of what goes are used up, and what stays is left
 record Sweeps (e : StepId) (H : History) : Type 0 where
@@ -178,14 +210,14 @@ drop_next [] i x h is = absurd (omega (arith, h))
 drop_next (e ∷ es) zero x h is = ap (λ (y : Entry). y.event ∷ events_in es) (sym is)
 drop_next (e ∷ es) (suc i) x h is = drop_next es i x (omega (arith, h)) is
 
-pub some_entry : (es : List Entry) (at : ℕ) → at < length es → (x : Entry) × (x ≡ get_or es at x)
+pub some_entry : {X : Type 0} (es : List X) (at : ℕ) → at < length es → (x : X) × (x ≡ get_or es at x)
 some_entry [] at h = absurd (omega (arith, h))
 some_entry (e ∷ es) zero h = (e, refl)
 some_entry (e ∷ es) (suc at) h = some_entry es at (omega (arith, h))
 
 -- ---- the loops
 
-drop_one : (n : ℕ) (ns : List ℕ) → drop 1 (drop n ns) ≡ drop (n + 1) ns
+pub drop_one : (n : ℕ) (ns : List ℕ) → drop 1 (drop n ns) ≡ drop (n + 1) ns
 drop_one zero [] = refl
 drop_one (suc n) [] = search (rules, add-one)
 drop_one zero (m ∷ ns) = refl

@@ -1,8 +1,7 @@
 -- A step and all that need it are taken off the entries from the newest on: each then is a step that nothing needs.
-use Rattle.std.proofs.Common.{◌≡◌, ◌≢◌, ◌<◌, ◌≤◌, ◌+◌, ℕ, suc, List, [], ◌∷◌, ◌++◌, Bool, true, false, not, length, map, reverse, refl, sym, ap, ap₂, ◌∙◌, subst, arith, append_assoc, append-nil, Option, Some, None, IsSome, IsNone}
+use Rattle.std.proofs.Common.{◌≡◌, ◌≢◌, ◌<◌, ◌≤◌, ℕ, suc, List, [], ◌∷◌, ◌++◌, Bool, true, false, not, length, map, reverse, refl, sym, ap, ap₂, ◌∙◌, subst, arith, append_assoc, append-nil, Option, Some, IsSome}
 use Rattle.std.specs.Option.{option_to_list}
-use Rattle.std.specs.List.{All, AllByRecursion}
-use Rattle.std.proofs.lemmas.List.Elements.{recursion_from_All}
+use Rattle.std.specs.List.{AllByRecursion}
 use Rattle.std.proofs.lemmas.List.{reverse-append, reverse-reverse, length-map, length-reverse, length-append, same_from_push}
 use Rattle.tb_model.specs.declared.event.Event.{Event}
 use Rattle.tb_model.specs.declared.step_id.StepId.{StepId}
@@ -84,7 +83,7 @@ module _ (first : Cells) (root_line limit : ℕ) (later front : List Entry) (u :
 
 -- ---- what is left to go
 
-places_below : (e : StepId) (H : History) → AllByRecursion (λ p. p < length H) (removed_places e H)
+pub places_below : (e : StepId) (H : History) → AllByRecursion (λ p. p < length H) (removed_places e H)
 places_below e [] = tt
 places_below e (v ∷ H) = at (is_removed e H v) (raised (removed_places e H) (places_below e H))
   where
@@ -321,32 +320,6 @@ unwound e old es kept ps steps removed before tables empty u t =
       gone = u.gone ∙ all_gone e (reverse es) none u.later ∙ ap (λ X. removals e (events X)) (sym u.parts);
       tied = t;
     }
-
--- ---- the room, as places are taken
-
-last_of : (P : ℕ → Type 0) (ps : List ℕ) (p : ℕ) → AllByRecursion P (ps ++ p ∷ []) → AllByRecursion P ps × P p
-last_of P [] p a = (tt, a.0)
-last_of P (q ∷ ps) p a = let r = last_of P ps p a.1 in ((a.0, r.0), r.1)
-
--- there is room for the entries behind the next place, and behind those that are left
-pub next_room : (n room : ℕ) (ps : List ℕ) (next : Option ℕ) (at : ℕ) → next ≡ Some at → AllByRecursion (λ p. n ≤ p + room) (ps ++ option_to_list next) → n ≤ at + room
-next_room n room ps next at is a = (last_of (λ p. n ≤ p + room) ps at (subst (λ o. AllByRecursion (λ p. n ≤ p + room) (ps ++ option_to_list o)) is a)).1
-
-pub room_left : (n room : ℕ) (ps ps' : List ℕ) (next : Option ℕ) (at : ℕ) → next ≡ Some at → ps ≡ ps' → AllByRecursion (λ p. n ≤ p + room) (ps ++ option_to_list next) → AllByRecursion (λ p. n ≤ p + room) ps'
-room_left n room ps ps' next at is same a =
-    subst (AllByRecursion (λ p. n ≤ p + room)) same (last_of (λ p. n ≤ p + room) ps at (subst (λ o. AllByRecursion (λ p. n ≤ p + room) (ps ++ option_to_list o)) is a)).0
-
-pub room_stays : (n room room' : ℕ) (ps : List ℕ) (next : Option ℕ) (at : ℕ) → next ≡ Some at → room' ≡ room → AllByRecursion (λ p. n ≤ p + room) (ps ++ option_to_list next) → AllByRecursion (λ p. n ≤ p + room') (ps ++ at ∷ [])
-room_stays n room room' ps next at is same a =
-    subst (λ r. AllByRecursion (λ p. n ≤ p + r) (ps ++ at ∷ [])) (sym same) (subst (λ o. AllByRecursion (λ p. n ≤ p + room) (ps ++ option_to_list o)) is a)
-
--- the room that a rollback has
-pub room_first : (count n room : ℕ) (ps qs : List ℕ) → All (λ at. count ≤ at + room) ps → count ≡ n → ps ≡ qs → AllByRecursion (λ at. n ≤ at + room) qs
-room_first count n room ps qs all is same = subst (λ m. AllByRecursion (λ at. m ≤ at + room) qs) is (subst (AllByRecursion (λ at. count ≤ at + room)) same (recursion_from_All (λ at. count ≤ at + room) ps all))
-
--- where no place is next, none is left
-pub none_next : (ps : List ℕ) (next : Option ℕ) → next ≡ None → (IsNone next → ps ≡ []) → ps ++ option_to_list next ≡ []
-none_next ps next is empty = ap₂ (λ l o. l ++ option_to_list o) (empty (subst IsNone (sym is) refl)) is
 
 -- ---- the entries are whole again
 

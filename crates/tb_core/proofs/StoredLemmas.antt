@@ -1,7 +1,6 @@
 -- One stored entry: its place, its number, and what it replaced.
-use Rattle.std.proofs.Common.{◌≡◌, ◌<◌, ℕ, ℤ, List, [], ◌∷◌, ◌++◌, Option, Some, length, get_or, refl, sym, ap, ap₂, ◌∙◌, subst, arith}
+use Rattle.std.proofs.Common.{◌≡◌, ◌<◌, ℕ, ℤ, List, Option, Some, length, get_or, sym, ap, ap₂, ◌∙◌, arith}
 use Rattle.std.specs.List.{AllZip, IsDistinct}
-use Rattle.std.specs.Option.{option_to_list}
 use Rattle.std.proofs.lemmas.List.{length-map}
 use Rattle.std.proofs.lemmas.Slice.Zip.{AllZip-long}
 use Rattle.tb_model.specs.declared.action.Action.{Action}
@@ -63,24 +62,3 @@ made t a = record { task = t; action = a }
 -- its event, by its step's name
 pub same_event : (names : List Name) (s : Stored) (e : Entry) (id : StepId) → IsStored names s e → id.task ≡ e.event.task → made id.task s.action ≡ e.event
 same_event names s e id is task = ap₂ made task is.action
-
--- ---- the last is taken off
-
-pub record IsLastOf (names : List Name) (ss' : List Stored) (s : Stored) (es : List Entry) : Type 0 where
-  pub front : List Entry
-  pub last : Entry
-  pub parts : es ≡ front ++ last ∷ []
-  pub stored : AllZip (IsStored names) ss' front
-  pub one : IsStored names s last
-
-last_stored : (names : List Name) (ss : List Stored) (s : Stored) (es : List Entry) → AllZip (IsStored names) (ss ++ s ∷ []) es → IsLastOf names ss s es
-last_stored names [] s [] z = absurd z
-last_stored names [] s (e ∷ []) z = record { front = []; last = e; parts = refl; stored = tt; one = z.0 }
-last_stored names [] s (e ∷ d ∷ es) z = absurd z.1
-last_stored names (x ∷ ss) s [] z = absurd z
-last_stored names (x ∷ ss) s (e ∷ es) z =
-    let r = last_stored names ss s es z.1 in
-    record { front = e ∷ r.front; last = r.last; parts = ap (λ l. e ∷ l) r.parts; stored = (z.0, r.stored); one = r.one }
-
-pub taken_off : (names : List Name) (ss ss' : List Stored) (o : Option Stored) (s : Stored) (es : List Entry) → ss ≡ ss' ++ option_to_list o → o ≡ Some s → AllZip (IsStored names) ss es → IsLastOf names ss' s es
-taken_off names ss ss' o s es parts is z = last_stored names ss' s es (subst (λ l. AllZip (IsStored names) l es) (parts ∙ ap (λ x. ss' ++ option_to_list x) is) z)

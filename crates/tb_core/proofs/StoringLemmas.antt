@@ -25,7 +25,7 @@ use Rattle.tb_core.specs.Storing.{IsStored, line_in, name_of, lines_before, entr
 
 -- ---- lists that go with each other
 
-pub zip_reverse : {A B : Type 0} (R : A → B → Type 0) (xs : List A) (ys : List B) → AllZip R xs ys → AllZip R (reverse xs) (reverse ys)
+zip_reverse : {A B : Type 0} (R : A → B → Type 0) (xs : List A) (ys : List B) → AllZip R xs ys → AllZip R (reverse xs) (reverse ys)
 zip_reverse R [] [] z = tt
 zip_reverse R [] (y ∷ ys) z = absurd z
 zip_reverse R (x ∷ xs) [] z = absurd z
@@ -40,12 +40,6 @@ zip_remove R [] (y ∷ ys) i z = absurd z
 zip_remove R (x ∷ xs) [] i z = absurd z
 zip_remove R (x ∷ xs) (y ∷ ys) zero z = z.1
 zip_remove R (x ∷ xs) (y ∷ ys) (suc i) z = (z.0, zip_remove R xs ys i z.1)
-
-pub zip_append : {A B : Type 0} (R : A → B → Type 0) (xs us : List A) (ys vs : List B) → AllZip R xs ys → AllZip R us vs → AllZip R (xs ++ us) (ys ++ vs)
-zip_append R [] us [] vs z w = w
-zip_append R [] us (y ∷ ys) vs z w = absurd z
-zip_append R (x ∷ xs) us [] vs z w = absurd z
-zip_append R (x ∷ xs) us (y ∷ ys) vs z w = (z.0, zip_append R xs us ys vs z.1 w)
 
 -- ---- names keep their numbers
 

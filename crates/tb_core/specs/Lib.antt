@@ -10,6 +10,7 @@ pub mod Storing
 pub mod Soundness
 pub mod Scans
 pub mod Lending
+pub mod Needing
 pub mod Listed
 pub mod Groups
 pub mod Rolled

@@ -1,28 +1,29 @@
--- The same of what is stored: it says the entries that come off the end. No public clause cites this module.
-use Rattle.std.specs.Prelude.{ℕ, List, ◌++◌, reverse}
-use Rattle.std.specs.List.{AllZip}
+-- How what is stored changes where steps are taken back: it says the entries that are gone through. No public clause cites this module.
+use Rattle.std.specs.Prelude.{◌≡◌, ◌≤◌, ◌<◌, ◌++◌, ℕ, List, false, length, take, drop, reverse}
 use Rattle.tb_model.specs.declared.step_id.StepId.{StepId}
+use Rattle.tb_places.specs.Renumbering.{goes_at, left_from}
 use Rattle.tb_undo.specs.State.{Seen as Tables}
 use Rattle.tb_core.specs.declared.entry.Entry.{Entry as Stored}
 use Rattle.tb_core.specs.declared.removed.Removed.{Removed}
 use Rattle.tb_core.specs.Entries.{Entry}
-use Rattle.tb_core.specs.Soundness.{names_in}
-use Rattle.tb_core.specs.Storing.{IsStored}
 use Rattle.tb_core.specs.Unwinding.{StayTied, Unwinds, Unwound}
 
--- of the old entries these are stored yet and those were kept, and these places and steps are still to go
-pub record UnwindsStored (e : StepId) (old : List Entry) (before : Tables) (ss ks : List Stored) (tables : Tables) (places : List ℕ) (steps : List StepId) (removed : List Removed) : Type 0 where
-  pub entries : List Entry
+-- so many entries are as they were; of those behind them the ones at the done places are hollow, the kept ones stay, and these
+-- places and steps are still to go
+pub record UnwindsAt (e : StepId) (old : List Entry) (before : Tables) (ss now : List Stored) (tables : Tables) (places done : List ℕ) (steps : List StepId) (removed : List Removed) (count : ℕ) : Type 0 where
+  pub within : count ≤ length ss
+  pub len : length now ≡ length ss
+  pub same : take count now ≡ take count ss
+  pub others : left_from count done (drop count now) ≡ left_from count done (drop count ss)
+  pub behind : (at : ℕ) → at < count → goes_at at done ≡ false
   pub kept : List Entry
-  pub stored : AllZip (IsStored (names_in tables)) ss entries
-  pub kept_stored : AllZip (IsStored (names_in tables)) ks kept
-  pub unwinds : Unwinds e old entries kept places steps removed
-  pub tied : StayTied (reverse old) before (kept ++ reverse entries) tables
+  pub stay : reverse kept ≡ left_from count done (drop count old)
+  pub unwinds : Unwinds e old (take count old) kept places steps removed
+  pub tied : StayTied (reverse old) before (kept ++ reverse (take count old)) tables
 
--- none is to go any longer
-pub record UnwoundStored (e : StepId) (old : List Entry) (before : Tables) (ss ks : List Stored) (tables : Tables) (removed : List Removed) : Type 0 where
+-- all that go are taken back, and the others are left
+pub record UnwoundOf (e : StepId) (going : List ℕ) (old : List Entry) (before tables : Tables) (removed : List Removed) : Type 0 where
   pub entries : List Entry
   pub kept : List Entry
-  pub stored : AllZip (IsStored (names_in tables)) ss entries
-  pub kept_stored : AllZip (IsStored (names_in tables)) ks kept
+  pub left : entries ++ reverse kept ≡ left_from 0 going old
   pub unwound : Unwound e old before entries kept tables removed

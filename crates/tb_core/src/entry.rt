@@ -35,6 +35,16 @@ impl Entry {
         }
     }
 
+    /// What stands in the place of an entry that was taken out.
+    pub(crate) fn hollow() -> Entry {
+        Entry {
+            action: Action::End,
+            number: 0,
+            task: 0,
+            at: 0,
+        }
+    }
+
     /// What the step replaced.
     pub(crate) fn replaced(&self) -> Replaced
         ensures { result ≡ replaced_stored self.now }

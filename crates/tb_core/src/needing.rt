@@ -1,12 +1,14 @@
-//! Which event of the entries needs which. What tasks named at their spawns is known to the tables; all else is found
-//! by scans. No memory is taken.
+//! Which event of the entries needs which. What tasks named at their spawns is known to the tables, and where a step
+//! that is no end may be needed to the indexes; all else is found by scans. No memory is taken.
 
-ghost use Rattle.std.specs.Prelude.{◌≡◌, ◌<◌, IfSome, IsTrue, Some, length, take, get_or};
+ghost use Rattle.std.specs.Prelude.{◌≡◌, ◌<◌, ◌≤◌, IfSome, IsTrue, Some, length, take, get_or};
 ghost use Rattle.tb_model.specs.declared.step_id.StepId.{StepId};
-ghost use Rattle.tb_model.specs.Facts.{apart, before, covers, is_spawned};
+ghost use Rattle.tb_model.specs.Facts.{apart, before, covers, is_end, is_spawned};
 ghost use Rattle.tb_model.specs.Needs;
 ghost use Rattle.tb_model.specs.Needers;
 ghost use Rattle.tb_core.specs.Entries.{Entry as AnEntry};
+ghost use Rattle.tb_core.specs.Lending.{IsNoneBetween};
+ghost use Rattle.tb_core.specs.Needing.{NoneNeeds, may_wait_for, meets};
 ghost use Rattle.tb_core.specs.Scans.{AreLegal, history_of, step_at, found_step};
 
 use crate::history::History;
@@ -21,12 +23,78 @@ pub fn first_needer(entries: &History<'_>, at: usize) -> Option<usize>
     ensures within { IfSome result (λ by. by < length entries.now) }
 {
     let end = entries.len();
-    for later in at + 1..end {
+    let mut later = next_chance(entries, at, at + 1);
+    'forth: while later < end {
         if needs(entries, later, at) {
             return Some(later);
         }
+        later = next_chance(entries, at, later + 1);
     }
     None
+}
+
+/// A place from this one on, in front of which no entry needs the one at `at`. Unless that is an end,
+/// what needs it is a step of its task, or one that has to do with what it did.
+fn next_chance(entries: &History<'_>, at: usize, from: usize) -> usize
+    requires at { at < from }
+    requires from { from ≤ length entries.now }
+    ensures from { from ≤ result }
+    ensures within { result ≤ length entries.now }
+    ensures none { NoneNeeds entries.now at from result }
+{
+    let action = entries.action(at);
+    if action.is_end() {
+        return next_wait(entries, at, from);
+    }
+    let own = entries.next_of(entries.task(at), from);
+    own.min(next_met(entries, action, from))
+}
+
+/// The first place from this one on at which the end at `at` may be waited for, else how many there are.
+fn next_wait(entries: &History<'_>, at: usize, from: usize) -> usize
+    requires at { at < from }
+    requires from { from ≤ length entries.now }
+    requires end { (e : AnEntry) → e ≡ get_or entries.now at e → IsTrue (is_end e.event.action) }
+    ensures from { from ≤ result }
+    ensures within { result ≤ length entries.now }
+    ensures none { NoneNeeds entries.now at from result }
+{
+    entries.is_legal();
+    let ended = entries.task(at);
+    let end = entries.len();
+    let mut next = from;
+    'past: while next < end {
+        if may_wait_for(entries.action(next), entries.task(next), ended) {
+            return next;
+        }
+        next += 1;
+    }
+    next
+}
+
+/// Whether the action of `t` may need the end of `u`, by what is read off the action and the names.
+#[inline(always)]
+fn may_wait_for(action: &Action, t: &TaskName, u: &TaskName) -> bool
+    ensures { result ≡ may_wait_for action.now t.now u.now }
+{
+    matches!(action, Action::Start | Action::Wait { .. } | Action::Close)
+        || t.is_parent_of(u)
+        || *t == *u
+}
+
+/// The first place from this one on whose step has to do with the action, else how many there are.
+fn next_met(entries: &History<'_>, action: &Action, from: usize) -> usize
+    requires { from ≤ length entries.now }
+    ensures from { from ≤ result }
+    ensures within { result ≤ length entries.now }
+    ensures none { IsNoneBetween (meets action.now) entries.now from result }
+{
+    match action {
+        Action::Load { cell, .. } | Action::Store { cell, .. } => entries.next_touch(*cell, from),
+        Action::Print { .. } => entries.next_print(from),
+        Action::Spawn(spawned) => entries.next_of(&spawned.get().child, from),
+        _ => entries.len(),
+    }
 }
 
 /// Whether the step at the place `later` directly needs that at the place `earlier`.

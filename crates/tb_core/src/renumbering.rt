@@ -1,12 +1,14 @@
-//! The places of the entries, where some of these go. Those that come after the first that goes are
-//! taken off the indexes, and put back one lower for each that went; the rest isn't looked at. Each
-//! entry has its task's number.
+//! The places of the entries, where some of these go: each that comes after these is one lower for each
+//! that went. Each row of the indexes is gone over, behind the first that goes. Where there are more rows
+//! than entries behind that, these are taken off the indexes and put back in place of it. Each entry has
+//! its task's number.
 
 ghost use Rattle.std.specs.Prelude.{◌≡◌, ◌≤◌, ◌<◌, ◌++◌, ℕ, IsTrue, false, length, take, drop};
 ghost use Rattle.std.specs.List.{AllZip, IsDistinct};
 ghost use Rattle.tb_model.specs.Names.{same_name};
 ghost use Rattle.tb_places.specs.Places.{IsIndexOf, HasRoomForAll};
-ghost use Rattle.tb_core.specs.Renumbering.{events_in, goes_at, left_from};
+ghost use Rattle.tb_places.specs.Renumbering.{RiseFrom, goes_at, left_from};
+ghost use Rattle.tb_core.specs.Renumbering.{events_in};
 ghost use Rattle.tb_core.specs.Soundness.{names_in};
 ghost use Rattle.tb_core.specs.Storing.{IsStored, entries_in};
 
@@ -18,18 +20,23 @@ use tb_undo::Tables;
 pub fn renumber(places: &mut Places, tables: &Tables, entries: &[Entry], going: &[u32])
     requires index { IsIndexOf (names_in tables.now) (events_in (entries_in tables.now entries.now)) places.old }
     requires stored { AllZip (IsStored (names_in tables.now)) entries.now (entries_in tables.now entries.now) }
+    requires rise { RiseFrom 0 going.now }
     requires bound { length entries.now ≤ 1000000 }
     ensures { IsIndexOf (names_in tables.now) (left_from 0 going.now (events_in (entries_in tables.now entries.now))) places.new }
 {
+    let first = first_of(going, entries.len());
+    if places.rows() <= entries.len() - first {
+        places.close_gaps(going);
+        return;
+    }
     // each name is there once
     let _ = tables.name(0);
-    let first = first_of(going, entries.len());
     cut(places, tables, entries, first);
     refill(places, tables, entries, first, going);
 }
 
 /// The first place that goes, or the end.
-fn first_of(going: &[u32], end: usize) -> usize
+pub fn first_of(going: &[u32], end: usize) -> usize
     ensures within { result ≤ end }
     ensures first { (at : ℕ) → at < result → goes_at at going.now ≡ false }
 {
@@ -81,7 +88,7 @@ fn refill(places: &mut Places, _tables: &Tables, entries: &[Entry], first: usize
 }
 
 /// Whether the next that goes is the one at this place.
-fn goes(going: &[u32], next: usize, at: usize) -> bool
+pub fn goes(going: &[u32], next: usize, at: usize) -> bool
     ensures goes { result ≡ goes_at at (drop next going.now) }
     ensures within { IsTrue result → next < length going.now }
 {

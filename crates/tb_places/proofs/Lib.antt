@@ -4,3 +4,5 @@ pub mod NameLemmas
 pub mod PlacesLemmas
 pub mod RoomLemmas
 pub mod NextLemmas
+pub mod GapLemmas
+pub mod ClosingLemmas

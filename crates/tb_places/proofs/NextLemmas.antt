@@ -1,37 +1,33 @@
 -- Places rise, and each event that passes the test has one.
 use Rattle.std.proofs.Common.{◌≡◌, ◌<◌, ◌≤◌, ◌+◌, ◌-◌, ⊎_elim, nat_lt, ltb-true, ℕ, zero, suc, List, [], ◌∷◌, Bool, true, false, cond, Option, Some, None, length, get_or, slice_get, refl, sym, ap, ◌∙◌, subst, arith}
-use Rattle.std.specs.Prelude.{⊤}
 use Rattle.std.proofs.lemmas.Bool.{cases_Bool, ltb-false}
 use Rattle.std.proofs.lemmas.Option.{get_or_from_slice_get, slice_get-get_or}
 use Rattle.std.proofs.lemmas.List.{get_or_default}
 use Rattle.tb_model.specs.declared.event.Event.{Event}
+use Rattle.tb_places.specs.Renumbering.{RiseFrom}
 use Rattle.tb_places.specs.Where.{places_from, places_where, IsLastBefore, IsNoneFrom}
 use Rattle.tb_places.proofs.WhereLemmas.{places_cons}
 
 -- ---- they rise
 
-abbrev AreAbove : ℕ → List ℕ → Type 0
-AreAbove low [] = ⊤
-AreAbove low (x ∷ xs) = (low ≤ x) × AreAbove (suc x) xs
+pub lower : (low high : ℕ) (xs : List ℕ) → low ≤ high → RiseFrom high xs → RiseFrom low xs
+lower low high [] l h = tt
+lower low high (x ∷ xs) l h = (omega (arith, l, h.0), h.1)
 
-lower : (low : ℕ) (xs : List ℕ) → AreAbove (low + 1) xs → AreAbove low xs
-lower low [] h = tt
-lower low (x ∷ xs) h = (omega (arith, h.0), h.1)
-
-above : (n : ℕ) (p : Event → Bool) (es : List Event) → AreAbove n (places_from n p es)
+pub above : (n : ℕ) (p : Event → Bool) (es : List Event) → RiseFrom n (places_from n p es)
 above n p [] = tt
-above n p (x ∷ es) = subst (AreAbove n) (sym (places_cons n p x es)) (by (p x) (above (n + 1) p es))
+above n p (x ∷ es) = subst (RiseFrom n) (sym (places_cons n p x es)) (by (p x) (above (n + 1) p es))
   where
-    by : (b : Bool) → AreAbove (n + 1) (places_from (n + 1) p es) → AreAbove n (cond b (n ∷ places_from (n + 1) p es) (places_from (n + 1) p es))
-    by true rest = (omega arith, subst (λ k. AreAbove k (places_from (n + 1) p es)) (omega arith) rest)
-    by false rest = lower n (places_from (n + 1) p es) rest
+    by : (b : Bool) → RiseFrom (n + 1) (places_from (n + 1) p es) → RiseFrom n (cond b (n ∷ places_from (n + 1) p es) (places_from (n + 1) p es))
+    by true rest = (omega arith, subst (λ k. RiseFrom k (places_from (n + 1) p es)) (omega arith) rest)
+    by false rest = lower n (n + 1) (places_from (n + 1) p es) (omega arith) rest
 
-at_least : (low : ℕ) (xs : List ℕ) (i d : ℕ) → AreAbove low xs → i < length xs → low ≤ get_or xs i d
+pub at_least : (low : ℕ) (xs : List ℕ) (i d : ℕ) → RiseFrom low xs → i < length xs → low ≤ get_or xs i d
 at_least low [] i d h l = absurd (omega (arith, l))
 at_least low (x ∷ xs) zero d h l = h.0
 at_least low (x ∷ xs) (suc i) d h l = let a = at_least (suc x) xs i d h.1 (omega (arith, l)) in omega (arith, a, h.0)
 
-rise : (low : ℕ) (xs : List ℕ) → AreAbove low xs → (i j : ℕ) (d : ℕ) → i ≤ j → j < length xs → get_or xs i d ≤ get_or xs j d
+pub rise : (low : ℕ) (xs : List ℕ) → RiseFrom low xs → (i j : ℕ) (d : ℕ) → i ≤ j → j < length xs → get_or xs i d ≤ get_or xs j d
 rise low [] a i j d h l = absurd (omega (arith, l))
 rise low (x ∷ xs) a zero zero d h l = omega arith
 rise low (x ∷ xs) a zero (suc j) d h l = let b = at_least (suc x) xs j d a.1 (omega (arith, l)) in omega (arith, b)
@@ -39,7 +35,7 @@ rise low (x ∷ xs) a (suc i) zero d h l = absurd (omega (arith, h))
 rise low (x ∷ xs) a (suc i) (suc j) d h l = rise (suc x) xs a.1 i j d (omega (arith, h)) (omega (arith, l))
 
 pub places_rise : (p : Event → Bool) (es : List Event) (ps : List ℕ) → ps ≡ places_where p es → (i j : ℕ) (d : ℕ) → i ≤ j → j < length ps → get_or ps i d ≤ get_or ps j d
-places_rise p es ps is = rise 0 ps (subst (AreAbove 0) (sym is) (above 0 p es))
+places_rise p es ps is = rise 0 ps (subst (RiseFrom 0) (sym is) (above 0 p es))
 
 -- ---- each has one
 
@@ -97,7 +93,7 @@ no_place x h = cc
 some_of : {A : Type 0} (x y : A) → ◌≡◌ {A = Option A} (Some x) (Some y) → x ≡ y
 some_of x y h = cc
 
-not_under : (m : ℕ) (xs : List ℕ) (j a : ℕ) → AreAbove m xs → slice_get xs j ≡ Some a → a < m → ⊥
+not_under : (m : ℕ) (xs : List ℕ) (j a : ℕ) → RiseFrom m xs → slice_get xs j ≡ Some a → a < m → ⊥
 not_under m [] j a u h l = no_place a h
 not_under m (y ∷ xs) zero a u h l = omega (arith, u.0, some_of y a h, l)
 not_under m (y ∷ xs) (suc j) a u h l = not_under (suc y) xs j a u.1 h (omega (arith, u.0, l))

@@ -1,4 +1,5 @@
 pub mod Where
+pub mod Renumbering
 pub mod Rows
 pub mod Numbers
 pub mod Places

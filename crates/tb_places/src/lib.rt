@@ -1,6 +1,7 @@
 //! Where the events of a history stand: for each task, for each cell, and for the output.
 #![tactic(auto)]
 
+mod gaps;
 mod marks;
 mod next;
 mod places;

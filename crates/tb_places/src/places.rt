@@ -1,11 +1,12 @@
 //! The places of a history's events.
 
-ghost use Rattle.std.specs.Prelude.{◌≡◌, ◌++◌, ◌∷◌, [], ℕ, List, Option, OnOk, IsOk, length};
+ghost use Rattle.std.specs.Prelude.{◌≡◌, ◌+◌, ◌++◌, ◌∷◌, [], ℕ, List, Option, OnOk, IsOk, length};
 ghost use Rattle.tb_model.specs.Names.{Name};
 ghost use Rattle.tb_model.specs.declared.action.Action.{Action as AnAction};
 ghost use Rattle.tb_model.specs.declared.event.Event.{Event as AnEvent};
 ghost use Rattle.tb_model.specs.Facts.{is_of, is_print, touches};
 ghost use Rattle.tb_places.specs.Numbers.{number_of};
+ghost use Rattle.tb_places.specs.Renumbering.{RiseFrom, left_from};
 ghost use Rattle.tb_places.specs.Places.{event_number, IsIndexOf, IsNamed, HasRoomAs, KeepsRoom};
 ghost use Rattle.tb_places.specs.Where.{places_where};
 
@@ -60,6 +61,27 @@ impl Places {
             result.now ≡ places_where (λ e. is_print e.action) events }
     {
         self.marks.row(0)
+    }
+
+    /// How many rows there are, with those that are empty.
+    pub fn rows(&self) -> usize
+        ensures { result ≡ length self.now.own.rows.items + length self.now.marks.rows.items }
+    {
+        self.own.len() + self.marks.len()
+    }
+
+    /// Forgets the places of the events that go, which are at these places, and lowers those of the events
+    /// behind them. It takes no memory. Each row is gone over, but only behind the first that goes.
+    pub fn close_gaps(&mut self, going: &[u32])
+        requires going { RiseFrom 0 going.now }
+        requires index { (names : List Name) × ((events : List AnEvent) ×
+            IsIndexOf names events self.old) }
+        ensures closed { (names : List Name) (events : List AnEvent) →
+            IsIndexOf names events self.old → IsIndexOf names (left_from 0 going.now events) self.new }
+        ensures room { KeepsRoom self.old self.new }
+    {
+        self.own.close_gaps(going);
+        self.marks.close_gaps(going);
     }
 
     /// Makes room for the places of an event with this action, whose task has this number.

@@ -2,8 +2,10 @@
 
 ghost use Rattle.std.specs.Prelude.{◌≡◌, ◌≢◌, ◌<◌, ◌≤◌, ◌+◌, ◌++◌, ◌∷◌, [], ℕ, List, Option, OnOk, IsOk, length, vec_len, vec_capacity};
 ghost use Rattle.tb_model.specs.declared.event.Event.{Event as AnEvent};
+ghost use Rattle.tb_places.specs.Renumbering.{RiseFrom, lowered};
 ghost use Rattle.tb_places.specs.Rows.{row_of, room_of, HasRoom, HasRoomAt, AreRows, GrowsRooms, KeepsRooms};
 
+use crate::gaps::close;
 use std::alloc::{AllocError, Global};
 
 /// Rows by their numbers, from 0. Which events have which row isn't known here.
@@ -72,6 +74,38 @@ impl Rows {
             Some(n) => self.pop(n),
             None => {}
         }
+    }
+
+    /// How many rows there are.
+    pub fn len(&self) -> usize
+        ensures { result ≡ length self.now.rows.items }
+    {
+        self.rows.len()
+    }
+
+    /// Forgets the places of the events that go, and lowers those behind them.
+    pub fn close_gaps(&mut self, going: &[u32])
+        requires going { RiseFrom 0 going.now }
+        requires places { (k : ℕ) → RiseFrom 0 (row_of self.old k) }
+        ensures lowered { (k : ℕ) → row_of self.new k ≡ lowered going.now (row_of self.old k) }
+        ensures room { KeepsRooms self.old self.new }
+    {
+        for n in 0..self.rows.len() {
+            self.close(n, going);
+        }
+    }
+
+    #[inline(always)]
+    fn close(&mut self, n: usize, going: &[u32])
+        requires going { RiseFrom 0 going.now }
+        requires places { RiseFrom 0 (row_of self.old n) }
+        requires within { n < length self.old.rows.items }
+        ensures row { row_of self.new n ≡ lowered going.now (row_of self.old n) }
+        ensures others { (k : ℕ) → k ≢ n → row_of self.new k ≡ row_of self.old k }
+        ensures len { length self.new.rows.items ≡ length self.old.rows.items }
+        ensures room { KeepsRooms self.old self.new }
+    {
+        close(&mut self.rows[n], going);
     }
 
     fn reserve(&mut self, n: usize) -> Result<(), AllocError>

@@ -21,8 +21,6 @@ use Rattle.tb_cause.specs.Chains.{IsCone}
 use Rattle.tb_cause.proofs.AnswerLemmas.{chosen_first}
 use Rattle.tb_roll.specs.Outcomes.{TellsFirst}
 
--- ---- the room
-
 count : (entries : List Entry) → length (history_of entries) ≡ length entries
 count entries =
     length-map (map departure (reverse entries)) (λ (d : Departure). d.event) ∙ length-map (reverse entries) departure ∙ length-reverse entries
@@ -34,10 +32,6 @@ is_of_history entries at e c r cone step places steps counted = record {
   steps = ap (λ v. v.items) steps ∙ cone.steps ∙ ap (λ i. reverse (removed_steps i (history_of entries))) (sym step);
   count = counted ∙ sym (count entries);
 }
-
--- the room behind the first place serves for the others
-pub kept_room : (n at room : ℕ) (places : List ℕ) → n - at ≤ room → at ≤ n → All (λ p. at ≤ p) places → All (λ p. n ≤ p + room) places
-kept_room n at room places kept within behind = All-weaker (λ p. at ≤ p) (λ p. n ≤ p + room) (λ p h. omega (arith, kept, within, h)) places behind
 
 -- ---- the answer
 

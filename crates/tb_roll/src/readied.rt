@@ -37,7 +37,6 @@ fn name_every_field(ready: &Ready) {
         places: _,
         steps: _,
         count: _,
-        kept: _,
         removed: _,
     } = rollback;
 }

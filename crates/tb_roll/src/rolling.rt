@@ -71,14 +71,12 @@ fn prepare(
     ensures step { IfOk result (λ r. r.step ≡ step.now) }
 {
     let Cone { places, steps } = cone_in(alloc, core, entries, at, step)?;
-    let kept = Vec::with_capacity(alloc, entries.len() - at)?;
     let removed = Vec::with_capacity(alloc, places.len())?;
     Ok(Rollback {
         step: step.clone()?,
         places,
         steps,
         count: entries.len() as u32,
-        kept,
         removed,
     })
 }

@@ -13,7 +13,7 @@ use crate::removed::Removed;
 use crate::renumbering::renumber;
 use crate::rollback::Rollback;
 use crate::undo_refusal::UndoRefusal;
-use crate::unwinding::{put_back, take_back, unwind};
+use crate::unwinding::{take_back, unwind};
 use tb_model::StepId;
 
 impl Core {
@@ -89,8 +89,7 @@ impl Core {
             self.entries.as_slice(),
             rollback.places.as_slice(),
         );
-        let (kept, mut removed) = unwind(&mut self.entries, &mut self.tables, rollback);
-        put_back(&mut self.entries, kept);
+        let mut removed = unwind(&mut self.entries, &mut self.tables, rollback);
         removed.reverse();
         removed
     }

@@ -1,0 +1,204 @@
+-- The entries that are passed over, where the first that needs a step is looked for, don't need it.
+use Rattle.std.proofs.Common.{◌≡◌, ◌<◌, ◌≤◌, ◌+◌, ◌-◌, ◌==◌, ℕ, zero, suc, List, Bool, true, false, ◌&&◌, ◌||◌, Some, None, length, take, get_or, refl, sym, ap, ◌∙◌, subst, arith, rules, tests, ltb}
+use Rattle.std.proofs.lemmas.Bool.{true≢false, ltb-true, ltb-false}
+use Rattle.std.proofs.lemmas.List.{get_or_default}
+use Rattle.tb_model.specs.declared.action.Action.{Action}
+use Rattle.tb_model.specs.declared.action.Action.TheVariants.{Start, Let, Load, Store, Print, Spawn, Wait, Open, Close, Test, End, Fault}
+use Rattle.tb_model.specs.declared.event.Event.{Event}
+use Rattle.tb_model.specs.declared.step_id.StepId.{StepId}
+use Rattle.tb_model.specs.Names.{Name, same_name, is_child}
+use Rattle.tb_model.specs.Facts.{History, holds, is_end, is_of, own, is_print, is_spawn_of, is_store_to, touches}
+use Rattle.tb_model.specs.Needs.{conflicts, needs, needs_end_of, waits_for}
+use Rattle.tb_model.specs.Needers.{first_needer}
+use Rattle.tb_model.proofs.TestLemmas.{same_true, same_refl}
+use Rattle.tb_core.specs.Entries.{Entry}
+use Rattle.tb_core.specs.Lending.{IsNoneBetween}
+use Rattle.tb_core.specs.Needing.{NoneNeeds, may_wait, may_wait_for, meets}
+use Rattle.tb_core.specs.Scans.{AreLegal, history_of, step_at}
+use Rattle.tb_core.proofs.FirstLemmas.{front_legal, there, none_next}
+use Rattle.tb_core.proofs.NeedsLemmas.{held_within}
+
+-- ---- what each part of the test says
+
+other_way : (t u : Name) → same_name t u ≡ false → same_name u t ≡ false
+other_way t u h = by (same_name u t) refl
+  where
+    by : (b : Bool) → same_name u t ≡ b → b ≡ false
+    by false f = refl
+    by true e = absurd (true≢false (sym (same_refl t) ∙ subst (λ w. same_name t w ≡ false) (same_true u t e) h))
+
+store_touches : (d : ℕ) (b : Action) → is_store_to d b ≡ true → touches d b ≡ true
+store_touches d (Store c x) h = h
+store_touches d Start h = absurd (true≢false (sym h))
+store_touches d (Let r x) h = absurd (true≢false (sym h))
+store_touches d (Load r c x) h = absurd (true≢false (sym h))
+store_touches d (Print x) h = absurd (true≢false (sym h))
+store_touches d (Spawn s) h = absurd (true≢false (sym h))
+store_touches d (Wait items) h = absurd (true≢false (sym h))
+store_touches d Open h = absurd (true≢false (sym h))
+store_touches d Close h = absurd (true≢false (sym h))
+store_touches d (Test b) h = absurd (true≢false (sym h))
+store_touches d End h = absurd (true≢false (sym h))
+store_touches d Fault h = absurd (true≢false (sym h))
+
+-- actions that touch no cell in common don't conflict
+conflict_none : (a b : Action) → ((d : ℕ) → touches d a ≡ true → touches d b ≡ false) → conflicts a b ≡ false
+conflict_none (Store d x) b apart = apart d (search (rules, tests))
+conflict_none (Load r d x) b apart = by (is_store_to d b) refl
+  where
+    by : (o : Bool) → is_store_to d b ≡ o → o ≡ false
+    by false f = refl
+    by true t = absurd (true≢false (sym (store_touches d b t) ∙ apart d (search (rules, tests))))
+conflict_none Start b apart = refl
+conflict_none (Let r x) b apart = refl
+conflict_none (Print x) b apart = refl
+conflict_none (Spawn s) b apart = refl
+conflict_none (Wait items) b apart = refl
+conflict_none Open b apart = refl
+conflict_none Close b apart = refl
+conflict_none (Test o) b apart = refl
+conflict_none End b apart = refl
+conflict_none Fault b apart = refl
+
+-- ---- an event that doesn't meet the action
+
+-- what the action did has nothing to do with the event
+record Apart (b : Action) (v : Event) : Type 0 where
+  spawns : is_spawn_of v.task b ≡ false
+  cells : (d : ℕ) → touches d v.action ≡ true → touches d b ≡ false
+  prints : (is_print v.action && is_print b) ≡ false
+
+no_right : (b : Bool) → (b && false) ≡ false
+no_right true = refl
+no_right false = refl
+
+of_cell : (c d : ℕ) (a : Action) → touches c a ≡ false → touches d a ≡ true → (d == c) ≡ false
+of_cell c d a none some = by (d == c) refl
+  where
+    by : (b : Bool) → (d == c) ≡ b → b ≡ false
+    by false f = refl
+    by true t =
+        let same : d ≡ c = search (rules, tests) in
+        absurd (true≢false (sym some ∙ ap (λ n. touches n a) same ∙ none))
+
+apart : (b : Action) (v : Event) → meets b v ≡ false → Apart b v
+apart (Load r c x) v h = record { spawns = refl; cells = λ d t. of_cell c d v.action h t; prints = no_right (is_print v.action) }
+apart (Store c x) v h = record { spawns = refl; cells = λ d t. of_cell c d v.action h t; prints = no_right (is_print v.action) }
+apart (Print x) v h = record { spawns = refl; cells = λ d t. refl; prints = ap (λ p. p && true) h }
+apart (Spawn s) v h = record { spawns = other_way v.task s.child h; cells = λ d t. refl; prints = no_right (is_print v.action) }
+apart Start v h = record { spawns = refl; cells = λ d t. refl; prints = no_right (is_print v.action) }
+apart (Let r x) v h = record { spawns = refl; cells = λ d t. refl; prints = no_right (is_print v.action) }
+apart (Wait items) v h = record { spawns = refl; cells = λ d t. refl; prints = no_right (is_print v.action) }
+apart Open v h = record { spawns = refl; cells = λ d t. refl; prints = no_right (is_print v.action) }
+apart Close v h = record { spawns = refl; cells = λ d t. refl; prints = no_right (is_print v.action) }
+apart (Test b) v h = record { spawns = refl; cells = λ d t. refl; prints = no_right (is_print v.action) }
+apart End v h = record { spawns = refl; cells = λ d t. refl; prints = no_right (is_print v.action) }
+apart Fault v h = record { spawns = refl; cells = λ d t. refl; prints = no_right (is_print v.action) }
+
+no_part : (a b c d e x : Bool) → a ≡ false → b ≡ false → c ≡ false → d ≡ false → e ≡ false → (a || (b || (c || ((d && x) || e)))) ≡ false
+no_part a b c d e x pa pb pc pd pe = rw (pa, pb, pc, pd, pe) refl
+
+not_needed : (H : History) (v u : Event) → is_of u.task v ≡ false → meets u.action v ≡ false → is_end u.action ≡ false → needs H v u ≡ false
+not_needed H v u other none going =
+    let p = apart u.action v none in
+    no_part (is_of v.task u) (is_spawn_of v.task u.action) (conflicts v.action u.action) (is_end u.action) (is_print v.action && is_print u.action) (needs_end_of H v.task v.action u.task)
+    (other_way v.task u.task other) p.spawns (conflict_none v.action u.action p.cells) going p.prints
+
+-- ---- an event that doesn't wait for the end of the task
+
+ended_meets : (b : Action) (v : Event) → is_end b ≡ true → meets b v ≡ false
+ended_meets End v h = refl
+ended_meets Fault v h = refl
+ended_meets Start v h = absurd (true≢false (sym h))
+ended_meets (Let r x) v h = absurd (true≢false (sym h))
+ended_meets (Load r c x) v h = absurd (true≢false (sym h))
+ended_meets (Store c x) v h = absurd (true≢false (sym h))
+ended_meets (Print x) v h = absurd (true≢false (sym h))
+ended_meets (Spawn s) v h = absurd (true≢false (sym h))
+ended_meets (Wait items) v h = absurd (true≢false (sym h))
+ended_meets Open v h = absurd (true≢false (sym h))
+ended_meets Close v h = absurd (true≢false (sym h))
+ended_meets (Test b) v h = absurd (true≢false (sym h))
+
+waits_none : (H : History) (t : Name) (a : Action) (u : Name) → may_wait a ≡ false → waits_for H t a u ≡ false
+waits_none H t Start u h = absurd (true≢false h)
+waits_none H t (Wait items) u h = absurd (true≢false h)
+waits_none H t Close u h = absurd (true≢false h)
+waits_none H t (Let r x) u h = refl
+waits_none H t (Load r c x) u h = refl
+waits_none H t (Store c x) u h = refl
+waits_none H t (Print x) u h = refl
+waits_none H t (Spawn s) u h = refl
+waits_none H t Open u h = refl
+waits_none H t (Test b) u h = refl
+waits_none H t End u h = refl
+waits_none H t Fault u h = refl
+
+first_false : (a b : Bool) → (a || b) ≡ false → a ≡ false
+first_false false b h = refl
+first_false true b h = absurd (true≢false h)
+
+second_false : (a b : Bool) → (a || b) ≡ false → b ≡ false
+second_false false b h = h
+second_false true b h = absurd (true≢false h)
+
+no_wait : (a b c d e x y : Bool) → a ≡ false → b ≡ false → c ≡ false → x ≡ false → y ≡ false → e ≡ false → (a || (b || (c || ((d && (x || y)) || e)))) ≡ false
+no_wait a b c d e x y pa pb pc px py pe = rw (pa, pb, pc, px, py, pe) (ap (λ z. z || false) (no_right d))
+
+-- the entry may not need the end
+end_not_needed : (front : List Entry) (v u : Event) → AreLegal front → is_end u.action ≡ true → may_wait_for v.action v.task u.task ≡ false → needs (history_of front) v u ≡ false
+end_not_needed front v u legal ends none =
+    let H = history_of front in
+    let p = apart u.action v (ended_meets u.action v ends) in
+    let names = second_false (may_wait v.action) _ none in
+    let held : (b : Bool) → holds (own v.task H) u.task ≡ b → b ≡ false =
+    λ b. elim b as (λ b. holds (own v.task H) u.task ≡ b → b ≡ false) [ false ↦ λ _. refl | true ↦ λ h. absurd (true≢false (sym (held_within front v.task u.task legal h) ∙ first_false (is_child v.task u.task) _ names)) ] in
+    no_wait (is_of v.task u) (is_spawn_of v.task u.action) (conflicts v.action u.action) (is_end u.action) (is_print v.action && is_print u.action) (holds (own v.task H) u.task) (waits_for H v.task v.action u.task)
+    (other_way v.task u.task (second_false (is_child v.task u.task) _ names)) p.spawns (conflict_none v.action u.action p.cells) (held (holds (own v.task H) u.task) refl)
+    (waits_none H v.task v.action u.task (first_false (may_wait v.action) _ none)) p.prints
+
+-- one entry more
+pub none_waits : (entries : List Entry) (at from next : ℕ) (u w : Entry) → AreLegal entries → at < length entries → next < length entries → u ≡ get_or entries at u → w ≡ get_or entries next w → is_end u.event.action ≡ true
+    → may_wait_for w.event.action w.event.task u.event.task ≡ false → NoneNeeds entries at from next → NoneNeeds entries at from (next + 1)
+none_waits entries at from next u w legal within inside here there ends apart none k v x low high v_there x_there = by (ltb k next) refl
+  where
+    by : (b : Bool) → ltb k next ≡ b → needs (history_of (take k entries)) v.event x.event ≡ false
+    by true t = none k v x low (ltb-true k next t) v_there x_there
+    by false f =
+        let same : k ≡ next = omega (arith, high, ltb-false k next f) in
+        let one : u ≡ x = here ∙ get_or_default entries at u x within ∙ sym x_there in
+        let other : w ≡ v = there ∙ get_or_default entries next w v inside ∙ ap (λ n. get_or entries n v) (sym same) ∙ sym v_there in
+        subst (λ n. needs (history_of (take n entries)) v.event x.event ≡ false) (sym same)
+        (subst (λ (y : Entry). needs (history_of (take next entries)) v.event y.event ≡ false) one
+        (subst (λ (y : Entry). needs (history_of (take next entries)) y.event u.event ≡ false) other
+        (end_not_needed (take next entries) w.event u.event (front_legal entries next w inside there legal) ends apart)))
+
+-- ---- those that are passed over
+
+pub none_needs : (entries : List Entry) (at from own next to : ℕ) (u : Entry) → at < length entries → u ≡ get_or entries at u → is_end u.event.action ≡ false → to ≤ own → to ≤ next → IsNoneBetween (is_of u.event.task) entries from own
+    → IsNoneBetween (meets u.event.action) entries from next → NoneNeeds entries at from to
+none_needs entries at from own next to u within here going low high others apart k v w from_k to_k there same =
+    let one : u ≡ w = here ∙ get_or_default entries at u w within ∙ sym same in
+    subst (λ (x : Entry). needs (history_of (take k entries)) v.event x.event ≡ false) one
+    (not_needed (history_of (take k entries)) v.event u.event (others k v from_k (omega (arith, to_k, low)) there) (apart k v from_k (omega (arith, to_k, high)) there) going)
+
+-- so up to there is none still
+pub none_passed : (entries : List Entry) (at from n : ℕ) (id : StepId) → AreLegal entries → step_at entries at ≡ Some id → at < from → from + n ≤ length entries → NoneNeeds entries at from (from + n)
+    → first_needer id (history_of (take from entries)) ≡ None → first_needer id (history_of (take (from + n) entries)) ≡ None
+none_passed entries at from zero id legal step behind within none yet = let same : from ≡ from + 0 = omega arith in subst (λ k. first_needer id (history_of (take k entries)) ≡ None) same yet
+none_passed entries at from (suc n) id legal step behind within none yet =
+    let front = none_passed entries at from n id legal step behind (omega (arith, within)) (λ k v u low high. none k v u low (omega (arith, high))) yet in
+    let later = from + n in
+    let inside : later < length entries = omega (arith, within) in
+    let w = there entries later inside in
+    let u = there entries at (omega (arith, behind, inside)) in
+    let same : from + n + 1 ≡ from + suc n = omega arith in
+    subst (λ k. first_needer id (history_of (take k entries)) ≡ None) same
+    (none_next entries at later u.0 w.0 id (omega (arith, behind)) inside u.1 w.1 step front false legal (λ x y x_there y_there. sym (none later x y (omega arith) (omega arith) x_there y_there)) refl)
+
+pub none_until : (entries : List Entry) (at from to : ℕ) (id : StepId) → AreLegal entries → step_at entries at ≡ Some id → at < from → from ≤ to → to ≤ length entries → NoneNeeds entries at from to
+    → first_needer id (history_of (take from entries)) ≡ None → first_needer id (history_of (take to entries)) ≡ None
+none_until entries at from to id legal step behind low high none yet =
+    let same : from + (to - from) ≡ to = omega (arith, low) in
+    subst (λ k. first_needer id (history_of (take k entries)) ≡ None) same
+    (none_passed entries at from (to - from) id legal step behind (omega (arith, low, high)) (λ k v u l h. none k v u l (omega (arith, h, low))) yet)

@@ -1,0 +1,34 @@
+-- Where a step may be needed directly. No public clause cites this module.
+use Rattle.std.specs.Prelude.{◌≡◌, ◌≤◌, ◌<◌, ℕ, List, Bool, true, false, ◌||◌, IsFalse, get_or, take}
+use Rattle.tb_model.specs.declared.action.Action.{Action}
+use Rattle.tb_model.specs.declared.action.Action.TheVariants.{Start, Load, Store, Print, Spawn, Wait, Close}
+use Rattle.tb_model.specs.declared.event.Event.{Event}
+use Rattle.tb_model.specs.Names.{Name, same_name, is_child}
+use Rattle.tb_model.specs.Facts.{is_of, is_print, touches}
+use Rattle.tb_model.specs.Needs.{needs}
+use Rattle.tb_core.specs.Entries.{Entry}
+use Rattle.tb_core.specs.Scans.{history_of}
+
+-- the event touches the cell that the action touches, prints as it does, or is one of the task that it generates
+abbrev pub meets : Action → Event → Bool
+meets (Load r c x) v = touches c v.action
+meets (Store c x) v = touches c v.action
+meets (Print x) v = is_print v.action
+meets (Spawn s) v = is_of s.child v
+meets _ v = false
+
+-- the action can wait for other tasks
+abbrev pub may_wait : Action → Bool
+may_wait Start = true
+may_wait (Wait items) = true
+may_wait Close = true
+may_wait _ = false
+
+-- the action of t may need the end of u, by what is read off the action and the names
+abbrev pub may_wait_for : Action → Name → Name → Bool
+may_wait_for a t u = may_wait a || (is_child t u || same_name t u)
+
+-- no entry from the one place on, in front of the other, directly needs the one at the place `at`
+abbrev pub NoneNeeds : List Entry → ℕ → ℕ → ℕ → Type 0
+NoneNeeds entries at from to =
+    (k : ℕ) (v u : Entry) → from ≤ k → k < to → v ≡ get_or entries k v → u ≡ get_or entries at u → IsFalse (needs (history_of (take k entries)) v.event u.event)

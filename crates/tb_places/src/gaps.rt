@@ -1,0 +1,105 @@
+//! The places of one row, where some events go: the places of these go too, and each other is lower by
+//! as many as go in front of it.
+
+ghost use Rattle.std.specs.Prelude.{◌≡◌, ◌≤◌, ◌<◌, ◌++◌, IsTrue, length, take, drop, vec_len, vec_capacity};
+ghost use Rattle.tb_places.specs.Renumbering.{RiseFrom, below, goes_at, lowered};
+
+/// Closes the gaps that the events at the going places leave.
+pub fn close(row: &mut Vec<u32>, going: &[u32])
+    requires going { RiseFrom 0 going.now }
+    requires places { RiseFrom 0 row.old.items }
+    ensures lowered { row.new.items ≡ lowered going.now row.old.items }
+    ensures capacity { vec_capacity row.new ≡ vec_capacity row.old }
+{
+    let from = in_front(row.as_slice(), going);
+    if from < row.len() {
+        let stay = lower(row.as_mut_slice(), from, going);
+        row.truncate(stay);
+    }
+}
+
+/// How many of the places are in front of all that go: they stay as they are.
+#[inline(always)]
+fn in_front(places: &[u32], going: &[u32]) -> usize
+    requires { RiseFrom 0 places.now }
+    ensures within { result ≤ length places.now }
+    ensures same { take result places.now ++ lowered going.now (drop result places.now)
+        ≡ lowered going.now places.now }
+{
+    let Some(first) = going.first() else {
+        return places.len();
+    };
+    let Some(last) = places.last() else {
+        return 0;
+    };
+    if *last < *first {
+        return places.len();
+    }
+    places.partition_point(|place| *place < *first)
+}
+
+/// Moves those from this one on that stay to the front, each lowered. It answers how many stay in all.
+fn lower(places: &mut [u32], from: usize, going: &[u32]) -> usize
+    requires going { RiseFrom 0 going.now }
+    requires places { RiseFrom 0 places.old }
+    requires from { from ≤ length places.old }
+    ensures stay { take result places.new
+        ≡ take from places.old ++ lowered going.now (drop from places.old) }
+    ensures len { length places.new ≡ length places.old }
+    ensures within { result ≤ length places.new }
+{
+    let mut stay = from;
+    let mut next = 0;
+    for at in from..places.len() {
+        let place = places[at];
+        next = passed(going, next, place);
+        if goes(going, next, place) {
+            next += 1;
+        } else {
+            places[stay] = place - next as u32;
+            stay += 1;
+        }
+    }
+    stay
+}
+
+/// How many that go are in front of the place, where so many are.
+#[inline(always)]
+fn passed(going: &[u32], next: usize, place: u32) -> usize
+    requires rise { RiseFrom 0 going.now }
+    requires next { next ≤ below going.now place }
+    ensures { result ≡ below going.now place }
+{
+    match going.get(next) {
+        Some(gone) if *gone < place => leap(going, next + 1, place),
+        _ => next,
+    }
+}
+
+/// Looks further and further ahead, so that far as well as near is found in few looks.
+fn leap(going: &[u32], next: usize, place: u32) -> usize
+    requires rise { RiseFrom 0 going.now }
+    requires next { next ≤ below going.now place }
+    ensures { result ≡ below going.now place }
+{
+    let mut from = next;
+    let mut width = 1;
+    'ahead: while from + width <= going.len() && going[from + width - 1] < place {
+        from += width;
+        width *= 2;
+    }
+    let to = going.len().min(from + width);
+    from + going[from..to].partition_point(|gone| *gone < place)
+}
+
+/// Whether the next that goes is the one at this place.
+#[inline(always)]
+fn goes(going: &[u32], next: usize, place: u32) -> bool
+    ensures goes { result ≡ goes_at place (drop next going.now) }
+    ensures within { IsTrue result → next < length going.now }
+{
+    match going.get(next) {
+        Some(gone) => *gone == place,
+        None => false,
+    }
+}
