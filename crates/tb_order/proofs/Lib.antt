@@ -1,6 +1,8 @@
 pub mod AnswerLemmas
 pub mod SharingLemmas
-pub mod LaneLemmas
+pub mod FrontLemmas
+pub mod KeptLemmas
+pub mod RaceLemmas
 pub mod AfterLemmas
 pub mod ClockLemmas
 pub mod LinkLemmas

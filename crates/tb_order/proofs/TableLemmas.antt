@@ -10,10 +10,9 @@ use Rattle.tb_core.specs.Entries.{Entry}
 use Rattle.tb_races.specs.Orders.{Order}
 use Rattle.tb_order.specs.declared.tasks.Tasks.{Tasks}
 use Rattle.tb_order.specs.declared.clocks.Clocks.{Clocks}
-use Rattle.tb_order.specs.Clocks.{AreClocks, AreEnds, IsClock, ends_so, is_end_at, row_in, row_at}
-use Rattle.tb_order.specs.Lanes.{kept_in}
+use Rattle.tb_order.specs.Clocks.{AreClocks, AreEnds, IsClock, ends_so, is_end_at, kept_in, row_in, row_at}
 use Rattle.tb_order.proofs.ClockLemmas.{zero_eqb}
-use Rattle.tb_order.proofs.LaneLemmas.{kept_read}
+use Rattle.tb_order.proofs.KeptLemmas.{kept_read}
 
 -- the row that was added
 pub row_pushed : (rows new : List (Vec ℕ Global)) (v : Vec ℕ Global) (n : ℕ) → new ≡ rows ++ v ∷ [] → n ≡ length new → row_in new n ≡ v.items

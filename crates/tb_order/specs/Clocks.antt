@@ -1,5 +1,5 @@
 -- What an order puts in front of each step, by places and by tasks.
-use Rattle.std.specs.Prelude.{ℕ, suc, ◌≡◌, ◌⊎◌, ◌<◌, ◌≤◌, List, [], Bool, false, ◌&&◌, ◌||◌, ◌==◌, ◌-◌, if◌then◌else◌, Option, Some, None, IsTrue, length, take, slice_get, slice_index_or, nat_lt, nat_le, Vec}
+use Rattle.std.specs.Prelude.{ℕ, suc, ◌≡◌, ◌⊎◌, ◌<◌, ◌≤◌, List, [], Bool, false, ◌&&◌, ◌||◌, ◌==◌, ◌-◌, if◌then◌else◌, Option, Some, None, IsTrue, length, take, slice_get, slice_index_or, nat_lt, nat_le, Vec, map}
 use Rattle.std.specs.declared.alloc.Global.{Global}
 use Rattle.tb_model.specs.declared.event.Event.{Event}
 use Rattle.tb_model.specs.declared.step_id.StepId.{StepId}
@@ -9,7 +9,6 @@ use Rattle.tb_core.specs.Scans.{history_of, step_at}
 use Rattle.tb_races.specs.Orders.{Order, links, comes_after}
 use Rattle.tb_order.specs.declared.tasks.Tasks.{Tasks}
 use Rattle.tb_order.specs.declared.clocks.Clocks.{Clocks}
-use Rattle.tb_order.specs.Lanes.{kept_in}
 
 -- ---- steps by their places
 
@@ -104,6 +103,10 @@ pub record AreTasks (entries : List Entry) (tasks : Tasks) : Type 0 where
   pub origins : (p : ℕ) → p < length entries → IsOrigin entries tasks p
 
 -- ---- by clocks
+
+-- the row at this place, empty where there is none
+abbrev pub kept_in : List (Vec ℕ Global) → ℕ → List ℕ
+kept_in rows i = slice_index_or (map (λ v. v.items) rows) i []
 
 abbrev pub row_in : List (Vec ℕ Global) → ℕ → List ℕ
 row_in rows n = if n == 0 then [] else kept_in rows (n - 1)

@@ -6,7 +6,7 @@ ghost use Rattle.tb_races.specs.Orders.{Order};
 ghost use Rattle.tb_order.specs.Clocks as is;
 ghost use Rattle.tb_order.specs.Clocks.{AreTasks, AreClocks, IsShaped, row_at, row_in};
 
-use crate::lanes::lane_at;
+use crate::kept::places_in;
 use crate::tasks::Tasks;
 
 /// What an order puts in front of each step of a history, by tasks: of each task it is all up to
@@ -59,7 +59,7 @@ pub fn row(rows: &[Vec<usize>], number: usize) -> &[usize]
     if number == 0 {
         &[]
     } else {
-        lane_at(rows, number - 1)
+        places_in(rows, number - 1)
     }
 }
 
