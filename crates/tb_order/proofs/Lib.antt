@@ -2,6 +2,8 @@ pub mod AnswerLemmas
 pub mod SharingLemmas
 pub mod FrontLemmas
 pub mod KeptLemmas
+pub mod JoinLemmas
+pub mod LaneLemmas
 pub mod RaceLemmas
 pub mod AfterLemmas
 pub mod ClockLemmas

@@ -107,6 +107,7 @@ pub fn meet(
 fn unordered(tasks: &Tasks, clocks: &Clocks, row: &[usize], at: usize) -> usize
     requires shaped { IsShaped tasks.now }
     requires listed { length clocks.now.of.items ≤ length tasks.now.numbers.items }
+    requires laned { length clocks.now.lanes.items ≡ length clocks.now.of.items }
     requires at { at < length clocks.now.of.items }
     requires row { All (λ p. p < at) row.now }
     ensures few { result ≤ length row.now }
