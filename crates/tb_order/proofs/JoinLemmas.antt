@@ -1,12 +1,12 @@
 -- What a step reaches, by its clock and by what generates its task.
-use Rattle.std.proofs.Common.{◌≡◌, ◌==◌, ◌<◌, ◌≤◌, ◌-◌, ◌+◌, ◌≢◌, ℕ, suc, List, Bool, true, false, ◌||◌, ◌&&◌, cond, length, refl, sym, ap, ap₂, ◌∙◌, arith, ◌⊎◌, inl, inr, ⊎_elim, eq-eqb, ne_eqb, eqb-true, nat_lt, nat_le, lt-ltb, le-leb, leb-true, ltb-true}
-use Rattle.std.proofs.lemmas.Bool.{or_left, or_right, or_cases, and_from, and_parts, false_from_ne_true, cases_order}
+use Rattle.std.proofs.Common.{◌≡◌, ◌==◌, ◌<◌, ◌≤◌, ◌-◌, ◌≢◌, ℕ, List, Bool, true, false, ◌||◌, ◌&&◌, cond, length, refl, sym, ap, ap₂, ◌∙◌, arith, ◌⊎◌, inl, inr, ⊎_elim, eq-eqb, nat_le, lt-ltb, le-leb, leb-true}
+use Rattle.std.proofs.lemmas.Bool.{or_left, or_cases, and_from, and_parts, false_from_ne_true, cases_order}
 use Rattle.tb_core.specs.Entries.{Entry}
 use Rattle.tb_races.specs.Orders.{Order}
 use Rattle.tb_order.specs.declared.tasks.Tasks.{Tasks}
 use Rattle.tb_order.specs.declared.clocks.Clocks.{Clocks}
-use Rattle.tb_order.specs.Clocks.{AreTasks, AreClocks, IsLow, adds, is_below, is_told, lane, origin, origin_reaches, reaches, row_at, says}
-use Rattle.tb_order.proofs.AfterLemmas.{reached, reaches_so}
+use Rattle.tb_order.specs.Clocks.{AreTasks, AreClocks, IsLow, adds, is_below, lane, origin, origin_reaches, reaches, row_at, says}
+use Rattle.tb_order.proofs.AfterLemmas.{reached}
 use Rattle.tb_order.proofs.ClockLemmas.{or_if, zero_eqb}
 use Rattle.tb_order.proofs.SoundLemmas.{origin_low, origin_none, reached_low}
 

@@ -1,12 +1,11 @@
 -- What is kept of each cell and of the output has the newest step with which a later one races.
-use Rattle.std.proofs.Common.{◌≡◌, ◌≢◌, ◌<◌, ◌≤◌, ◌+◌, ◌-◌, ◌==◌, ℕ, suc, List, [], ◌∷◌, ◌++◌, Bool, true, false, not, ◌||◌, ◌&&◌, cond, length, take, refl, sym, ap, ap₂, ◌∙◌, subst, arith, Option, Some, None, is_some, get_or, slice_get, ◌⊎◌, inl, inr, ⊎_elim, map, set, get_or-set_same, get_or-set_other, Vec, Global}
+use Rattle.std.proofs.Common.{◌≡◌, ◌≢◌, ◌<◌, ◌≤◌, ◌+◌, ◌-◌, ℕ, suc, List, [], ◌∷◌, ◌++◌, Bool, true, false, not, ◌||◌, ◌&&◌, cond, length, take, refl, sym, ap, ap₂, ◌∙◌, subst, arith, Option, Some, None, is_some, get_or, slice_get, ◌⊎◌, inl, inr, ⊎_elim, map, set, get_or-set_same, get_or-set_other, Vec, Global}
 use Rattle.std.proofs.lemmas.Bool.{and_parts, and_from, or_left, or_right, false≢true, false_from_ne_true, true_from_ne_false, both_ways, cases_eq, cases_lt, eq-eqb, ne_eqb}
 use Rattle.std.proofs.lemmas.List.{get_or-take, get_or_append_left, length-take, length-append, map-set, length-map, get_or-map}
 use Rattle.std.proofs.Math.Seq.{get_or-append_seam}
 use Rattle.std.proofs.lemmas.Option.{slice_get_read}
 use Rattle.tb_cause.proofs.ConeLemmas.{some_same}
 use Rattle.tb_core.specs.Entries.{Entry}
-use Rattle.tb_races.specs.Kinds.{shared}
 use Rattle.tb_races.specs.Orders.{Order}
 use Rattle.tb_order.specs.Clocks.{kept_in, reaches}
 use Rattle.tb_order.specs.Kept.{AreRows, HasLater, IsCut, IsLarger, IsNewest, IsRow, in_so, is_in, is_in_at, is_load, loads_at, loads_so, newest_of, shares_at, shares_so, slot_of}

@@ -1,5 +1,5 @@
 -- In which lane a step may stand.
-use Rattle.std.proofs.Common.{◌≡◌, ◌≢◌, ◌==◌, ◌<◌, ◌≤◌, ℕ, suc, List, [], ◌∷◌, Bool, true, not, length, refl, sym, ap, ◌∙◌, subst, arith, ◌⊎◌, inl, inr, ⊎_elim, eq-eqb, eqb-true}
+use Rattle.std.proofs.Common.{◌≡◌, ◌≢◌, ◌<◌, ◌≤◌, ℕ, suc, List, [], ◌∷◌, true, not, length, sym, ap, ◌∙◌, subst, arith, ◌⊎◌, inl, inr, ⊎_elim, eq-eqb, eqb-true}
 use Rattle.std.specs.Prelude.{slice_index_or}
 use Rattle.std.proofs.lemmas.Bool.{both_ways, cases_eq, cases_order}
 use Rattle.tb_model.specs.declared.action.Action.{Action}
@@ -16,7 +16,7 @@ use Rattle.tb_order.specs.declared.clocks.Clocks.{Clocks}
 use Rattle.tb_order.specs.Clocks.{AreClocks, AreTasks, Behind, alone, generated, going_on, IsLane, IsLastOf, IsSound, both_at, is_end_at, lane, number, of_one, origin, previous, row_at, touches}
 use Rattle.tb_order.proofs.LinkLemmas.{end_is}
 use Rattle.tb_order.proofs.OwnLemmas.{H, ev, head_here, legal_here}
-use Rattle.tb_order.proofs.SoundLemmas.{own_touches, sound_going, sound_none}
+use Rattle.tb_order.proofs.SoundLemmas.{own_touches, sound_going}
 
 -- nothing follows an end
 no_more : (cells : Cells) (t : Name) (last : Action) (acts : List Action) (a : Action) → Continues cells t (last ∷ acts) a → is_end last ≡ true → ⊥

@@ -4,6 +4,7 @@ pub mod FrontLemmas
 pub mod KeptLemmas
 pub mod JoinLemmas
 pub mod LaneLemmas
+pub mod EndLemmas
 pub mod RaceLemmas
 pub mod AfterLemmas
 pub mod ClockLemmas

@@ -1,5 +1,5 @@
 -- The race of a step is the one with the newest step with which it conflicts and that doesn't come before it.
-use Rattle.std.proofs.Common.{◌≡◌, ◌<◌, ◌≤◌, ◌-◌, ◌||◌, ◌≢◌, ℕ, zero, suc, List, Bool, true, false, not, cond, length, take, refl, sym, ap, ap₂, ◌∙◌, subst, arith, Option, Some, None, is_some, slice_get, ◌⊎◌, inl, inr, ⊎_elim}
+use Rattle.std.proofs.Common.{◌≡◌, ◌<◌, ◌≤◌, ◌≢◌, ℕ, zero, suc, List, Bool, true, false, not, cond, length, take, refl, sym, ap, ap₂, ◌∙◌, subst, arith, Option, Some, None, is_some, slice_get, ◌⊎◌, inl, inr}
 use Rattle.std.specs.Option.{option_or, option_map}
 use Rattle.std.proofs.lemmas.Bool.{or_left, both_ways, false_from_ne_true, cases_eq}
 use Rattle.tb_model.specs.declared.event.Event.{Event}
@@ -11,14 +11,13 @@ use Rattle.tb_core.specs.Scans.{history_of, step_at}
 use Rattle.tb_core.proofs.FirstLemmas.{step_read}
 use Rattle.tb_cause.proofs.ConeLemmas.{some_same}
 use Rattle.tb_races.specs.declared.conflict.Conflict.{Conflict}
-use Rattle.tb_races.specs.declared.race.Race.{Race}
 use Rattle.tb_races.specs.Kinds.{shared}
 use Rattle.tb_races.specs.Orders.{Order, comes_after}
 use Rattle.tb_races.specs.Racing.{conflict, contested, newest_race, as_race, is_apart}
-use Rattle.tb_order.specs.Clocks.{both_at, of_one, touches, links_at, reaches}
+use Rattle.tb_order.specs.Clocks.{touches, reaches}
 use Rattle.tb_order.specs.Kept.{IsNewest, shares_at, shares_so}
 use Rattle.tb_order.specs.Linking.{order_of}
-use Rattle.tb_order.proofs.AfterLemmas.{at, at_is, at_read, links_after, linked_on, reach_tested, reaches_so}
+use Rattle.tb_order.proofs.AfterLemmas.{at, at_is, at_read, linked_on, reach_tested, reaches_so}
 use Rattle.tb_order.proofs.FrontLemmas.{one_more}
 use Rattle.tb_order.proofs.LinkLemmas.{both_is, touch_links_at}
 use Rattle.tb_order.proofs.SharingLemmas.{conflict_none}

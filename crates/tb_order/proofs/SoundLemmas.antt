@@ -1,6 +1,6 @@
 -- The clock of a step is that of the step of its task in front of it, with what is in front of the ends to which it is linked.
-use Rattle.std.proofs.Common.{◌≡◌, ◌==◌, ◌<◌, ◌≤◌, ◌-◌, ℕ, suc, List, [], Bool, true, false, ◌||◌, ◌&&◌, length, refl, sym, ap, ◌∙◌, subst, arith, ◌⊎◌, inl, inr, ⊎_elim, eqb-true, eq-eqb, nat_lt, nat_le, ltb-true, lt-ltb, leb-true, le-leb, ◌≢◌, ne_eqb, cond}
-use Rattle.std.proofs.lemmas.Bool.{or_cases, or_left, or_right, both_ways, false≢true, and_parts, and_from, cases_eq, cases_lt}
+use Rattle.std.proofs.Common.{◌≡◌, ◌==◌, ◌<◌, ◌≤◌, ◌-◌, ℕ, suc, List, [], Bool, true, false, ◌||◌, ◌&&◌, length, refl, sym, ap, ◌∙◌, subst, arith, ◌⊎◌, inl, inr, ⊎_elim, eqb-true, eq-eqb, nat_lt, ltb-true, lt-ltb, ◌≢◌, ne_eqb, cond}
+use Rattle.std.proofs.lemmas.Bool.{or_cases, or_left, or_right, both_ways, and_parts, and_from, cases_eq, cases_lt}
 use Rattle.tb_model.specs.Names.{same_name}
 use Rattle.tb_model.specs.Facts.{spawns}
 use Rattle.tb_model.proofs.TestLemmas.{same_true}

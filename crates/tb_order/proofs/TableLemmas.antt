@@ -1,16 +1,14 @@
 -- The tables of clocks, one step more.
-use Rattle.std.proofs.Common.{◌≡◌, ◌≢◌, ◌<◌, ◌≤◌, ◌-◌, ◌+◌, ◌==◌, ◌&&◌, ◌||◌, nat_lt, ℕ, List, [], ◌∷◌, ◌++◌, Bool, true, false, cond, length, map, get_or, refl, sym, ap, ap₂, ◌∙◌, subst, arith, ◌⊎◌, inl, inr, eq-eqb, Vec, Global, IsTrue}
+use Rattle.std.proofs.Common.{◌≡◌, ◌≢◌, ◌<◌, ◌≤◌, ◌-◌, ◌+◌, ◌==◌, ◌&&◌, ◌||◌, nat_lt, ℕ, List, [], ◌∷◌, ◌++◌, cond, length, map, get_or, sym, ap, ap₂, ◌∙◌, subst, arith, ◌⊎◌, inl, inr, eq-eqb, Vec, Global, IsTrue}
 use Rattle.std.specs.Prelude.{slice_index_or}
-use Rattle.std.proofs.lemmas.Bool.{cases_eq, both_ways}
+use Rattle.std.proofs.lemmas.Bool.{cases_eq}
 use Rattle.std.proofs.lemmas.List.{get_or_append_left, length-append, length-map, map-append}
-use Rattle.std.proofs.lemmas.Option.{slice_get_read}
 use Rattle.std.proofs.Math.Seq.{get_or-append_seam}
-use Rattle.tb_model.specs.Facts.{is_end}
 use Rattle.tb_core.specs.Entries.{Entry}
 use Rattle.tb_races.specs.Orders.{Order}
 use Rattle.tb_order.specs.declared.tasks.Tasks.{Tasks}
 use Rattle.tb_order.specs.declared.clocks.Clocks.{Clocks}
-use Rattle.tb_order.specs.Clocks.{AreClocks, AreEnds, IsClock, IsLane, IsLastOf, IsLow, IsOneMore, IsStanding, both_at, ends_so, is_end_at, is_told, kept_in, lane, of_one, origin, origin_reaches, row_in, row_at, says}
+use Rattle.tb_order.specs.Clocks.{AreClocks, IsClock, IsLane, IsLastOf, IsLow, IsOneMore, IsStanding, both_at, is_end_at, is_told, kept_in, lane, of_one, origin, origin_reaches, row_in, row_at, says}
 use Rattle.tb_order.proofs.ClockLemmas.{zero_eqb}
 use Rattle.tb_order.proofs.KeptLemmas.{kept_read}
 
@@ -39,6 +37,20 @@ row_kept rows new v n e low = by (cases_eq n 0)
         ∙ ap (λ (xs : List (List ℕ)). get_or xs (n - 1) []) (map-append (λ (x : Vec ℕ Global). x.items) rows (v ∷ []))
         ∙ get_or_append_left (map (λ (x : Vec ℕ Global). x.items) rows) (v.items ∷ []) [] (n - 1) (omega (arith, low, d, length-map rows (λ (x : Vec ℕ Global). x.items)))
         ∙ sym (ap (λ b. cond b [] (kept_in rows (n - 1))) (zero_eqb n d))
+
+-- none yet
+pub clocks_none : (o : Order) (entries : List Entry) (tasks : Tasks) (clocks : Clocks) → clocks.of.items ≡ [] → clocks.lanes.items ≡ [] → AreClocks o entries tasks 0 clocks
+clocks_none o entries tasks clocks a b = record {
+  listed = ap length a;
+  laned = ap length b;
+  within = λ p l. absurd (omega (arith, l));
+  low = λ p l. absurd (omega (arith, l));
+  told = λ p l. absurd (omega (arith, l));
+  own = λ p q l. absurd (omega (arith, l));
+  going = λ p l. absurd (omega (arith, l));
+  few = λ p l. absurd (omega (arith, l));
+  newest = λ p l. absurd (omega (arith, l));
+}
 
 module _ (o : Order) (entries : List Entry) (tasks : Tasks) (n : ℕ) where
   -- one row more
@@ -154,52 +166,6 @@ module _ (o : Order) (entries : List Entry) (tasks : Tasks) (n : ℕ) where
         late : (q : ℕ) → q < n → (lane old q ≡ k) ⊎ (lane old q ≢ k) → q ≤ slice_index_or new.lasts.items (lane new q) 0
         late q l (inl e) = omega (arith, ap (λ (j : ℕ). slice_index_or new.lasts.items j 0) (lane_kept q l ∙ e), one.last, l)
         late q l (inr d) = omega (arith, ap (λ (j : ℕ). slice_index_or new.lasts.items j 0) (lane_kept q l), one.others (lane old q) d (are.few q l), are.newest q l)
-
--- ---- the ends
-
-module _ (entries : List Entry) (n : ℕ) (w : n < length entries) (x : Entry) (here : x ≡ get_or entries n x) where
-  end_here : (b : Bool) → b ≡ is_end x.event.action → is_end_at entries n ≡ b
-  end_here b h = ap ends_so (slice_get_read entries (length entries) n x refl w here) ∙ sym h
-
-  pub ends_more : (old new : List ℕ) → new ≡ old ++ n ∷ [] → true ≡ is_end x.event.action → AreEnds entries n old → AreEnds entries (n + 1) new
-  ends_more old new e h are = record {
-    each = λ i l. each i l (cases_eq i (length old));
-    all = λ y l q. all y l q (cases_eq y n);
-  }
-    where
-      many : length new ≡ length old + 1
-      many = ap length e ∙ length-append old (n ∷ [])
-
-      last : slice_index_or new (length old) 0 ≡ n
-      last = ap (λ (xs : List ℕ). get_or xs (length old) 0) e ∙ get_or-append_seam old n [] 0
-
-      kept : (i : ℕ) → i < length old → slice_index_or new i 0 ≡ slice_index_or old i 0
-      kept i l = ap (λ (xs : List ℕ). get_or xs i 0) e ∙ get_or_append_left old (n ∷ []) 0 i l
-
-      each : (i : ℕ) → i < length new → (i ≡ length old) ⊎ (i ≢ length old) → (slice_index_or new i 0 < n + 1) × IsTrue (is_end_at entries (slice_index_or new i 0))
-      each i l (inl s) =
-          let it = ap (λ (m : ℕ). slice_index_or new m 0) s ∙ last in
-          (omega (arith, it), subst (λ y. is_end_at entries y ≡ true) (sym it) (end_here true h))
-      each i l (inr d) =
-          let m : i < length old = omega (arith, l, d, many) in
-          let f = are.each i m in
-          (omega (arith, kept i m, f.0), subst (λ y. is_end_at entries y ≡ true) (sym (kept i m)) f.1)
-
-      all : (y : ℕ) → y < n + 1 → IsTrue (is_end_at entries y) → (y ≡ n) ⊎ (y ≢ n) → (i : ℕ) × (i < length new) × (slice_index_or new i 0 ≡ y)
-      all y l q (inl s) = (length old, omega (arith, many), last ∙ sym s)
-      all y l q (inr d) = let f = are.all y (omega (arith, l, d)) q in (f.0, omega (arith, f.1, many), kept f.0 f.1 ∙ f.2)
-
-  pub ends_same : (old new : List ℕ) → new ≡ old → false ≡ is_end x.event.action → AreEnds entries n old → AreEnds entries (n + 1) new
-  ends_same old new e h are =
-      subst (AreEnds entries (n + 1)) (sym e)
-      (record {
-        each = λ i l. let f = are.each i l in (omega (arith, f.0), f.1);
-        all = λ y l q. are.all y (other y l q (cases_eq y n)) q;
-      })
-    where
-      other : (y : ℕ) → y < n + 1 → IsTrue (is_end_at entries y) → (y ≡ n) ⊎ (y ≢ n) → y < n
-      other y l q (inl s) = absurd (both_ways (is_end_at entries n) (end_here false h) (subst (λ m. is_end_at entries m ≡ true) s q))
-      other y l q (inr d) = omega (arith, l, d)
 
 -- ---- one number more
 

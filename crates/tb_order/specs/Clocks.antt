@@ -9,6 +9,7 @@ use Rattle.tb_core.specs.Scans.{history_of, step_at}
 use Rattle.tb_races.specs.Orders.{Order, links, comes_after}
 use Rattle.tb_order.specs.declared.tasks.Tasks.{Tasks}
 use Rattle.tb_order.specs.declared.clocks.Clocks.{Clocks}
+use Rattle.tb_order.specs.declared.ends.Ends.{Ends}
 
 -- ---- steps by their places
 
@@ -167,10 +168,24 @@ pub record IsLane (entries : List Entry) (clocks : Clocks) (k p : ℕ) : Type 0 
   pub own : (q : ℕ) → q < p → IsTrue (both_at of_one entries p q) → k ≡ lane clocks q
   pub follows : (b : ℕ) → b < p → lane clocks b ≡ k → IsLastOf clocks p b → IsTrue (both_at of_one entries p b) ⊎ IsTrue (is_end_at entries b)
 
--- the ends among the first n steps
-pub record AreEnds (entries : List Entry) (n : ℕ) (ends : List ℕ) : Type 0 where
-  pub each : (i : ℕ) → i < length ends → (slice_index_or ends i 0 < n) × IsTrue (is_end_at entries (slice_index_or ends i 0))
-  pub all : (x : ℕ) → x < n → IsTrue (is_end_at entries x) → (i : ℕ) × (i < length ends) × (slice_index_or ends i 0 ≡ x)
+abbrev pub end_at : Ends → ℕ → ℕ
+end_at ends i = slice_index_or ends.places.items i 0
+
+abbrev pub skip_at : Ends → ℕ → ℕ
+skip_at ends i = slice_index_or ends.skips.items i 0
+
+-- the ends among the first n steps, the oldest first; each comes after those in front of it from the one on that is told
+pub record AreEnds (o : Order) (entries : List Entry) (n : ℕ) (ends : Ends) : Type 0 where
+  pub each : (i : ℕ) → i < length ends.places.items → (end_at ends i < n) × IsTrue (is_end_at entries (end_at ends i))
+  pub all : (x : ℕ) → x < n → IsTrue (is_end_at entries x) → (i : ℕ) × (i < length ends.places.items) × (end_at ends i ≡ x)
+  pub listed : length ends.skips.items ≡ length ends.places.items
+  pub low : (i : ℕ) → i < length ends.places.items → skip_at ends i ≤ i
+  pub skipped : (i j : ℕ) → i < length ends.places.items → skip_at ends i ≤ j → j < i → IsTrue (reaches o entries (end_at ends i) (end_at ends j))
+
+-- one end more, the one at n, which comes after those from the one on that is told
+pub record IsEndMore (old : Ends) (n from : ℕ) (new : Ends) : Type 0 where
+  pub places : new.places.items ≡ old.places.items ++ n ∷ []
+  pub skips : new.skips.items ≡ old.skips.items ++ from ∷ []
 
 -- what the row tells of comes before the step at p, and so does what is in front of that
 pub record IsSound (o : Order) (entries : List Entry) (tasks : Tasks) (clocks : Clocks) (row : List ℕ) (k p : ℕ) : Type 0 where

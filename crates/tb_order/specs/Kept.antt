@@ -1,6 +1,5 @@
 -- The steps at each cell and at the output with which a later step may still race.
-use Rattle.std.specs.Prelude.{ℕ, suc, ◌≡◌, ◌⊎◌, ◌<◌, ◌≤◌, ◌-◌, List, [], Bool, true, false, ◌==◌, Option, Some, None, if◌then◌else◌, is_some, map, length, slice_get, slice_index_or, Vec, IsTrue}
-use Rattle.std.specs.declared.alloc.Global.{Global}
+use Rattle.std.specs.Prelude.{ℕ, suc, ◌≡◌, ◌⊎◌, ◌<◌, ◌≤◌, ◌-◌, List, Bool, true, false, ◌==◌, Option, Some, None, if◌then◌else◌, is_some, length, slice_get, slice_index_or, IsTrue}
 use Rattle.tb_model.specs.declared.action.Action.{Action}
 use Rattle.tb_model.specs.declared.action.Action.TheVariants.{Load, Store, Print}
 use Rattle.tb_core.specs.Entries.{Entry}

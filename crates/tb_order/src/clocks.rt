@@ -9,8 +9,8 @@ ghost use Rattle.tb_order.specs.Clocks.{AreTasks, AreClocks, IsShaped, lane, row
 use crate::kept::places_in;
 use crate::tasks::Tasks;
 
-/// What an order puts in front of each step of a history, by lanes: of each lane it is all up to some
-/// step. A lane is a row of tasks, each of which starts behind the end of the one in front.
+/// What an order puts in front of each step of a history, by lanes: of each lane it is all up to
+/// some step. A lane is a row of tasks, each of which starts behind the end of the one in front.
 #[derive(Drop)]
 pub struct Clocks {
     /// For each step the number of a row, one more, and 0 for one with nothing.
@@ -31,7 +31,8 @@ pub fn reaches(tasks: &Tasks, clocks: &Clocks, late: usize, early: usize) -> boo
     requires late { late < length clocks.now.of.items }
     requires early { early ≤ late }
     ensures { (o : Order) (entries : List Entry) (n : ℕ) → AreTasks entries tasks.now
-        → AreClocks o entries tasks.now n clocks.now → late < n → result ≡ is.reaches o entries late early }
+        → AreClocks o entries tasks.now n clocks.now → late < n
+        → result ≡ is.reaches o entries late early }
 {
     let mut at = late;
     'up: while early <= at {

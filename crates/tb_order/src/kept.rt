@@ -16,7 +16,7 @@ use tb_core::History;
 use tb_model::Action;
 
 /// Of each cell and of the output the steps with which a later step may still race by one order,
-/// the oldest first. One that comes before a newer one is left out where that conflicts with as much.
+/// the oldest first. One that comes before a newer one is left out where that races with as much.
 #[derive(Drop)]
 pub struct Kept {
     pub alloc: Global,
@@ -103,7 +103,8 @@ pub fn meet(
     Ok(newer(write, load))
 }
 
-/// How many steps of the row there are up to the newest that the step at this place doesn't come after.
+/// How many steps of the row there are up to the newest that the step at this place doesn't come
+/// after.
 fn unordered(tasks: &Tasks, clocks: &Clocks, row: &[usize], at: usize) -> usize
     requires shaped { IsShaped tasks.now }
     requires listed { length clocks.now.of.items ≤ length tasks.now.numbers.items }
@@ -112,7 +113,8 @@ fn unordered(tasks: &Tasks, clocks: &Clocks, row: &[usize], at: usize) -> usize
     requires row { All (λ p. p < at) row.now }
     ensures few { result ≤ length row.now }
     ensures cut { (o : Order) (entries : List Entry) → AreTasks entries tasks.now
-        → AreClocks o entries tasks.now (length entries) clocks.now → IsCut o entries at row.now result }
+        → AreClocks o entries tasks.now (length entries) clocks.now
+        → IsCut o entries at row.now result }
 {
     let mut left = row.len();
     'back: while left > 0 && reaches(tasks, clocks, at, row[left - 1]) {

@@ -3,6 +3,7 @@
 
 mod asking;
 mod clocks;
+mod ends;
 mod exclusion;
 mod immediate;
 mod kept;

@@ -9,6 +9,7 @@ ghost use Rattle.tb_order.specs.Clocks.{AreClocks, AreEnds, AreTasks, IsJoined, 
 ghost use Rattle.tb_order.specs.Linking.{order_of};
 
 use crate::clocks::{Clocks, bound, reaches, row};
+use crate::ends::{Ends, no_ends, note_end};
 use crate::tasks::{Tasks, step_before};
 use crate::waiting::{may_wait, waits};
 use std::alloc::{AllocError, Global};
@@ -39,20 +40,20 @@ pub fn clocks_of(
         lanes: Vec::new(alloc),
         lasts: Vec::new(alloc),
     };
-    let mut ends = Vec::new(alloc);
+    let mut ends = no_ends(alloc);
     for at in 0..entries.len() {
         let first = begin(tasks, &clocks, at);
         let step = finish(alloc, exclusion, entries, tasks, &mut clocks, &ends, first)?;
         add(&mut clocks, &step)?;
         if entries.action(at).is_end() {
-            ends.push(at)?;
+            note_end(tasks, &clocks, &mut ends, at)?;
         }
     }
     Ok(clocks)
 }
 
-/// The step at this place, with the row and the lane of the step of its task in front of it, else with
-/// none and a new lane.
+/// The step at this place, with the row and the lane of the step of its task in front of it, else
+/// with none and a new lane.
 fn begin(tasks: &Tasks, clocks: &Clocks, at: usize) -> Step
     requires shaped { IsShaped tasks.now }
     requires listed { at ≡ length clocks.now.of.items }
@@ -61,11 +62,12 @@ fn begin(tasks: &Tasks, clocks: &Clocks, at: usize) -> Step
     ensures at { result.at ≡ at }
     ensures row { (o : Order) (entries : List Entry) → AreTasks entries tasks.now
         → AreClocks o entries tasks.now at clocks.now → result.row ≤ length clocks.now.rows.items }
-    ensures sound { (o : Order) (entries : List Entry) → AreLegal entries → AreTasks entries tasks.now
-        → AreClocks o entries tasks.now at clocks.now
+    ensures sound { (o : Order) (entries : List Entry) → AreLegal entries
+        → AreTasks entries tasks.now → AreClocks o entries tasks.now at clocks.now
         → IsSound o entries tasks.now clocks.now (row_in clocks.now.rows.items result.row) result.lane at }
-    ensures lane { (o : Order) (entries : List Entry) → AreLegal entries → AreTasks entries tasks.now
-        → AreClocks o entries tasks.now at clocks.now → IsLane entries clocks.now result.lane at }
+    ensures lane { (o : Order) (entries : List Entry) → AreLegal entries
+        → AreTasks entries tasks.now → AreClocks o entries tasks.now at clocks.now
+        → IsLane entries clocks.now result.lane at }
 {
     match step_before(tasks, at) {
         Some(before) => Step {
@@ -88,20 +90,21 @@ fn finish(
     entries: &History<'_>,
     tasks: &Tasks,
     clocks: &mut Clocks,
-    ends: &[usize],
+    ends: &Ends,
     step: Step,
 ) -> Result<Step, AllocError>
     requires legal { AreLegal entries.now }
     requires tasks { AreTasks entries.now tasks.now }
     requires at { step.at < length entries.now }
     requires clocks { AreClocks (order_of exclusion) entries.now tasks.now step.at clocks.old }
-    requires ends { AreEnds entries.now step.at ends.now }
+    requires ends { AreEnds (order_of exclusion) entries.now step.at ends.now }
     requires row { step.row ≤ length clocks.old.rows.items }
     requires sound { IsSound (order_of exclusion) entries.now tasks.now clocks.old
         (row_in clocks.old.rows.items step.row) step.lane step.at }
     requires lane { IsLane entries.now clocks.old step.lane step.at }
     ensures at { IfOk result (λ s. s.at ≡ step.at) }
-    ensures clocks { OnOk result (AreClocks (order_of exclusion) entries.now tasks.now step.at clocks.new) }
+    ensures clocks { OnOk result
+        (AreClocks (order_of exclusion) entries.now tasks.now step.at clocks.new) }
     ensures stands { IfOk result (λ s.
         IsStanding (order_of exclusion) entries.now tasks.now clocks.new s.row s.lane step.at) }
 {
@@ -122,13 +125,14 @@ fn finish(
     }
 }
 
-/// The lane of a step that comes behind this end: a step that opens a lane goes on in that of the end
-/// where nothing else does.
+/// The lane of a step that comes behind this end: a step that opens a lane goes on in that of the
+/// end where nothing else does.
 fn lane_behind(clocks: &Clocks, lane: usize, end: usize) -> usize
     requires end { end < length clocks.now.lanes.items }
     requires few { is.lane clocks.now end < length clocks.now.lasts.items }
     requires lane { lane ≤ length clocks.now.lasts.items }
-    ensures { (result ≡ lane) ⊎ ((lane ≡ length clocks.now.lasts.items) × (result ≡ is.lane clocks.now end)
+    ensures { (result ≡ lane) ⊎ ((lane ≡ length clocks.now.lasts.items)
+        × (result ≡ is.lane clocks.now end)
         × (slice_index_or clocks.now.lasts.items (is.lane clocks.now end) 0 ≡ end)) }
 {
     let behind = clocks.lanes[end];
@@ -154,40 +158,43 @@ fn add(clocks: &mut Clocks, step: &Step) -> Result<(), AllocError>
     Ok(())
 }
 
-/// Adds the ends to which the step is linked, with all that is in front of them, and tells the newest
-/// of those that were added.
+/// Adds the ends to which the step is linked, with all that is in front of them, and tells the
+/// newest of those that were added.
 fn merge(
     next: &mut Vec<usize>,
     exclusion: bool,
     entries: &History<'_>,
     tasks: &Tasks,
     clocks: &Clocks,
-    ends: &[usize],
+    ends: &Ends,
     step: &Step,
 ) -> Result<Option<usize>, AllocError>
     requires legal { AreLegal entries.now }
     requires tasks { AreTasks entries.now tasks.now }
     requires at { step.now.at < length entries.now }
     requires clocks { AreClocks (order_of exclusion) entries.now tasks.now step.now.at clocks.now }
-    requires ends { AreEnds entries.now step.now.at ends.now }
-    requires sound { IsSound (order_of exclusion) entries.now tasks.now clocks.now next.old.items step.now.lane step.now.at }
-    ensures sound { OnOk result (IsSound (order_of exclusion) entries.now tasks.now clocks.now next.new.items
-        step.now.lane step.now.at) }
-    ensures ends { OnOk result (TellsEnds (order_of exclusion) entries.now tasks.now clocks.now next.new.items
-        step.now.lane step.now.at) }
+    requires ends { AreEnds (order_of exclusion) entries.now step.now.at ends.now }
+    requires sound { IsSound (order_of exclusion) entries.now tasks.now clocks.now
+        next.old.items step.now.lane step.now.at }
+    ensures sound { OnOk result (IsSound (order_of exclusion) entries.now tasks.now clocks.now
+        next.new.items step.now.lane step.now.at) }
+    ensures ends { OnOk result (TellsEnds (order_of exclusion) entries.now tasks.now clocks.now
+        next.new.items step.now.lane step.now.at) }
     ensures same { IfOk result (λ j. j ≡ None → next.new.items ≡ next.old.items) }
-    ensures joined { IfOk result (λ j. IfSome j (IsJoined (order_of exclusion) entries.now tasks.now clocks.now
-        next.new.items step.now.lane step.now.at)) }
+    ensures joined { IfOk result (λ j. IfSome j
+        (IsJoined (order_of exclusion) entries.now tasks.now clocks.now next.new.items
+        step.now.lane step.now.at)) }
 {
     let mut joined = None;
-    let mut left = ends.len();
+    let mut left = ends.places.len();
     'back: while left > 0 {
         left -= 1;
-        let end = ends[left];
-        if !is_merged(tasks, clocks, next, step, end)
-            && waits(exclusion, entries, tasks, step.at, end)
-        {
+        let end = ends.places[left];
+        if is_merged(tasks, clocks, next, step, end) {
+            left = ends.skips[left];
+        } else if waits(exclusion, entries, tasks, step.at, end) {
             join(next, tasks, clocks, end)?;
+            left = ends.skips[left];
             if joined.is_none() {
                 joined = Some(end);
             }
@@ -219,8 +226,8 @@ fn origin_reaches(tasks: &Tasks, clocks: &Clocks, at: usize, early: usize) -> bo
     requires listed { at ≡ length clocks.now.of.items }
     requires laned { at ≡ length clocks.now.lanes.items }
     requires at { at < length tasks.now.numbers.items }
-    ensures { (o : Order) (entries : List Entry) → AreTasks entries tasks.now → early < length entries
-        → AreClocks o entries tasks.now at clocks.now
+    ensures { (o : Order) (entries : List Entry) → AreTasks entries tasks.now
+        → early < length entries → AreClocks o entries tasks.now at clocks.now
         → result ≡ is.origin_reaches o entries (is.origin tasks.now at) early }
 {
     let origin = tasks.origins[at];
@@ -241,13 +248,13 @@ fn join(
     requires listed { length clocks.now.of.items ≤ length tasks.now.numbers.items }
     requires laned { length clocks.now.lanes.items ≡ length clocks.now.of.items }
     requires place { place < length clocks.now.of.items }
-    ensures more { OnOk result ((o : Order) (entries : List Entry) (n : ℕ) → AreTasks entries tasks.now
-        → AreClocks o entries tasks.now n clocks.now → place < n → n ≤ length entries → (q : ℕ) → q < n
-        → says next.new.items (lane clocks.now q) q
+    ensures more { OnOk result ((o : Order) (entries : List Entry) (n : ℕ)
+        → AreTasks entries tasks.now → AreClocks o entries tasks.now n clocks.now → place < n
+        → n ≤ length entries → (q : ℕ) → q < n → says next.new.items (lane clocks.now q) q
         ≡ (says next.old.items (lane clocks.now q) q || is.reaches o entries place q)) }
-    ensures low { OnOk result ((o : Order) (entries : List Entry) (n : ℕ) → AreTasks entries tasks.now
-        → AreClocks o entries tasks.now n clocks.now → place < n → n ≤ length entries
-        → IsLow next.old.items n → IsLow next.new.items n) }
+    ensures low { OnOk result ((o : Order) (entries : List Entry) (n : ℕ)
+        → AreTasks entries tasks.now → AreClocks o entries tasks.now n clocks.now → place < n
+        → n ≤ length entries → IsLow next.old.items n → IsLow next.new.items n) }
 {
     let mut at = place;
     join_one(next, clocks, at)?;

@@ -1,4 +1,4 @@
-use Rattle.std.proofs.Common.{◌≡◌, ◌≢◌, ◌-◌, ◌<◌, ◌≤◌, length, sym, ap, ◌∙◌, arith}
+use Rattle.std.proofs.Common.{◌≡◌, ◌≢◌, ◌-◌, sym, ap, ◌∙◌, arith}
 use Rattle.tb_order.specs.Clocks as is
 use Rattle.tb_order.specs.Clocks.{origin}
 use Rattle.tb_order.proofs.ClockLemmas.{within_any}

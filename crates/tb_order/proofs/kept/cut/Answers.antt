@@ -1,4 +1,4 @@
-use Rattle.std.proofs.Common.{sym, ap, ◌∙◌, take}
+use Rattle.std.proofs.Common.{ap, ◌∙◌, take}
 use Rattle.tb_order.proofs.KeptLemmas.{kept_here, kept_other, kept_read}
 use Rattle.tb_order.proofs.kept.cut.Goals as goal
 

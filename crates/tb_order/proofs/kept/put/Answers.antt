@@ -1,4 +1,4 @@
-use Rattle.std.proofs.Common.{◌<◌, ◌∷◌, ◌++◌, [], length, sym, ap, ◌∙◌, arith}
+use Rattle.std.proofs.Common.{◌<◌, ◌∷◌, ◌++◌, [], length, ap, ◌∙◌, arith}
 use Rattle.tb_order.proofs.KeptLemmas.{kept_here, kept_other, kept_read}
 use Rattle.tb_order.proofs.kept.put.Goals as goal
 

@@ -1,5 +1,4 @@
-use Rattle.std.proofs.Common.{◌≡◌, ◌<◌, IfSome, List, ℕ, length, sym, ap, ◌∙◌, subst, arith, ⊎_elim}
-use Rattle.std.specs.Prelude.{slice_index_or}
+use Rattle.std.proofs.Common.{◌≡◌, ◌<◌, IfSome, ℕ, sym, ap, ◌∙◌, subst, arith, ⊎_elim}
 use Rattle.tb_order.specs.declared.clocks.Clocks.{Clocks}
 use Rattle.tb_order.specs.Clocks.{IsClock, IsJoined, IsLane, IsStanding, lane, row_in}
 use Rattle.tb_order.specs.Linking.{order_of}

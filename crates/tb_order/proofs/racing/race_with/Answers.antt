@@ -1,4 +1,4 @@
-use Rattle.std.proofs.Common.{◌<◌, length, ap, ◌∙◌, arith}
+use Rattle.std.proofs.Common.{◌<◌, length, ap, arith}
 use Rattle.tb_order.specs.Kept.{behind}
 use Rattle.tb_order.proofs.OwnLemmas.{got}
 use Rattle.tb_order.proofs.RaceLemmas.{none_named, never_none, race_named}
