@@ -13,10 +13,10 @@ use Rattle.tb_core.specs.Scans.{AreLegal}
 use Rattle.tb_races.specs.Orders.{Order, Synchronised}
 use Rattle.tb_order.specs.declared.tasks.Tasks.{Tasks}
 use Rattle.tb_order.specs.declared.clocks.Clocks.{Clocks}
-use Rattle.tb_order.specs.Clocks.{AreClocks, AreTasks, Behind, alone, generated, going_on, IsLane, IsLastOf, IsSound, both_at, is_end_at, lane, number, of_one, origin, previous, row_at, touches}
+use Rattle.tb_order.specs.Clocks.{AreClocks, AreTasks, Behind, alone, generated, going_on, GoesOn, IsClock, IsLane, IsLastOf, IsSound, TellsEnds, both_at, is_end_at, lane, number, of_one, origin, previous, row_at, touches}
 use Rattle.tb_order.proofs.LinkLemmas.{end_is}
 use Rattle.tb_order.proofs.OwnLemmas.{H, ev, head_here, legal_here}
-use Rattle.tb_order.proofs.SoundLemmas.{own_touches, sound_going}
+use Rattle.tb_order.proofs.SoundLemmas.{clock_told, ends_moved, own_touches, sound_going, sound_moved}
 
 -- nothing follows an end
 no_more : (cells : Cells) (t : Name) (last : Action) (acts : List Action) (a : Action) → Continues cells t (last ∷ acts) a → is_end last ≡ true → ⊥
@@ -146,3 +146,21 @@ module _ (o : Order) (entries : List Entry) (tasks : Tasks) (are : AreTasks entr
         by : (b : ℕ) → b < p → lane clocks b ≡ lane clocks x → IsLastOf clocks p b → (b ≡ x) ⊎ (b ≢ x) → is_end_at entries b ≡ true
         by b m e only (inl s) = subst (λ y. is_end_at entries y ≡ true) (sym s) over
         by b m e only (inr d) = absurd (only x (omega (arith, d, last_in b m e)) l (sym e))
+
+  -- with what its row tells, it stands in either
+  pub stands_in : (row : List ℕ) (k j : ℕ) → IsLane entries clocks k p → IsSound o entries tasks clocks row k p → TellsEnds o entries tasks clocks row k p → GoesOn o entries tasks clocks row k p j
+      → IsClock o entries tasks clocks row j p × IsLane entries clocks j p
+  stands_in row k j is so ends (inl e) =
+      subst (λ m. IsClock o entries tasks clocks row m p × IsLane entries clocks m p) (sym e) (clock_told o entries tasks are p w clocks told k is.own row so ends, is)
+  stands_in row k j is so ends (inr h) =
+      let x = h.0 in
+      let joined = h.1 in
+      let new = λ (q : ℕ) (m : q < p) (s : lane clocks q ≡ k). fresh_new q m (s ∙ h.2) in
+      let last = last_in k x is h.2 joined.0 joined.1 h.4 in
+      let place = lane_after k x is h.2 joined.0 joined.1 h.4 in
+      subst (λ m. IsClock o entries tasks clocks row m p × IsLane entries clocks m p) (sym h.3) (
+        clock_told o entries tasks are p w clocks told (lane clocks x) place.own row
+            (sound_moved o entries tasks are p w clocks told k row x joined.0 new last so joined.2)
+            (ends_moved o entries tasks are p w clocks told k row x joined.0 new last so joined.2 ends),
+        place,
+      )

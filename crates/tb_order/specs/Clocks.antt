@@ -208,6 +208,13 @@ pub record IsStanding (o : Order) (entries : List Entry) (tasks : Tasks) (clocks
 abbrev pub IsJoined : Order → List Entry → Tasks → Clocks → List ℕ → ℕ → ℕ → ℕ → Type 0
 IsJoined o entries tasks clocks row k p x = (x < p) × IsTrue (is_end_at entries x) × IsTrue (is_told o entries tasks clocks row k p x)
 
+-- the lane is the one of this number, k, or where that is a new one, the lane of an end of which the row tells and that is the
+-- newest there
+abbrev pub GoesOn : Order → List Entry → Tasks → Clocks → List ℕ → ℕ → ℕ → ℕ → Type 0
+GoesOn o entries tasks clocks row k p j =
+    (j ≡ k)
+    ⊎ ((x : ℕ) × IsJoined o entries tasks clocks row k p x × (k ≡ length clocks.lasts.items) × (j ≡ lane clocks x) × (slice_index_or clocks.lasts.items (lane clocks x) 0 ≡ x))
+
 -- what the step at p adds to a row: its lane up to it, and what its own row says
 abbrev pub adds : Clocks → ℕ → ℕ → ℕ → Bool
 adds clocks p k q = (lane clocks p == k && nat_le q p) || says (row_at clocks p) k q

@@ -5,7 +5,7 @@ ghost use Rattle.tb_core.specs.Entries.{Entry};
 ghost use Rattle.tb_core.specs.Scans.{AreLegal};
 ghost use Rattle.tb_races.specs.Orders.{Order};
 ghost use Rattle.tb_order.specs.Clocks as is;
-ghost use Rattle.tb_order.specs.Clocks.{AreClocks, AreEnds, AreTasks, IsJoined, IsLane, IsLow, IsOneMore, IsShaped, IsSound, IsStanding, TellsEnds, adds, is_told, lane, row_in, says};
+ghost use Rattle.tb_order.specs.Clocks.{AreClocks, AreEnds, AreTasks, GoesOn, IsJoined, IsLane, IsLow, IsOneMore, IsShaped, IsSound, IsStanding, TellsEnds, adds, end_at, is_told, lane, row_in, says};
 ghost use Rattle.tb_order.specs.Linking.{order_of};
 
 use crate::clocks::{Clocks, bound, reaches, row};
@@ -109,11 +109,11 @@ fn finish(
         IsStanding (order_of exclusion) entries.now tasks.now clocks.new s.row s.lane step.at) }
 {
     if !may_wait(entries, tasks, step.at) {
-        return Ok(step);
+        return Ok(stay(tasks, clocks, ends, step));
     }
     let mut next = Vec::from_slice(alloc, row(&clocks.rows, step.row))?;
     match merge(&mut next, exclusion, entries, tasks, clocks, ends, &step)? {
-        None => Ok(step),
+        None => Ok(stay(tasks, clocks, ends, step)),
         Some(end) => {
             clocks.rows.push(next)?;
             Ok(Step {
@@ -122,6 +122,38 @@ fn finish(
                 lane: lane_behind(clocks, step.lane, end),
             })
         }
+    }
+}
+
+/// The step with its row as it is. One that opens a lane goes on in that of the newest end, where that
+/// is in front of it: what generates its task may have waited for it.
+fn stay(tasks: &Tasks, clocks: &Clocks, ends: &Ends, step: Step) -> Step
+    requires shaped { IsShaped tasks.now }
+    requires listed { step.at ≡ length clocks.now.of.items }
+    requires laned { step.at ≡ length clocks.now.lanes.items }
+    requires at { step.at < length tasks.now.numbers.items }
+    requires ends { (i : ℕ) → i < length ends.now.places.items → end_at ends.now i < step.at }
+    requires few { (q : ℕ) → q < step.at → lane clocks.now q < length clocks.now.lasts.items }
+    requires lane { step.lane ≤ length clocks.now.lasts.items }
+    ensures at { result.at ≡ step.at }
+    ensures row { result.row ≡ step.row }
+    ensures lane { (o : Order) (entries : List Entry) → AreTasks entries tasks.now
+        → AreClocks o entries tasks.now step.at clocks.now → AreEnds o entries step.at ends.now
+        → GoesOn o entries tasks.now clocks.now (row_in clocks.now.rows.items step.row) step.lane
+        step.at result.lane }
+{
+    let count = ends.places.len();
+    if step.lane < clocks.lasts.len() || count == 0 {
+        return step;
+    }
+    let end = ends.places[count - 1];
+    if !is_merged(tasks, clocks, row(&clocks.rows, step.row), &step, end) {
+        return step;
+    }
+    Step {
+        at: step.at,
+        row: step.row,
+        lane: lane_behind(clocks, step.lane, end),
     }
 }
 

@@ -1,9 +1,8 @@
-use Rattle.std.proofs.Common.{◌≡◌, ◌<◌, IfSome, ℕ, sym, ap, ◌∙◌, subst, arith, ⊎_elim}
-use Rattle.tb_order.specs.declared.clocks.Clocks.{Clocks}
-use Rattle.tb_order.specs.Clocks.{IsClock, IsJoined, IsLane, IsStanding, lane, row_in}
+use Rattle.std.proofs.Common.{IfSome, sym, ap, ◌∙◌, subst, arith, inl, inr, ⊎_elim}
+use Rattle.tb_order.specs.Clocks.{GoesOn, IsJoined, IsStanding, TellsEnds, row_in}
 use Rattle.tb_order.specs.Linking.{order_of}
-use Rattle.tb_order.proofs.LaneLemmas.{fresh_new, lane_after, last_in}
-use Rattle.tb_order.proofs.SoundLemmas.{clock_told, ends_moved, no_ends_told, sound_moved}
+use Rattle.tb_order.proofs.LaneLemmas.{stands_in}
+use Rattle.tb_order.proofs.SoundLemmas.{no_ends_told}
 use Rattle.tb_order.proofs.TableLemmas.{clocks_kept, stands_by}
 use Rattle.tb_order.proofs.merging.finish.Goals as goal
 
@@ -17,13 +16,16 @@ returns-then-not-may_wait-clause-stands c =
     let k = c.args.step.lane in
     let are = c.requires.tasks in
     let told = c.requires.clocks in
-    let row = row_in clocks.rows.items c.args.step.row in record {
+    let row = row_in clocks.rows.items c.args.step.row in
+    let s = stands_in o entries tasks are at c.requires.at clocks told row k c.stay.result.lane c.requires.lane c.requires.sound
+    (no_ends_told o entries tasks are at c.requires.at clocks told k c.requires.lane.own row (λ x l e h. c.may_wait.ensures c.if-not-may_wait.true c.args.exclusion x l e h))
+    (c.stay.ensures.lane o entries are told c.requires.ends) in
+    subst (λ n. IsStanding o entries tasks clocks n c.stay.result.lane at) (sym c.stay.ensures.row) (record {
       within = c.requires.row;
-      clock = clock_told o entries tasks are at c.requires.at clocks told k c.requires.lane.own row c.requires.sound
-          (no_ends_told o entries tasks are at c.requires.at clocks told k c.requires.lane.own row (λ x l e h. c.may_wait.ensures c.if-not-may_wait.true c.args.exclusion x l e h));
+      clock = s.0;
       low = c.requires.sound.low;
-      lane = c.requires.lane;
-    }
+      lane = s.1;
+    })
 
 pub returns-in-None-clause-stands : goal.returns-in-None-clause-stands
 returns-in-None-clause-stands c =
@@ -35,13 +37,17 @@ returns-in-None-clause-stands c =
     let k = c.args.step.lane in
     let are = c.requires.tasks in
     let told = c.requires.clocks in
-    let same = c.in_ok-merge.ensures.same c.in-None.is ∙ c.in_ok-next.ensures.items ∙ c.row.ensures ∙ ap (λ rows. row_in rows c.args.step.row) c.deref.ensures.value in record {
+    let row = row_in clocks.rows.items c.args.step.row in
+    let same = c.in_ok-merge.ensures.same c.in-None.is ∙ c.in_ok-next.ensures.items ∙ c.row.ensures ∙ ap (λ rows. row_in rows c.args.step.row) c.deref.ensures.value in
+    let s = stands_in o entries tasks are at c.requires.at clocks told row k c.stay-in-None.result.lane c.requires.lane c.requires.sound
+    (subst (λ r. TellsEnds o entries tasks clocks r k at) same c.in_ok-merge.ensures.ends)
+    (c.stay-in-None.ensures.lane o entries are told c.requires.ends) in
+    subst (λ n. IsStanding o entries tasks clocks n c.stay-in-None.result.lane at) (sym c.stay-in-None.ensures.row) (record {
       within = c.requires.row;
-      clock = subst (λ row. IsClock o entries tasks clocks row k at) same
-          (clock_told o entries tasks are at c.requires.at clocks told k c.requires.lane.own c.merge.new.next.items c.in_ok-merge.ensures.sound c.in_ok-merge.ensures.ends);
+      clock = s.0;
       low = c.requires.sound.low;
-      lane = c.requires.lane;
-    }
+      lane = s.1;
+    })
 
 pub returns-in_ok-push-in-Some-clause-clocks : goal.returns-in_ok-push-in-Some-clause-clocks
 returns-in_ok-push-in-Some-clause-clocks c =
@@ -58,23 +64,8 @@ returns-in_ok-push-in-Some-clause-stands c =
     let are = c.requires.tasks in
     let told = c.requires.clocks in
     let row = c.merge.new.next.items in
-    let new : Clocks = record { of = clocks.of; rows = c.push.new.self; lanes = clocks.lanes; lasts = clocks.lasts } in
     let x = c.in-Some.end in
-    let sound = c.in_ok-merge.ensures.sound in
-    let ends = c.in_ok-merge.ensures.ends in
     let joined : IsJoined o entries tasks clocks row k at x = subst (λ j. IfSome j (IsJoined o entries tasks clocks row k at)) c.in-Some.is c.in_ok-merge.ensures.joined in
-    let by = λ (j : ℕ) (clock : IsClock o entries tasks clocks row j at) (place : IsLane entries clocks j at).
-    stands_by o entries tasks at clocks c.push.new.self c.merge.new.next c.in_ok-push-in-Some.ensures.items told c.len.result j (omega (arith, c.len.ensures, c.push.new.self.ok)) clock sound.low place in
-    ⊎_elim
-    (λ e. subst (λ j. IsStanding o entries tasks new c.len.result j at) (sym e) (by k (clock_told o entries tasks are at c.requires.at clocks told k c.requires.lane.own row sound ends) c.requires.lane))
-    (λ h.
-    let fresh = λ (q : ℕ) (m : q < at) (s : lane clocks q ≡ k). fresh_new o entries tasks are at c.requires.at clocks told q m (s ∙ h.0) in
-    let last = last_in o entries tasks are at c.requires.at clocks told k x c.requires.lane h.0 joined.0 joined.1 h.2 in
-    let place = lane_after o entries tasks are at c.requires.at clocks told k x c.requires.lane h.0 joined.0 joined.1 h.2 in
-    subst (λ j. IsStanding o entries tasks new c.len.result j at) (sym h.1)
-    (by (lane clocks x)
-    (clock_told o entries tasks are at c.requires.at clocks told (lane clocks x) place.own row
-    (sound_moved o entries tasks are at c.requires.at clocks told k row x joined.0 fresh last sound joined.2)
-    (ends_moved o entries tasks are at c.requires.at clocks told k row x joined.0 fresh last sound joined.2 ends))
-    place))
-    c.lane_behind.ensures
+    let goes : GoesOn o entries tasks clocks row k at c.lane_behind.result = ⊎_elim (λ e. inl e) (λ h. inr (x, joined, h.0, h.1, h.2)) c.lane_behind.ensures in
+    let s = stands_in o entries tasks are at c.requires.at clocks told row k c.lane_behind.result c.requires.lane c.in_ok-merge.ensures.sound c.in_ok-merge.ensures.ends goes in
+    stands_by o entries tasks at clocks c.push.new.self c.merge.new.next c.in_ok-push-in-Some.ensures.items told c.len.result c.lane_behind.result (omega (arith, c.len.ensures, c.push.new.self.ok)) s.0 c.in_ok-merge.ensures.sound.low s.1
