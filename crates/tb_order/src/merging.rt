@@ -64,7 +64,8 @@ fn begin(tasks: &Tasks, clocks: &Clocks, at: usize) -> Step
         → AreClocks o entries tasks.now at clocks.now → result.row ≤ length clocks.now.rows.items }
     ensures sound { (o : Order) (entries : List Entry) → AreLegal entries
         → AreTasks entries tasks.now → AreClocks o entries tasks.now at clocks.now
-        → IsSound o entries tasks.now clocks.now (row_in clocks.now.rows.items result.row) result.lane at }
+        → IsSound o entries tasks.now clocks.now (row_in clocks.now.rows.items result.row)
+        result.lane at }
     ensures lane { (o : Order) (entries : List Entry) → AreLegal entries
         → AreTasks entries tasks.now → AreClocks o entries tasks.now at clocks.now
         → IsLane entries clocks.now result.lane at }
@@ -125,8 +126,8 @@ fn finish(
     }
 }
 
-/// The step with its row as it is. One that opens a lane goes on in that of the newest end, where that
-/// is in front of it: what generates its task may have waited for it.
+/// The step with its row as it is. One that opens a lane goes on in that of the newest end, where
+/// that is in front of it: what generates its task may have waited for it.
 fn stay(tasks: &Tasks, clocks: &Clocks, ends: &Ends, step: Step) -> Step
     requires shaped { IsShaped tasks.now }
     requires listed { step.at ≡ length clocks.now.of.items }
