@@ -17,7 +17,7 @@ use Rattle.tb_cause.proofs.ConeLemmas.{there, some_same}
 use Rattle.tb_races.specs.Orders.{Order, links, comes_after, followers}
 use Rattle.tb_races.proofs.PassLemmas.{any_put, passing}
 use Rattle.tb_order.specs.Clocks.{after_so, is_after, reaches, links_so, links_at}
-use Rattle.tb_order.proofs.LaneLemmas.{front_cut, one_more}
+use Rattle.tb_order.proofs.FrontLemmas.{front_cut, one_more}
 
 -- the step at the first place is linked to that at the second, or to one that comes after it
 pub data After : Order → List Entry → ℕ → ℕ → Type 0 where

@@ -1,13 +1,9 @@
--- What clocks tell, and how one is made of others.
-use Rattle.std.proofs.Common.{◌≡◌, ◌==◌, ◌<◌, ◌-◌, ◌+◌, ◌≢◌, ℕ, zero, suc, List, [], ◌∷◌, Bool, true, false, ◌||◌, ◌&&◌, cond, length, refl, sym, ap, ◌∙◌, arith, ◌⊎◌, inl, inr, ⊎_elim, eq-eqb, ne_eqb, get_or, nat_lt, ltb-true, take}
-use Rattle.std.proofs.lemmas.Bool.{or_left, false_from_ne_true, cases_eq}
+-- What a row says.
+use Rattle.std.proofs.Common.{◌≡◌, ◌==◌, ◌<◌, ◌-◌, ◌+◌, ◌≢◌, ℕ, zero, suc, List, [], ◌∷◌, Bool, true, false, ◌||◌, ◌&&◌, length, refl, sym, ap, ◌∙◌, arith, ◌⊎◌, inl, inr, ⊎_elim, eq-eqb, ne_eqb, get_or, nat_lt, ltb-true, take}
+use Rattle.std.proofs.lemmas.Bool.{false_from_ne_true, cases_eq}
 use Rattle.std.proofs.Math.ListN.{get_or-eq_default}
 use Rattle.std.proofs.lemmas.List.{get_or-take, length-take}
-use Rattle.tb_core.specs.Entries.{Entry}
-use Rattle.tb_races.specs.Orders.{Order}
-use Rattle.tb_order.specs.declared.tasks.Tasks.{Tasks}
-use Rattle.tb_order.specs.declared.clocks.Clocks.{Clocks}
-use Rattle.tb_order.specs.Clocks.{AreTasks, AreClocks, reaches, is_below, origin, origin_reaches, row_at, number, says}
+use Rattle.tb_order.specs.Clocks.{says}
 
 -- ---- tests
 
@@ -22,22 +18,6 @@ pub within_any : (xs : List ℕ) (i d x : ℕ) → i < length xs → x ≡ get_o
 within_any [] i d x l h = absurd (omega (arith, l))
 within_any (y ∷ xs) zero d x l h = h
 within_any (y ∷ xs) (suc i) d x l h = within_any xs i d x (omega (arith, l)) h
-
--- ---- the way up
-
-module _ (o : Order) (entries : List Entry) (tasks : Tasks) (n : ℕ) (clocks : Clocks) (are : AreTasks entries tasks) (told : AreClocks o entries tasks n clocks) (q : ℕ) (early : q < length entries) (p : ℕ) (inside : p < n) where
-  pub reached_below : is_below tasks (row_at clocks p) p q ≡ true → reaches o entries p q ≡ true
-  reached_below h = told.told p inside q early ∙ or_left (is_below tasks (row_at clocks p) p q) _ h
-
-  pub reached_above : is_below tasks (row_at clocks p) p q ≡ false → origin tasks p ≢ 0 → reaches o entries p q ≡ reaches o entries (origin tasks p - 1) q
-  reached_above h some =
-      told.told p inside q early ∙ or_if (is_below tasks (row_at clocks p) p q) _ h
-      ∙ ap (λ b. cond b false (reaches o entries (origin tasks p - 1) q)) (zero_eqb (origin tasks p) some)
-
-  pub reached_not : is_below tasks (row_at clocks p) p q ≡ false → origin tasks p ≡ 0 → reaches o entries p q ≡ false
-  reached_not h none =
-      told.told p inside q early ∙ or_if (is_below tasks (row_at clocks p) p q) _ h
-      ∙ ap (λ b. cond b false (reaches o entries (origin tasks p - 1) q)) (eq-eqb (origin tasks p) 0 none)
 
 -- ---- rows
 
@@ -80,31 +60,3 @@ says_more row n k q l old now so_far = ap (λ b. b || (k == n && nat_lt q (get_o
         other : (k < n) ⊎ (n < k) → says (take n row) k q ≡ says (take (n + 1) row) k q
         other (inl h) = ap (nat_lt q) (get_or-take n row k 0 h ∙ sym (get_or-take (n + 1) row k 0 (omega (arith, h))))
         other (inr h) = ap (nat_lt q) (get_or-eq_default (take n row) 0 (omega (arith, length-take n row, h)) ∙ sym (get_or-eq_default (take (n + 1) row) 0 (omega (arith, length-take (n + 1) row, h))))
-
--- ---- what a step reaches, joined to a row
-
-or_assoc : (a b c : Bool) → ((a || b) || c) ≡ (a || (b || c))
-or_assoc true b c = refl
-or_assoc false b c = refl
-
-or_none : (a : Bool) → (a || false) ≡ a
-or_none true = refl
-or_none false = refl
-
-pub joined : (o : Order) (entries : List Entry) (tasks : Tasks) (n : ℕ) (clocks : Clocks) → AreTasks entries tasks → AreClocks o entries tasks n clocks → (q : ℕ) → q < length entries → (p : ℕ) → p < n → (old next : List ℕ) → says next (number tasks q) q ≡ (says old (number tasks q) q || is_below tasks (row_at clocks p) p q)
-    → (says next (number tasks q) q || origin_reaches o entries (origin tasks p) q) ≡ (says old (number tasks q) q || reaches o entries p q)
-joined o entries tasks n clocks are told q i p l old next h =
-    ap (λ b. b || origin_reaches o entries (origin tasks p) q) h
-    ∙ or_assoc (says old (number tasks q) q) (is_below tasks (row_at clocks p) p q) (origin_reaches o entries (origin tasks p) q)
-    ∙ ap (λ b. says old (number tasks q) q || b) (sym (told.told p l q i))
-
-pub from_origin : (o : Order) (entries : List Entry) (n m q : ℕ) → n ≡ m → n ≢ 0 → origin_reaches o entries n q ≡ reaches o entries (m - 1) q
-from_origin o entries n m q e some =
-    ap (λ b. cond b false (reaches o entries (n - 1) q)) (zero_eqb n some) ∙ ap (λ k. reaches o entries (k - 1) q) e
-
-pub joined_up : (o : Order) (entries : List Entry) (n m q : ℕ) (b : Bool) → n ≡ m → n ≢ 0 → (b || reaches o entries (m - 1) q) ≡ (b || origin_reaches o entries n q)
-joined_up o entries n m q b e some = ap (λ r. b || r) (sym (from_origin o entries n m q e some))
-
-pub joined_end : (o : Order) (entries : List Entry) (n q : ℕ) (b : Bool) → n ≡ 0 → b ≡ (b || origin_reaches o entries n q)
-joined_end o entries n q b none =
-    sym (ap (λ r. b || r) (ap (λ c. cond c false (reaches o entries (n - 1) q)) (eq-eqb n 0 none)) ∙ or_none b)

@@ -1,5 +1,5 @@
 -- Where no tasks exclude each other, it makes no difference whether exclusion counts.
-use Rattle.std.proofs.Common.{◌≡◌, ◌≢◌, ◌<◌, ◌≤◌, ◌+◌, ◌-◌, ◌==◌, ◌⊎◌, inl, inr, get_or, ℕ, List, [], ◌∷◌, Bool, true, false, ◌&&◌, ◌||◌, cond, length, take, refl, sym, ap, ap₂, ◌∙◌, Option, Some, None, slice_get, arith}
+use Rattle.std.proofs.Common.{◌≡◌, ◌≢◌, ◌<◌, ◌≤◌, ◌+◌, ◌-◌, ◌==◌, ◌⊎◌, inl, inr, get_or, ℕ, List, [], ◌∷◌, Bool, true, false, ◌&&◌, ◌||◌, cond, length, nat_lt, take, refl, sym, ap, ap₂, ◌∙◌, Option, Some, None, slice_get, arith}
 use Rattle.std.specs.List.{list_any}
 use Rattle.std.specs.Option.{option_or, option_map}
 use Rattle.std.proofs.lemmas.Bool.{cases_eq, false≢true, or_parts}
@@ -27,7 +27,7 @@ use Rattle.tb_core.specs.Scans.{history_of, step_at}
 use Rattle.tb_core.proofs.ScanLemmas.{history_more}
 use Rattle.tb_order.specs.declared.tasks.Tasks.{Tasks}
 use Rattle.tb_order.specs.declared.clocks.Clocks.{Clocks}
-use Rattle.tb_order.specs.Clocks.{after_so, is_after, is_below, row_at, origin, origin_reaches, AreTasks, AreClocks}
+use Rattle.tb_order.specs.Clocks.{after_so, is_after, lane, row_at, origin, origin_reaches, says, AreTasks, AreClocks}
 use Rattle.tb_order.specs.Exclusion.{is_exclusive, has_exclusive, excludes_some}
 
 -- ---- items
@@ -154,11 +154,17 @@ pub clocks_same : (entries : List Entry) (tasks : Tasks) (clocks : Clocks) → (
 clocks_same entries tasks clocks none t c =
     record {
       listed = c.listed;
+      laned = c.laned;
       within = c.within;
-      told = λ p l q w.
+      low = c.low;
+      told = λ p l q m.
           ap (λ b. p == q || b) (sym (after_same entries p q (none p l)))
-          ∙ c.told p l q w
-          ∙ ap (λ b. is_below tasks (row_at clocks p) p q || b) (from (origin tasks p) q (omega (arith, l, t.shaped.low p (omega (arith, l, t.numbers_listed)))));
+          ∙ c.told p l q m
+          ∙ ap (λ b. (lane clocks p == lane clocks q && nat_lt q p) || (says (row_at clocks p) (lane clocks q) q || b)) (from (origin tasks p) q (omega (arith, l, t.shaped.low p (omega (arith, l, t.numbers_listed)))));
+      own = c.own;
+      going = c.going;
+      few = c.few;
+      newest = c.newest;
     }
   where
     from : (n q : ℕ) → n - 1 < length entries → origin_reaches Synchronised entries n q ≡ origin_reaches WithExclusion entries n q

@@ -1,6 +1,11 @@
 pub mod AnswerLemmas
 pub mod SharingLemmas
+pub mod FrontLemmas
+pub mod KeptLemmas
+pub mod JoinLemmas
 pub mod LaneLemmas
+pub mod EndLemmas
+pub mod RaceLemmas
 pub mod AfterLemmas
 pub mod ClockLemmas
 pub mod LinkLemmas

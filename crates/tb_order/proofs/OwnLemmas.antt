@@ -24,7 +24,7 @@ use Rattle.tb_races.specs.Orders.{Synchronised}
 use Rattle.tb_order.specs.declared.tasks.Tasks.{Tasks}
 use Rattle.tb_order.specs.Clocks.{AreTasks, Behind, alone, generated, going_on, both_at, of_one, generates, touches, origin, number, previous}
 use Rattle.tb_order.proofs.AfterLemmas.{at, at_is, at_read, same_at}
-use Rattle.tb_order.proofs.LaneLemmas.{front_cut, one_more}
+use Rattle.tb_order.proofs.FrontLemmas.{front_cut, one_more}
 use Rattle.tb_order.proofs.LinkLemmas.{both_is}
 
 module _ (entries : List Entry) where

@@ -1,19 +1,16 @@
 -- The tables of clocks, one step more.
-use Rattle.std.proofs.Common.{◌≡◌, ◌≢◌, ◌<◌, ◌≤◌, ◌-◌, ◌+◌, ℕ, List, [], ◌∷◌, ◌++◌, Bool, true, false, cond, length, map, get_or, refl, sym, ap, ap₂, ◌∙◌, subst, arith, ◌⊎◌, inl, inr, eq-eqb, Vec, Global, IsTrue}
+use Rattle.std.proofs.Common.{◌≡◌, ◌≢◌, ◌<◌, ◌≤◌, ◌-◌, ◌+◌, ◌==◌, ◌&&◌, ◌||◌, nat_lt, ℕ, List, [], ◌∷◌, ◌++◌, cond, length, map, get_or, sym, ap, ap₂, ◌∙◌, subst, arith, ◌⊎◌, inl, inr, eq-eqb, Vec, Global, IsTrue}
 use Rattle.std.specs.Prelude.{slice_index_or}
-use Rattle.std.proofs.lemmas.Bool.{cases_eq, both_ways}
+use Rattle.std.proofs.lemmas.Bool.{cases_eq}
 use Rattle.std.proofs.lemmas.List.{get_or_append_left, length-append, length-map, map-append}
-use Rattle.std.proofs.lemmas.Option.{slice_get_read}
 use Rattle.std.proofs.Math.Seq.{get_or-append_seam}
-use Rattle.tb_model.specs.Facts.{is_end}
 use Rattle.tb_core.specs.Entries.{Entry}
 use Rattle.tb_races.specs.Orders.{Order}
 use Rattle.tb_order.specs.declared.tasks.Tasks.{Tasks}
 use Rattle.tb_order.specs.declared.clocks.Clocks.{Clocks}
-use Rattle.tb_order.specs.Clocks.{AreClocks, AreEnds, IsClock, ends_so, is_end_at, row_in, row_at}
-use Rattle.tb_order.specs.Lanes.{kept_in}
+use Rattle.tb_order.specs.Clocks.{AreClocks, IsClock, IsLane, IsLastOf, IsLow, IsOneMore, IsStanding, both_at, is_end_at, is_told, kept_in, lane, of_one, origin, origin_reaches, row_in, row_at, says}
 use Rattle.tb_order.proofs.ClockLemmas.{zero_eqb}
-use Rattle.tb_order.proofs.LaneLemmas.{kept_read}
+use Rattle.tb_order.proofs.KeptLemmas.{kept_read}
 
 -- the row that was added
 pub row_pushed : (rows new : List (Vec ℕ Global)) (v : Vec ℕ Global) (n : ℕ) → new ≡ rows ++ v ∷ [] → n ≡ length new → row_in new n ≡ v.items
@@ -41,89 +38,134 @@ row_kept rows new v n e low = by (cases_eq n 0)
         ∙ get_or_append_left (map (λ (x : Vec ℕ Global). x.items) rows) (v.items ∷ []) [] (n - 1) (omega (arith, low, d, length-map rows (λ (x : Vec ℕ Global). x.items)))
         ∙ sym (ap (λ b. cond b [] (kept_in rows (n - 1))) (zero_eqb n d))
 
+-- none yet
+pub clocks_none : (o : Order) (entries : List Entry) (tasks : Tasks) (clocks : Clocks) → clocks.of.items ≡ [] → clocks.lanes.items ≡ [] → AreClocks o entries tasks 0 clocks
+clocks_none o entries tasks clocks a b = record {
+  listed = ap length a;
+  laned = ap length b;
+  within = λ p l. absurd (omega (arith, l));
+  low = λ p l. absurd (omega (arith, l));
+  told = λ p l. absurd (omega (arith, l));
+  own = λ p q l. absurd (omega (arith, l));
+  going = λ p l. absurd (omega (arith, l));
+  few = λ p l. absurd (omega (arith, l));
+  newest = λ p l. absurd (omega (arith, l));
+}
+
 module _ (o : Order) (entries : List Entry) (tasks : Tasks) (n : ℕ) where
   -- one row more
-  pub clocks_kept : (old new : Clocks) (v : Vec ℕ Global) → new.of.items ≡ old.of.items → new.rows.items ≡ old.rows.items ++ v ∷ [] → AreClocks o entries tasks n old → AreClocks o entries tasks n new
-  clocks_kept old new v same e are = record {
-    listed = ap length same ∙ are.listed;
-    within = λ p l. omega (arith, ap (λ (xs : List ℕ). slice_index_or xs p 0) same, are.within p l, ap length e, length-append old.rows.items (v ∷ []));
-    told = λ p l.
-        subst (λ row. IsClock o entries tasks row p)
-        (sym (ap (λ (xs : List ℕ). row_in new.rows.items (slice_index_or xs p 0)) same ∙ row_kept old.rows.items new.rows.items v (slice_index_or old.of.items p 0) e (are.within p l)))
-        (are.told p l);
-  }
+  module _ (old : Clocks) (rows : Vec (Vec ℕ Global) Global) (v : Vec ℕ Global) (e : rows.items ≡ old.rows.items ++ v ∷ []) (are : AreClocks o entries tasks n old) where
+    abbrev with_row : Clocks
+    with_row = record { of = old.of; rows = rows; lanes = old.lanes; lasts = old.lasts }
+
+    kept : (p : ℕ) → p < n → row_at with_row p ≡ row_at old p
+    kept p l = row_kept old.rows.items rows.items v (slice_index_or old.of.items p 0) e (are.within p l)
+
+    pub clocks_kept : AreClocks o entries tasks n with_row
+    clocks_kept = record {
+      listed = are.listed;
+      laned = are.laned;
+      within = λ p l. omega (arith, are.within p l, ap length e, length-append old.rows.items (v ∷ []));
+      low = λ p l. subst (λ row. IsLow row p) (sym (kept p l)) (are.low p l);
+      told = λ p l. subst (λ row. IsClock o entries tasks with_row row (lane with_row p) p) (sym (kept p l)) (are.told p l);
+      own = are.own;
+      going = are.going;
+      few = are.few;
+      newest = are.newest;
+    }
+
+    -- a step stands by the row that was added
+    pub stands_by : (number k : ℕ) → number ≡ length rows.items → IsClock o entries tasks old v.items k n → IsLow v.items n → IsLane entries old k n → IsStanding o entries tasks with_row number k n
+    stands_by number k len clock small place =
+        let row = row_pushed old.rows.items rows.items v number e len in record {
+          within = omega (arith, len);
+          clock = subst (λ r. IsClock o entries tasks with_row r k n) (sym row) clock;
+          low = subst (λ r. IsLow r n) (sym row) small;
+          lane = record { few = place.few; own = place.own; follows = place.follows };
+        }
 
   -- one step more
-  pub clocks_more : (old new : Clocks) (k : ℕ) → new.of.items ≡ old.of.items ++ k ∷ [] → new.rows.items ≡ old.rows.items → k ≤ length old.rows.items → IsClock o entries tasks (row_in old.rows.items k) n → AreClocks o entries tasks n old → AreClocks o entries tasks (n + 1) new
-  clocks_more old new k e same low told are = record {
-    listed = ap length e ∙ length-append old.of.items (k ∷ []) ∙ ap (λ m. m + 1) are.listed;
-    within = λ p l. within_at p l (cases_eq p n);
-    told = λ p l. told_at p l (cases_eq p n);
-  }
-    where
-      here : slice_index_or new.of.items n 0 ≡ k
-      here = ap₂ (λ (xs : List ℕ) (m : ℕ). get_or xs m 0) e (sym are.listed) ∙ get_or-append_seam old.of.items k [] 0
+  module _ (old new : Clocks) (row k : ℕ) (one : IsOneMore old row k n new) (stands : IsStanding o entries tasks old row k n) (are : AreClocks o entries tasks n old) where
+    of_here : slice_index_or new.of.items n 0 ≡ row
+    of_here = ap₂ (λ (xs : List ℕ) (m : ℕ). get_or xs m 0) one.of (sym are.listed) ∙ get_or-append_seam old.of.items row [] 0
 
-      kept : (p : ℕ) → p < n → slice_index_or new.of.items p 0 ≡ slice_index_or old.of.items p 0
-      kept p l = ap (λ (xs : List ℕ). get_or xs p 0) e ∙ get_or_append_left old.of.items (k ∷ []) 0 p (omega (arith, l, are.listed))
+    of_kept : (p : ℕ) → p < n → slice_index_or new.of.items p 0 ≡ slice_index_or old.of.items p 0
+    of_kept p l = ap (λ (xs : List ℕ). get_or xs p 0) one.of ∙ get_or_append_left old.of.items (row ∷ []) 0 p (omega (arith, l, are.listed))
 
-      within_at : (p : ℕ) → p < n + 1 → (p ≡ n) ⊎ (p ≢ n) → slice_index_or new.of.items p 0 ≤ length new.rows.items
-      within_at p l (inl s) = omega (arith, ap (λ (m : ℕ). slice_index_or new.of.items m 0) s, here, low, ap length same)
-      within_at p l (inr d) = let m : p < n = omega (arith, l, d) in omega (arith, kept p m, are.within p m, ap length same)
+    lane_here : lane new n ≡ k
+    lane_here = ap₂ (λ (xs : List ℕ) (m : ℕ). get_or xs m 0) one.lanes (sym are.laned) ∙ get_or-append_seam old.lanes.items k [] 0
 
-      told_at : (p : ℕ) → p < n + 1 → (p ≡ n) ⊎ (p ≢ n) → IsClock o entries tasks (row_at new p) p
-      told_at p l (inl s) =
-          subst (λ m. IsClock o entries tasks (row_at new m) m) (sym s)
-          (subst (λ row. IsClock o entries tasks row n) (sym (ap₂ row_in same here)) told)
-      told_at p l (inr d) =
-          let m : p < n = omega (arith, l, d) in
-          subst (λ row. IsClock o entries tasks row p) (sym (ap₂ row_in same (kept p m))) (are.told p m)
+    lane_kept : (p : ℕ) → p < n → lane new p ≡ lane old p
+    lane_kept p l = ap (λ (xs : List ℕ). get_or xs p 0) one.lanes ∙ get_or_append_left old.lanes.items (k ∷ []) 0 p (omega (arith, l, are.laned))
 
--- ---- the ends
+    row_here : row_at new n ≡ row_in old.rows.items row
+    row_here = ap₂ row_in one.rows of_here
 
-module _ (entries : List Entry) (n : ℕ) (w : n < length entries) (x : Entry) (here : x ≡ get_or entries n x) where
-  end_here : (b : Bool) → b ≡ is_end x.event.action → is_end_at entries n ≡ b
-  end_here b h = ap ends_so (slice_get_read entries (length entries) n x refl w here) ∙ sym h
+    row_same : (p : ℕ) → p < n → row_at new p ≡ row_at old p
+    row_same p l = ap₂ row_in one.rows (of_kept p l)
 
-  pub ends_more : (old new : List ℕ) → new ≡ old ++ n ∷ [] → true ≡ is_end x.event.action → AreEnds entries n old → AreEnds entries (n + 1) new
-  ends_more old new e h are = record {
-    each = λ i l. each i l (cases_eq i (length old));
-    all = λ y l q. all y l q (cases_eq y n);
-  }
-    where
-      many : length new ≡ length old + 1
-      many = ap length e ∙ length-append old (n ∷ [])
+    -- a clock goes by the lanes of what is in front alone
+    clock_same : (r s : List ℕ) (i j p : ℕ) → r ≡ s → i ≡ j → p ≤ n → IsClock o entries tasks old s j p → IsClock o entries tasks new r i p
+    clock_same r s i j p e f l h q m =
+        h q m ∙ sym (ap (λ a. (j == a && nat_lt q p) || (says s a q || origin_reaches o entries (origin tasks p) q)) (lane_kept q (omega (arith, m, l))))
+        ∙ sym (ap₂ (λ (t : List ℕ) (a : ℕ). is_told o entries tasks new t a p q) e f)
 
-      last : slice_index_or new (length old) 0 ≡ n
-      last = ap (λ (xs : List ℕ). get_or xs (length old) 0) e ∙ get_or-append_seam old n [] 0
+    abbrev Going : ℕ → Type 0
+    Going b = IsLastOf new (n + 1) b ⊎ (((c : ℕ) × (b < c) × (c < n + 1) × IsTrue (both_at of_one entries c b)) ⊎ IsTrue (is_end_at entries b))
 
-      kept : (i : ℕ) → i < length old → slice_index_or new i 0 ≡ slice_index_or old i 0
-      kept i l = ap (λ (xs : List ℕ). get_or xs i 0) e ∙ get_or_append_left old (n ∷ []) 0 i l
+    last_still : (b : ℕ) → b < n → IsLastOf old n b → lane old b ≢ k → IsLastOf new (n + 1) b
+    last_still b l last other q m h e = by (cases_eq q n)
+      where
+        by : (q ≡ n) ⊎ (q ≢ n) → ⊥
+        by (inl s) = other (sym (lane_kept b l) ∙ sym e ∙ ap (lane new) s ∙ lane_here)
+        by (inr d) =
+            let i : q < n = omega (arith, h, d) in
+            last q m i (sym (lane_kept q i) ∙ e ∙ lane_kept b l)
 
-      each : (i : ℕ) → i < length new → (i ≡ length old) ⊎ (i ≢ length old) → (slice_index_or new i 0 < n + 1) × IsTrue (is_end_at entries (slice_index_or new i 0))
-      each i l (inl s) =
-          let it = ap (λ (m : ℕ). slice_index_or new m 0) s ∙ last in
-          (omega (arith, it), subst (λ y. is_end_at entries y ≡ true) (sym it) (end_here true h))
-      each i l (inr d) =
-          let m : i < length old = omega (arith, l, d, many) in
-          let f = are.each i m in
-          (omega (arith, kept i m, f.0), subst (λ y. is_end_at entries y ≡ true) (sym (kept i m)) f.1)
+    going_on : (b : ℕ) → b < n → Going b
+    going_on b l = by (are.going b l)
+      where
+        follow : IsLastOf old n b → IsTrue (both_at of_one entries n b) ⊎ IsTrue (is_end_at entries b) → Going b
+        follow last (inl mine) = inr (inl (n, l, omega arith, mine))
+        follow last (inr over) = inr (inr over)
 
-      all : (y : ℕ) → y < n + 1 → IsTrue (is_end_at entries y) → (y ≡ n) ⊎ (y ≢ n) → (i : ℕ) × (i < length new) × (slice_index_or new i 0 ≡ y)
-      all y l q (inl s) = (length old, omega (arith, many), last ∙ sym s)
-      all y l q (inr d) = let f = are.all y (omega (arith, l, d)) q in (f.0, omega (arith, f.1, many), kept f.0 f.1 ∙ f.2)
+        at_last : IsLastOf old n b → (lane old b ≡ k) ⊎ (lane old b ≢ k) → Going b
+        at_last last (inl e) = follow last (stands.lane.follows b l e last)
+        at_last last (inr d) = inl (last_still b l last d)
 
-  pub ends_same : (old new : List ℕ) → new ≡ old → false ≡ is_end x.event.action → AreEnds entries n old → AreEnds entries (n + 1) new
-  ends_same old new e h are =
-      subst (AreEnds entries (n + 1)) (sym e)
-      (record {
-        each = λ i l. let f = are.each i l in (omega (arith, f.0), f.1);
-        all = λ y l q. are.all y (other y l q (cases_eq y n)) q;
-      })
-    where
-      other : (y : ℕ) → y < n + 1 → IsTrue (is_end_at entries y) → (y ≡ n) ⊎ (y ≢ n) → y < n
-      other y l q (inl s) = absurd (both_ways (is_end_at entries n) (end_here false h) (subst (λ m. is_end_at entries m ≡ true) s q))
-      other y l q (inr d) = omega (arith, l, d)
+        by : IsLastOf old n b ⊎ (((c : ℕ) × (b < c) × (c < n) × IsTrue (both_at of_one entries c b)) ⊎ IsTrue (is_end_at entries b)) → Going b
+        by (inl last) = at_last last (cases_eq (lane old b) k)
+        by (inr (inl h)) = inr (inl (h.0, h.1, omega (arith, h.2), h.3))
+        by (inr (inr over)) = inr (inr over)
+
+    -- each of the first n, and that at n
+    each : (P : ℕ → Type 0) → ((p : ℕ) → p < n → P p) → P n → (p : ℕ) → p < n + 1 → P p
+    each P old here p l = by (cases_eq p n)
+      where
+        by : (p ≡ n) ⊎ (p ≢ n) → P p
+        by (inl e) = subst P (sym e) here
+        by (inr d) = old p (omega (arith, l, d))
+
+    pub clocks_more : AreClocks o entries tasks (n + 1) new
+    clocks_more = record {
+      listed = ap length one.of ∙ length-append old.of.items (row ∷ []) ∙ ap (λ m. m + 1) are.listed;
+      laned = ap length one.lanes ∙ length-append old.lanes.items (k ∷ []) ∙ ap (λ m. m + 1) are.laned;
+      within = each (λ p. slice_index_or new.of.items p 0 ≤ length new.rows.items) (λ p l. omega (arith, of_kept p l, are.within p l, ap length one.rows)) (omega (arith, of_here, stands.within, ap length one.rows));
+      low = each (λ p. IsLow (row_at new p) p) (λ p l. subst (λ r. IsLow r p) (sym (row_same p l)) (are.low p l)) (subst (λ r. IsLow r n) (sym row_here) stands.low);
+      told = each (λ p. IsClock o entries tasks new (row_at new p) (lane new p) p)
+          (λ p l. clock_same (row_at new p) (row_at old p) (lane new p) (lane old p) p (row_same p l) (lane_kept p l) (omega (arith, l)) (are.told p l))
+          (clock_same (row_at new n) (row_in old.rows.items row) (lane new n) k n row_here lane_here (omega arith) stands.clock);
+      own = λ p q l m h. each (λ p. (q : ℕ) → q < p → IsTrue (both_at of_one entries p q) → lane new p ≡ lane new q)
+          (λ p l q m h. lane_kept p l ∙ are.own p q l m h ∙ sym (lane_kept q (omega (arith, l, m))))
+          (λ q m h. lane_here ∙ stands.lane.own q m h ∙ sym (lane_kept q m)) p l q m h;
+      going = each Going going_on (inl (λ q m h e. omega (arith, m, h)));
+      few = each (λ q. lane new q < length new.lasts.items) (λ q l. omega (arith, lane_kept q l, are.few q l, one.more)) (omega (arith, lane_here, one.within));
+      newest = each (λ q. q ≤ slice_index_or new.lasts.items (lane new q) 0) (λ q l. late q l (cases_eq (lane old q) k)) (omega (arith, ap (λ (j : ℕ). slice_index_or new.lasts.items j 0) lane_here, one.last));
+    }
+      where
+        late : (q : ℕ) → q < n → (lane old q ≡ k) ⊎ (lane old q ≢ k) → q ≤ slice_index_or new.lasts.items (lane new q) 0
+        late q l (inl e) = omega (arith, ap (λ (j : ℕ). slice_index_or new.lasts.items j 0) (lane_kept q l ∙ e), one.last, l)
+        late q l (inr d) = omega (arith, ap (λ (j : ℕ). slice_index_or new.lasts.items j 0) (lane_kept q l), one.others (lane old q) d (are.few q l), are.newest q l)
 
 -- ---- one number more
 

@@ -1,5 +1,5 @@
 -- What an order puts in front of each step, by places and by tasks.
-use Rattle.std.specs.Prelude.{ℕ, suc, ◌≡◌, ◌⊎◌, ◌<◌, ◌≤◌, List, [], Bool, false, ◌&&◌, ◌||◌, ◌==◌, ◌-◌, if◌then◌else◌, Option, Some, None, IsTrue, length, take, slice_get, slice_index_or, nat_lt, nat_le, Vec}
+use Rattle.std.specs.Prelude.{ℕ, suc, ◌≡◌, ◌≢◌, ◌⊎◌, ◌<◌, ◌≤◌, List, [], ◌∷◌, ◌++◌, Bool, false, ◌&&◌, ◌||◌, ◌==◌, ◌-◌, if◌then◌else◌, Option, Some, None, IsTrue, length, take, slice_get, slice_index_or, nat_lt, nat_le, Vec, map}
 use Rattle.std.specs.declared.alloc.Global.{Global}
 use Rattle.tb_model.specs.declared.event.Event.{Event}
 use Rattle.tb_model.specs.declared.step_id.StepId.{StepId}
@@ -9,7 +9,7 @@ use Rattle.tb_core.specs.Scans.{history_of, step_at}
 use Rattle.tb_races.specs.Orders.{Order, links, comes_after}
 use Rattle.tb_order.specs.declared.tasks.Tasks.{Tasks}
 use Rattle.tb_order.specs.declared.clocks.Clocks.{Clocks}
-use Rattle.tb_order.specs.Lanes.{kept_in}
+use Rattle.tb_order.specs.declared.ends.Ends.{Ends}
 
 -- ---- steps by their places
 
@@ -103,7 +103,11 @@ pub record AreTasks (entries : List Entry) (tasks : Tasks) : Type 0 where
   pub behind : (p : ℕ) → p < length entries → Behind entries tasks p
   pub origins : (p : ℕ) → p < length entries → IsOrigin entries tasks p
 
--- ---- by clocks
+-- ---- by clocks: a lane is a row of tasks, each of which starts behind the end of the one in front
+
+-- the row at this place, empty where there is none
+abbrev pub kept_in : List (Vec ℕ Global) → ℕ → List ℕ
+kept_in rows i = slice_index_or (map (λ v. v.items) rows) i []
 
 abbrev pub row_in : List (Vec ℕ Global) → ℕ → List ℕ
 row_in rows n = if n == 0 then [] else kept_in rows (n - 1)
@@ -112,46 +116,118 @@ row_in rows n = if n == 0 then [] else kept_in rows (n - 1)
 abbrev pub row_at : Clocks → ℕ → List ℕ
 row_at clocks p = row_in clocks.rows.items (slice_index_or clocks.of.items p 0)
 
--- the row says of the task of this number that q is in front
+-- the row says of the lane of this number that q is in front
 abbrev pub says : List ℕ → ℕ → ℕ → Bool
 says row k q = nat_lt q (slice_index_or row k 0)
 
--- q is a step of the task of p, none behind it, or the row says that it is in front
-abbrev pub is_below : Tasks → List ℕ → ℕ → ℕ → Bool
-is_below tasks row p q = (number tasks p == number tasks q && nat_le q p) || says row (number tasks q) q
+-- the lane of the step at p
+abbrev pub lane : Clocks → ℕ → ℕ
+lane clocks p = slice_index_or clocks.lanes.items p 0
+
+-- q is a step of the lane, not behind p, or the row says that it is in front
+abbrev pub is_below : Clocks → List ℕ → ℕ → ℕ → ℕ → Bool
+is_below clocks row k p q = (k == lane clocks q && nat_le q p) || says row (lane clocks q) q
 
 -- what generates the task is q or comes after it
 abbrev pub origin_reaches : Order → List Entry → ℕ → ℕ → Bool
 origin_reaches o entries n q = if n == 0 then false else reaches o entries (n - 1) q
 
--- of what is in front of the step at p, what the row tells of
-abbrev pub is_told : Order → List Entry → Tasks → List ℕ → ℕ → ℕ → Bool
-is_told o entries tasks row p q =
-    (number tasks p == number tasks q && nat_lt q p) || (says row (number tasks q) q || origin_reaches o entries (origin tasks p) q)
+-- of what is in front of the step at p, which stands in this lane, what the row tells of
+abbrev pub is_told : Order → List Entry → Tasks → Clocks → List ℕ → ℕ → ℕ → ℕ → Bool
+is_told o entries tasks clocks row k p q =
+    (k == lane clocks q && nat_lt q p) || (says row (lane clocks q) q || origin_reaches o entries (origin tasks p) q)
 
--- the clock of the step at p tells what is in front of it
-abbrev pub IsClock : Order → List Entry → Tasks → List ℕ → ℕ → Type 0
-IsClock o entries tasks row p = (q : ℕ) → q < length entries → reaches o entries p q ≡ (is_below tasks row p q || origin_reaches o entries (origin tasks p) q)
+-- the clock of the step at p, which stands in this lane, tells what is in front of it
+abbrev pub IsClock : Order → List Entry → Tasks → Clocks → List ℕ → ℕ → ℕ → Type 0
+IsClock o entries tasks clocks row k p = (q : ℕ) → q < p → reaches o entries p q ≡ is_told o entries tasks clocks row k p q
 
--- so do those of the first n steps
+-- the row says nothing of what is behind the step at p
+abbrev pub IsLow : List ℕ → ℕ → Type 0
+IsLow row p = (k q : ℕ) → IsTrue (says row k q) → q < p
+
+-- no step among the first n comes behind that at b in its lane
+abbrev pub IsLastOf : Clocks → ℕ → ℕ → Type 0
+IsLastOf clocks n b = (q : ℕ) → b < q → q < n → lane clocks q ≢ lane clocks b
+
+-- the clocks are those of the first n steps: each tells what is in front of its step; the steps of a task are of one lane, and
+-- others follow in it only behind its end
 pub record AreClocks (o : Order) (entries : List Entry) (tasks : Tasks) (n : ℕ) (clocks : Clocks) : Type 0 where
   pub listed : length clocks.of.items ≡ n
+  pub laned : length clocks.lanes.items ≡ n
   pub within : (p : ℕ) → p < n → slice_index_or clocks.of.items p 0 ≤ length clocks.rows.items
-  pub told : (p : ℕ) → p < n → IsClock o entries tasks (row_at clocks p) p
+  pub low : (p : ℕ) → p < n → IsLow (row_at clocks p) p
+  pub told : (p : ℕ) → p < n → IsClock o entries tasks clocks (row_at clocks p) (lane clocks p) p
+  pub own : (p q : ℕ) → p < n → q < p → IsTrue (both_at of_one entries p q) → lane clocks p ≡ lane clocks q
+  pub going : (b : ℕ) → b < n → IsLastOf clocks n b ⊎ (((c : ℕ) × (b < c) × (c < n) × IsTrue (both_at of_one entries c b)) ⊎ IsTrue (is_end_at entries b))
+  pub few : (q : ℕ) → q < n → lane clocks q < length clocks.lasts.items
+  pub newest : (q : ℕ) → q < n → q ≤ slice_index_or clocks.lasts.items (lane clocks q) 0
 
--- the ends among the first n steps
-pub record AreEnds (entries : List Entry) (n : ℕ) (ends : List ℕ) : Type 0 where
-  pub each : (i : ℕ) → i < length ends → (slice_index_or ends i 0 < n) × IsTrue (is_end_at entries (slice_index_or ends i 0))
-  pub all : (x : ℕ) → x < n → IsTrue (is_end_at entries x) → (i : ℕ) × (i < length ends) × (slice_index_or ends i 0 ≡ x)
+-- the step at p can stand in the lane of this number: its task's, else a new one or that of a task that has ended
+pub record IsLane (entries : List Entry) (clocks : Clocks) (k p : ℕ) : Type 0 where
+  pub few : k ≤ length clocks.lasts.items
+  pub own : (q : ℕ) → q < p → IsTrue (both_at of_one entries p q) → k ≡ lane clocks q
+  pub follows : (b : ℕ) → b < p → lane clocks b ≡ k → IsLastOf clocks p b → IsTrue (both_at of_one entries p b) ⊎ IsTrue (is_end_at entries b)
+
+abbrev pub end_at : Ends → ℕ → ℕ
+end_at ends i = slice_index_or ends.places.items i 0
+
+abbrev pub skip_at : Ends → ℕ → ℕ
+skip_at ends i = slice_index_or ends.skips.items i 0
+
+-- the ends among the first n steps, the oldest first; each comes after those in front of it from the one on that is told
+pub record AreEnds (o : Order) (entries : List Entry) (n : ℕ) (ends : Ends) : Type 0 where
+  pub each : (i : ℕ) → i < length ends.places.items → (end_at ends i < n) × IsTrue (is_end_at entries (end_at ends i))
+  pub all : (x : ℕ) → x < n → IsTrue (is_end_at entries x) → (i : ℕ) × (i < length ends.places.items) × (end_at ends i ≡ x)
+  pub listed : length ends.skips.items ≡ length ends.places.items
+  pub low : (i : ℕ) → i < length ends.places.items → skip_at ends i ≤ i
+  pub skipped : (i j : ℕ) → i < length ends.places.items → skip_at ends i ≤ j → j < i → IsTrue (reaches o entries (end_at ends i) (end_at ends j))
+
+-- one end more, the one at n, which comes after those from the one on that is told
+pub record IsEndMore (old : Ends) (n from : ℕ) (new : Ends) : Type 0 where
+  pub places : new.places.items ≡ old.places.items ++ n ∷ []
+  pub skips : new.skips.items ≡ old.skips.items ++ from ∷ []
 
 -- what the row tells of comes before the step at p, and so does what is in front of that
-pub record IsSound (o : Order) (entries : List Entry) (tasks : Tasks) (row : List ℕ) (p : ℕ) : Type 0 where
-  pub sound : (q : ℕ) → q < length entries → IsTrue (is_told o entries tasks row p q) → IsTrue (is_after o entries p q)
-  pub closed : (s q : ℕ) → s < length entries → q < length entries → IsTrue (is_told o entries tasks row p s) → IsTrue (is_after o entries s q) → IsTrue (is_told o entries tasks row p q)
+pub record IsSound (o : Order) (entries : List Entry) (tasks : Tasks) (clocks : Clocks) (row : List ℕ) (k p : ℕ) : Type 0 where
+  pub sound : (q : ℕ) → q < p → IsTrue (is_told o entries tasks clocks row k p q) → IsTrue (is_after o entries p q)
+  pub closed : (s q : ℕ) → s < p → q < p → IsTrue (is_told o entries tasks clocks row k p s) → IsTrue (is_after o entries s q) → IsTrue (is_told o entries tasks clocks row k p q)
+  pub low : IsLow row p
 
 -- the row tells of each end to which the step at p is linked
-abbrev pub TellsEnds : Order → List Entry → Tasks → List ℕ → ℕ → Type 0
-TellsEnds o entries tasks row p = (x : ℕ) → x < p → IsTrue (is_end_at entries x) → IsTrue (links_at o entries p x) → IsTrue (is_told o entries tasks row p x)
+abbrev pub TellsEnds : Order → List Entry → Tasks → Clocks → List ℕ → ℕ → ℕ → Type 0
+TellsEnds o entries tasks clocks row k p = (x : ℕ) → x < p → IsTrue (is_end_at entries x) → IsTrue (links_at o entries p x) → IsTrue (is_told o entries tasks clocks row k p x)
+
+-- the step at p may stand there: its row is the one of this number, and its lane this one
+pub record IsStanding (o : Order) (entries : List Entry) (tasks : Tasks) (clocks : Clocks) (row k p : ℕ) : Type 0 where
+  pub within : row ≤ length clocks.rows.items
+  pub clock : IsClock o entries tasks clocks (row_in clocks.rows.items row) k p
+  pub low : IsLow (row_in clocks.rows.items row) p
+  pub lane : IsLane entries clocks k p
+
+-- the row tells of the end at x, which is in front of the step at p
+abbrev pub IsJoined : Order → List Entry → Tasks → Clocks → List ℕ → ℕ → ℕ → ℕ → Type 0
+IsJoined o entries tasks clocks row k p x = (x < p) × IsTrue (is_end_at entries x) × IsTrue (is_told o entries tasks clocks row k p x)
+
+-- the lane is the one of this number, k, or where that is a new one, the lane of an end of which the row tells and that is the
+-- newest there
+abbrev pub GoesOn : Order → List Entry → Tasks → Clocks → List ℕ → ℕ → ℕ → ℕ → Type 0
+GoesOn o entries tasks clocks row k p j =
+    (j ≡ k)
+    ⊎ ((x : ℕ) × IsJoined o entries tasks clocks row k p x × (k ≡ length clocks.lasts.items) × (j ≡ lane clocks x) × (slice_index_or clocks.lasts.items (lane clocks x) 0 ≡ x))
+
+-- what the step at p adds to a row: its lane up to it, and what its own row says
+abbrev pub adds : Clocks → ℕ → ℕ → ℕ → Bool
+adds clocks p k q = (lane clocks p == k && nat_le q p) || says (row_at clocks p) k q
+
+-- one step more, the one at n
+pub record IsOneMore (old : Clocks) (row k n : ℕ) (new : Clocks) : Type 0 where
+  pub of : new.of.items ≡ old.of.items ++ row ∷ []
+  pub rows : new.rows.items ≡ old.rows.items
+  pub lanes : new.lanes.items ≡ old.lanes.items ++ k ∷ []
+  pub within : k < length new.lasts.items
+  pub more : length old.lasts.items ≤ length new.lasts.items
+  pub last : slice_index_or new.lasts.items k 0 ≡ n
+  pub others : (j : ℕ) → j ≢ k → j < length old.lasts.items → slice_index_or new.lasts.items j 0 ≡ slice_index_or old.lasts.items j 0
 
 -- each of the first n steps has its number among those of its task
 abbrev pub AreOrdinals : List Entry → ℕ → List ℕ → Type 0

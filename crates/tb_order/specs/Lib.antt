@@ -1,6 +1,6 @@
 pub mod Linking
-pub mod Lanes
 pub mod Clocks
+pub mod Kept
 pub mod Numbering
 pub mod Told
 pub mod Exclusion

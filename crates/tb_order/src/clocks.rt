@@ -4,52 +4,60 @@ ghost use Rattle.std.specs.Prelude.{◌≡◌, ◌<◌, ◌≤◌, ℕ, List, Ve
 ghost use Rattle.tb_core.specs.Entries.{Entry};
 ghost use Rattle.tb_races.specs.Orders.{Order};
 ghost use Rattle.tb_order.specs.Clocks as is;
-ghost use Rattle.tb_order.specs.Clocks.{AreTasks, AreClocks, IsShaped, row_at, row_in};
+ghost use Rattle.tb_order.specs.Clocks.{AreTasks, AreClocks, IsShaped, lane, row_at, row_in};
 
-use crate::lanes::lane_at;
+use crate::kept::places_in;
 use crate::tasks::Tasks;
 
-/// What an order puts in front of each step of a history, by tasks: of each task it is all up to
-/// some step.
+/// What an order puts in front of each step of a history, by lanes: of each lane it is all up to
+/// some step. A lane is a row of tasks, each of which starts behind the end of the one in front.
 #[derive(Drop)]
 pub struct Clocks {
     /// For each step the number of a row, one more, and 0 for one with nothing.
     pub of: Vec<usize>,
-    /// In each row, for each number of a task, one more than the place of its newest step that is
-    /// in front.
+    /// In each row, for each lane, one more than the place of its newest step that is in front.
     pub rows: Vec<Vec<usize>>,
+    /// For each step its lane.
+    pub lanes: Vec<usize>,
+    /// For each lane its newest step.
+    pub lasts: Vec<usize>,
 }
 
 /// Whether the step at `late` is the one at `early`, or comes after it.
 pub fn reaches(tasks: &Tasks, clocks: &Clocks, late: usize, early: usize) -> bool
     requires shaped { IsShaped tasks.now }
     requires listed { length clocks.now.of.items ≤ length tasks.now.numbers.items }
+    requires laned { length clocks.now.lanes.items ≡ length clocks.now.of.items }
     requires late { late < length clocks.now.of.items }
-    requires early { early < length tasks.now.numbers.items }
+    requires early { early ≤ late }
     ensures { (o : Order) (entries : List Entry) (n : ℕ) → AreTasks entries tasks.now
-        → AreClocks o entries tasks.now n clocks.now → late < n → result ≡ is.reaches o entries late early }
+        → AreClocks o entries tasks.now n clocks.now → late < n
+        → result ≡ is.reaches o entries late early }
 {
     let mut at = late;
-    'up: while !is_below(tasks, clocks, at, early) {
+    'up: while early <= at {
+        if is_below(clocks, at, early) {
+            return true;
+        }
         if tasks.origins[at] == 0 {
             return false;
         }
         at = tasks.origins[at] - 1;
     }
-    true
+    false
 }
 
-/// Whether the step at `early` is one of the task of the step at this place, none behind it, or its
+/// Whether the step at `early` is one of the lane of the step at this place, none behind it, or its
 /// row tells of it.
-fn is_below(tasks: &Tasks, clocks: &Clocks, at: usize, early: usize) -> bool
+fn is_below(clocks: &Clocks, at: usize, early: usize) -> bool
+    requires laned { length clocks.now.lanes.items ≡ length clocks.now.of.items }
     requires at { at < length clocks.now.of.items }
-    requires listed { length clocks.now.of.items ≤ length tasks.now.numbers.items }
-    requires early { early < length tasks.now.numbers.items }
-    ensures { result ≡ is.is_below tasks.now (row_at clocks.now at) at early }
+    requires early { early < length clocks.now.of.items }
+    ensures { result ≡ is.is_below clocks.now (row_at clocks.now at) (lane clocks.now at) at early }
 {
-    let number = tasks.numbers[early];
-    (tasks.numbers[at] == number && early <= at)
-        || early < bound(row(&clocks.rows, clocks.of[at]), number)
+    let lane = clocks.lanes[early];
+    (clocks.lanes[at] == lane && early <= at)
+        || early < bound(row(&clocks.rows, clocks.of[at]), lane)
 }
 
 /// The row of this number.
@@ -59,11 +67,11 @@ pub fn row(rows: &[Vec<usize>], number: usize) -> &[usize]
     if number == 0 {
         &[]
     } else {
-        lane_at(rows, number - 1)
+        places_in(rows, number - 1)
     }
 }
 
-/// How far the row tells of the task of this number.
+/// How far the row tells of the lane of this number.
 pub fn bound(row: &[usize], number: usize) -> usize
     ensures { result ≡ slice_index_or row.now number 0 }
 {

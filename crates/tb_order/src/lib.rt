@@ -3,10 +3,11 @@
 
 mod asking;
 mod clocks;
+mod ends;
 mod exclusion;
 mod immediate;
+mod kept;
 mod kinds;
-mod lanes;
 mod merging;
 mod numbering;
 mod ordinals;

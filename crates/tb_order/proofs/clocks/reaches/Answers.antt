@@ -1,8 +1,17 @@
 use Rattle.std.proofs.Common.{◌≡◌, ◌≢◌, ◌-◌, sym, ap, ◌∙◌, arith}
 use Rattle.tb_order.specs.Clocks as is
 use Rattle.tb_order.specs.Clocks.{origin}
-use Rattle.tb_order.proofs.ClockLemmas.{reached_below, reached_above, reached_not, within_any}
+use Rattle.tb_order.proofs.ClockLemmas.{within_any}
+use Rattle.tb_order.proofs.JoinLemmas.{not_reached, reached_below, reached_above, reached_not}
 use Rattle.tb_order.proofs.clocks.reaches.Goals as goal
+
+pub returns-then-is_below : goal.returns-then-is_below
+returns-then-is_below c o entries n are told late =
+    let l = c.up in
+    let s = l.invariant.same o entries n are told late in
+    sym
+    (s.1
+    ∙ reached_below o entries c.args.tasks.now n c.args.clocks.now are told (omega (arith, told.listed, c.requires.listed, are.numbers_listed)) l.at s.0 c.args.early (omega (arith, c.requires.early, late)) (sym c.is_below.ensures ∙ c.if-is_below.true))
 
 pub returns-then-index-eq0 : goal.returns-then-index-eq0
 returns-then-index-eq0 c o entries n are told late =
@@ -11,7 +20,7 @@ returns-then-index-eq0 c o entries n are told late =
     let none : origin c.args.tasks.now l.at ≡ 0 = sym (within_any c.args.tasks.now.origins.items l.at 0 c.index.result.now (omega (arith, l.invariant.listed, c.requires.listed, c.requires.shaped.origins_listed)) c.index.ensures) ∙ c.if-index-eq0.true in
     sym
     (s.1
-    ∙ reached_not o entries c.args.tasks.now n c.args.clocks.now are told c.args.early (omega (arith, are.numbers_listed, c.requires.early)) l.at s.0 (sym c.is_below.ensures ∙ c.up-test.true) none)
+    ∙ reached_not o entries c.args.tasks.now n c.args.clocks.now are told (omega (arith, told.listed, c.requires.listed, are.numbers_listed)) l.at s.0 c.args.early (omega (arith, c.requires.early, late)) (sym c.is_below.ensures ∙ c.if-is_below.false) none)
 
 pub up-preserved : goal.up-preserved
 up-preserved c =
@@ -24,7 +33,7 @@ up-preserved c =
           let s = l.invariant.same o entries n are told late in (
             omega (arith, e, low, s.0),
             s.1
-                ∙ reached_above o entries c.args.tasks.now n c.args.clocks.now are told c.args.early (omega (arith, are.numbers_listed, c.requires.early)) l.at s.0 (sym c.is_below.ensures ∙ c.up-test.true) some
+                ∙ reached_above o entries c.args.tasks.now n c.args.clocks.now are told (omega (arith, told.listed, c.requires.listed, are.numbers_listed)) l.at s.0 c.args.early (omega (arith, c.requires.early, late)) (sym c.is_below.ensures ∙ c.if-is_below.false) some
                 ∙ ap (λ m. is.reaches o entries (m - 1) c.args.early) (sym e),
           );
     }
@@ -32,7 +41,6 @@ up-preserved c =
 pub returns : goal.returns
 returns c o entries n are told late =
     let l = c.up in
-    let s = l.invariant.same o entries n are told late in
     sym
-    (s.1
-    ∙ reached_below o entries c.args.tasks.now n c.args.clocks.now are told c.args.early (omega (arith, are.numbers_listed, c.requires.early)) l.at s.0 (sym c.is_below.ensures ∙ c.up-test.false))
+    ((l.invariant.same o entries n are told late).1
+    ∙ not_reached o entries l.at c.args.early (omega (arith, c.up-test.false)) (omega (arith, c.requires.early, c.requires.late, c.requires.listed, are.numbers_listed)))

@@ -6,5 +6,5 @@ use Rattle.tb_order.proofs.merging.clocks_of.Given as goal
 abbrev pub invariant-loop-at : goal.invariant-loop-at
 invariant-loop-at l = record {
   clocks : AreClocks (order_of l.exclusion) l.entries l.tasks l.at l.clocks;
-  ends : AreEnds l.entries l.at l.ends.items;
+  ends : AreEnds (order_of l.exclusion) l.entries l.at l.ends;
 }

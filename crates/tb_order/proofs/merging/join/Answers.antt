@@ -1,40 +1,43 @@
 use Rattle.std.proofs.Common.{◌≡◌, ◌-◌, length, ◌<◌, sym, ◌∙◌, arith}
-use Rattle.tb_order.specs.Clocks.{origin, number, says}
-use Rattle.tb_order.proofs.ClockLemmas.{within_any, joined, joined_up, joined_end}
+use Rattle.tb_order.specs.Clocks.{origin, lane, says}
+use Rattle.tb_order.proofs.ClockLemmas.{within_any}
+use Rattle.tb_order.proofs.JoinLemmas.{joined, joined_low, joined_up, joined_end}
 use Rattle.tb_order.proofs.merging.join.Goals as goal
 
 pub up-init : goal.up-init
 up-init c = record {
   listed = c.requires.place;
-  same = λ o entries n are told l. (
-    l,
-    λ q i. joined o entries c.args.tasks.now n c.args.clocks.now are told q i c.args.place l c.args.next.now.items c.join_one.new.next.items (c.in_ok-join_one.ensures q),
-  );
+  front = omega arith;
+  same = λ o entries n are told l long q i.
+      joined o entries c.args.tasks.now n c.args.clocks.now are told long c.args.place l q i c.args.next.now.items c.join_one.new.next.items (c.in_ok-join_one.ensures (lane c.args.clocks.now q) q);
+  low = λ o entries n are told l long small. joined_low o entries c.args.tasks.now n c.args.clocks.now are told long c.args.place l n l c.args.next.now.items c.join_one.new.next.items c.in_ok-join_one.ensures small;
 }
 
 pub up-preserved : goal.up-preserved
 up-preserved c =
     let l = c.up in
-    let inside : l.at < length c.args.tasks.now.origins.items = omega (arith, l.invariant.listed, c.requires.listed, c.requires.shaped.origins_listed) in
-    let e : c.index-in-up.result.now ≡ origin c.args.tasks.now l.at = within_any c.args.tasks.now.origins.items l.at 0 c.index-in-up.result.now inside c.index-in-up.ensures in
-    let f : c.index.result.now ≡ origin c.args.tasks.now l.at = within_any c.args.tasks.now.origins.items l.at 0 c.index.result.now inside c.index.ensures in
+    let tasks = c.args.tasks.now in
+    let clocks = c.args.clocks.now in
+    let inside : l.at < length tasks.origins.items = omega (arith, l.invariant.listed, c.requires.listed, c.requires.shaped.origins_listed) in
+    let e : c.index-in-up.result.now ≡ origin tasks l.at = within_any tasks.origins.items l.at 0 c.index-in-up.result.now inside c.index-in-up.ensures in
+    let f : c.index.result.now ≡ origin tasks l.at = within_any tasks.origins.items l.at 0 c.index.result.now inside c.index.ensures in
     let low = c.requires.shaped.low l.at (omega (arith, l.invariant.listed, c.requires.listed)) in record {
       listed = omega (arith, e, low, l.invariant.listed);
-      same = λ o entries n are told m.
-          let s = l.invariant.same o entries n are told m in
-          let k : c.index-in-up.result.now - 1 < n = omega (arith, e, low, s.0) in (
-            k,
-            λ q i.
-                joined o entries c.args.tasks.now n c.args.clocks.now are told q i (c.index-in-up.result.now - 1) k l.next.items c.join_one-in-up.new.next.items (c.in_ok-join_one-2.ensures q)
-                ∙ joined_up o entries (origin c.args.tasks.now l.at) (c.index-in-up.result.now) q (says l.next.items (number c.args.tasks.now q) q) (sym e) (omega (arith, f, c.up-test.true))
-                ∙ s.1 q i,
-          );
+      front = omega (arith, e, low, l.invariant.front);
+      same = λ o entries n are told m long q i.
+          joined o entries tasks n clocks are told long (c.index-in-up.result.now - 1) (omega (arith, e, low, l.invariant.front, m)) q i l.next.items c.join_one-in-up.new.next.items (c.in_ok-join_one-2.ensures (lane clocks q) q)
+          ∙ joined_up o entries (origin tasks l.at) (c.index-in-up.result.now) q (says l.next.items (lane clocks q) q) (sym e) (omega (arith, f, c.up-test.true))
+          ∙ l.invariant.same o entries n are told m long q i;
+      low = λ o entries n are told m long small.
+          joined_low o entries tasks n clocks are told long (c.index-in-up.result.now - 1) (omega (arith, e, low, l.invariant.front, m)) n (omega (arith, e, low, l.invariant.front, m)) l.next.items c.join_one-in-up.new.next.items c.in_ok-join_one-2.ensures
+          (l.invariant.low o entries n are told m long small);
     }
 
-pub returns : goal.returns
-returns c o entries n are told m q i =
+pub returns-clause-more : goal.returns-clause-more
+returns-clause-more c o entries n are told m long q i =
     let l = c.up in
-    let inside : l.at < length c.args.tasks.now.origins.items = omega (arith, l.invariant.listed, c.requires.listed, c.requires.shaped.origins_listed) in
-    let f : c.index.result.now ≡ origin c.args.tasks.now l.at = within_any c.args.tasks.now.origins.items l.at 0 c.index.result.now inside c.index.ensures in
-    joined_end o entries (origin c.args.tasks.now l.at) q (says l.next.items (number c.args.tasks.now q) q) (omega (arith, f, c.up-test.false))
-    ∙ (l.invariant.same o entries n are told m).1 q i
+    let tasks = c.args.tasks.now in
+    let inside : l.at < length tasks.origins.items = omega (arith, l.invariant.listed, c.requires.listed, c.requires.shaped.origins_listed) in
+    let f : c.index.result.now ≡ origin tasks l.at = within_any tasks.origins.items l.at 0 c.index.result.now inside c.index.ensures in
+    joined_end o entries (origin tasks l.at) q (says l.next.items (lane c.args.clocks.now q) q) (omega (arith, f, c.up-test.false))
+    ∙ l.invariant.same o entries n are told m long q i

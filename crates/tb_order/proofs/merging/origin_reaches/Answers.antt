@@ -1,11 +1,17 @@
 use Rattle.std.proofs.Common.{◌≡◌, sym, ◌∙◌, arith}
 use Rattle.tb_order.specs.Clocks.{origin}
-use Rattle.tb_order.proofs.ClockLemmas.{within_any, from_origin}
+use Rattle.tb_order.proofs.ClockLemmas.{within_any}
+use Rattle.tb_order.proofs.JoinLemmas.{from_origin, not_from_origin}
 use Rattle.tb_order.proofs.merging.origin_reaches.Goals as goal
 
+pub returns-then-origin-early : goal.returns-then-origin-early
+returns-then-origin-early c o entries are inside told =
+    let e : c.index-origin.result.now ≡ origin c.args.tasks.now c.args.at = within_any c.args.tasks.now.origins.items c.args.at 0 c.index-origin.result.now (omega (arith, c.requires.at, c.requires.shaped.origins_listed)) c.index-origin.ensures in
+    sym (not_from_origin o entries (origin c.args.tasks.now c.args.at) c.args.early (omega (arith, e, c.if-origin-early.true)) inside)
+
 pub returns : goal.returns
-returns c o entries are told =
+returns c o entries are inside told =
     let e : c.index-origin.result.now ≡ origin c.args.tasks.now c.args.at = within_any c.args.tasks.now.origins.items c.args.at 0 c.index-origin.result.now (omega (arith, c.requires.at, c.requires.shaped.origins_listed)) c.index-origin.ensures in
     let low = c.requires.shaped.low c.args.at c.requires.at in
-    c.reaches.ensures o entries c.args.at are told (omega (arith, e, low, c.if-origin-eq0.false))
-    ∙ sym (from_origin o entries (origin c.args.tasks.now c.args.at) c.index-origin.result.now c.args.early (sym e) (omega (arith, e, c.if-origin-eq0.false)))
+    c.reaches.ensures o entries c.args.at are told (omega (arith, e, low, c.if-origin-early.false))
+    ∙ sym (from_origin o entries (origin c.args.tasks.now c.args.at) c.index-origin.result.now c.args.early (sym e) (omega (arith, e, c.if-origin-early.false)))
