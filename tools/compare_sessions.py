@@ -45,7 +45,7 @@ MALFORMED = ['fly', 'step', 'step 00', 'step 0 0', 'step 0.', 'step 0.0', 'step 
              'clear 0', 'clear 01', 'go', 'go 1', 'go 0 5', 'go 65 5', 'go x 5', 'go 1 x', 'go 1 -1', 'go 1 1000001', 'go 1 1 1',
              'go 01 002', 'go 1 0', 'tasks 0', 'task', 'task 00', 'task 0#1', 'ready 0', 'waits #', 'deps', 'deps 0 0', 'deps 0.0', 'breaks 1',
              'why', 'why 0', 'why 0#0', 'why 0#1 0#2', 'why #1', 'who', 'who 00#1', 'who 0#01', 'who 0#1 x', 'whys 0#1',
-             'causes', 'causes 0', 'causes 0#0', 'causes 0#1 x', 'causes 0.1#1000001', 'cause 0#1', 'races 0', 'races #', 'race', 'Races']
+             'causes', 'causes 0', 'causes 0#0', 'causes 0#1 x', 'causes 0.1#1000001', 'cause 0#1', 'races 0', 'races #', 'race', 'Races', 'edges 0', 'edge', 'Edges']
 STEP = re.compile(rb'^(0(?:\.\d+)*)#(\d+) ([a-z].*)$', re.MULTILINE)
 
 
@@ -195,7 +195,7 @@ def pick_break_or_view(r, steps, workers):
                   'break body ' + r.choice(['main', 'a', 'b', '_x1', 'longer_name', 'none'])]),
         'clear %d' % r.choice([1, 1, 2, 3, 4]),
         r.choice(['tasks', 'ready', 'waits', 'breaks']),
-        'races',
+        r.choice(['races', 'edges']),
         r.choice(['task ', 'deps ']) + pick_task(r, steps)])
 
 

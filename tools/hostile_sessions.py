@@ -37,7 +37,7 @@ print r1
 store 1 r0
 end'''
 
-VIEWS = ('tasks', 'task 0.1', 'ready', 'waits', 'deps 0.2', 'breaks', 'cells', 'out', 'hist', 'why 0.1#2', 'causes 0.1#2', 'who 0#2', 'races')
+VIEWS = ('tasks', 'task 0.1', 'ready', 'waits', 'deps 0.2', 'breaks', 'cells', 'out', 'hist', 'why 0.1#2', 'causes 0.1#2', 'who 0#2', 'races', 'edges')
 
 
 def session_of(name):
@@ -48,7 +48,7 @@ def session_of(name):
 def every_command():
     """A session with each command, each kind of refusal and a full journal's neighbourhood."""
     body = session_of('examples/exclusion.session').split(DIVIDER)[0]
-    commands = ('step 0\nrun 12\ntasks\ntask 0.1\nready\nwaits\ndeps 0.1\ncells\nout\nhist\nwhy 0#3\nwho 0#1\ncauses 0#3\nraces\nundo 0#1\n'
+    commands = ('step 0\nrun 12\ntasks\ntask 0.1\nready\nwaits\ndeps 0.1\ncells\nout\nhist\nwhy 0#3\nwho 0#1\ncauses 0#3\nraces\nedges\nundo 0#1\n'
                 'break print\nbreaks\ngo 1 50\nclear 1\nroll 0#2\nrolltask 0.1\nrollcell 0\nrollprint\nrun 99\nout\nfly\n# note\nhist\n')
     return body + DIVIDER + commands.encode()
 

@@ -2,7 +2,7 @@
 use Rattle.std.proofs.Common.{◌≡◌, ℕ, List, ◌∷◌, refl}
 use Rattle.tb_commands.specs.Commands.{asked_of, Words}
 use Rattle.tb_commands.specs.declared.command.Verb.{Verb}
-use Rattle.tb_commands.specs.declared.command.Verb.TheVariants.{Step, Undo, Roll, RollTask, RollCell, RollPrint, Run, Clear, Tasks, Task, Cells, Out, Ready, Waits, Deps, Hist, Why, Causes, Who, Races, Breaks}
+use Rattle.tb_commands.specs.declared.command.Verb.TheVariants.{Step, Undo, Roll, RollTask, RollCell, RollPrint, Run, Clear, Tasks, Task, Cells, Out, Ready, Waits, Deps, Hist, Why, Causes, Who, Races, Edges, Breaks}
 use Rattle.tb_commands.specs.declared.asked.CommandFault.TheVariants.{Count}
 use Rattle.tb_commands.specs.declared.asked.Asked.TheVariants.{Fault}
 
@@ -27,4 +27,5 @@ too_many Why word other words = refl
 too_many Causes word other words = refl
 too_many Who word other words = refl
 too_many Races word other words = refl
+too_many Edges word other words = refl
 too_many Breaks word other words = refl

@@ -7,7 +7,7 @@ use Rattle.tb_read.specs.Word.{same_word}
 use Rattle.tb_commands.specs.Commands.{Words, with_none, with_one, named, numbered, number_within, positive, break_of, go_with, go_of, asked_of, asked_by, asked_with, asked, verb_of, is_bad_line}
 use Rattle.tb_commands.specs.declared.command.Command.{Command}
 use Rattle.tb_commands.specs.declared.command.Verb.{Verb}
-use Rattle.tb_commands.specs.declared.command.Verb.TheVariants.{Step, Undo, Roll, RollTask, RollCell, RollPrint, Run, Clear, Tasks, Task, Cells, Out, Ready, Waits, Deps, Hist, Why, Causes, Who, Races, Breaks}
+use Rattle.tb_commands.specs.declared.command.Verb.TheVariants.{Step, Undo, Roll, RollTask, RollCell, RollPrint, Run, Clear, Tasks, Task, Cells, Out, Ready, Waits, Deps, Hist, Why, Causes, Who, Races, Edges, Breaks}
 use Rattle.tb_commands.specs.declared.asked.Asked.{Asked}
 use Rattle.tb_commands.specs.declared.asked.Asked.TheVariants.{Nothing, Command as Asks, Go, Fault}
 
@@ -84,6 +84,7 @@ of_verb Why words = of_one words _ (λ word. of_named _ _)
 of_verb Causes words = of_one words _ (λ word. of_named _ _)
 of_verb Who words = of_one words _ (λ word. of_named _ _)
 of_verb Races words = of_none words _
+of_verb Edges words = of_none words _
 of_verb Breaks words = of_none words _
 
 of_found : (found : Option Verb) (words : Words) → HasWorkers (asked_by found words)

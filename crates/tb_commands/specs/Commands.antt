@@ -9,11 +9,11 @@ use Rattle.tb_model.specs.Spelling.{spells_name, spelled_name, spells_step_id, s
 use Rattle.tb_read.specs.Text.{line_words, before_comment, is_text}
 use Rattle.tb_read.specs.Word.{same_word}
 use Rattle.tb_commands.specs.declared.command.Verb.{Verb}
-use Rattle.tb_commands.specs.declared.command.Verb.TheVariants.{Step as ToStep, Undo as ToUndo, Roll as ToRoll, RollTask as ToRollTask, RollCell as ToRollCell, RollPrint as ToRollPrint, Run as ToRun, Clear as ToClear, Tasks as ToTasks, Task as ToTask, Cells as ToCells, Out as ToOut, Ready as ToReady, Waits as ToWaits, Deps as ToDeps, Hist as ToHist, Why as ToWhy, Causes as ToCauses, Who as ToWho, Races as ToRaces, Breaks as ToBreaks}
+use Rattle.tb_commands.specs.declared.command.Verb.TheVariants.{Step as ToStep, Undo as ToUndo, Roll as ToRoll, RollTask as ToRollTask, RollCell as ToRollCell, RollPrint as ToRollPrint, Run as ToRun, Clear as ToClear, Tasks as ToTasks, Task as ToTask, Cells as ToCells, Out as ToOut, Ready as ToReady, Waits as ToWaits, Deps as ToDeps, Hist as ToHist, Why as ToWhy, Causes as ToCauses, Who as ToWho, Races as ToRaces, Edges as ToEdges, Breaks as ToBreaks}
 use Rattle.tb_commands.specs.declared.command.Command.{Command}
 use Rattle.tb_commands.specs.declared.command.Command.TheVariants.{Step, Undo, Roll, Run, Break, BreakBody, Clear, Show}
 use Rattle.tb_control.specs.declared.breaks.Break.TheVariants.{Task as OfTask, Cell as OfCell, Print as AnyPrint, Fault as AnyFault}
-use Rattle.tb_view.specs.declared.view.View.TheVariants.{Tasks, Task, Cells, Out, Ready, Waits, Deps, Hist, Why, Causes, Who, Races, Breaks}
+use Rattle.tb_view.specs.declared.view.View.TheVariants.{Tasks, Task, Cells, Out, Ready, Waits, Deps, Hist, Why, Causes, Who, Races, Edges, Breaks}
 use Rattle.tb_commands.specs.declared.target.Target.TheVariants.{Step as TheStep, LastStore, LastPrint}
 use Rattle.tb_commands.specs.declared.asked.CommandFault.TheVariants.{Line, Word, Count, Name as BadName, Number as BadNumber}
 use Rattle.tb_commands.specs.declared.asked.Asked.{Asked}
@@ -105,8 +105,9 @@ view_verb word =
     else (if same_word word (codes "causes") then Some ToCauses
     else (if same_word word (codes "who") then Some ToWho
     else (if same_word word (codes "races") then Some ToRaces
+    else (if same_word word (codes "edges") then Some ToEdges
     else (if same_word word (codes "breaks") then Some ToBreaks
-    else None))))))))))))
+    else None)))))))))))))
 
 abbrev pub verb_of : List ℕ → Option Verb
 verb_of word =
@@ -141,6 +142,7 @@ asked_of ToWhy words = with_one words (λ word. named (step_of word) (λ id. Sho
 asked_of ToCauses words = with_one words (λ word. named (step_of word) (λ id. Show (Causes id)))
 asked_of ToWho words = with_one words (λ word. named (step_of word) (λ id. Show (Who id)))
 asked_of ToRaces words = with_none words (Show Races)
+asked_of ToEdges words = with_none words (Show Edges)
 asked_of ToBreaks words = with_none words (Show Breaks)
 
 -- ---- a line

@@ -165,6 +165,7 @@ fn asked_alone(verb: Verb) -> Asked
         Verb::Waits => asked_view(View::Waits),
         Verb::Hist => asked_view(View::Hist),
         Verb::Races => asked_view(View::Races),
+        Verb::Edges => asked_view(View::Edges),
         Verb::Breaks => asked_view(View::Breaks),
         _ => Asked::Fault(CommandFault::Count),
     }

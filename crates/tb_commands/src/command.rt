@@ -29,6 +29,7 @@ pub enum Verb {
     Causes,
     Who,
     Races,
+    Edges,
     Breaks,
 }
 

@@ -34,6 +34,8 @@ fn view_verb(word: &[u8]) -> Option<Verb>
         Some(Verb::Who)
     } else if same_word(word, b"races") {
         Some(Verb::Races)
+    } else if same_word(word, b"edges") {
+        Some(Verb::Edges)
     } else if same_word(word, b"breaks") {
         Some(Verb::Breaks)
     } else {

@@ -6,7 +6,7 @@ use std::mem;
 use std::process::Abort;
 use tb_cause::{CauseRefusal, needed_by, needs};
 use tb_core::Core;
-use tb_order::{causes, races};
+use tb_order::{causes, edges, races};
 use tb_roll::{RollRefusal, ready, same_run};
 
 /// A step, how many steps need it, how many it needs, and how many of these at once.
@@ -34,6 +34,8 @@ fn ask(rt: &(impl Abort + AllocGlobal), core: &Core, row: &(&str, usize, usize, 
 fn compare(rt: &(impl Abort + AllocGlobal), core: &Core) {
     let raced = again!(rt; races(rt.alloc(), core), _, true);
     assert_eq!(rt; raced.expect(rt, "memory is there again").len(), 1);
+    let needed = again!(rt; edges(rt.alloc(), core), _, true);
+    assert_eq!(rt; needed.expect(rt, "memory is there again").len(), 13);
     let same = again!(rt; same_run(rt.alloc(), core, core), _, true);
     assert!(rt; same == Ok(true));
 }

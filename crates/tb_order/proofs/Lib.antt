@@ -16,3 +16,4 @@ pub mod OwnLemmas
 pub mod NumberLemmas
 pub mod TableLemmas
 pub mod CauseLemmas
+pub mod EdgeLemmas

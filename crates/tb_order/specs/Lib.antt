@@ -4,3 +4,4 @@ pub mod Kept
 pub mod Numbering
 pub mod Told
 pub mod Exclusion
+pub mod Edges

@@ -5,8 +5,11 @@ ghost use Rattle.tb_model.specs.Equivalent.{stands};
 ghost use Rattle.tb_core.specs.Seen.{history};
 ghost use Rattle.tb_races.specs.Immediate.{immediate_of};
 ghost use Rattle.tb_races.specs.Racing;
+ghost use Rattle.tb_order.specs.Edges;
 
+use crate::edge::Edge;
 use crate::immediate::immediate;
+use crate::immediate_all::edges_among;
 use crate::racing::races_among;
 use std::alloc::{AllocError, Global};
 use tb_cause::{CauseRefusal, place_among};
@@ -39,4 +42,13 @@ pub fn races(alloc: Global, core: &Core) -> Result<Vec<Race>, AllocError>
 {
     let entries = core.legal_entries();
     races_among(alloc, &entries)
+}
+
+/// The immediate needs of all steps, each with its kind, in the order of the history.
+pub fn edges(alloc: Global, core: &Core) -> Result<Vec<Edge>, AllocError>
+    ensures { IfOk result (λ edges.
+        edges.items ≡ reverse (Edges.edges (history core.now.run))) }
+{
+    let entries = core.legal_entries();
+    edges_among(alloc, &entries)
 }

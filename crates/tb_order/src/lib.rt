@@ -3,9 +3,11 @@
 
 mod asking;
 mod clocks;
+mod edge;
 mod ends;
 mod exclusion;
 mod immediate;
+mod immediate_all;
 mod kept;
 mod kinds;
 mod merging;
@@ -15,4 +17,5 @@ mod racing;
 mod tasks;
 mod waiting;
 
-pub use asking::{causes, races};
+pub use asking::{causes, edges, races};
+pub use edge::Edge;

@@ -12,6 +12,7 @@ use Rattle.tb_races.specs.declared.conflict.Conflict.TheVariants.{Cell, Print}
 use Rattle.tb_races.specs.declared.need_kind.NeedKind.{NeedKind}
 use Rattle.tb_races.specs.declared.need_kind.NeedKind.TheVariants.{Task, Spawn, Conflict as Conflicts, Before, Apart, Wait, Group, Undeferred}
 use Rattle.tb_races.specs.declared.race.Race.{Race}
+use Rattle.tb_order.specs.declared.edge.Edge.{Edge}
 use Rattle.tb_view.specs.Lines.{line, event_line}
 
 -- the cell, or the output
@@ -64,3 +65,15 @@ race_lines (r ∷ races) = race_line r ++ race_lines races
 -- how many these are, and the line of each
 abbrev pub races_text : List Race → List ℕ
 races_text races = line (codes "races " ++ decimal (length races)) ++ race_lines races
+
+-- the earlier step, the later one, and the kind of the need
+abbrev pub edge_line : Edge → List ℕ
+edge_line e = line (step_id_text e.earlier ++ codes " " ++ step_id_text e.later ++ codes " " ++ need_text e.kind)
+
+abbrev pub edge_lines : List Edge → List ℕ
+edge_lines [] = []
+edge_lines (e ∷ edges) = edge_line e ++ edge_lines edges
+
+-- how many these are, and the line of each
+abbrev pub edges_text : List Edge → List ℕ
+edges_text edges = line (codes "edges " ++ decimal (length edges)) ++ edge_lines edges

@@ -8,14 +8,15 @@ use Rattle.tb_model.specs.State.{printed}
 use Rattle.tb_cause.specs.Chains.{needers, causes_of}
 use Rattle.tb_races.specs.Immediate.{immediate_of}
 use Rattle.tb_races.specs.Racing.{races}
+use Rattle.tb_order.specs.Edges.{edges}
 use Rattle.tb_live.specs.Session.{Session, history, cell_numbers}
 use Rattle.tb_view.specs.declared.view.View.{View}
-use Rattle.tb_view.specs.declared.view.View.TheVariants.{Cells, Out, Hist, Why, Causes, Who, Races, Tasks, Task, Ready, Waits, Deps, Breaks}
+use Rattle.tb_view.specs.declared.view.View.TheVariants.{Cells, Out, Hist, Why, Causes, Who, Races, Edges, Tasks, Task, Ready, Waits, Deps, Breaks}
 use Rattle.tb_view.specs.declared.view_refusal.ViewRefusal.{ViewRefusal}
 use Rattle.tb_view.specs.declared.view_refusal.ViewRefusal.TheVariants.{Memory, NoSuchStep, NoSuchTask}
 use Rattle.tb_view.specs.Numbers.{cells_text, out_text}
 use Rattle.tb_view.specs.Steps.{history_text, chosen_text}
-use Rattle.tb_view.specs.Reasons.{causes_text, races_text}
+use Rattle.tb_view.specs.Reasons.{causes_text, races_text, edges_text}
 use Rattle.tb_view.specs.Tasks.{tasks_text, task_text}
 use Rattle.tb_view.specs.Waits.{ready_text, waits_text}
 use Rattle.tb_view.specs.Relations.{deps_text}
@@ -33,6 +34,7 @@ view_text s (Why id) = steps_text (codes "why") s (causes_of id (history s))
 view_text s (Causes id) = causes_text s.program (history s) (reverse (immediate_of id (history s)))
 view_text s (Who id) = steps_text (codes "who") s (needers id (history s))
 view_text s Races = races_text (reverse (races (history s)))
+view_text s Edges = edges_text (reverse (edges (history s)))
 view_text s Tasks = tasks_text s.program (history s)
 view_text s (Task t) = task_text s.program (history s) t
 view_text s Ready = ready_text s.program (history s)

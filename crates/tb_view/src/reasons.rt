@@ -10,6 +10,7 @@ use std::alloc::{AllocError, Global};
 use tb_core::{History, place_of};
 use tb_draft::Draft;
 use tb_model::StepId;
+use tb_order::Edge;
 use tb_races::{Cause, Conflict, NeedKind, Race};
 use tb_read::Program;
 
@@ -141,6 +142,29 @@ pub(crate) fn races_text(alloc: Global, races: &[Race]) -> Result<Draft, AllocEr
     let mut text = Draft::of(alloc, head);
     'races: for race in races {
         append_race(&mut text, race)?;
+    }
+    Ok(text)
+}
+
+/// Appends the line of an immediate need.
+fn append_edge(text: &mut Draft, edge: &Edge) -> Result<(), AllocError>
+    ensures { OnOk result (text.new ≡ text.old ++ Reasons.edge_line edge.now) }
+{
+    append_pair(text, &edge.earlier, &edge.later)?;
+    text.push(' ')?;
+    append_kind(text, edge.kind)?;
+    text.push('\n')
+}
+
+/// How many immediate needs all steps have, and the line of each.
+pub(crate) fn edges_text(alloc: Global, edges: &[Edge]) -> Result<Draft, AllocError>
+    ensures { IfOk result (λ text. text ≡ Reasons.edges_text edges.now) }
+{
+    let count = edges.len();
+    let head = format!(in alloc; "edges {count}\n")?;
+    let mut text = Draft::of(alloc, head);
+    'edges: for edge in edges {
+        append_edge(&mut text, edge)?;
     }
     Ok(text)
 }

@@ -8,7 +8,7 @@ ghost use Rattle.tb_view.specs.declared.view_refusal.ViewRefusal.TheVariants as 
 
 use crate::breaks::breaks_text;
 use crate::numbers::{cells_text, out_text};
-use crate::reasons::{causes_text, races_text};
+use crate::reasons::{causes_text, edges_text, races_text};
 use crate::relations::deps_text;
 use crate::step_line::append_line;
 use crate::steps::{chosen_text, history_text};
@@ -22,7 +22,7 @@ use tb_cause::{CauseRefusal, needed_by, needs};
 use tb_draft::Draft;
 use tb_live::{Live, Removed};
 use tb_model::{StepId, TaskName};
-use tb_order::{causes, races};
+use tb_order::{causes, edges, races};
 
 /// The text, or that memory ran out.
 fn told(text: Result<Draft, AllocError>) -> Result<Draft, ViewRefusal>
@@ -72,6 +72,16 @@ fn raced(alloc: Global, live: &Live) -> Result<Draft, ViewRefusal>
 {
     match races(alloc, live.core()) {
         Ok(races) => told(races_text(alloc, &races)),
+        Err(_) => Err(ViewRefusal::Memory),
+    }
+}
+
+fn needed_in_all(alloc: Global, live: &Live) -> Result<Draft, ViewRefusal>
+    ensures shown { IfOk result (λ text. IsShown live.now.session view.Edges text) }
+    ensures refused { IfErr result (IsRefused live.now.session view.Edges) }
+{
+    match edges(alloc, live.core()) {
+        Ok(edges) => told(edges_text(alloc, &edges)),
         Err(_) => Err(ViewRefusal::Memory),
     }
 }
@@ -129,6 +139,7 @@ pub fn draft(alloc: Global, live: &Live, view: &View) -> Result<Draft, ViewRefus
         View::Causes { id } => needed_at_once(alloc, live, id),
         View::Who { id } => who_text(alloc, live, id),
         View::Races => raced(alloc, live),
+        View::Edges => needed_in_all(alloc, live),
         View::Tasks => told(tasks_text(alloc, live.program(), live.core())),
         View::Task { task } => one_task(alloc, live, task),
         View::Ready => told(ready_text(alloc, live)),

@@ -19,6 +19,8 @@ pub enum View {
     Who { id: StepId },
     /// For each step that races with earlier ones the race that is named.
     Races,
+    /// The immediate needs of all steps, each with its kind.
+    Edges,
     /// All tasks, and how far each has come.
     Tasks,
     /// A task: its body, its position, its registers, its open groups and its items.
