@@ -13,18 +13,19 @@ use Rattle.tb_core.specs.Seen as core
 use Rattle.tb_core.specs.Situation.{config_of}
 use Rattle.tb_control.specs.declared.control.Control.{Control}
 use Rattle.tb_next.specs.declared.work.Work.{Work}
-use Rattle.tb_next.specs.declared.claim.Claim.{Claim}
-use Rattle.tb_next.specs.declared.claim.Claim.TheVariants.{Work as Works, Later, Done, Stopped}
+use Rattle.tb_next.specs.declared.offer.Offer.{Offer}
+use Rattle.tb_next.specs.declared.offer.Offer.TheVariants.{Task, Later as LaterOn, Done as NoTask, Stopped as Halted}
+use Rattle.tb_next.specs.declared.situated.Situated.{Situated}
 use Rattle.tb_control.specs.declared.claim_refusal.ClaimRefusal.{ClaimRefusal}
 use Rattle.tb_control.specs.declared.claim_refusal.ClaimRefusal.TheVariants.{Memory, NoSuchTask, Ended, Claimed}
 use Rattle.tb_control.specs.Claims.{Claims, with_claim, AreLawful}
 use Rattle.tb_control.specs.Modes.{is_paused}
-use Rattle.tb_next.specs.Plans.{CanTake, IsWorkOf, IsFound, IsBarred, IsUnbarred, claimed}
+use Rattle.tb_next.specs.Plans.{CanTake, IsSituatedOf, IsWorkOf, IsFound, IsBarred, IsUnbarred, claimed}
 use Rattle.tb_live.specs.Session.{Session, history, is_full, with_seat}
 use Rattle.tb_live.specs.Moves.{has_ended, least_task}
 use Rattle.tb_next.specs.Fitting.{Fits}
 use Rattle.tb_live.specs.Soundness.{IsSound}
-use Rattle.tb_live.specs.Working.{configuration, IsWork, IsFree, RefusesClaim, ClaimsWork, HaveAllEnded, SaysDone, is_stopped}
+use Rattle.tb_live.specs.Working.{configuration, IsSituated, IsWork, IsFree, RefusesClaim, IsOffered, HaveAllEnded, OffersDone, is_stopped}
 use Rattle.std.proofs.lemmas.Bool.{false≢true}
 use Rattle.tb_laws.proofs.NextStepLemmas.{can_next, done_ended, least_next}
 use Rattle.tb_next.proofs.PlanLemmas.{stands_at, holds_registers}
@@ -45,6 +46,15 @@ work_so P run H t w f leaves k = record {
   instr = k.instr;
   cells = k.cells;
   strip = k.strip;
+}
+
+pub situated_so : (P : Program) (run : Seen) (H : History) (t : Name) (n : Situated) → Fits P run → core.history run ≡ H → IsSituatedOf P run t n → IsSituated P H t n
+situated_so P run H t n f leaves k = record {
+  config = k.config ∙ config_so P run t f ∙ ap (λ K. configuration P K t) leaves;
+  line = k.line;
+  position = k.position;
+  instr = k.instr;
+  cells = k.cells;
 }
 
 -- ---- a Live behind a claim
@@ -78,6 +88,9 @@ module _ (P : Program) (limit : ℕ) (entries : List Entry) (control : Control) 
   worked_so : (t : Name) (w : Work) → IsWorkOf P run t w → IsWork s.program (history s) t w
   worked_so t w k = subst (λ (z : Session). IsWork z.program (history z) t w) shows (work_so P run (hist (reverse entries)) t w sound.fits sound.leaves k)
 
+  told_so : (t : Name) (n : Situated) → IsSituatedOf P run t n → IsSituated s.program (history s) t n
+  told_so t n k = subst (λ (z : Session). IsSituated z.program (history z) t n) shows (situated_so P run (hist (reverse entries)) t n sound.fits sound.leaves k)
+
   -- of one task
   pub live_claims_task : (seat : ℕ) (t name : Name) (claims : Claims) (w : Work) → IsUnbarred run control.claims seat t → name ≡ t → IsWorkOf P run t w → claims ≡ with_claim control.claims seat (Some name)
       → IsFree s seat t × (shown P limit entries (with_claims control claims) ≡ with_seat s seat (Some t)) × IsWork s.program (history s) t w
@@ -89,15 +102,15 @@ module _ (P : Program) (limit : ℕ) (entries : List Entry) (control : Control) 
       (lawful_given (hist (reverse entries)) control.claims seat t (ap (λ H. is_spawned H t) (sym sound.leaves) ∙ u.there) u.free l)
 
   -- of what the walk found
-  pub lawful_found : (seat : ℕ) (claim : Claim) (claims : Claims) → IsFound P run control.claims seat claim → claims ≡ with_claim control.claims seat (claimed claim) → AreLawful (hist (reverse entries)) control.claims → AreLawful (hist (reverse entries)) claims
-  lawful_found seat (Works w) claims f e l =
-      let t = w.config.task in
+  pub lawful_found : (seat : ℕ) (offer : Offer) (claims : Claims) → IsFound P run control.claims seat offer → claims ≡ with_claim control.claims seat (claimed offer) → AreLawful (hist (reverse entries)) control.claims → AreLawful (hist (reverse entries)) claims
+  lawful_found seat (Task n) claims f e l =
+      let t = n.config.task in
       let can = f.0.found t refl in
       subst (λ cs. AreLawful (hist (reverse entries)) cs) (sym e)
       (lawful_given (hist (reverse entries)) control.claims seat t (ap (λ H. is_spawned H t) (sym sound.leaves) ∙ can_spawned P (core.history run) t can.0) can.1 l)
-  lawful_found seat Later claims f e l = subst (λ cs. AreLawful (hist (reverse entries)) cs) (sym e) (lawful_let_go (hist (reverse entries)) control.claims seat l)
-  lawful_found seat Done claims f e l = subst (λ cs. AreLawful (hist (reverse entries)) cs) (sym e) (lawful_let_go (hist (reverse entries)) control.claims seat l)
-  lawful_found seat Stopped claims f e l = absurd f
+  lawful_found seat LaterOn claims f e l = subst (λ cs. AreLawful (hist (reverse entries)) cs) (sym e) (lawful_let_go (hist (reverse entries)) control.claims seat l)
+  lawful_found seat NoTask claims f e l = subst (λ cs. AreLawful (hist (reverse entries)) cs) (sym e) (lawful_let_go (hist (reverse entries)) control.claims seat l)
+  lawful_found seat Halted claims f e l = absurd f
 
   least_name_so : (seat : ℕ) (o : Option Name) → IsLeastName (CanTake P (core.history run) control.claims seat) o → IsLeastName (CanTake s.program (history s) s.control.claims seat) o
   least_name_so seat o l =
@@ -107,18 +120,18 @@ module _ (P : Program) (limit : ℕ) (entries : List Entry) (control : Control) 
   least_task_so : least_task s ≡ least_ready P (core.history run)
   least_task_so = ap least_task (sym shows) ∙ ap (least_ready P) (sym sound.leaves)
 
-  pub live_claims : (seat : ℕ) (claim : Claim) (claims : Claims) → is_paused control.mode ≡ false → is_full s ≡ false → IsFound P run control.claims seat claim → claims ≡ with_claim control.claims seat (claimed claim)
-      → ClaimsWork s seat (shown P limit entries (with_claims control claims)) claim
-  live_claims seat claim claims going room f e = at claim f e
+  pub live_offers : (seat : ℕ) (offer : Offer) (claims : Claims) → is_paused control.mode ≡ false → is_full s ≡ false → IsFound P run control.claims seat offer → claims ≡ with_claim control.claims seat (claimed offer)
+      → IsOffered s seat (shown P limit entries (with_claims control claims)) offer
+  live_offers seat offer claims going room f e = at offer f e
     where
       on : is_stopped s ≡ false
       on = ap₂ (λ a b. a || b) (ap (λ (z : Session). is_paused z.control.mode) (sym shows) ∙ going) room
 
-      at : (c : Claim) → IsFound P run control.claims seat c → claims ≡ with_claim control.claims seat (claimed c) → ClaimsWork s seat (shown P limit entries (with_claims control claims)) c
-      at (Works w) f e = (on, least_name_so seat (Some w.config.task) f.0, shown_so claims seat (Some w.config.task) e, worked_so w.config.task w f.1)
-      at Later f e = (on, least_name_so seat None f.0, (λ h. f.1 (sym least_task_so ∙ h)), shown_so claims seat None e)
-      at Done f e = (on, least_task_so ∙ f, shown_so claims seat None e)
-      at Stopped f e = absurd f
+      at : (o : Offer) → IsFound P run control.claims seat o → claims ≡ with_claim control.claims seat (claimed o) → IsOffered s seat (shown P limit entries (with_claims control claims)) o
+      at (Task n) f e = (on, least_name_so seat (Some n.config.task) f.0, shown_so claims seat (Some n.config.task) e, told_so n.config.task n f.1)
+      at LaterOn f e = (on, least_name_so seat None f.0, (λ h. f.1 (sym least_task_so ∙ h)), shown_so claims seat None e)
+      at NoTask f e = (on, least_task_so ∙ f, shown_so claims seat None e)
+      at Halted f e = absurd f
 
 -- ---- all is done
 
@@ -139,14 +152,14 @@ module _ (P : Program) (limit : ℕ) (entries : List Entry) (control : Control) 
           let m = (least_next P (core.history run) sound.fits.well_formed sound.fits.legal).least t ((can_next P (core.history run) t sound.fits.well_formed sound.fits.legal).0 can) in
           cc
 
-  pub says_done : (seat : ℕ) (new : Session) (claim : Claim) → ClaimsWork s seat new claim → SaysDone s claim
-  says_done seat new (Works w) k going = (λ z. absurd (clash z), λ all. absurd (none_can (done_so.1 all) w.config.task (k.1.found w.config.task refl).0))
+  pub offers_done : (seat : ℕ) (new : Session) (offer : Offer) → IsOffered s seat new offer → OffersDone s offer
+  offers_done seat new (Task n) k going = (λ z. absurd (clash z), λ all. absurd (none_can (done_so.1 all) n.config.task (k.1.found n.config.task refl).0))
     where
-      clash : ◌≡◌ {A = Claim} (Works w) Done → ⊥
+      clash : ◌≡◌ {A = Offer} (Task n) NoTask → ⊥
       clash z = cc
-  says_done seat new Later k going = (λ z. absurd (clash z), λ all. absurd (k.2 (done_so.1 all)))
+  offers_done seat new LaterOn k going = (λ z. absurd (clash z), λ all. absurd (k.2 (done_so.1 all)))
     where
-      clash : ◌≡◌ {A = Claim} Later Done → ⊥
+      clash : ◌≡◌ {A = Offer} LaterOn NoTask → ⊥
       clash z = cc
-  says_done seat new Done k going = (λ z. done_so.0 k.1, λ all. refl)
-  says_done seat new Stopped k going = absurd (false≢true (sym going ∙ k.0))
+  offers_done seat new NoTask k going = (λ z. done_so.0 k.1, λ all. refl)
+  offers_done seat new Halted k going = absurd (false≢true (sym going ∙ k.0))

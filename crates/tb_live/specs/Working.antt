@@ -11,6 +11,9 @@ use Rattle.tb_read.specs.Strips.{IsStripOf}
 use Rattle.tb_next.specs.declared.work.Work.{Work}
 use Rattle.tb_next.specs.declared.claim.Claim.{Claim}
 use Rattle.tb_next.specs.declared.claim.Claim.TheVariants.{Work as Works, Later, Done, Stopped}
+use Rattle.tb_next.specs.declared.offer.Offer.{Offer}
+use Rattle.tb_next.specs.declared.offer.Offer.TheVariants.{Task, Later as LaterOn, Done as NoTask, Stopped as Halted}
+use Rattle.tb_next.specs.declared.situated.Situated.{Situated}
 use Rattle.tb_control.specs.declared.claim_refusal.ClaimRefusal.{ClaimRefusal}
 use Rattle.tb_control.specs.declared.claim_refusal.ClaimRefusal.TheVariants.{Memory, NoSuchTask, Ended, Claimed}
 use Rattle.tb_control.specs.Claims.{IsHeldBeside, IsFreeBeside}
@@ -22,6 +25,14 @@ use Rattle.tb_next.specs.Plans.{CanTake}
 -- the situation of a task behind a history
 abbrev pub configuration : Program → History → Name → Config
 configuration P H t = record { task = t; steps = length (own t H); at = (situation P t H).line; regs = (situation P t H).regs }
+
+-- the program's statement for the task, and its situation
+pub record IsSituated (P : Program) (H : History) (t : Name) (n : Situated) : Type 0 where
+  pub config : n.config ≡ configuration P H t
+  pub line : n.instr.line ≡ n.config.at
+  pub position : IsPosition P n.config.at
+  pub instr : instruction n.instr ≡ instr_at P n.config.at
+  pub cells : n.instr.cells ≡ length P.cells
 
 -- the program's statement for the task, its situation, and the private statements around it
 pub record IsWork (P : Program) (H : History) (t : Name) (w : Work) : Type 0 where
@@ -69,6 +80,16 @@ ClaimsWork s seat new Later =
 ClaimsWork s seat new Done = IsFalse (is_stopped s) × (least_task s ≡ None) × (new ≡ with_seat s seat None)
 ClaimsWork s seat new Stopped = IsTrue (is_stopped s) × (new ≡ with_seat s seat None)
 
+-- the claim that this offer tells, but for the private statements
+abbrev pub IsOffered : Session → ℕ → Session → Offer → Type 0
+IsOffered s seat new (Task n) =
+    IsFalse (is_stopped s)
+    × IsLeastName (CanTake s.program (history s) s.control.claims seat) (Some n.config.task)
+    × (new ≡ with_seat s seat (Some n.config.task)) × IsSituated s.program (history s) n.config.task n
+IsOffered s seat new LaterOn = ClaimsWork s seat new Later
+IsOffered s seat new NoTask = ClaimsWork s seat new Done
+IsOffered s seat new Halted = ClaimsWork s seat new Stopped
+
 -- each task that is there has ended or faulted
 abbrev pub HaveAllEnded : Session → Type 0
 HaveAllEnded s = (t : Name) → IsSpawned (history s) t → HasEnded (history s) t
@@ -76,3 +97,6 @@ HaveAllEnded s = (t : Name) → IsSpawned (history s) t → HasEnded (history s)
 -- where the run isn't stopped, that is so exactly where the claim says that all is done
 abbrev pub SaysDone : Session → Claim → Type 0
 SaysDone s claim = IsFalse (is_stopped s) → (claim ≡ Done) ↔ HaveAllEnded s
+
+abbrev pub OffersDone : Session → Offer → Type 0
+OffersDone s offer = IsFalse (is_stopped s) → (offer ≡ NoTask) ↔ HaveAllEnded s

@@ -19,5 +19,5 @@ pub use tb_control::{
     Break, BreakRefusal, Breakpoint, Breakpoints, ClaimRefusal, Claims, Control, Mode, PausedBy,
 };
 pub use tb_core::{Removed, StepRefusal, UndoRefusal};
-pub use tb_next::{Claim, Work};
+pub use tb_next::{Claim, Offer, Situated, Work};
 pub use tb_roll::RollRefusal;

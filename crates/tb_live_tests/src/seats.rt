@@ -5,7 +5,7 @@ ghost use Rattle.std.specs.Prelude.{◌≤◌};
 use std::alloc::{AllocGlobal, Global};
 use std::mem;
 use std::process::Abort;
-use tb_live::{Break, Claim, Live, Mode, PausedBy};
+use tb_live::{Break, Claim, Live, Mode, Offer, PausedBy};
 use tb_model::{StepId, TaskName};
 use tb_read::read;
 
@@ -144,6 +144,18 @@ fn claimed(rt: &(impl Abort + AllocGlobal), live: &mut Live, seat: u32) -> u32 {
     }
 }
 
+/// The line at which the seat is offered a task, and else what `claimed` says.
+fn offered(rt: &(impl Abort + AllocGlobal), live: &mut Live, seat: u32) -> u32 {
+    assert!(rt; seat < live.seats());
+    match live.offer(seat) {
+        Ok(Offer::Task(task)) => task.config.at,
+        Ok(Offer::Later) => 101,
+        Ok(Offer::Done) => 102,
+        Ok(Offer::Stopped) => 103,
+        Err(_) => 104,
+    }
+}
+
 /// The line at which the task stands, or 100 more than the number of the refusal.
 pub fn asked(rt: &(impl Abort + AllocGlobal), live: &mut Live, seat: u32, name: &str) -> u32 {
     assert!(rt; seat < live.seats());
@@ -206,6 +218,8 @@ fn claim_in_turn(rt: &(impl Abort + AllocGlobal), live: &mut Live) {
         live,
         [(0, "0", 102), (1, "", 6), (2, "", 6), (3, "", 101)].as_slice(),
     );
+    assert_eq!(rt; offered(rt, live, 1), 6);
+    assert_eq!(rt; offered(rt, live, 3), 101);
 }
 
 fn claim_while_paused(rt: &(impl Abort + AllocGlobal), live: &mut Live) {

@@ -17,13 +17,13 @@ use Rattle.tb_model.proofs.TestLemmas.{same_true}
 use Rattle.tb_model.proofs.LeastNameLemmas.{one_least, least_found}
 use Rattle.tb_control.specs.Claims.{Claims, IsFreeBeside, IsHeldBeside}
 use Rattle.tb_next.specs.Floor.{IsFloor, IsPassed}
-use Rattle.tb_next.specs.Plans.{CanTake, IsWorkOf, IsClaimOn, IsFound}
+use Rattle.tb_next.specs.Plans.{CanTake, IsSituatedOf, IsOfferOn, IsFound}
 use Rattle.tb_next.proofs.FloorLemmas.{goes_on}
 use Rattle.tb_plan.specs.declared.config.Config.{Config}
 use Rattle.tb_core.specs.Seen.{Seen}
 use Rattle.tb_core.specs.Seen as core
-use Rattle.tb_next.specs.declared.claim.Claim.{Claim}
-use Rattle.tb_next.specs.declared.claim.Claim.TheVariants.{Work as Works, Later, Done, Stopped}
+use Rattle.tb_next.specs.declared.offer.Offer.{Offer}
+use Rattle.tb_next.specs.declared.offer.Offer.TheVariants.{Task, Later, Done, Stopped}
 use Rattle.tb_ready.specs.Tasks.{IsBehind}
 use Rattle.tb_undo.specs.Readings.{IsUnendedBehind}
 
@@ -142,11 +142,11 @@ taken_by P H claims seat t false (Some other) can e held free = (λ h. absurd (f
 
 -- ---- what the walk answers
 
-pub found_work : {A : Type 0} (P : Program) (run : Seen) (claims : Claims) (seat : ℕ) (t : Name) (r : Result Claim A) → IfOk r (IsClaimOn P run t) → IsLeastName (CanTake P (core.history run) claims seat) (Some t) → IfOk r (IsFound P run claims seat)
-found_work P run claims seat t (Ok (Works w)) k l =
-    let same : t ≡ w.config.task = sym (ap (λ (c : Config). c.task) k.config) in
-    (subst (λ u. IsLeastName (CanTake P (core.history run) claims seat) (Some u)) same l, subst (λ u. IsWorkOf P run u w) same k)
-found_work P run claims seat t (Ok Later) k l = absurd k
-found_work P run claims seat t (Ok Done) k l = absurd k
-found_work P run claims seat t (Ok Stopped) k l = absurd k
-found_work P run claims seat t (Err e) k l = k
+pub found_task : {A : Type 0} (P : Program) (run : Seen) (claims : Claims) (seat : ℕ) (t : Name) (r : Result Offer A) → IfOk r (IsOfferOn P run t) → IsLeastName (CanTake P (core.history run) claims seat) (Some t) → IfOk r (IsFound P run claims seat)
+found_task P run claims seat t (Ok (Task n)) k l =
+    let same : t ≡ n.config.task = sym (ap (λ (c : Config). c.task) k.config) in
+    (subst (λ u. IsLeastName (CanTake P (core.history run) claims seat) (Some u)) same l, subst (λ u. IsSituatedOf P run u n) same k)
+found_task P run claims seat t (Ok Later) k l = absurd k
+found_task P run claims seat t (Ok Done) k l = absurd k
+found_task P run claims seat t (Ok Stopped) k l = absurd k
+found_task P run claims seat t (Err e) k l = k

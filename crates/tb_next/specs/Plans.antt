@@ -15,8 +15,9 @@ use Rattle.tb_core.specs.declared.step_refusal.StepRefusal.TheVariants.{Memory, 
 use Rattle.tb_core.specs.Refusals.{told_by}
 use Rattle.tb_core.specs.Seen.{Seen, history}
 use Rattle.tb_core.specs.Situation.{config_of}
-use Rattle.tb_next.specs.declared.claim.Claim.{Claim}
-use Rattle.tb_next.specs.declared.claim.Claim.TheVariants.{Work as Works, Later, Done, Stopped}
+use Rattle.tb_next.specs.declared.offer.Offer.{Offer}
+use Rattle.tb_next.specs.declared.offer.Offer.TheVariants.{Task, Later, Done, Stopped}
+use Rattle.tb_next.specs.declared.situated.Situated.{Situated}
 use Rattle.tb_next.specs.declared.work.Work.{Work}
 use Rattle.tb_next.specs.declared.coming.Coming.{Coming}
 use Rattle.tb_control.specs.declared.claim_refusal.ClaimRefusal.{ClaimRefusal}
@@ -91,6 +92,14 @@ IsLeastComing P run (Some r) = IsComing P run r.0 r.1 × (least_ready P (history
 -- ---- claims
 
 -- the program's statement for the task's situation
+pub record IsSituatedOf (P : Program) (run : Seen) (t : Name) (n : Situated) : Type 0 where
+  pub config : n.config ≡ config_of run t
+  pub line : n.instr.line ≡ n.config.at
+  pub position : IsPosition P n.config.at
+  pub instr : instruction n.instr ≡ instr_at P n.config.at
+  pub cells : n.instr.cells ≡ length P.cells
+
+-- that, and the private statements around it
 pub record IsWorkOf (P : Program) (run : Seen) (t : Name) (w : Work) : Type 0 where
   pub config : w.config ≡ config_of run t
   pub line : w.instr.line ≡ w.config.at
@@ -116,21 +125,21 @@ pub record IsUnbarred (run : Seen) (claims : Claims) (seat : ℕ) (t : Name) : T
 abbrev pub CanTake : Program → History → Claims → ℕ → Name → Type 0
 CanTake P H claims seat t = IsTrue (can_step P H t) × IsFreeBeside claims seat t
 
--- the answer is the task's work
-abbrev pub IsClaimOn : Program → Seen → Name → Claim → Type 0
-IsClaimOn P run t (Works w) = IsWorkOf P run t w
-IsClaimOn P run t _ = ⊥
+-- the answer is the task with its statement
+abbrev pub IsOfferOn : Program → Seen → Name → Offer → Type 0
+IsOfferOn P run t (Task n) = IsSituatedOf P run t n
+IsOfferOn P run t _ = ⊥
 
 -- the least task that can step and that no other seat claims; else only tasks that others claim can step, or none can
-abbrev pub IsFound : Program → Seen → Claims → ℕ → Claim → Type 0
-IsFound P run claims seat (Works w) = IsLeastName (CanTake P (history run) claims seat) (Some w.config.task) × IsWorkOf P run w.config.task w
+abbrev pub IsFound : Program → Seen → Claims → ℕ → Offer → Type 0
+IsFound P run claims seat (Task n) = IsLeastName (CanTake P (history run) claims seat) (Some n.config.task) × IsSituatedOf P run n.config.task n
 IsFound P run claims seat Later = IsLeastName (CanTake P (history run) claims seat) None × (least_ready P (history run) ≢ None)
 IsFound P run claims seat Done = least_ready P (history run) ≡ None
 IsFound P run claims seat Stopped = ⊥
 
--- the task of the work
-abbrev pub claimed : Claim → Option Name
-claimed (Works w) = Some w.config.task
+-- the task that is offered
+abbrev pub claimed : Offer → Option Name
+claimed (Task n) = Some n.config.task
 claimed _ = None
 
 -- ---- a plan that was made at some time

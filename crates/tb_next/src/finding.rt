@@ -8,10 +8,10 @@ ghost use Rattle.tb_next.specs.Fitting.{Fits};
 ghost use Rattle.tb_next.specs.Floor.{IsFloor};
 ghost use Rattle.tb_next.specs.Plans.{IsFound, IsWorkOf, IsBarred, IsUnbarred, claimed};
 
-use crate::claim::Claim;
 use crate::floor::Floor;
+use crate::offer::Offer;
 use crate::planning::work_of;
-use crate::ready::free_work;
+use crate::ready::free_task;
 use crate::work::Work;
 use std::alloc::{AllocError, Global};
 use tb_control::{ClaimRefusal, Claims};
@@ -51,29 +51,29 @@ pub fn taken_on(
 }
 
 /// What the seat finds to do, with the name of the task that it then claims.
-pub fn named_work(
+pub fn named_offer(
     alloc: Global,
     program: &Program,
     core: &Core,
     claims: &Claims,
     floor: &mut Floor,
     seat: u32,
-) -> Result<(Option<TaskName>, Claim), AllocError>
+) -> Result<(Option<TaskName>, Offer), AllocError>
     requires fits { Fits program.now core.now.run }
     requires floor { IsFloor program.now (history core.now.run) floor.old }
     ensures found { IfOk result (λ r. (r.0 ≡ claimed r.1) × IsFound program.now core.now.run claims.now seat r.1) }
     ensures floor { IsFloor program.now (history core.now.run) floor.new }
 {
-    let claim = free_work(alloc, program, core, claims, floor, seat)?;
-    let name = name_of(&claim)?;
-    Ok((name, claim))
+    let offer = free_task(alloc, program, core, claims, floor, seat)?;
+    let name = name_of(&offer)?;
+    Ok((name, offer))
 }
 
-fn name_of(claim: &Claim) -> Result<Option<TaskName>, AllocError>
-    ensures { IfOk result (λ name. name ≡ claimed claim.now) }
+fn name_of(offer: &Offer) -> Result<Option<TaskName>, AllocError>
+    ensures { IfOk result (λ name. name ≡ claimed offer.now) }
 {
-    match claim {
-        Claim::Work(work) => Ok(Some(work.config.task.clone()?)),
+    match offer {
+        Offer::Task(task) => Ok(Some(task.config.task.clone()?)),
         _ => Ok(None),
     }
 }

@@ -7,14 +7,17 @@ ghost use Rattle.tb_core.specs.Naming.{config_with};
 ghost use Rattle.tb_core.specs.Situation.{config_of};
 ghost use Rattle.tb_core.specs.Outcomes.{has_ended};
 ghost use Rattle.tb_next.specs.Fitting.{Fits};
-ghost use Rattle.tb_next.specs.Plans.{IsComing, IsWorkOf, HasNone};
+ghost use Rattle.tb_read.specs.Meaning.{IsPosition};
+ghost use Rattle.tb_read.specs.Strips.{IsStripOf};
+ghost use Rattle.tb_next.specs.Plans.{IsComing, IsSituatedOf, IsWorkOf, HasNone};
 
 use crate::coming::Coming;
+use crate::situated::Situated;
 use crate::work::Work;
 use std::alloc::{AllocError, Global};
 use tb_core::{Core, StepRefusal};
 use tb_model::TaskName;
-use tb_plan::{Config, evaluate, line_behind};
+use tb_plan::{Config, Strip, evaluate, line_behind};
 use tb_read::{Program, strip_around};
 use tb_undo::Standing;
 
@@ -72,34 +75,56 @@ pub fn coming_at(
     }
 }
 
-/// What a task does next that is there and goes on, whether it may do it now or not.
+/// The statement of a task that is there and goes on, whether it may execute it now or not, and the private ones around it.
 pub fn work_of(program: &Program, core: &Core, task: &TaskName) -> Result<Work, AllocError>
     requires fits { Fits program.now core.now.run }
     requires there { IsTrue (is_spawned (history core.now.run) task.now) }
     requires going { IsFalse (has_ended core.now.run task.now) }
     ensures { IfOk result (IsWorkOf program.now core.now.run task.now) }
 {
+    let Situated { instr, config } = situated_of(program, core, task)?;
+    let strip = strip_at(program, config.at);
+    Ok(Work {
+        instr,
+        config,
+        strip,
+    })
+}
+
+/// The statement of a task that is there and goes on, whether it may execute it now or not.
+pub fn situated_of(program: &Program, core: &Core, task: &TaskName) -> Result<Situated, AllocError>
+    requires fits { Fits program.now core.now.run }
+    requires there { IsTrue (is_spawned (history core.now.run) task.now) }
+    requires going { IsFalse (has_ended core.now.run task.now) }
+    ensures { IfOk result (IsSituatedOf program.now core.now.run task.now) }
+{
     match core.config(task)? {
-        Some(config) => work_at(program, core, config),
+        Some(config) => situated_at(program, core, config),
         None => unreachable!(),
     }
 }
 
-/// The statement at which a task stands that isn't over.
-fn work_at(program: &Program, core: &Core, config: Config) -> Result<Work, AllocError>
+/// The statement at which a task is that isn't over.
+fn situated_at(program: &Program, core: &Core, config: Config) -> Result<Situated, AllocError>
     requires fits { Fits program.now core.now.run }
     requires here { config ≡ config_of core.now.run config.task }
     requires going { IsFalse (has_ended core.now.run config.task) }
-    ensures { IfOk result (IsWorkOf program.now core.now.run config.task) }
+    ensures { IfOk result (IsSituatedOf program.now core.now.run config.task) }
 {
-    let at = config.at;
-    let _lines = program.line_count();
-    match program.instr(at) {
-        Some(instr) => Ok(Work {
+    match program.instr(config.at) {
+        Some(instr) => Ok(Situated {
             instr: instr.clone()?,
             config,
-            strip: strip_around(program, at),
         }),
         None => unreachable!(),
     }
+}
+
+/// The private statements around a line of the program at which a task can be.
+pub fn strip_at(program: &Program, at: u32) -> Strip
+    requires { IsPosition program.now at }
+    ensures { IsStripOf program.now at result }
+{
+    let _lines = program.line_count();
+    strip_around(program, at)
 }

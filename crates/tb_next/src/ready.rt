@@ -12,12 +12,12 @@ ghost use Rattle.tb_core.specs.Situation.{config_of};
 ghost use Rattle.tb_next.specs.Fitting.{Fits};
 ghost use Rattle.tb_control.specs.Claims.{IsFreeBeside};
 ghost use Rattle.tb_next.specs.Floor.{IsFloor, IsPassed};
-ghost use Rattle.tb_next.specs.Plans.{IsComing, IsLeastComing, CanTake, IsFound, IsClaimOn, IsRefusalOf, IsTold};
+ghost use Rattle.tb_next.specs.Plans.{IsComing, IsLeastComing, CanTake, IsFound, IsOfferOn, IsRefusalOf, IsTold};
 
-use crate::claim::Claim;
 use crate::coming::Coming;
 use crate::floor::Floor;
-use crate::planning::{coming_at, work_of};
+use crate::offer::Offer;
+use crate::planning::{coming_at, situated_of};
 use std::alloc::{AllocError, Global};
 use tb_control::Claims;
 use tb_core::{Core, StepRefusal};
@@ -228,14 +228,14 @@ fn coming_behind(
 
 /// The least task that can step and that no other seat claims. The floor becomes the least that can
 /// step.
-pub fn free_work(
+pub fn free_task(
     alloc: Global,
     program: &Program,
     core: &Core,
     claims: &Claims,
     floor: &mut Floor,
     seat: u32,
-) -> Result<Claim, AllocError>
+) -> Result<Offer, AllocError>
     requires fits { Fits program.now core.now.run }
     requires floor { IsFloor program.now (history core.now.run) floor.old }
     ensures found { IfOk result (IsFound program.now core.now.run claims.now seat) }
@@ -243,13 +243,13 @@ pub fn free_work(
 {
     let found = match least_coming(alloc, program, core, floor) {
         Ok(Some(found)) => found,
-        Ok(None) => return Ok(Claim::Done),
+        Ok(None) => return Ok(Offer::Done),
         Err(_) => return Err(AllocError),
     };
     let task = &found.0;
     match claims.held_beside(seat, task) {
-        Some(_) => work_behind(alloc, program, core, claims, seat, task),
-        None => work_on(program, core, task),
+        Some(_) => task_behind(alloc, program, core, claims, seat, task),
+        None => offer_of(program, core, task),
     }
 }
 
@@ -274,15 +274,15 @@ fn can_take(
     }
 }
 
-/// The work after the least task that can step, which another seat claims.
-fn work_behind<'c>(
+/// The least free task after the least one that can step, which another seat claims.
+fn task_behind<'c>(
     alloc: Global,
     program: &Program,
     core: &'c Core,
     claims: &Claims,
     seat: u32,
     first: &'c TaskName,
-) -> Result<Claim, AllocError>
+) -> Result<Offer, AllocError>
     requires fits { Fits program.now core.now.run }
     requires first { least_ready program.now (history core.now.run) ≡ Some first.now }
     requires held { IsFreeBeside claims.now seat first.now → ⊥ }
@@ -293,19 +293,19 @@ fn work_behind<'c>(
     let mut after = first;
     'tasks: while let Some(task) = core.walk_unended(&mut walk, &mut near, Some(after)) {
         match can_take(alloc, program, core, claims, seat, &mut near, task) {
-            Ok(true) => return work_on(program, core, task),
+            Ok(true) => return offer_of(program, core, task),
             Ok(false) => after = task,
             Err(_) => return Err(AllocError),
         }
     }
-    Ok(Claim::Later)
+    Ok(Offer::Later)
 }
 
-/// The task's work, as the answer to who asked for it.
-fn work_on(program: &Program, core: &Core, task: &TaskName) -> Result<Claim, AllocError>
+/// The task with its statement, as the answer to who asked for one.
+fn offer_of(program: &Program, core: &Core, task: &TaskName) -> Result<Offer, AllocError>
     requires fits { Fits program.now core.now.run }
     requires can { IsTrue (can_step program.now (history core.now.run) task.now) }
-    ensures { IfOk result (IsClaimOn program.now core.now.run task.now) }
+    ensures { IfOk result (IsOfferOn program.now core.now.run task.now) }
 {
-    Ok(Claim::Work(work_of(program, core, task)?))
+    Ok(Offer::Task(situated_of(program, core, task)?))
 }

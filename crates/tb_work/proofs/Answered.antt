@@ -9,17 +9,22 @@ use Rattle.tb_core.specs.declared.removed.Removed.{Removed}
 use Rattle.tb_core.specs.declared.undo_refusal.UndoRefusal.{UndoRefusal}
 use Rattle.tb_roll.specs.declared.roll_refusal.RollRefusal.{RollRefusal}
 use Rattle.tb_next.specs.declared.claim.Claim.{Claim}
+use Rattle.tb_next.specs.declared.offer.Offer.{Offer}
 use Rattle.tb_live.specs.Moves.{RollsFor, UndoesFor}
 use Rattle.tb_live.specs.Session.{Session}
-use Rattle.tb_live.specs.Working.{ClaimsWork}
+use Rattle.tb_live.specs.Working.{ClaimsWork, IsOffered}
 use Rattle.tb_work.specs.declared.refused.Refused.{Refused}
-use Rattle.tb_work.specs.Answering.{ClaimsBy, RollsBy, Takes, UndoesBy}
+use Rattle.tb_work.specs.Answering.{ClaimsBy, OffersBy, RollsBy, Takes, UndoesBy}
 use Rattle.tb_work.specs.Receipts.{Seated}
 use Rattle.tb_work.specs.Refusing.{RefusesRoll, RefusesUndo}
 
 pub claimed_by : (s new : Session) (seat : ℕ) (r : Result Claim AllocError) → IfOk r (ClaimsWork s seat new) → OnErr r (new ≡ s) → ClaimsBy seat r s new
 claimed_by s new seat (Ok c) work stays = work
 claimed_by s new seat (Err e) work stays = stays
+
+pub offered_by : (s new : Session) (seat : ℕ) (r : Result Offer AllocError) → IfOk r (IsOffered s seat new) → OnErr r (new ≡ s) → OffersBy seat r s new
+offered_by s new seat (Ok o) offered stays = offered
+offered_by s new seat (Err e) offered stays = stays
 
 pub rolled_by : (s new : Session) (i : StepId) (r : Result (Vec Removed Global) (Refused RollRefusal)) (old seat : Seated)
     → IfOk r (λ removed. RollsFor old.number s i new removed.items) → OnOk r (Takes s (Rolled old.number i) old seat) → OnErr r (new ≡ s) → OnErr r (seat ≡ old) → IfErr r (RefusesRoll s i)

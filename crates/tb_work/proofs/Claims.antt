@@ -9,8 +9,10 @@ use Rattle.tb_control.specs.declared.claim_refusal.ClaimRefusal.{ClaimRefusal}
 use Rattle.tb_control.specs.declared.mode.Mode.{Mode}
 use Rattle.tb_live.specs.Session.{Session, Held, with_seat}
 use Rattle.tb_live.specs.Pauses.{with_mode}
-use Rattle.tb_live.specs.Working.{ClaimsTask, ClaimsWork}
-use Rattle.tb_work.specs.Claiming.{IsWorkFor, IsClaim, Keeps}
+use Rattle.tb_next.specs.declared.offer.Offer.{Offer}
+use Rattle.tb_next.specs.declared.offer.Offer.TheVariants.{Task, Later as LaterOn, Done as NoTask, Stopped as Halted}
+use Rattle.tb_live.specs.Working.{ClaimsTask, ClaimsWork, IsOffered}
+use Rattle.tb_work.specs.Claiming.{IsWorkFor, IsClaim, IsOffer, Keeps}
 
 pub keeps_same : (s new : Session) → new ≡ s → Keeps s new
 keeps_same s new is = record {
@@ -63,6 +65,30 @@ is_claim s new seat Stopped h = tt
 pub claim_is : (s new : Session) (seat : ℕ) (r : Result Claim AllocError) → IfOk r (ClaimsWork s seat new) → IfOk r (IsClaim s.program)
 claim_is s new seat (Ok c) h = is_claim s new seat c h
 claim_is s new seat (Err e) h = tt
+
+keeps_offered : (s new : Session) (seat : ℕ) (o : Offer) → IsOffered s seat new o → Keeps s new
+keeps_offered s new seat (Task n) h = keeps_seat s new seat _ h.2
+keeps_offered s new seat LaterOn h = keeps_work s new seat Later h
+keeps_offered s new seat NoTask h = keeps_work s new seat Done h
+keeps_offered s new seat Halted h = keeps_work s new seat Stopped h
+
+pub offer_kept : (old new : Held) (r : Result Offer AllocError) → OnErr r (new ≡ old) → OnErr r (new.session ≡ old.session)
+offer_kept old new (Ok o) e = tt
+offer_kept old new (Err x) e = ap (λ (h : Held). h.session) e
+
+pub keeps_offer : (s new : Session) (seat : ℕ) (r : Result Offer AllocError) → IfOk r (IsOffered s seat new) → OnErr r (new ≡ s) → Keeps s new
+keeps_offer s new seat (Ok o) h err = keeps_offered s new seat o h
+keeps_offer s new seat (Err e) h err = keeps_same s new err
+
+is_offer : (s new : Session) (seat : ℕ) (o : Offer) → IsOffered s seat new o → IsOffer s.program o
+is_offer s new seat (Task n) h = record { line = h.3.line; history = _; situated = h.3 }
+is_offer s new seat LaterOn h = tt
+is_offer s new seat NoTask h = tt
+is_offer s new seat Halted h = tt
+
+pub offer_is : (s new : Session) (seat : ℕ) (r : Result Offer AllocError) → IfOk r (IsOffered s seat new) → IfOk r (IsOffer s.program)
+offer_is s new seat (Ok o) h = is_offer s new seat o h
+offer_is s new seat (Err e) h = tt
 
 pub keeps_task : (s new : Session) (seat : ℕ) (t : Name) (r : Result Work ClaimRefusal) → ClaimsTask s seat t new r → Keeps s new
 keeps_task s new seat t (Ok w) h = keeps_seat s new seat _ h.1

@@ -13,6 +13,7 @@ use Rattle.tb_core.specs.declared.removed.Removed.{Removed}
 use Rattle.tb_core.specs.declared.undo_refusal.UndoRefusal.{UndoRefusal}
 use Rattle.tb_roll.specs.declared.roll_refusal.RollRefusal.{RollRefusal}
 use Rattle.tb_next.specs.declared.claim.Claim.{Claim}
+use Rattle.tb_next.specs.declared.offer.Offer.{Offer}
 use Rattle.tb_control.specs.declared.claim_refusal.ClaimRefusal.{ClaimRefusal}
 use Rattle.tb_control.specs.declared.mode.Mode.TheVariants.{Resumed}
 use Rattle.tb_control.specs.Claims.{AreLawful}
@@ -24,7 +25,7 @@ use Rattle.tb_live.specs.Modes as modes
 use Rattle.tb_live.specs.Moves.{RollsFor, UndoesFor}
 use Rattle.tb_live.specs.Pauses.{with_mode}
 use Rattle.tb_live.specs.Session.{Session, history, with_entry, with_seat}
-use Rattle.tb_live.specs.Working.{ClaimsTask, ClaimsWork}
+use Rattle.tb_live.specs.Working.{ClaimsTask, ClaimsWork, IsOffered}
 use Rattle.tb_work.specs.declared.refused.Refused.{Refused}
 use Rattle.tb_work.specs.declared.why.Why.{Why}
 use Rattle.tb_work.specs.Changes.{entries}
@@ -71,6 +72,10 @@ CommitsBy old seat p (Err r) s new = (new ≡ s) × (seat ≡ old) × RefusesPla
 abbrev pub ClaimsBy : ℕ → Result Claim AllocError → Session → Session → Type 0
 ClaimsBy seat (Ok c) s new = ClaimsWork s seat new c
 ClaimsBy seat (Err e) s new = new ≡ s
+
+abbrev pub OffersBy : ℕ → Result Offer AllocError → Session → Session → Type 0
+OffersBy seat (Ok o) s new = IsOffered s seat new o
+OffersBy seat (Err e) s new = new ≡ s
 
 -- a claim of this task by its answer
 abbrev pub ClaimsOneBy : ℕ → Name → Result Work ClaimRefusal → Session → Session → Type 0

@@ -5,11 +5,11 @@ ghost use Rattle.tb_control.specs.declared.mode.Mode.TheVariants.{Resumed};
 ghost use Rattle.tb_live.specs.Modes as modes;
 ghost use Rattle.tb_live.specs.Pauses.{with_mode};
 ghost use Rattle.tb_live.specs.Session.{with_seat};
-ghost use Rattle.tb_live.specs.Working.{ClaimsTask, ClaimsWork};
-ghost use Rattle.tb_work.specs.Claiming.{IsClaim, IsWorkFor, Keeps};
+ghost use Rattle.tb_live.specs.Working.{ClaimsTask, ClaimsWork, IsOffered};
+ghost use Rattle.tb_work.specs.Claiming.{IsClaim, IsOffer, IsWorkFor, Keeps};
 
 use std::alloc::AllocError;
-use tb_live::{Claim, ClaimRefusal, Live, Work};
+use tb_live::{Claim, ClaimRefusal, Live, Offer, Work};
 use tb_model::TaskName;
 
 /// The least task that can step, where no other seat claims it.
@@ -21,6 +21,17 @@ pub fn claim_work(live: &mut Live, seat: u32) -> Result<Claim, AllocError>
     ensures err { OnErr result (live.new.session ≡ live.old.session) }
 {
     live.claim(seat)
+}
+
+/// The least task that can step, where no other seat claims it, with its statement and not the private ones around it.
+pub fn claim_offer(live: &mut Live, seat: u32) -> Result<Offer, AllocError>
+    requires { seat < length live.old.session.control.claims }
+    ensures kept { Keeps live.old.session live.new.session }
+    ensures task { IfOk result (IsOffer live.old.session.program) }
+    ensures offered { IfOk result (IsOffered live.old.session seat live.new.session) }
+    ensures err { OnErr result (live.new.session ≡ live.old.session) }
+{
+    live.offer(seat)
 }
 
 /// A task, where no other seat claims it.

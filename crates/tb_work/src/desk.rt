@@ -8,15 +8,17 @@ ghost use Rattle.tb_live.specs.Modes as modes;
 ghost use Rattle.tb_live.specs.Moves.{RollsFor, UndoesFor};
 ghost use Rattle.tb_live.specs.Pauses.{with_mode};
 ghost use Rattle.tb_live.specs.Session.{with_seat};
-ghost use Rattle.tb_live.specs.Working.{ClaimsTask, ClaimsWork};
-ghost use Rattle.tb_work.specs.Answering.{ClaimsBy, ClaimsOneBy, CommitsBy, IsAnswer, IsOfTeam, LetsGo, Pauses, Resumes, ResumesFor, RollsBy, Takes, Tells, UndoesBy};
+ghost use Rattle.tb_live.specs.Working.{ClaimsTask, ClaimsWork, IsOffered};
+ghost use Rattle.tb_read.specs.Meaning.{IsPosition};
+ghost use Rattle.tb_read.specs.Strips.{IsStripOf};
+ghost use Rattle.tb_work.specs.Answering.{ClaimsBy, ClaimsOneBy, CommitsBy, IsAnswer, IsOfTeam, LetsGo, OffersBy, Pauses, Resumes, ResumesFor, RollsBy, Takes, Tells, UndoesBy};
 ghost use Rattle.tb_work.specs.Bursts.{BurstsBy, CommitsBurst, CommitsEach, TakesEach, stepped_on};
 ghost use Rattle.tb_work.specs.Going.{IsWhy};
 ghost use Rattle.tb_work.specs.Refusing.{RefusesPlan, RefusesRoll, RefusesUndo};
 ghost use Rattle.tb_work.specs.Changes.{Commits, RollsBack, entries};
-ghost use Rattle.tb_work.specs.Claiming.{IsClaim, IsWorkFor};
+ghost use Rattle.tb_work.specs.Claiming.{IsClaim, IsOffer, IsWorkFor};
 
-use crate::asking::{claim_one, claim_work, leave, pause, resume, resume_for};
+use crate::asking::{claim_offer, claim_one, claim_work, leave, pause, resume, resume_for};
 use crate::burst::Burst;
 use crate::entering::enter;
 use crate::places::Places;
@@ -33,10 +35,11 @@ use crate::why::Why;
 use std::alloc::{AllocError, Global};
 use std::sync::ledger::{Book, Share};
 use tb_live::{
-    Claim, ClaimRefusal, CommitRefusal, Live, Removed, RollRefusal, StepRefusal, UndoRefusal, Work,
+    Claim, ClaimRefusal, CommitRefusal, Live, Offer, Removed, RollRefusal, StepRefusal, UndoRefusal, Work,
 };
 use tb_model::{StepId, TaskName};
-use tb_plan::Plan;
+use tb_next::strip_at;
+use tb_plan::{Plan, Strip};
 
 /// The run, with a note for each place of its journal, and the book of the team's ledger.
 #[derive(Drop)]
@@ -337,6 +340,25 @@ impl<N: Team> Desk<N> {
     {
         self.is_of_team();
         claim_work(&mut self.live, seat.number())
+    }
+
+    /// The least task that can step, where no other seat claims it, with its statement and not the private ones around it.
+    pub fn offer(&mut self, seat: &Seat<N>) -> Result<Offer, AllocError>
+        ensures task { IfOk result (IsOffer N.program) }
+        ensures offered { IfOk result (IsOffered self.old.live.session seat.now.number self.new.live.session) }
+        ensures err { OnErr result (self.new.live.session ≡ self.old.live.session) }
+        ensures answer { IsAnswer N.program N.limit N.breakpoints N.seats N.begun (OffersBy seat.now.number result) }
+    {
+        self.is_of_team();
+        claim_offer(&mut self.live, seat.number())
+    }
+
+    /// The private statements around a line of the team's program.
+    pub fn strip(&self, at: u32) -> Strip
+        requires { IsPosition N.program at }
+        ensures { IsStripOf N.program at result }
+    {
+        strip_at(self.live.program(), at)
     }
 
     /// A task, where no other seat claims it.

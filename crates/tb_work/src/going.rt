@@ -3,10 +3,12 @@
 ghost use Rattle.std.specs.Prelude.{◌≡◌, ◌+◌, ◌<◌, ◌^◌, All, Any, Err, length, IfOk, IsTrue, OnOk, OnErr};
 ghost use Rattle.tb_work.specs.declared.ended.Ended.TheVariants.{Well, CellTaken};
 ghost use Rattle.tb_work.specs.declared.go_refusal.GoRefusal.TheVariants.{CellTaken as MetTakenCell};
-ghost use Rattle.tb_work.specs.Answering.{ClaimsBy, ClaimsOneBy, CommitsBy, IsAnswer, LetsGo, Pauses, Resumes, ResumesFor, RollsBy, Tells, UndoesBy};
+ghost use Rattle.tb_read.specs.Meaning.{IsPosition};
+ghost use Rattle.tb_read.specs.Strips.{IsStripOf};
+ghost use Rattle.tb_work.specs.Answering.{ClaimsBy, ClaimsOneBy, CommitsBy, IsAnswer, LetsGo, OffersBy, Pauses, Resumes, ResumesFor, RollsBy, Tells, UndoesBy};
 ghost use Rattle.tb_work.specs.Bursts.{BurstsBy, CommitsBurst};
 ghost use Rattle.tb_work.specs.Changes.{Commits, RollsBack};
-ghost use Rattle.tb_work.specs.Claiming.{IsClaim, IsWorkFor};
+ghost use Rattle.tb_work.specs.Claiming.{ArePlansOf, IsClaim, IsOffer, IsTask, IsWorkFor};
 ghost use Rattle.tb_work.specs.Ending.{IsEnding, IsTurn};
 ghost use Rattle.tb_work.specs.Growing.{GrewBySteps, AllGrew};
 ghost use Rattle.tb_work.specs.Receipts.{receipts_in};
@@ -25,9 +27,11 @@ use std::alloc::AllocError;
 use std::sync::Wait;
 use std::thread;
 use std::thread::Threads;
-use tb_live::{Claim, ClaimRefusal, CommitRefusal, Removed, RollRefusal, UndoRefusal, Work};
+use tb_live::{
+    Claim, ClaimRefusal, CommitRefusal, Offer, Removed, RollRefusal, Situated, UndoRefusal, Work,
+};
 use tb_model::{StepId, TaskName};
-use tb_plan::{Plan, plan_burst};
+use tb_plan::{Plan, Strip, plan, plan_burst, private_of};
 
 impl<N: Team> Shared<N> {
     /// Gives up the seat's former claim, and gives it one on the least task that can step and that no
@@ -125,21 +129,52 @@ impl<N: Team> Shared<N> {
         self.desk.lock(rt).resume();
     }
 
+    /// Claims as `claim` does, without the private statements around the task's.
+    fn offer<R: Wait>(&self, rt: &R, seat: &Seat<N>) -> Result<Offer, AllocError>
+        ensures task { IfOk result (IsOffer N.program) }
+        ensures answer { IsAnswer N.program N.limit N.breakpoints N.seats N.begun (OffersBy seat.now.number result) }
+    {
+        self.desk.lock(rt).offer(seat)
+    }
+
+    /// The private statements around a line of the team's program.
+    fn strip<R: Wait>(&self, rt: &R, at: u32) -> Strip
+        requires { IsPosition N.program at }
+        ensures { IsStripOf N.program at result }
+    {
+        self.desk.lock(rt).strip(at)
+    }
+
+    /// Evaluates the task's statement, and where that is private, the private ones that follow it. The others are only
+    /// looked for then, since looking for them takes longer than a step.
+    fn plans_of<R: Wait>(&self, rt: &R, task: &Situated) -> Result<Vec<Plan>, AllocError>
+        requires { IsTask N.program task.now }
+        ensures { IfOk result (λ plans. ArePlansOf N.program task.now plans.items) }
+    {
+        if private_of(&task.instr).is_none() {
+            let mut plans = Vec::new(self.alloc);
+            plans.push(plan(self.alloc, &task.instr, &task.config)?)?;
+            return Ok(plans);
+        }
+        let strip = self.strip(rt, task.config.at);
+        plan_burst(self.alloc, &task.instr, &strip, &task.config)
+    }
+
     #[tactic(auto, using(crate::proofs::Growing::grew_none, crate::proofs::Growing::grew_same))]
     /// Claims once, and commits a burst of what was claimed.
     fn turn<R: Wait, G: Gate>(&self, rt: &R, seat: &mut Seat<N>, gate: &G, nth: &mut u64) -> Turn
         ensures grew { GrewBySteps seat.old seat.new }
         ensures told { IsTurn N.program N.limit N.breakpoints N.seats N.begun seat.old.number result }
     {
-        let work = match self.claim(rt, seat) {
-            Ok(Claim::Work(work)) => work,
-            Ok(Claim::Later) => return Turn::Later,
-            Ok(Claim::Done) | Ok(Claim::Stopped) => return Turn::Over { ended: Ended::Well },
+        let task = match self.offer(rt, seat) {
+            Ok(Offer::Task(task)) => task,
+            Ok(Offer::Later) => return Turn::Later,
+            Ok(Offer::Done) | Ok(Offer::Stopped) => return Turn::Over { ended: Ended::Well },
             Err(_) => return Turn::Over {
                 ended: Ended::Memory,
             },
         };
-        let Ok(plans) = plan_burst(self.alloc, &work.instr, &work.strip, &work.config) else {
+        let Ok(plans) = self.plans_of(rt, &task) else {
             return Turn::Over {
                 ended: Ended::Memory,
             };

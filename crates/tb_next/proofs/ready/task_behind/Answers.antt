@@ -4,8 +4,8 @@ use Rattle.tb_core.specs.Seen.{history}
 use Rattle.tb_core.proofs.WalkLemmas.{fewer}
 use Rattle.tb_next.proofs.FloorStepLemmas.{least_floor}
 use Rattle.tb_next.proofs.ReadyLemmas.{behind_first, untaken_on, found_free}
-use Rattle.tb_next.proofs.ReadyLemmas.{found_work}
-use Rattle.tb_next.proofs.ready.work_behind.Goals as goal
+use Rattle.tb_next.proofs.ReadyLemmas.{found_task}
+use Rattle.tb_next.proofs.ready.task_behind.Goals as goal
 
 pub tasks-init : goal.tasks-init
 tasks-init c =
@@ -22,5 +22,5 @@ tasks-preserved c =
 
 pub returns-in-Ok-true : goal.returns-in-Ok-true
 returns-in-Ok-true c =
-    found_work c.args.program.now c.args.core.now.run c.args.claims.now c.args.seat c.in-Some.task.now c.work_on.result c.work_on.ensures
+    found_task c.args.program.now c.args.core.now.run c.args.claims.now c.args.seat c.in-Some.task.now c.offer_of.result c.offer_of.ensures
     (found_free c.args.program.now (history c.args.core.now.run) c.args.claims.now c.args.seat c.tasks.after.now c.tasks.invariant c.in-Some.task.now c.in-Some.ensures (c.in-Ok-true.ensures.0 c.in-Ok-true.field-0-test))
