@@ -28,11 +28,7 @@ pub fn edges_among(alloc: Global, entries: &History<'_>) -> Result<Vec<Edge>, Al
 }
 
 /// Appends these immediate needs of the later step.
-fn append_edges(
-    edges: &mut Vec<Edge>,
-    later: &StepId,
-    causes: &[Cause],
-) -> Result<(), AllocError>
+fn append_edges(edges: &mut Vec<Edge>, later: &StepId, causes: &[Cause]) -> Result<(), AllocError>
     ensures { OnOk result (edges.new.items ≡ edges.old.items ++ map (as_edge later.now) causes.now) }
 {
     for cause in causes {

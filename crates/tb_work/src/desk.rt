@@ -35,7 +35,8 @@ use crate::why::Why;
 use std::alloc::{AllocError, Global};
 use std::sync::ledger::{Book, Share};
 use tb_live::{
-    Claim, ClaimRefusal, CommitRefusal, Live, Offer, Removed, RollRefusal, StepRefusal, UndoRefusal, Work,
+    Claim, ClaimRefusal, CommitRefusal, Live, Offer, Removed, RollRefusal, StepRefusal,
+    UndoRefusal, Work,
 };
 use tb_model::{StepId, TaskName};
 use tb_next::strip_at;
