@@ -15,3 +15,4 @@ pub mod Endings
 pub mod Over
 pub mod Whys
 pub mod Telling
+pub mod Plans
