@@ -52,7 +52,7 @@ class Live:
         if words[0] in ("run", "go") and not (len(words) > 1 and words[-1].isdigit() and int(words[-1]) <= MOST_STEPS):
             words = [words[0], *words[1:-1], str(MOST_STEPS)]
         self.console.lines, self.console.words = [], []
-        self.shell.onecmd(" ".join(words))
+        self.shell.take(" ".join(words))
         return {"lines": self.console.lines, "words": self.console.words, "outcome": self.shell.outcome.name.lower(), "data": self.data()}
 
 
