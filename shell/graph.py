@@ -30,6 +30,8 @@ QUICK = ("-Gnslimit=1", "-Gnslimit1=1", "-Gmclimit=0.1", "-Gsplines=line")
 # What takes longer, in seconds, is drawn as clusters.
 PATIENCE = 20.0
 RACE = "#b00020"
+# Of more pairs of racing tasks none has a say in the ranks, since that would take long and pull the picture apart.
+MOST_RANKING = 40
 
 
 @dataclass
@@ -187,11 +189,14 @@ def arrows(graph: Graph) -> list[str]:
         lines.append(f'{quoted(wait.step)} [shape=diamond, fontsize=9, margin="0.02", label={quoted(place)}]')
         lines.append(f'{quoted(wait.step.split("#")[0])} -> {quoted(wait.step)} [class=at, color="#8c8c8c", arrowhead=none]')
         lines += [f'{quoted(child)} -> {quoted(wait.step)} [class=wait, color="#11693d", style=dotted]' for child in wait.children]
-    for (first, second), races in graph.pairs_of_races().items():
+    raced = graph.pairs_of_races()
+    # Graphviz drops the label of an arrow that has no say in the ranks and leads from one to another.
+    ranks = "weight=0" if len(raced) <= MOST_RANKING else "constraint=false"
+    for (first, second), races in raced.items():
         label = races[0].over if len(races) == 1 else f"{len(races)} races"
         style = "dashed" if all(race.apart for race in races) else "bold"
         lines.append(f'{quoted(first)} -> {quoted(second)} [class=race, dir=none, style={style}, color="{RACE}", fontcolor="{RACE}", '
-                     f"constraint=false, label={plate(label)}]")
+                     f"{ranks}, label={plate(label)}]")
     return lines
 
 

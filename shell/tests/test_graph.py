@@ -172,6 +172,18 @@ class GraphTest(unittest.TestCase):
             self.assertEqual(len(drawn), len(EDGE.findall(dot)))
             self.assertEqual(done.stderr, "")
 
+    @needs_dot
+    def test_each_label_is_drawn(self) -> None:
+        for name in ("luck", "right_sum", "exclusion", "apart", "undeferred", "tasks"):
+            session = play_file(os.path.join(EXAMPLES, name + ".session"), PROGRAM)
+            self.addCleanup(session.close)
+            dot = dot_of(graph_of(session))
+            done = subprocess.run(["dot", "-Tsvg"], input=dot, capture_output=True, text=True, check=True)
+            labels = [row for plated in re.findall("<td>(.*?)</td>", dot) for row in plated.split("<br/>")]
+            texts = ["".join(text.itertext()) for text in tree.fromstring(done.stdout).iter("{http://www.w3.org/2000/svg}text")]
+            self.assertTrue(labels, name)
+            self.assertEqual([label for label in labels if texts.count(label) < labels.count(label)], [], name)
+
     def test_commands(self) -> None:
         shell = Terminal(self, [os.path.join(EXAMPLES, "order.task")], NO_COLOR="1")
         shell.read_until("(taskback) ")
