@@ -145,7 +145,8 @@ class Served(unittest.TestCase):
             self.assertLess(time.monotonic() - began, Handler.timeout)
 
     def test_requests_beside_each_other_come_one_after_another(self) -> None:
-        server, told = self.serve(), []
+        server = self.serve()
+        told: list[str] = []
 
         def step() -> None:
             told.append(json.loads(self.ask(server, "POST", f"/{server.token}/do", '{"command": "step 0"}')[1])["lines"][0])
