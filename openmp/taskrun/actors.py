@@ -117,6 +117,7 @@ class Run:
         self._busy = set()             # the numbers that have touched memory since their last barrier
         self._locks = {}
         self._wait_items = {}
+        self._blocks = {}      # the sizes of blocks, by their addresses
         self._sizes = {}
         self._numbers = {}     # what each task touched last at each place, for those of which only the first's is known
         handlers = self._handlers()
@@ -136,7 +137,7 @@ class Run:
                 t.REGION_BEGIN: self._region_begin, t.REGION_END: self._region_end,
                 t.IMPLICIT_BEGIN: self._implicit_begin, t.BARRIER_BEGIN: self._barrier_begin,
                 t.BARRIER_END: self._barrier_end, t.READ: self._access, t.WRITE: self._access,
-                t.MEMORY: lambda e: self.memory.append((e.stamp, e.address, e.value)),
+                t.MEMORY: self._take_memory,
                 t.LOCK: self._lock, t.UNLOCK: self._unlock, t.NOTE: self._note, t.COPY: self._copy}
 
     def actor_of(self, number):
@@ -226,6 +227,10 @@ class Run:
 
     # ---- memory
 
+    def _take_memory(self, event):
+        self.memory.append((event.stamp, event.address, event.value))
+        self._blocks[event.address] = event.value
+
     def _access(self, event):
         task = event.task
         if event.mark & t.FRAME and task not in self.tasks and task not in self._busy:
@@ -234,6 +239,8 @@ class Run:
             self._busy.add(task)
         actor, locks = self._now.get(task, self.root), self._locks.get(task, NO_LOCKS)
         whose = event.task, event.place
+        if event.mark & t.FREED and event.size == 0:
+            event = event._replace(size=t.LARGE, value=self._blocks.get(event.address, 1))
         if event.size != t.SET:
             self._numbers[whose] = event.value
         self.accesses += [Access(element, actor, locks) for element in elements(event, self._numbers.get(whose, 0))]

@@ -13,7 +13,7 @@ import tempfile
 RECORDER = os.path.join(os.path.dirname(os.path.dirname(os.path.abspath(__file__))), "recorder")
 JUDGE = os.path.join(os.path.dirname(RECORDER), "judge")
 PARTS = ["buffers.c", "accesses.c", "atomics.c", "tool.c", "wraps.c", "reductions.c", "loops.c", "locks.c", "memory.c",
-         "strings.c", "formats.c", "operators.c"]
+         "signals.c", "strings.c", "formats.c", "numbers.c", "operators.c"]
 CXX_ENDINGS = (".cc", ".cpp", ".cxx", ".C", ".c++", ".cp", ".CPP")
 SOURCE_ENDINGS = (".c",) + CXX_ENDINGS
 OBJECT_ENDINGS = (".o", ".a", ".so")
@@ -30,13 +30,15 @@ RUNTIME_CALLS = ["omp_task_alloc", "omp_task", "omp_task_with_deps", "omp_task_b
                  "taskred_modifier_init", "task_reduction_modifier_fini", "task_reduction_get_th_data", "end_taskgroup",
                  "reduce", "reduce_nowait", "end_reduce", "end_reduce_nowait", "for_static_fini", "single", "end_single",
                  "master", "end_master", "masked", "end_masked", "ordered", "end_ordered", "doacross_init",
-                 "doacross_post", "doacross_wait", "push_num_threads", "flush",
+                 "doacross_post", "doacross_wait", "push_num_threads", "serialized_parallel", "flush", "alloc",
+                 "aligned_alloc", "free",
                  *(f"{name}_{kind}" for name in ("for_static_init", "dispatch_init", "dispatch_next")
                    for kind in LOOP_KINDS)]
-OTHER_CALLS = ["omp_get_thread_num", "omp_set_num_threads",
+OTHER_CALLS = ["omp_get_thread_num", "omp_set_num_threads", "omp_alloc", "omp_calloc", "omp_aligned_alloc",
+               "omp_aligned_calloc", "omp_realloc", "omp_free",
                "malloc", "calloc", "realloc", "reallocarray", "aligned_alloc", "posix_memalign", "memalign", "valloc",
                "free", "mmap", "mmap64", "munmap", "memcpy", "memmove", "memset", "strcpy", "stpcpy", "strcat", "strncpy", "strncat", "strlen", "atoi",
-               "atol", "atof", "strtol", "strtoul", "strtod", "strchr", "strrchr", "strcmp", "strcasecmp", "strstr",
+               "atol", "atof", "strtol", "strtoul", "strtoll", "strtoull", "strtod", "strchr", "strrchr", "strcmp", "strcasecmp", "strstr",
                "strncmp", "memcmp", "strdup", "strndup", "qsort", "bsearch", "printf", "fprintf", "sprintf", "snprintf",
                "puts", "fputs", "fgets", "fread", "fwrite", "strpbrk", "strspn", "strcspn", "strtok", "strtok_r", "memchr",
                "vprintf", "vfprintf", "vsprintf", "vsnprintf", "sscanf", "scanf", "fscanf", "__isoc99_sscanf",
@@ -44,6 +46,11 @@ OTHER_CALLS = ["omp_get_thread_num", "omp_set_num_threads",
                "pthread_mutex_lock", "pthread_mutex_trylock", "pthread_mutex_timedlock", "pthread_mutex_unlock",
                "pthread_spin_lock", "pthread_spin_trylock", "pthread_spin_unlock", "pthread_rwlock_rdlock",
                "pthread_rwlock_tryrdlock", "pthread_rwlock_wrlock", "pthread_rwlock_trywrlock", "pthread_rwlock_unlock",
+               "sem_post", "sem_wait", "sem_trywait", "sem_timedwait", "pthread_cond_signal", "pthread_cond_broadcast",
+               "pthread_cond_wait", "pthread_cond_timedwait", "pthread_barrier_wait",
+               "frexp", "frexpf", "modf", "modff", "remquo", "lgamma_r", "time", "clock_gettime", "localtime_r", "gmtime_r",
+               "gettimeofday", "sincos", "sincosf", "rand_r", "erand48", "rand", "random", "drand48", "lrand48", "mrand48",
+               "srand", "srandom", "srand48",
                "pthread_once", "__cxa_guard_acquire", "__cxa_guard_release"]
 OPERATORS = ["_Znwm", "_Znam", "_ZnwmRKSt9nothrow_t", "_ZnamRKSt9nothrow_t", "_ZnwmSt11align_val_t",
              "_ZnamSt11align_val_t", "_ZdlPv", "_ZdaPv", "_ZdlPvm", "_ZdaPvm", "_ZdlPvRKSt9nothrow_t",
@@ -313,7 +320,15 @@ def link_program(compiler, driver, linking, words, folder):
     if "-shared" in words:
         return subprocess.run([driver, "-fopenmp", *linking, *wraps()], check=False).returncode
     parts = recorder_objects(compiler, PARTS) + list_of_unseen(compiler, unseen_objects(words), folder)
-    return subprocess.run([driver, "-fopenmp", "-rdynamic", *linking, *parts, *wraps()], check=False).returncode
+    return subprocess.run([driver, "-fopenmp", "-rdynamic", *linking, *parts, *wraps(), *runtime_of(compiler), "-lm"],
+                          check=False).returncode
+
+
+def runtime_of(compiler):
+    """The linker's words by which a program runs with the runtime of the clang that has compiled it, where there are
+    several."""
+    told = subprocess.run([compiler, "-print-file-name=libomp.so"], capture_output=True, text=True, check=False).stdout.strip()
+    return [f"-Wl,--enable-new-dtags,-rpath,{os.path.dirname(os.path.realpath(told))}"] if os.path.isabs(told) else []
 
 
 def run_program(trace, words):

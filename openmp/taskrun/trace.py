@@ -36,7 +36,8 @@ def numbers(names):
                           "ORDERED_END POST AWAIT RELEASE ACQUIRE FULFIL RESUME CHAIN")
 NOTES = ("", "reductions", "detach clauses", "priority clauses", "cancellations", "tasks too deep to follow",
          "calls that ask for the thread's number", "teams of one thread by the program", "runs without OMPT",
-         "pieces without room", "processes that were forked")
+         "pieces without room", "processes that were forked", "words that regions have one thread from there on",
+         "words that regions have more threads from there on")
 ATOMIC, FREED, LIBRARY, FRAME, OUTERMOST, STACK, ROW_SHIFT, LARGE, SET = numbers(
     "ATOMIC FREED LIBRARY FRAME OUTERMOST STACK ROW_SHIFT LARGE SET")
 MARKS = (1 << ROW_SHIFT) - 1
