@@ -10,6 +10,8 @@ import subprocess
 import sys
 import tempfile
 
+from .directives import words_for_loops
+
 RECORDER = os.path.join(os.path.dirname(os.path.dirname(os.path.abspath(__file__))), "recorder")
 JUDGE = os.path.join(os.path.dirname(RECORDER), "judge")
 PARTS = ["buffers.c", "accesses.c", "atomics.c", "tool.c", "wraps.c", "reductions.c", "loops.c", "locks.c", "memory.c",
@@ -286,15 +288,17 @@ def compile_program(words, is_cxx=False):
     sources = [word for word in inputs if word.endswith(SOURCE_ENDINGS)]
     is_cxx = is_cxx or is_in_cxx(inputs, sources)
     driver = driver_of(compiler, is_cxx)
-    if {"-c", "-S", "-E", "-M", "-MM", "-fsyntax-only"} & set(words) or not inputs:
-        return subprocess.run([driver, *instrumenting(compiler), *words], check=False).returncode
+    options = compile_options(words)
     with tempfile.TemporaryDirectory() as folder:
+        loops = words_for_loops(driver, sources, options, folder)
+        if {"-c", "-S", "-E", "-M", "-MM", "-fsyntax-only"} & set(words) or not inputs:
+            return subprocess.run([driver, *instrumenting(compiler), *loops, *words], check=False).returncode
         linking = list(words)
-        options = compile_options(words)
         for number, source in enumerate(sources):
             made = os.path.join(folder, f"{number}.o")
             one = driver if source.endswith(CXX_ENDINGS) or is_cxx else compiler
-            status = subprocess.run([one, *instrumenting(compiler), *options, "-c", source, "-o", made], check=False).returncode
+            status = subprocess.run([one, *instrumenting(compiler), *options, *loops, "-c", source, "-o", made],
+                                    check=False).returncode
             if status != 0:
                 return status
             replace_input(linking, source, made)
