@@ -6,7 +6,8 @@ namespace judge {
 
 namespace {
 
-constexpr std::size_t MOST = 32;    // offers and hands of a block
+constexpr std::size_t MOST = 32;    // offers and hands of a block, flags that one has read
+constexpr std::size_t MOST_FLAGS = 1 << 20;
 constexpr int MOST_HOLDERS = 64;    // each holds the pointer of the next
 
 }  // namespace
@@ -23,22 +24,65 @@ u64 Handover::block_of(u64 pointer) const {
 }
 
 void Handover::see(std::size_t at, const event &e) {
-    if (run_.counts.locks == 0 || blocks_.empty() || e.value < blocks_.begin()->first)
+    if (run_.counts.locks == 0)
         return;
-    const u32 locks = run_.locks_of[at];
-    if (e.kind == READ && locks == 0)
+    const Step step{static_cast<u32>(at), run_.segment_of[at]};
+    see_flag(e, step, run_.locks_of[at]);
+    if (e.size == sizeof(u64))
+        see_pointer(e, step, run_.locks_of[at]);
+}
+
+void Handover::see_pointer(const event &e, const Step &step, u32 locks) {
+    if (blocks_.empty() || e.value < blocks_.begin()->first || (e.kind == READ && locks == 0))
         return;
     const u64 block = block_of(e.value);
     if (!block)
         return;
-    const Offer seen{Step{static_cast<u32>(at), run_.segment_of[at]}, locks};
     if (e.kind == READ)
-        return take(known_[block], seen);
+        return take(known_[block], Offer{step, locks});
     const u64 holder = block_of(e.address);
     if (holder && holder != block)
         known_[block].holder = holder;
     if (locks)
-        offer(known_[block], seen);
+        offer(known_[block], Offer{step, locks});
+}
+
+bool Handover::is_new_since(u64 address, const Step &step) const {
+    auto after = blocks_.upper_bound(address);
+    return after != blocks_.begin() && std::prev(after)->second.at > step.at;
+}
+
+void Handover::see_flag(const event &e, const Step &step, u32 locks) {
+    auto found = flags_.find(e.address);
+    if (found != flags_.end() && is_new_since(e.address, found->second.written)) {
+        flags_.erase(found);
+        found = flags_.end();
+    }
+    if (e.kind == WRITE) {
+        if (found != flags_.end()) {
+            found->second.is_one = false;
+        } else if (locks && flags_.size() < MOST_FLAGS) {
+            flags_.emplace(e.address, Flag{step, locks, e.value, true});
+            last_flag_[step.segment] = step.at;
+        }
+        return;
+    }
+    if (found == flags_.end() || !found->second.is_one || found->second.value != e.value
+        || !run_.locks.exclude(found->second.locks, locks))
+        return;
+    auto &signals = signals_[run_.segments[step.segment].actor];
+    if (signals.size() == MOST)
+        signals.erase(signals.begin());
+    signals.push_back(Signal{e.address, step});
+}
+
+bool Handover::is_told(const Step &earlier, const Step &later) {
+    auto signals = signals_.find(run_.segments[later.segment].actor);
+    return signals != signals_.end() && std::any_of(signals->second.begin(), signals->second.end(), [&](const Signal &signal) {
+        auto flag = flags_.find(signal.flag);
+        return flag != flags_.end() && flag->second.is_one && flag->second.written.at < signal.read.at
+               && follows(signal.read, later) && follows(earlier, flag->second.written);
+    });
 }
 
 void Handover::offer(Known &block, const Offer &offer) {
@@ -72,7 +116,10 @@ const Handover::Known *Handover::offered(u64 block) const {
     return nullptr;
 }
 
-bool Handover::is_offered(u32 from, u32 to, u64 address) const {
+bool Handover::is_offered(u32 segment, u32 from, u32 to, u64 address) const {
+    auto flag = last_flag_.find(segment);
+    if (flag != last_flag_.end() && flag->second > from && flag->second < to)
+        return true;
     const u64 begin = known_.empty() ? 0 : block_of(address);
     const Known *block = begin ? offered(begin) : nullptr;
     return block && std::any_of(block->offers.begin(), block->offers.end(), [=](const Offer &offer) {
@@ -95,6 +142,8 @@ bool Handover::is_in_hand(const Known &block, const Step &step) {
 
 // It may have gone through several hands.
 bool Handover::is_between(const Step &earlier, const Step &later, u64 address) {
+    if (is_told(earlier, later))
+        return true;
     const u64 begin = known_.empty() ? 0 : block_of(address);
     const Known *block = begin ? offered(begin) : nullptr;
     if (!block || !is_in_hand(*block, earlier))

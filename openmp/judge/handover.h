@@ -1,8 +1,10 @@
-// Blocks that one task hands to another one by their pointers, which are written and read under one lock: a pool, a queue.
-// Who had the block up to then, and who has it from there on, aren't at it at once.
+// What one task hands to another one under a lock. A block goes by its pointer, which is written and read under that lock, as
+// in a pool or a queue: who had the block up to then, and who has it from there on, aren't at it at once. A flag is written
+// once, under a lock: what came in front of that comes in front of what who has read it does next.
 #pragma once
 
 #include <map>
+#include <unordered_map>
 #include <vector>
 
 #include "run.h"
@@ -26,14 +28,14 @@ class Handover {
 public:
     Handover(Run &run, const std::map<u64, Block> &blocks) : run_(run), blocks_(blocks) {}
 
-    // A load or store of eight bytes.
+    // A load or store of one number.
     void see(std::size_t at, const event &e);
     // The memory from there on is new.
     void forget(u64 address, u64 size);
-    // Whether the block at the address was offered between these two events.
-    bool is_offered(u32 from, u32 to, u64 address) const;
-    // Whether the block at the address, or one that has its pointer, was handed on behind the earlier step and in front of
-    // the later one.
+    // Whether something was handed out between these two events of a segment: the block at the address, or by a flag.
+    bool is_offered(u32 segment, u32 from, u32 to, u64 address) const;
+    // Whether that block, or one that has its pointer, was handed on behind the earlier step and in front of the later one,
+    // or a flag told the later one of the earlier one.
     bool is_between(const Step &earlier, const Step &later, u64 address);
 
 private:
@@ -52,6 +54,21 @@ private:
         u64 holder = 0;             // the block in which its pointer was stored last
     };
 
+    struct Flag {
+        Step written;
+        u32 locks;
+        u64 value;
+        bool is_one;    // else it was written again
+    };
+    struct Signal {
+        u64 flag;       // its address
+        Step read;
+    };
+
+    void see_pointer(const event &e, const Step &step, u32 locks);
+    void see_flag(const event &e, const Step &step, u32 locks);
+    bool is_new_since(u64 address, const Step &step) const;     // whether the memory there is
+    bool is_told(const Step &earlier, const Step &later);
     u64 block_of(u64 pointer) const;    // where it begins; 0 where the pointer leads into none
     void offer(Known &block, const Offer &offer);
     void take(Known &block, const Offer &taker);
@@ -62,6 +79,9 @@ private:
     Run &run_;
     const std::map<u64, Block> &blocks_;
     std::map<u64, Known> known_;
+    std::unordered_map<u64, Flag> flags_;                       // by their addresses
+    std::unordered_map<u32, std::vector<Signal>> signals_;      // by who has read them: the latest ones
+    std::unordered_map<u32, u32> last_flag_;                    // of each segment, the event that wrote it
 };
 
 }  // namespace judge

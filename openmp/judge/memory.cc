@@ -49,7 +49,7 @@ void Memory::take(std::size_t at) {
         strangers++;
     if (e.size == SET)
         return touch_set(at, e);
-    if (size == sizeof(u64))
+    if (size <= sizeof(u64) && !(e.mark & FREED))
         handover_.see(at, e);
     touch(at, e.address, size ? size : size_of_block(e), e.kind == WRITE, e.mark);
 }
@@ -161,7 +161,7 @@ bool Memory::compare(const Now &now, Bucket &bucket) {
         u32 here = *link;
         Touch touch = touches_[here];
         if (!is_plain_ && touch.segment == now.segment && is_alike && (touch.mask & now.mask) == now.mask
-            && !handover_.is_offered(touch.at, now.at, now.granule * GRANULE))
+            && !handover_.is_offered(now.segment, touch.at, now.at, now.granule * GRANULE))
             return true;
         if (!conflicts && (is_plain_ || ++seen > FEW))
             return false;

@@ -45,6 +45,22 @@ int __wrap_pthread_mutex_timedlock(pthread_mutex_t *lock, const struct timespec 
     return taken(__real_pthread_mutex_timedlock(lock, end), lock, PLACE);
 }
 
+/* Not in each C library. */
+__attribute__((weak)) int __real_pthread_mutex_clocklock(pthread_mutex_t *, clockid_t, const struct timespec *);
+int __wrap_pthread_mutex_clocklock(pthread_mutex_t *lock, clockid_t clock, const struct timespec *end) {
+    return taken(__real_pthread_mutex_clocklock(lock, clock, end), lock, PLACE);
+}
+
+int __real_pthread_rwlock_timedwrlock(pthread_rwlock_t *, const struct timespec *);
+int __wrap_pthread_rwlock_timedwrlock(pthread_rwlock_t *lock, const struct timespec *end) {
+    return taken(__real_pthread_rwlock_timedwrlock(lock, end), lock, PLACE);
+}
+
+__attribute__((weak)) int __real_pthread_rwlock_clockwrlock(pthread_rwlock_t *, clockid_t, const struct timespec *);
+int __wrap_pthread_rwlock_clockwrlock(pthread_rwlock_t *lock, clockid_t clock, const struct timespec *end) {
+    return taken(__real_pthread_rwlock_clockwrlock(lock, clock, end), lock, PLACE);
+}
+
 /* Readers of such a lock aren't kept apart from each other, but from who writes. */
 static int taken_to_read(int status, const void *lock, uint64_t place) {
     if (status == 0) {
@@ -61,6 +77,16 @@ int __wrap_pthread_rwlock_rdlock(pthread_rwlock_t *lock) {
 
 int __wrap_pthread_rwlock_tryrdlock(pthread_rwlock_t *lock) {
     return taken_to_read(__real_pthread_rwlock_tryrdlock(lock), lock, PLACE);
+}
+
+int __real_pthread_rwlock_timedrdlock(pthread_rwlock_t *, const struct timespec *);
+int __wrap_pthread_rwlock_timedrdlock(pthread_rwlock_t *lock, const struct timespec *end) {
+    return taken_to_read(__real_pthread_rwlock_timedrdlock(lock, end), lock, PLACE);
+}
+
+__attribute__((weak)) int __real_pthread_rwlock_clockrdlock(pthread_rwlock_t *, clockid_t, const struct timespec *);
+int __wrap_pthread_rwlock_clockrdlock(pthread_rwlock_t *lock, clockid_t clock, const struct timespec *end) {
+    return taken_to_read(__real_pthread_rwlock_clockrdlock(lock, clock, end), lock, PLACE);
 }
 
 GIVES(pthread_rwlock_unlock, pthread_rwlock_t)

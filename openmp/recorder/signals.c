@@ -35,6 +35,12 @@ SIGNALS(pthread_cond_broadcast, pthread_cond_t)
 WAITS(pthread_cond_wait, (pthread_cond_t *where, pthread_mutex_t *lock), where, lock)
 WAITS(pthread_cond_timedwait, (pthread_cond_t *where, pthread_mutex_t *lock, const struct timespec *end), where, lock, end)
 
+/* Not in each C library. */
+__attribute__((weak)) int __real_pthread_cond_clockwait(pthread_cond_t *, pthread_mutex_t *, clockid_t, const struct timespec *);
+int __wrap_pthread_cond_clockwait(pthread_cond_t *where, pthread_mutex_t *lock, clockid_t clock, const struct timespec *end) {
+    return waited(__real_pthread_cond_clockwait(where, lock, clock, end), where, PLACE);
+}
+
 int __real_pthread_barrier_wait(pthread_barrier_t *);
 int __wrap_pthread_barrier_wait(pthread_barrier_t *barrier) {
     note_signal(RELEASE, barrier, PLACE);

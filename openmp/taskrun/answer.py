@@ -20,7 +20,7 @@ AS_SEEN = "no race as far as was seen: nothing is said of other schedules"
 ALIKE = (("locks", "critical sections and locks"), ("reductions", "reductions"), ("cancellations", "cancellations"),
          ("by_atomics", "accesses by atomic operations alone"), ("by_locks", "accesses that one lock keeps apart"),
          ("handed_over", "steps ordered by atomics or signals as seen"),
-         ("by_handover", "accesses to a block that was handed over under a lock"),
+         ("by_handover", "accesses to what was handed over under a lock"),
          ("by_thread_number", "accesses by the thread's number, which the runtime chooses"))
 # What wasn't seen: where one of these is there, nothing is said of other schedules.
 UNSEEN = (("strangers", "accesses of threads that aren't OpenMP's"), ("forks", "processes that were forked"))

@@ -53,6 +53,8 @@ OTHER_CALLS = ["omp_get_thread_num", "omp_set_num_threads", "omp_alloc", "omp_ca
                "frexp", "frexpf", "modf", "modff", "remquo", "lgamma_r", "time", "clock_gettime", "localtime_r", "gmtime_r",
                "gettimeofday", "sincos", "sincosf", "rand_r", "erand48", "rand", "random", "drand48", "lrand48", "mrand48",
                "srand", "srandom", "srand48",
+               "pthread_mutex_clocklock", "pthread_rwlock_timedwrlock", "pthread_rwlock_clockwrlock",
+               "pthread_rwlock_timedrdlock", "pthread_rwlock_clockrdlock", "pthread_cond_clockwait",
                "pthread_once", "__cxa_guard_acquire", "__cxa_guard_release"]
 OPERATORS = ["_Znwm", "_Znam", "_ZnwmRKSt9nothrow_t", "_ZnamRKSt9nothrow_t", "_ZnwmSt11align_val_t",
              "_ZnamSt11align_val_t", "_ZdlPv", "_ZdaPv", "_ZdlPvm", "_ZdaPvm", "_ZdlPvRKSt9nothrow_t",
