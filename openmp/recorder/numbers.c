@@ -1,4 +1,5 @@
-/* Functions of C's library that give a result by a pointer, and those that count on from a number of the library's own. */
+/* Functions of C's library that give a result by a pointer, and those that count on from a number of the library's own. They
+   are weak: a program may have one of its own by such a name, which isn't led through here. */
 #define _GNU_SOURCE
 #include <math.h>
 #include <stdlib.h>
@@ -12,7 +13,7 @@
 
 /* What it gives by a pointer is written after the call. */
 #define GIVES(type, name, parameters, result, ...)     \
-    type __real_##name parameters;                     \
+    __attribute__((weak)) type __real_##name parameters;                     \
     type __wrap_##name parameters {                    \
         type given = __real_##name(__VA_ARGS__);       \
         writes(result, sizeof *(result), PLACE);       \
@@ -29,7 +30,7 @@ GIVES(int, clock_gettime, (clockid_t clock, struct timespec *now), now, clock, n
 GIVES(struct tm *, localtime_r, (const time_t *of, struct tm *parts), parts, of, parts)
 GIVES(struct tm *, gmtime_r, (const time_t *of, struct tm *parts), parts, of, parts)
 
-int __real_gettimeofday(struct timeval *, void *);
+__attribute__((weak)) int __real_gettimeofday(struct timeval *, void *);
 int __wrap_gettimeofday(struct timeval *now, void *zone) {
     int status = __real_gettimeofday(now, zone);
     writes(now, sizeof *now, PLACE);
@@ -37,7 +38,7 @@ int __wrap_gettimeofday(struct timeval *now, void *zone) {
 }
 
 #define GIVES_TWO(name, type)                              \
-    void __real_##name(type, type *, type *);              \
+    __attribute__((weak)) void __real_##name(type, type *, type *);              \
     void __wrap_##name(type of, type *sine, type *cosine) {\
         __real_##name(of, sine, cosine);                   \
         writes(sine, sizeof *sine, PLACE);                 \
@@ -49,7 +50,7 @@ GIVES_TWO(sincosf, float)
 /* ---- random numbers */
 
 /* The caller's number is read, and the next one left there. */
-int __real_rand_r(unsigned *);
+__attribute__((weak)) int __real_rand_r(unsigned *);
 int __wrap_rand_r(unsigned *seed) {
     reads(seed, sizeof *seed, PLACE);
     int given = __real_rand_r(seed);
@@ -57,7 +58,7 @@ int __wrap_rand_r(unsigned *seed) {
     return given;
 }
 
-double __real_erand48(unsigned short[3]);
+__attribute__((weak)) double __real_erand48(unsigned short[3]);
 double __wrap_erand48(unsigned short seed[3]) {
     reads(seed, 3 * sizeof *seed, PLACE);
     double given = __real_erand48(seed);
@@ -78,7 +79,7 @@ static void count_on(uint64_t place) {
 }
 
 #define COUNTS_ON(type, name, parameters, ...)     \
-    type __real_##name parameters;                 \
+    __attribute__((weak)) type __real_##name parameters;                 \
     type __wrap_##name parameters {                \
         count_on(PLACE);                           \
         return __real_##name(__VA_ARGS__);         \

@@ -39,8 +39,9 @@ RUNTIME_CALLS = ["omp_task_alloc", "omp_task", "omp_task_with_deps", "omp_task_b
 OTHER_CALLS = ["omp_get_thread_num", "omp_set_num_threads", "omp_alloc", "omp_calloc", "omp_aligned_alloc",
                "omp_aligned_calloc", "omp_realloc", "omp_free",
                "malloc", "calloc", "realloc", "reallocarray", "aligned_alloc", "posix_memalign", "memalign", "valloc",
-               "free", "mmap", "mmap64", "munmap", "memcpy", "memmove", "memset", "strcpy", "stpcpy", "strcat", "strncpy", "strncat", "strlen", "atoi",
-               "atol", "atof", "strtol", "strtoul", "strtoll", "strtoull", "strtod", "strchr", "strrchr", "strcmp", "strcasecmp", "strstr",
+               "free", "mmap", "mmap64", "munmap", "memcpy", "memmove", "memset", "strcpy", "stpcpy", "strcat", "strncpy",
+               "strncat", "strlen", "atoi", "atol", "atof", "strtol", "strtoul", "strtoll", "strtoull", "strtod", "strchr",
+               "strrchr", "strcmp", "strcasecmp", "strstr",
                "strncmp", "memcmp", "strdup", "strndup", "qsort", "bsearch", "printf", "fprintf", "sprintf", "snprintf",
                "puts", "fputs", "fgets", "fread", "fwrite", "strpbrk", "strspn", "strcspn", "strtok", "strtok_r", "memchr",
                "vprintf", "vfprintf", "vsprintf", "vsnprintf", "sscanf", "scanf", "fscanf", "__isoc99_sscanf",
@@ -48,14 +49,14 @@ OTHER_CALLS = ["omp_get_thread_num", "omp_set_num_threads", "omp_alloc", "omp_ca
                "pthread_mutex_lock", "pthread_mutex_trylock", "pthread_mutex_timedlock", "pthread_mutex_unlock",
                "pthread_spin_lock", "pthread_spin_trylock", "pthread_spin_unlock", "pthread_rwlock_rdlock",
                "pthread_rwlock_tryrdlock", "pthread_rwlock_wrlock", "pthread_rwlock_trywrlock", "pthread_rwlock_unlock",
-               "sem_post", "sem_wait", "sem_trywait", "sem_timedwait", "pthread_cond_signal", "pthread_cond_broadcast",
-               "pthread_cond_wait", "pthread_cond_timedwait", "pthread_barrier_wait",
-               "frexp", "frexpf", "modf", "modff", "remquo", "lgamma_r", "time", "clock_gettime", "localtime_r", "gmtime_r",
-               "gettimeofday", "sincos", "sincosf", "rand_r", "erand48", "rand", "random", "drand48", "lrand48", "mrand48",
-               "srand", "srandom", "srand48",
+               "sem_post", "sem_wait", "sem_trywait", "sem_timedwait", "pthread_barrier_wait",
                "pthread_mutex_clocklock", "pthread_rwlock_timedwrlock", "pthread_rwlock_clockwrlock",
-               "pthread_rwlock_timedrdlock", "pthread_rwlock_clockrdlock", "pthread_cond_clockwait",
+               "pthread_rwlock_timedrdlock", "pthread_rwlock_clockrdlock",
                "pthread_once", "__cxa_guard_acquire", "__cxa_guard_release"]
+# A program may have one of its own by such a name.
+NUMBER_CALLS = ["frexp", "frexpf", "modf", "modff", "remquo", "lgamma_r", "time", "clock_gettime", "localtime_r", "gmtime_r",
+                "gettimeofday", "sincos", "sincosf", "rand_r", "erand48", "rand", "random", "drand48", "lrand48", "mrand48",
+                "srand", "srandom", "srand48"]
 OPERATORS = ["_Znwm", "_Znam", "_ZnwmRKSt9nothrow_t", "_ZnamRKSt9nothrow_t", "_ZnwmSt11align_val_t",
              "_ZnamSt11align_val_t", "_ZdlPv", "_ZdaPv", "_ZdlPvm", "_ZdaPvm", "_ZdlPvRKSt9nothrow_t",
              "_ZdaPvRKSt9nothrow_t", "_ZdlPvSt11align_val_t", "_ZdaPvSt11align_val_t", "_ZdlPvmSt11align_val_t",
@@ -238,9 +239,20 @@ def compile_options(words):
     return options
 
 
-def wraps():
-    """The linker's words by which calls are led through the recorder."""
+def defined_in(words):
+    """The functions that the object files and archives among these define."""
+    objects = [word for word in words if word.endswith((".o", ".a")) and os.path.exists(word)]
+    if not objects:
+        return set()
+    listed = subprocess.run(["nm", "--defined-only", *objects], capture_output=True, text=True, check=False).stdout
+    return {line.split()[-1] for line in listed.splitlines() if " T " in line}
+
+
+def wraps(words):
+    """The linker's words by which the calls of what these link are led through the recorder."""
+    own = defined_in(words)
     names = ["__kmpc_" + name for name in RUNTIME_CALLS] + OTHER_CALLS + OPERATORS
+    names += [name for name in NUMBER_CALLS if name not in own]
     return [f"-Wl,--wrap={name}" for name in names]
 
 
@@ -324,9 +336,10 @@ def inputs_of(words):
 def link_program(compiler, driver, linking, words, folder):
     """Links these; a shared library has its calls led through the recorder that the program has."""
     if "-shared" in words:
-        return subprocess.run([driver, "-fopenmp", *linking, *wraps()], check=False).returncode
+        return subprocess.run([driver, "-fopenmp", *linking, *wraps(linking)], check=False).returncode
     parts = recorder_objects(compiler, PARTS) + list_of_unseen(compiler, unseen_objects(words), folder)
-    return subprocess.run([driver, "-fopenmp", "-rdynamic", *linking, *parts, *wraps(), *runtime_of(compiler), "-lm"],
+    return subprocess.run([driver, "-fopenmp", "-rdynamic", *linking, *parts, *wraps(linking), *runtime_of(compiler),
+                           "-Wl,--no-as-needed", "-lm"],
                           check=False).returncode
 
 
