@@ -4,15 +4,17 @@ from bisect import bisect_left
 from collections import Counter
 
 from . import trace as t
-from .actors import Step
+from .actors import Access, Actor, Run, Step
 
+# A granule, and the accesses to it with the bytes that each touches.
+Lifetime = tuple[int, list[tuple[Access, int]]]
 GRANULE = 8
 
 
 class Quiet:
     """When the root is alone: no task was made since all that there were had ended."""
 
-    def __init__(self, run):
+    def __init__(self, run: Run) -> None:
         made = [(task.steps_stamp, task) for task in made_tasks(run)]
         # A region inside another one ends its own tasks alone.
         closes = [phase.closed for region, phase in run.phases
@@ -33,17 +35,17 @@ class Quiet:
             self._ends.append((begin, float("inf")))
         self._begins = [begin for begin, _ in self._ends]
 
-    def is_before_all(self, stamp):
+    def is_before_all(self, stamp: int) -> bool:
         """Whether it is in front of the first task: what was stored there is what cells begin with."""
         return not self._begins or stamp < self._begins[0]
 
-    def at(self, stamp):
+    def at(self, stamp: int) -> bool:
         """Whether the root is alone then."""
         at = bisect_left(self._begins, stamp) - 1
         return at < 0 or stamp > self._ends[at][1]
 
 
-def made_tasks(run):
+def made_tasks(run: Run) -> list[Actor]:
     """The actors that have a task of their own, each with the stamp at which it was made."""
     found = []
     for home in all_homes(run):
@@ -54,7 +56,7 @@ def made_tasks(run):
     return found
 
 
-def all_homes(run):
+def all_homes(run: Run) -> list[Actor]:
     """The actors that keep their steps."""
     parts = [part for _, phase in run.phases for part in phase.active if part.home is None]
     return [run.root, *run.tasks.values(), *parts]
@@ -63,7 +65,7 @@ def all_homes(run):
 class Cell:
     """One cell: an address, how many others were touched alike, and its first number."""
 
-    def __init__(self, number, address):
+    def __init__(self, number: int, address: int) -> None:
         self.number = number
         self.address = address
         self.alike = 1
@@ -73,7 +75,7 @@ class Cell:
 class Memory:
     """The cells of a run; the actors get their loads and stores."""
 
-    def __init__(self, run):
+    def __init__(self, run: Run) -> None:
         self.run = run
         self.counts = Counter()
         self.cells = []
@@ -88,7 +90,7 @@ class Memory:
                 self._take(address, atom)
         self._finish()
 
-    def _accesses(self):
+    def _accesses(self) -> list[Access]:
         """The accesses that count, each with the actor that it belongs to."""
         homes = {}
         found = []
@@ -105,7 +107,7 @@ class Memory:
             found.append(access)
         return found
 
-    def _shared(self, accesses):
+    def _shared(self, accesses: list[Access]) -> list[int]:
         """The granules that two actors touch and one writes, sorted."""
         touched, written = {}, set()
         for access in accesses:
@@ -130,7 +132,7 @@ class Memory:
             sum(1 for granule in shared if granule not in written)
         return [granule for granule in shared if granule in written]
 
-    def _lifetimes(self, accesses):
+    def _lifetimes(self, accesses: list[Access]) -> list[Lifetime]:
         """For each shared granule its accesses, as (access, bytes) in lists, one for each time that it was new."""
         shared = self._shared(accesses)
         member = set(shared)
@@ -156,7 +158,7 @@ class Memory:
                 current.setdefault(granule, []).append((access, mask_of(granule, access)))
         return done + list(current.items())
 
-    def _take(self, address, accesses):
+    def _take(self, address: int, accesses: list[Access]) -> None:
         """Makes a cell of an atom, or one with those that were touched alike."""
         loud = [access for access in accesses if not access.quiet]
         if len({access.home for access in loud}) < 2 or not any(access.is_write for access in loud):
@@ -180,7 +182,7 @@ class Memory:
             cell.alike += 1
         self.cell_at.setdefault(address, cell)
 
-    def _finish(self):
+    def _finish(self) -> None:
         """Gives the actors their loads and stores."""
         for cell, kept in self._alike.values():
             while kept[0].is_write and self._quiet.is_before_all(kept[0].stamp):
@@ -195,7 +197,7 @@ class Memory:
         for actor in all_homes(self.run):
             actor.steps.sort(key=lambda step: step[:2])
 
-    def _spread(self, cell, kept):
+    def _spread(self, cell: Cell, kept: list[Access]) -> None:
         """Several cells for a place that some touch under a lock, so that two steps meet in a cell exactly where no
         lock keeps them apart: a guarded write loads the place's cell, which the others store, and stores one that
         belongs to its actor and lock, which those load that it isn't kept apart from."""
@@ -218,42 +220,42 @@ class Memory:
                 add_step(access, owned[access.home, access.locks, access.mark][1], True)
 
 
-def is_guarded(access):
+def is_guarded(access: Access) -> bool:
     """Whether a lock is held, or the operation is atomic."""
     return bool(access.locks or access.mark & t.ATOMIC)
 
 
-def are_kept_apart(one, other):
+def are_kept_apart(one: Access, other: Access) -> bool:
     """Whether a lock or atomic operations keep two accesses apart: the notation doesn't say so."""
     return bool(one.locks & other.locks or one.mark & other.mark & t.ATOMIC)
 
 
-def add_step(access, cell, is_store):
+def add_step(access: Access, cell: Cell, is_store: bool) -> None:
     """Gives the access's actor a load or a store of the cell."""
     mark = access.mark | (t.WRITES if access.is_write else 0)
     access.home.steps.append((access.stamp, 0, Step("store" if is_store else "load", access.place, cell=cell,
                                                     value=access.value, mark=mark)))
 
 
-def granules(address, size):
+def granules(address: int, size: int) -> range:
     """The places of eight bytes that these bytes are in."""
     return range(address >> 3, address + size + GRANULE - 1 >> 3)
 
 
-def between(known, low, high):
+def between(known: list[int], low: int, high: int) -> list[int]:
     """Those of the sorted granules from `low` on that are below `high`."""
     first = bisect_left(known, low)
     return known[first:bisect_left(known, high, first)]
 
 
-def mask_of(granule, access):
+def mask_of(granule: int, access: Access) -> int:
     """Which bytes of the granule an access touches, as bits."""
     begin = access.address - granule * GRANULE
     end = begin + (access.size or 1)
     return (1 << (end if end < GRANULE else GRANULE)) - (1 << (begin if begin > 0 else 0))
 
 
-def atoms(lifetime):
+def atoms(lifetime: Lifetime) -> list[tuple[int, list[Access]]]:
     """The granule's pieces that each access touches whole or not at all: (address, accesses)."""
     granule, entries = lifetime
     masks = sorted({mask for _, mask in entries})
@@ -268,12 +270,12 @@ def atoms(lifetime):
     return pieces
 
 
-def lowest(mask):
+def lowest(mask: int) -> int:
     """The lowest bit that is set."""
     return (mask & -mask).bit_length() - 1
 
 
-def without_repeats(accesses):
+def without_repeats(accesses: list[Access]) -> list[Access]:
     """One of each kind and place in a row of accesses by one actor between two of its other steps; the root's reads
     while it is alone go too. A store that is kept has the last number of those it stands for."""
     kept, row, seen = [], None, {}
