@@ -25,17 +25,18 @@ class Actor:
         self.number = number    # the recorder's number of its task
         self.place = place      # the directive that made it
         self.parent = parent
-        self.items = []         # (address, bits of the type)
-        self.lengths = []       # of the items, in bytes
+        self.items: list[tuple[int, int]] = []     # (address, bits of the type)
+        self.lengths: list[int] = []       # of the items, in bytes
         self.deferred = True
         self.final = False
-        self.started = None     # stamps
-        self.ended = None
-        self.steps = []         # (stamp, turn, Step)
-        self.home = None        # whom its steps belong to, where it has no task of its own
+        self.started: int | None = None     # stamps
+        self.ended: int | None = None
+        self.steps: list[tuple[int, int, Step]] = []     # (stamp, turn, Step)
+        self.home: Actor | None = None      # whom its steps belong to, where it has no task of its own
         self.is_part = False    # of a parallel region
         self.children = 0
-        self.name = None
+        self.name = ""
+        self.made = 0           # the stamp of the statement that makes it
 
     def whose(self) -> "Actor":
         """The actor whose steps its steps are."""
@@ -46,7 +47,7 @@ class Actor:
 
     def is_under(self, other: "Actor") -> bool:
         """Whether it is this one or a descendant of it."""
-        actor = self
+        actor: Actor | None = self
         while actor is not None and actor is not other:
             actor = actor.parent.whose() if actor.parent else None
         return actor is other
@@ -73,8 +74,9 @@ class Phase:
 
     def __init__(self, opened: int) -> None:
         self.opened = opened
-        self.closed = None
-        self.parts = {}
+        self.closed: int | None = None
+        self.parts: dict[int, Actor] = {}
+        self.active: list[Actor] = []     # the parts that do something
 
 
 class Region:
@@ -104,6 +106,9 @@ class Access:
         self.actor = actor
         self.is_write = kind == t.WRITE
         self.locks = locks
+        self.home = actor
+        self.quiet = False
+        self.segment = 0
         self.low = self.address >> 3
         self.high = self.address + (self.size or 1) + 7 >> 3
 
@@ -113,20 +118,20 @@ class Run:
 
     def __init__(self, trace: t.Trace) -> None:
         self.root = Actor(0)
-        self.tasks = {}        # explicit tasks by their numbers
-        self.regions = {}
-        self.accesses = []
-        self.memory = []       # (stamp, address, size): new from there on
-        self.copies = {}       # copies of reduced variables: address, size
-        self.counts = Counter()
+        self.tasks: dict[int, Actor] = {}        # explicit tasks by their numbers
+        self.regions: dict[int, Region] = {}
+        self.accesses: list[Access] = []
+        self.memory: list[tuple[float, int, int]] = []       # (stamp, address, size): new from there on
+        self.copies: dict[int, int] = {}       # copies of reduced variables: address, size
+        self.counts: Counter[str] = Counter()
         self._now = {0: self.root}     # the actor that each number stands for now
-        self._implicit = {}            # number: (region, phase)
-        self._busy = set()             # the numbers that have touched memory since their last barrier
-        self._locks = {}
-        self._wait_items = {}
-        self._blocks = {}      # the sizes of blocks, by their addresses
-        self._sizes = {}
-        self._numbers = {}     # what each task touched last at each place, for those of which only the first's is known
+        self._implicit: dict[int, tuple[Region, int]] = {}     # number: (region, phase)
+        self._busy: set[int] = set()   # the numbers that have touched memory since their last barrier
+        self._locks: dict[int, frozenset[int]] = {}
+        self._wait_items: dict[int, list[tuple[int, int]]] = {}
+        self._blocks: dict[int, int] = {}      # the sizes of blocks, by their addresses
+        self._sizes: dict[int, int] = {}
+        self._numbers: dict[tuple[int, int], int] = {}     # what each task touched last at each place, for those of which only the first's is known
         handlers = self._handlers()
         for event in trace.events:
             handler = handlers.get(event.kind)
@@ -205,7 +210,7 @@ class Run:
         if region is None:
             self._now[event.task] = self.root
             return
-        self._implicit[event.task] = [region, 0]
+        self._implicit[event.task] = (region, 0)
         self._now[event.task] = self._part(region, 0, event)
 
     def _part(self, region: Region, phase: int, event: t.Event) -> Actor:
@@ -229,7 +234,7 @@ class Run:
         if region.phases[phase].closed is None:
             region.phases[phase].closed = event.stamp
             region.phases.append(Phase(event.stamp))
-        self._implicit[event.task][1] = phase + 1
+        self._implicit[event.task] = (region, phase + 1)
         self._now[event.task] = self._part(region, phase + 1, event)
 
     # ---- memory
@@ -318,7 +323,9 @@ def elements(event: t.Event, number: int = 0) -> Sequence[t.Event]:
 
 def shared_accesses(run: Run) -> list[Access]:
     """The accesses to memory that two actors touch and one writes, eight bytes taken together."""
-    first, shared, written = {}, set(), set()
+    first: dict[int, Actor] = {}
+    shared: set[int] = set()
+    written: set[int] = set()
     for access in run.accesses:
         if access.actor is run.root or access.size > LARGE:
             continue

@@ -12,14 +12,14 @@ TASK_CLAUSES = re.compile(r"#\s*pragma\s+omp\s+task\b")
 
 def branch(actor: Actor, ancestor: Actor) -> Actor:
     """The child of the ancestor that the actor is or comes from."""
-    while actor.parent is not ancestor:
+    while actor.parent and actor.parent is not ancestor:
         actor = actor.parent
     return actor
 
 
 def common(first: Actor, second: Actor) -> Actor:
     """The innermost actor that both are or come from."""
-    while not second.is_under(first):
+    while first.parent and not second.is_under(first):
         first = first.parent
     return first
 
@@ -85,8 +85,9 @@ def depend_words(finding: Finding, race: Race) -> str | None:
     kinds = [kind_of(finding, side) for side in sides]
     known = [item_name(finding, side, race.address) for side in sides]
     for one, other in ((0, 1), (1, 0)):
-        if known[one] and not known[other] and places[0] != places[1]:
-            return (f"add depend({kinds[other]}: {own_name(finding, sides[other], known[one])}) to the task at "
+        name = known[one]
+        if name and not known[other] and places[0] != places[1]:
+            return (f"add depend({kinds[other]}: {own_name(finding, sides[other], name)}) to the task at "
                     f"{places[other]} (so the one at {places[one]} names that place)")
     if known[0] and known[1]:
         return type_words(places, known)

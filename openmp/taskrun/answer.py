@@ -85,7 +85,8 @@ def writes_of(race: Race) -> int:
 def gather(finding: Finding, races: Iterable[Race]) -> list[Report]:
     """The reports, in the order in which their first races came: one for each pair of lines, and of these one for what
     the same advice mends."""
-    by_lines, by_advice = {}, {}
+    by_lines: dict[frozenset[str], Report] = {}
+    by_advice: dict[tuple[str, str], Report] = {}
     for race in races:
         key = frozenset((finding.line_of(race.earlier), finding.line_of(race.later)))
         if key in by_lines:
@@ -112,9 +113,10 @@ def step_words(finding: Finding, race: Race, side: Side) -> str:
 
 def part_of_block(race: Race, side: Side) -> str:
     """`element 12 of the array`, or which byte where the elements aren't one behind the other."""
-    number, rest = divmod(race.block["offset"], side.size or 1)
+    block = race.block or {"offset": 0}
+    number, rest = divmod(block["offset"], side.size or 1)
     is_element = rest == 0 and side.size in (1, 2, 4, 8, 16)
-    return f"element {number} of the array" if is_element else f"byte {race.block['offset']} of the block"
+    return f"element {number} of the array" if is_element else f"byte {block['offset']} of the block"
 
 
 def who_words(finding: Finding, race: Race) -> str:

@@ -15,19 +15,21 @@ class Quiet:
     """When the root is alone: no task was made since all that there were had ended."""
 
     def __init__(self, run: Run) -> None:
-        made = [(task.steps_stamp, task) for task in made_tasks(run)]
+        made = [(task.made, task) for task in made_tasks(run)]
         # A region inside another one ends its own tasks alone.
         closes = [phase.closed for region, phase in run.phases
                   if phase.closed is not None and region.meeting is run.root]
         waits = [stamp for stamp, _, step in run.root.steps if step.kind == "taskwait" and not step.items]
-        self._ends = []  # (from, to): not alone
-        begin, nested = None, False
-        happenings = sorted([(stamp, 0, task) for stamp, task in made] + [(stamp, 1, None) for stamp in closes]
-                            + [(stamp, 2, None) for stamp in waits], key=lambda entry: entry[:2])
+        self._ends: list[tuple[int, float]] = []  # (from, to): not alone
+        begin: int | None = None
+        nested = False
+        happenings: list[tuple[int, int, Actor | None]] = [(stamp, 0, task) for stamp, task in made]
+        happenings += [(stamp, 1, None) for stamp in closes] + [(stamp, 2, None) for stamp in waits]
+        happenings.sort(key=lambda entry: entry[:2])
         for stamp, what, task in happenings:
             if what == 0:
                 begin = stamp if begin is None else begin
-                nested = nested or task.parent.whose() is not run.root
+                nested = nested or maker_of(task) is not run.root
             elif begin is not None and (what == 1 or not nested):
                 self._ends.append((begin, stamp))
                 begin, nested = None, False
@@ -45,13 +47,18 @@ class Quiet:
         return at < 0 or stamp > self._ends[at][1]
 
 
+def maker_of(task: Actor | None) -> Actor | None:
+    """Whose statement makes the task."""
+    return task.parent.whose() if task and task.parent else None
+
+
 def made_tasks(run: Run) -> list[Actor]:
     """The actors that have a task of their own, each with the stamp at which it was made."""
     found = []
     for home in all_homes(run):
         for stamp, _, step in home.steps:
             if step.child is not None:
-                step.child.steps_stamp = stamp
+                step.child.made = stamp
                 found.append(step.child)
     return found
 
@@ -77,10 +84,10 @@ class Memory:
 
     def __init__(self, run: Run) -> None:
         self.run = run
-        self.counts = Counter()
-        self.cells = []
-        self.cell_at = {}      # the first cell of an address
-        self._alike = {}       # (cell, entries) by what touched it
+        self.counts: Counter[str] = Counter()
+        self.cells: list[Cell] = []
+        self.cell_at: dict[int, Cell] = {}      # the first cell of an address
+        self._alike: dict[tuple[object, ...], tuple[Cell, list[Access]]] = {}      # (cell, entries) by what touched it
         self._quiet = Quiet(run)
         self._stamps = {actor: sorted(stamp for stamp, _, _ in actor.steps) for actor in all_homes(run)}
         self._copies = {granule for address, size in run.copies.items() for granule in granules(address, size)}
@@ -92,7 +99,7 @@ class Memory:
 
     def _accesses(self) -> list[Access]:
         """The accesses that count, each with the actor that it belongs to."""
-        homes = {}
+        homes: dict[Actor, Actor] = {}
         found = []
         root = self.run.root
         for access in self.run.accesses:
@@ -109,7 +116,8 @@ class Memory:
 
     def _shared(self, accesses: list[Access]) -> list[int]:
         """The granules that two actors touch and one writes, sorted."""
-        touched, written = {}, set()
+        touched: dict[int, Actor | None] = {}
+        written: set[int] = set()
         for access in accesses:
             if access.quiet or access.mark & t.FREED:
                 continue
@@ -136,14 +144,15 @@ class Memory:
         """For each shared granule its accesses, as (access, bytes) in lists, one for each time that it was new."""
         shared = self._shared(accesses)
         member = set(shared)
-        current, done = {}, []
+        current: dict[int, list[tuple[Access, int]]] = {}
+        done: list[Lifetime] = []
         memory = iter([entry for entry in self.run.memory
                        if between(shared, entry[1] >> 3, entry[1] + entry[2] + 7 >> 3)] + [(float("inf"), 0, 0)])
         stamp, address, size = next(memory)
         for access in accesses:
             low, high = access.low, access.high
             if high == low + 1:
-                touched = (low,) if low in member else ()
+                touched = [low] if low in member else []
             else:
                 touched = between(shared, low, high)
             if not touched:
@@ -173,12 +182,13 @@ class Memory:
         self.counts["repeated accesses"] += len(accesses) - len(kept)
         key = tuple((id(access.home), access.segment, access.is_write, access.place, access.mark, access.locks)
                     for access in kept)
-        cell, _ = self._alike.get(key, (None, None))
-        if cell is None:
+        known = self._alike.get(key)
+        if known is None:
             cell = Cell(len(self.cells), address)
             self.cells.append(cell)
             self._alike[key] = (cell, kept)
         else:
+            cell = known[0]
             cell.alike += 1
         self.cell_at.setdefault(address, cell)
 
@@ -195,7 +205,7 @@ class Memory:
             for access in kept:
                 add_step(access, cell, access.is_write)
         for actor in all_homes(self.run):
-            actor.steps.sort(key=lambda step: step[:2])
+            actor.steps.sort(key=in_turn)
 
     def _spread(self, cell: Cell, kept: list[Access]) -> None:
         """Several cells for a place that some touch under a lock, so that two steps meet in a cell exactly where no
@@ -218,6 +228,11 @@ class Memory:
                     add_step(access, own, False)
             if access.is_write:
                 add_step(access, owned[access.home, access.locks, access.mark][1], True)
+
+
+def in_turn(step: tuple[int, int, Step]) -> tuple[int, int]:
+    """By what an actor's steps are in order."""
+    return step[:2]
 
 
 def is_guarded(access: Access) -> bool:
@@ -278,7 +293,9 @@ def lowest(mask: int) -> int:
 def without_repeats(accesses: list[Access]) -> list[Access]:
     """One of each kind and place in a row of accesses by one actor between two of its other steps; the root's reads
     while it is alone go too. A store that is kept has the last number of those it stands for."""
-    kept, row, seen = [], None, {}
+    kept: list[Access] = []
+    row: tuple[Actor, int] | None = None
+    seen: dict[tuple[bool, int, frozenset[int]], Access] = {}
     for access in accesses:
         if access.quiet and not access.is_write:
             continue

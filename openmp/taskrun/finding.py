@@ -33,8 +33,8 @@ class Actor:
         self.place = told["place"]
         self.flags = told["flags"]
         self.items = [tuple(item) for item in told["items"]]    # (address, length, bits of the type)
-        self.parent = None
-        self.waits = []     # those that its clauses put right in front of it
+        self.parent: Actor | None = None
+        self.waits: list[Actor] = []     # those that its clauses put right in front of it
 
     @property
     def is_part(self) -> bool:
@@ -48,7 +48,7 @@ class Actor:
 
     def is_under(self, other: "Actor | None") -> bool:
         """Whether it is this one or comes from it."""
-        actor = self
+        actor: Actor | None = self
         while actor is not None and actor is not other:
             actor = actor.parent
         return actor is other
@@ -146,7 +146,8 @@ class Finding:
 
 def without_call(name: str, sources: Sources, place: int) -> str:
     """`all` of `all.push_back`: whose function is called there."""
-    whose, sign, _ = re.match(r"(.*?)(->|\.)?(\w*)$", name).groups()
+    parts = re.match(r"(.*?)(->|\.)?(\w*)$", name)
+    whose, sign = (parts[1], parts[2]) if parts else ("", "")
     if sign and whose and sources.is_call(place):
         return whose
     return name if not sources.is_call(place) else "memory"

@@ -54,7 +54,7 @@ def section(finding: Finding, report: Report) -> str:
 
 def sources(finding: Finding, race: Race) -> str:
     """The lines of the two steps and of their directives, with those around them, file by file."""
-    marks = {}
+    marks: dict[str, dict[int, str]] = {}
     for side in (race.earlier, race.later):
         for place, mark in ((side.actor.place, "directive"), (side.own, "step")):
             found = finding.sources.place(place)
@@ -110,7 +110,7 @@ def draw(finding: Finding, rows: list[list[Actor]], racing: tuple[Actor, Actor],
         for other in actor.waits:
             if other in at:
                 parts.append(line(at[other], at[actor], "#222"))
-        if actor.parent in at:
+        if actor.parent and actor.parent in at:
             parts.append(line(at[actor.parent], at[actor], "#bbb"))
     if ends[0] is not ends[1]:
         parts.append(line(at[ends[0]], at[ends[1]], "#c0392b", "5 4"))

@@ -51,10 +51,10 @@ class Session:
         self.run = Run(trace)
         self.memory = Memory(self.run)
         self.sources = Sources(trace.program, {event.place for event in trace.events})
-        self._remarks = []
+        self._remarks: list[str] = []
         self.counts = Counter(self.run.counts) + Counter(self.memory.counts)
         self.actors = all_homes(self.run)
-        self._item_cells = {}
+        self._item_cells: dict[int, int] = {}
         self._cell_count = len(self.memory.cells)
         self._number_items()
         self._name_actors()
@@ -114,7 +114,7 @@ class Session:
 
     def _identify(self) -> dict[str, Taken]:
         """The steps' identifiers, as `0.1#3`: the third step of task 0.1."""
-        numbers = Counter()
+        numbers: Counter[str] = Counter()
         found = {}
         for taken in self.taken:
             numbers[taken.actor.name] += 1
@@ -129,7 +129,7 @@ class Session:
 
     def describe(self, taken: Taken) -> str:
         """What a step did, by its source line."""
-        if taken.what in ("load", "store"):
+        if taken.step and taken.what in ("load", "store"):
             mark = taken.step.mark
             done = "frees" if mark & FREED else "writes" if mark & WRITES else "reads"
             return f"{self.line_of(taken.step.place)} {done} {self.sources.expression(taken.step.place)}"
@@ -140,7 +140,7 @@ class Session:
 
     def item_words(self, items: Items) -> list[Word]:
         """` depend TYPE CELL` for each item."""
-        words = []
+        words: list[Word] = []
         for address, bits in items:
             if bits & ALL_MEMORY:
                 words += ["depend", "inout", "all"]
@@ -210,25 +210,25 @@ class Bodies:
 
     def __init__(self, session: Session) -> None:
         self._session = session
-        self._calls = {}       # actor: the words that call it, (kind, number) where a number stands
-        self._names = Counter()
-        self.texts = []
+        self._calls: dict[Actor, list[Word]] = {}       # actor: the words that call it, (kind, number) where a number stands
+        self._names: Counter[str] = Counter()
+        self.texts: list[list[str]] = []
         for actors in self._by_height():
             self._make(actors)
 
     def _by_height(self) -> list[list[Actor]]:
-        heights = {}
-        order = sorted(self._session.actors, key=lambda actor: -actor.name.count("."))
+        heights: dict[Actor, int] = {}
+        order = sorted(self._session.actors, key=depth_of, reverse=True)
         for actor in order:
             below = [heights[step.child] for _, _, step in actor.steps if step.child is not None]
             heights[actor] = 1 + max(below, default=-1)
-        rows = {}
+        rows: dict[int, list[Actor]] = {}
         for actor in self._session.actors:
             rows.setdefault(heights[actor], []).append(actor)
         return [rows[height] for height in sorted(rows)]
 
     def _make(self, actors: list[Actor]) -> None:
-        shapes = {}
+        shapes: dict[tuple[int, tuple[Statement, ...]], list[Member]] = {}
         for actor in actors:
             statements = [self._statement(step) for _, _, step in actor.steps]
             shape, numbers = shape_of(statements)
@@ -264,13 +264,13 @@ class Bodies:
         """(words, comment)."""
         session = self._session
         where = session.line_of(step.place) if step.place else ""
-        if step.kind == "task":
-            words = ["task", *self._calls[step.child], *session.item_words(step.child.items)]
+        if step.child:
+            words: list[Word] = ["task", *self._calls[step.child], *session.item_words(step.child.items)]
             return words + ([] if step.child.deferred else ["if", "0", "==", "1"]), where
         if step.kind == "taskwait":
             return ["taskwait", *session.item_words(step.items)], where
-        if step.kind in ("load", "store"):
-            done = session.describe(Taken(None, step.kind, step, 0))
+        if step.cell:
+            done = session.describe(Taken(session.run.root, step.kind, step, 0))
             more = f" and {step.cell.alike - 1} more" if step.cell.alike > 1 else ""
             cell = ("cell", step.cell.number)
             words = ["load", "r15", cell] if step.kind == "load" else ["store", cell, ("value", step.value)]
@@ -295,6 +295,11 @@ class Bodies:
         return [line for text in reversed(self.texts) for line in text]
 
 
+def depth_of(actor: Actor) -> int:
+    """How many made each other on the way to it."""
+    return actor.name.count(".")
+
+
 def flat(statements: Iterable[Statement]) -> list[Word]:
     """The statements as one list of words."""
     return [word for words, comment in statements for word in (*words, comment)]
@@ -303,14 +308,16 @@ def flat(statements: Iterable[Statement]) -> list[Word]:
 def shape_of(statements: Iterable[Statement]) -> tuple[tuple[Statement, ...], list[Word]]:
     """The statements with registers in place of their numbers, and these numbers: a cell has one register each time
     that it is named, a number that is stored has one of its own."""
-    registers, numbers, shape = {}, [], []
+    registers: dict[tuple[object, ...], str] = {}
+    numbers: list[Word] = []
+    shape: list[Statement] = []
     for words, comment in statements:
-        shaped = []
+        shaped: list[Word] = []
         for word in words:
             if not isinstance(word, tuple):
                 shaped.append(word)
                 continue
-            key = word if word[0] == "cell" else (len(numbers),)
+            key: tuple[object, ...] = word if word[0] == "cell" else (len(numbers),)
             if key not in registers:
                 registers[key] = f"r{len(numbers)}"
                 numbers.append(word)

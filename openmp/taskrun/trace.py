@@ -96,7 +96,7 @@ class Trace:
 
 def in_order(events: list[Event]) -> list[Event]:
     """The events of each thread in its order: its first piece, which it fills again and again, has its newest ones."""
-    threads = {}
+    threads: dict[int | None, list[list[Event]]] = {}
     for begin in range(0, len(events), PIECE):
         piece = events[begin:begin + PIECE]
         end = next((number for number, event in enumerate(piece) if event.kind == 0), len(piece))
