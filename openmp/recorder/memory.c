@@ -84,7 +84,8 @@ typedef uintptr_t kind_of_memory;
 ALLOCATES(omp_alloc, (size_t size, kind_of_memory kind), size, size, kind)
 ALLOCATES(omp_calloc, (size_t count, size_t size, kind_of_memory kind), count * size, count, size, kind)
 ALLOCATES(omp_aligned_alloc, (size_t align, size_t size, kind_of_memory kind), size, align, size, kind)
-ALLOCATES(omp_aligned_calloc, (size_t align, size_t count, size_t size, kind_of_memory kind), count * size, align, count, size, kind)
+ALLOCATES(omp_aligned_calloc, (size_t align, size_t count, size_t size, kind_of_memory kind), count * size, align, count,
+          size, kind)
 ALLOCATES(__kmpc_alloc, (int32_t thread, size_t size, kind_of_memory kind), size, thread, size, kind)
 ALLOCATES(__kmpc_aligned_alloc, (int32_t thread, size_t align, size_t size, kind_of_memory kind), size, thread, align, size, kind)
 

@@ -131,7 +131,8 @@ class Run:
         self._wait_items: dict[int, list[tuple[int, int]]] = {}
         self._blocks: dict[int, int] = {}      # the sizes of blocks, by their addresses
         self._sizes: dict[int, int] = {}
-        self._numbers: dict[tuple[int, int], int] = {}     # what each task touched last at each place, for those of which only the first's is known
+        # What each task touched last at each place, for those of which only the first's is known.
+        self._numbers: dict[tuple[int, int], int] = {}
         handlers = self._handlers()
         for event in trace.events:
             handler = handlers.get(event.kind)
