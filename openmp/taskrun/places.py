@@ -185,7 +185,7 @@ def expression_at(line: str, column: int) -> str:
     if not 0 < column <= len(line):
         return ""
     at = column - 1
-    freed = re.match(r"(?:free|realloc)\s*\(\s*|delete\s*(?:\[\s*\])?\s*", line[at:])
+    freed = re.match(r"(?:omp_)?(?:free|realloc)\s*\(\s*|delete\s*(?:\[\s*\])?\s*", line[at:])
     if freed:
         at += freed.end()
     assigned = re.match(r"(?:[-+*/%&|^]|<<|>>)?=(?!=)|\+\+|--", line[at:])
