@@ -10,6 +10,7 @@ history of a view or of commands is taken off both. With a word, only the sessio
 import os
 import sys
 import tempfile
+from collections.abc import Sequence
 
 from sessions import HALVES, KEPT, SPAWN_ALL, TREE, long_text, program, siblings
 from steps import LOOP
@@ -50,7 +51,7 @@ KINDS = [
 ]
 
 
-def run_once(name, text, folder):
+def run_once(name: str, text: bytes, folder: str) -> tuple[float, float]:
     """The processor time of one run, in seconds, and the most memory, in MB."""
     session = os.path.join(folder, 'session')
     with open(session, 'wb') as kept:
@@ -69,9 +70,9 @@ def run_once(name, text, folder):
     return used.ru_utime + used.ru_stime, used.ru_maxrss / 1024
 
 
-def measure(names, before, text, runs, folder):
+def measure(names: Sequence[str], before: bytes, text: bytes, runs: int, folder: str) -> list[tuple[float, float]]:
     """Of each program the least time of the text, with that of what comes before it taken off, and the most memory."""
-    parts = {name: ([], [], []) for name in names}
+    parts: dict[str, tuple[list[float], list[float], list[float]]] = {name: ([], [], []) for name in names}
     for _ in range(runs):
         for name in names:
             base, times, memories = parts[name]
@@ -82,7 +83,7 @@ def measure(names, before, text, runs, folder):
     return [(min(times) - min(base), max(memories)) for base, times, memories in parts.values()]
 
 
-def main():
+def main() -> None:
     if len(sys.argv) < 3:
         sys.exit(__doc__.strip())
     names = [os.path.abspath(name) for name in sys.argv[1:3]]

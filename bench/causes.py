@@ -9,6 +9,7 @@ the time of the run alone is taken off.
 import os
 import subprocess
 import sys
+from collections.abc import Sequence
 
 # What a loop of the root does each time, and how many steps that makes.
 ROWS = [
@@ -23,14 +24,14 @@ ROWS = [
 ]
 
 
-def session(statements, count):
+def session(statements: Sequence[str], count: int) -> str:
     lines = ['cells 64', 'body main 0', '  let r0 0', '  let r1 0', '  while r0 < %d' % count, *['    ' + line for line in statements],
              '    let r0 r0 + 1', '    let r1 r1 + 1', '    if r1 == 64', '      let r1 0', '    end', '  end', '  taskwait', 'end',
              'body t 1', '  load r1 r0', '  let r1 r1 + 1', '  store r0 r1', 'end', 'body u 0', '  let r0 1', 'end', '---', 'run 1000000']
     return '\n'.join(lines) + '\n'
 
 
-def answered(program, text):
+def answered(program: str, text: str) -> tuple[str, float]:
     """What the program writes, and its processor time."""
     before = os.times()
     told = subprocess.run([program, '--limit', '1000000'], input=text, stdout=subprocess.PIPE, text=True, check=True).stdout
@@ -38,7 +39,7 @@ def answered(program, text):
     return told, after.children_user + after.children_system - before.children_user - before.children_system
 
 
-def main():
+def main() -> None:
     program = os.path.abspath(sys.argv[1])
     sizes = [int(size) for size in sys.argv[2].split(',')] if len(sys.argv) > 2 else [1000, 2000, 10000]
     for name, statements, steps in ROWS:

@@ -12,129 +12,133 @@ import argparse
 import os
 import subprocess
 import tempfile
+from collections.abc import Callable, Sequence
 
 from steps import TOP
 
+# The session of a size.
+OfSize = Callable[[int], bytes]
 
-def program(*lines):
+
+def program(*lines: str) -> bytes:
     return '\n'.join(lines).encode() + b'\n---\n'
 
 
-def loop(count, *body):
+def loop(count: int, *body: str) -> list[str]:
     """Lines that do `body` count times, with r0 from 0 on."""
     return ['let r0 0', 'while r0 < %d' % count, *body, 'let r0 r0 + 1', 'end']
 
 
-def siblings(n, task, body, cells=1):
+def siblings(n: int, task: str, body: Sequence[str], cells: int = 1) -> bytes:
     """A root that generates n tasks and ends, and what each does."""
     return program('cells %d' % cells, 'body main 0', *loop(n, task), 'end', 'body t 0', *body, 'end')
 
 
-def over(n):
+def over(n: int) -> bytes:
     """n siblings without items whose run is over."""
     return siblings(n, 'task t', ['store 0 1']) + b'run 1000000\n'
 
 
-def across(statement, *more):
+def across(statement: str, *more: str) -> OfSize:
     """A root that does `statement` n times between its first store and its last load."""
-    def session(n):
+    def session(n: int) -> bytes:
         return program('cells 1', 'body main 0', 'store 0 1', *loop(n, statement), 'load r1 0', 'end', *more) + b'run 1000000\nwhy 0#%d\n' % (5 + 3 * n)
     return session
 
 
-def deep(task, *around):
+def deep(task: str, *around: str) -> OfSize:
     """A task that generates one like itself, n deep."""
-    def session(n):
+    def session(n: int) -> bytes:
         inner = [*around, task, *(['end'] if around else ['taskwait'])]
         return program('cells 0', 'body main 0', 'task t %d' % n, 'end', 'body t 1', 'if 0 < r0', 'let r1 r0 - 1', *inner, 'end', 'end') + b'run 1000000\n'
     return session
 
 
-def kept(n):
+def kept(n: int) -> bytes:
     """n steps of the least task that can step, after n that it excludes."""
     text = program('cells 1', 'body main 0', *loop(n, 'task t depend mutexinoutset 0'), 'end', 'body t 0', *loop(10 * n), 'end')
     return text + b'run %d\nstep 0.%d\nrun %d\n' % (3 * n + 3 + 1, n, n)
 
 
-def parent(n):
+def parent(n: int) -> bytes:
     """n steps of a task and of the children that it waits for, after n tasks that it excludes."""
     text = program('cells 1', 'body main 0', *loop(n, 'task t depend mutexinoutset 0'), 'end', 'body t 0', *loop(10 * n, 'task c', 'taskwait'), 'end', 'body c 0', 'end')
     return text + b'run %d\nstep 0.%d\nrun %d\n' % (3 * n + 3 + 1, n, n)
 
 
-def waiting(n):
+def waiting(n: int) -> bytes:
     """n steps of one task, after n parents that wait for a child."""
     text = program('cells 0', 'body main 0', *loop(n, 'task p'), 'task c', 'end', 'body p 0', 'task c', 'taskwait', 'end', 'body c 0', *loop(10 * n), 'end')
     starts = b''.join(b'step 0.%d\nstep 0.%d\n' % (k, k) for k in range(1, n + 1))
     return text + b'run %d\n' % (3 * n + 5) + starts + b'step 0.%d\n' % (n + 1) + b'step 0.%d\n' % (n + 1) * n
 
 
-def runs(first, second):
+def runs(first: str, second: str) -> OfSize:
     """n siblings with one type of item on a cell, and n with another."""
-    def session(n):
+    def session(n: int) -> bytes:
         return program('cells 1', 'body main 0', *loop(n, 'task t depend %s 0' % first), *loop(n, 'task t depend %s 0' % second),
                        'end', 'body t 0', 'end') + b'run 1000000\n'
     return session
 
 
-def waits(n):
+def waits(n: int) -> bytes:
     """n waits with items among n siblings that have ended."""
     return program('cells 1', 'body main 0', *loop(n, 'task t depend inout 0'), *loop(n, 'taskwait depend in 0'), 'end', 'body t 0', 'end') + b'run 1000000\n'
 
 
-def refused_waits(n):
+def refused_waits(n: int) -> bytes:
     """n refusals of one wait with an item, among n siblings that haven't ended."""
     text = program('cells 1', 'body main 0', *loop(n, 'task t depend in 0'), 'taskwait depend inout 0', 'end', 'body t 0', 'end')
     return text + b'run %d\n' % (3 * n + 3) + b'step 0\n' * n
 
 
-def nothing(command):
+def nothing(command: bytes) -> OfSize:
     """A command that finds nothing to do, 100 times, after n steps."""
-    def session(n):
+    def session(n: int) -> bytes:
         text = program('cells 2', 'body main 0', 'task t', *loop(n, 'store 0 1'), 'end', 'body t 0', 'end')
         return text + b'step 0\nstep 0\nrun 2\nrun %d\n' % n + command * 100
     return session
 
 
-def each(command):
+def each(command: bytes) -> OfSize:
     """A command on each of n siblings in turn, among all that are over; what it took back is taken again."""
-    def session(n):
+    def session(n: int) -> bytes:
         text = siblings(n, 'task t', ['let r0 1'])
         return text + b'run 1000000\n' + b''.join(command.replace(b'N', b'%d' % k) for k in range(1, n + 1))
     return session
 
 
-def after_each(command):
+def after_each(command: bytes) -> OfSize:
     """A command after each of n stores to one cell; a store that it took back is taken again."""
-    def session(n):
+    def session(n: int) -> bytes:
         text = program('cells 1', 'body main 0', *loop(10 * n, 'store 0 r0'), 'end')
         return text + b'run 3\n' + b''.join(b'run 3\n' + command.replace(b'N', b'%d' % (3 + 3 * k)) for k in range(1, n + 1))
     return session
 
 
-def last_unended(n):
+def last_unended(n: int) -> bytes:
     """n refusals of one wait with an item, of which the last of n children alone keeps it."""
     text = program('cells 1', 'body main 0', *loop(n, 'task t depend in 0'), 'taskwait depend inout 0', 'end', 'body t 0', 'end')
     ends = b''.join(b'step 0.%d\nstep 0.%d\n' % (k, k) for k in range(1, n))
     return text + b'run %d\n' % (3 * n + 3) + ends + b'step 0\n' * n
 
 
-def nested_groups(n):
+def nested_groups(n: int) -> bytes:
     """What the last step needs of n groups, each in the one before it."""
     return deep('task t r1', 'taskgroup')(n) + b'why 0#3\n'
 
 
-def many_items(n):
+def many_items(n: int) -> bytes:
     """n siblings with 64 items each, all at one cell."""
     return siblings(n, 'task t' + ' depend in 0' * 64, ['let r0 1']) + b'run 1000000\n'
 
 
-def workers(session):
+def workers(session: OfSize) -> OfSize:
     """The session with four workers in place of the first run."""
     return lambda n: session(n).replace(b'run 1000000\n', b'go 4 1000000\n')
 
 
-ROWS = [
+ROWS: list[tuple[str, OfSize]] = [
     ('undo among siblings that are over', lambda n: over(n) + b'undo 0.%d#1\n' % n),
     ('rolltask among siblings that are over', lambda n: over(n) + b'rolltask 0.%d\n' % n),
     ('why among siblings that are over', lambda n: over(n) + b'why 0.%d#2\n' % n),
@@ -166,14 +170,15 @@ ROWS = [
     ('why across groups that are nested', nested_groups),
     ('siblings with 64 items at one cell', many_items),
     ('four workers on siblings that exclude each other', workers(lambda n: siblings(n, 'task t depend mutexinoutset 0', ['let r0 1']) + b'run 1000000\n')),
-    ('four workers on siblings that wait for one', workers(lambda n: siblings(n, 'task t depend in 0', ['let r0 1']).replace(b'let r0 0', b'task t depend out 0\nlet r0 0', 1) + b'run 1000000\n')),
+    ('four workers on siblings that wait for one',
+     workers(lambda n: siblings(n, 'task t depend in 0', ['let r0 1']).replace(b'let r0 0', b'task t depend out 0\nlet r0 0', 1) + b'run 1000000\n')),
     ('four workers on a chain', workers(lambda n: siblings(n, 'task t depend inout 0', ['let r0 1']) + b'run 1000000\n')),
     ('four workers on a recursion', workers(deep('task t r1'))),
     ('a counting loop', lambda n: program('cells 0', 'body main 0', *loop(16 * n), 'end') + b'run %d\n' % min(999999, 16 * n)),
 ]
 
 
-def measure(command, text, folder, most):
+def measure(command: Sequence[str], text: bytes, folder: str, most: float) -> tuple[float, float] | None:
     """Seconds of processor time, and the most memory in MB, or nothing where it takes too long."""
     path = os.path.join(folder, 'session')
     with open(path, 'wb') as written:
@@ -184,7 +189,7 @@ def measure(command, text, folder, most):
     return (used.ru_utime + used.ru_stime, used.ru_maxrss / 1024) if status == 0 else None
 
 
-def main():
+def main() -> None:
     args = argparse.ArgumentParser(description=__doc__, formatter_class=argparse.RawDescriptionHelpFormatter)
     args.add_argument('--program', default=os.path.join(TOP, 'crates/taskback/out/taskback'))
     args.add_argument('--seconds', type=float, default=2)
@@ -195,7 +200,9 @@ def main():
         for name, session in ROWS:
             if given.word not in name:
                 continue
-            n, before, said, growth = 1000, None, [], ''
+            n, growth = 1000, ''
+            before: float | None = None
+            said: list[str] = []
             while n <= given.most:
                 found = measure([os.path.abspath(given.program)], session(n), folder, 10 * given.seconds)
                 if not found:

@@ -10,9 +10,11 @@ import argparse
 import os
 import resource
 import subprocess
-import sys
 import threading
 import time
+from collections.abc import Iterator
+from io import BufferedReader
+from typing import IO
 
 TOP = os.path.dirname(os.path.dirname(os.path.abspath(__file__)))
 TEXT = 'cells 0\nbody main 0\ntask t\nend\nbody t 0\ntask t\ntaskwait\nend\n---\n'
@@ -21,7 +23,7 @@ COMMANDS = ['tasks', 'hist', 'ready', 'waits', 'races', 'why 0.1.1#1', 'causes 0
 AFTER = b'cells 0\n'
 
 
-def replies(stream, count):
+def replies(stream: BufferedReader, count: int) -> Iterator[tuple[int, float]]:
     """The bytes of each reply, and when its last one was read."""
     size, rest = 0, b''
     for _ in range(count):
@@ -37,15 +39,21 @@ def replies(stream, count):
         size = 0
 
 
-def measure(program, levels):
+def measure(program: str, levels: int) -> None:
     commands = ['run %d' % (2 * levels + 1), *COMMANDS]
     session = TEXT + ''.join('%s\ncells\n' % command for command in commands)
     began = time.monotonic()
     child = subprocess.Popen([program, '--limit', '1000000'], stdin=subprocess.PIPE, stdout=subprocess.PIPE)
-    feeder = threading.Thread(target=lambda: (child.stdin.write(session.encode()), child.stdin.close()))
+    given, told = child.stdin, child.stdout
+    assert given is not None and isinstance(told, BufferedReader)
+
+    def feed(commands: IO[bytes]) -> None:
+        commands.write(session.encode())
+        commands.close()
+    feeder = threading.Thread(target=feed, args=(given,))
     feeder.start()
     print('%d levels' % levels)
-    for command, (size, now) in zip(commands, replies(child.stdout, len(commands))):
+    for command, (size, now) in zip(commands, replies(told, len(commands))):
         print('  %-18s %12.3f MB %8.2f s' % (command, size / 1e6, now - began), flush=True)
         began = now
     feeder.join()
@@ -53,7 +61,7 @@ def measure(program, levels):
     print('  status %d, %d MB' % (os.waitstatus_to_exitcode(status), used.ru_maxrss // 1024))
 
 
-def main():
+def main() -> None:
     args = argparse.ArgumentParser(description=__doc__, formatter_class=argparse.RawDescriptionHelpFormatter)
     args.add_argument('--program', default=os.path.join(TOP, 'crates/taskback/out/taskback'))
     args.add_argument('levels', nargs='*', type=int, default=[2000, 4000, 8000, 16384])
@@ -65,4 +73,4 @@ def main():
 
 
 if __name__ == '__main__':
-    sys.exit(main())
+    main()

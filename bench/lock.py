@@ -1,7 +1,7 @@
 #!/usr/bin/env python3
 """How long the lock is held a step by a `go` of several workers.
 
-    bench/lock.py [--keep P] [--program P]
+    python3 -m bench.lock [--keep P] [--program P]
 
 The lock is taken in line, so a build without proof is made in which each call under the lock stands in a
 function of its own, and a clock is read at its entry and its return: the sessions are those of
@@ -16,17 +16,18 @@ import shutil
 import subprocess
 import sys
 import tempfile
+from collections.abc import Callable, Iterable, Sequence
+
+from bench import workers
+from tools import build_unproved
 
 TOP = os.path.dirname(os.path.dirname(os.path.abspath(__file__)))
-sys.path[:0] = [os.path.join(TOP, 'tools'), os.path.join(TOP, 'bench')]
-import build_unproved
-import workers
 
 # What a worker does under the lock, by the crate's function; the rest of `Desk` isn't called by a `go`.
 UNDER = re.compile(r'define internal (?P<of>.*?)@"(?P<name>tb_work::desk::Desk::(?:claim|commit_burst|let_go|why|resume_for)::[^"]*)"\((?P<given>.*)\) #0 \{')
 
 
-def wrapper(found):
+def wrapper(found: re.Match[str]) -> str:
     """A function of this name that reads the clock around the one that had it."""
     given = found['given'].split(', ')
     types = [re.sub(r' noundef| %\S+', '', word) for word in given]
@@ -42,7 +43,7 @@ def wrapper(found):
 '''
 
 
-def rewritten(text):
+def rewritten(text: Iterable[str]) -> tuple[str, int]:
     """The module's text with a clock around each call under the lock, and how many such calls there are."""
     lines, wrappers = [], []
     for line in text:
@@ -54,7 +55,7 @@ def rewritten(text):
     return ''.join(lines + wrappers + ['declare void @lock_entered()\ndeclare void @lock_left()\n']), len(wrappers)
 
 
-def built(target):
+def built(target: str) -> None:
     """Builds the program with the clock."""
     clang = os.path.join(build_unproved.kit(), 'toolchain', 'bin', 'clang')
     with tempfile.TemporaryDirectory(prefix='taskback-') as folder:
@@ -73,18 +74,20 @@ def built(target):
         build_unproved.compiled(text, target, '-O2', [clock])
 
 
-def measured(program, lines):
+def measured(program: str, lines: Sequence[str]) -> tuple[int, int, int]:
     """What the clock says after the session, and the steps that the session took."""
     with tempfile.TemporaryFile('w+') as session, tempfile.TemporaryFile('w+') as reply:
         session.write('\n'.join(lines) + '\n')
         session.seek(0)
         ran = subprocess.run([program, '--workers', '64', '--limit', '1000000'], stdin=session, stdout=reply, stderr=subprocess.PIPE, text=True, check=True)
         reply.seek(0)
-        held, holds = map(int, re.search(r'lock held (\d+) ns in (\d+) holds', ran.stderr).groups())
-        return held, holds, sum('#' in line for line in reply)
+        found = re.search(r'lock held (\d+) ns in (\d+) holds', ran.stderr)
+        if found is None:
+            raise OSError('the program has no clock: %s' % ran.stderr)
+        return int(found[1]), int(found[2]), sum('#' in line for line in reply)
 
 
-def main():
+def main() -> int:
     args = argparse.ArgumentParser(description=__doc__, formatter_class=argparse.RawDescriptionHelpFormatter)
     args.add_argument('--program', help='a program with the clock, built before')
     args.add_argument('--keep', help='where to keep the program that is built')
@@ -95,7 +98,8 @@ def main():
             built(program)
             if given.keep:
                 shutil.copy(program, given.keep)
-        for name, session in (('counters', lambda w: workers.counters(w, 1, 1000000)), ('sums', workers.sums)):
+        sessions: dict[str, Callable[[int], list[str]]] = {'counters': lambda w: workers.counters(w, 1, 1000000), 'sums': workers.sums}
+        for name, session in sessions.items():
             for count in (2, 4):
                 held, holds, steps = measured(program, session(count))
                 print('%-9s go %d  %7d steps  %5.2f holds a step  %6.0f ns a hold  %6.0f ns a step' % (name, count, steps, holds / steps, held / holds, held / steps))

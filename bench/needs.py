@@ -9,17 +9,18 @@ time of the session without the command is taken off, and the better of two runs
 import os
 import sys
 import tempfile
+from collections.abc import Callable
 
 RUN = b'run 1000000\n'
 
 
-def loop(count, *statements):
+def loop(count: int, *statements: str) -> bytes:
     lines = ['cells 64', 'body main 0', '  let r0 0', '  let r1 0', '  while r0 < %d' % count, *['    ' + line for line in statements],
              '    let r0 r0 + 1', '    let r1 r1 + 1', '    if r1 == 64', '      let r1 0', '    end', '  end', 'end', 'body t 0', '  let r0 1', 'end']
     return '\n'.join(lines).encode() + b'\n---\n'
 
 
-ROWS = [
+ROWS: list[tuple[str, str, Callable[[int], bytes]]] = [
     ('rolltask of the first of siblings with inout at 64 cells', 'task t depend inout r1', lambda n: b'rolltask 0.1\n'),
     ('who of the first of them', 'task t depend inout r1', lambda n: b'who 0.1#1\n'),
     ('rolltask of the last of them', 'task t depend inout r1', lambda n: b'rolltask 0.%d\n' % n),
@@ -36,11 +37,11 @@ ROWS = [
 ]
 
 
-def measure(program, text, folder):
+def measure(program: str, text: bytes, folder: str) -> tuple[float, int]:
     session = os.path.join(folder, 'session')
     with open(session, 'wb') as kept:
         kept.write(text)
-    best, most = None, 0
+    best, most = float('inf'), 0
     for _ in range(2):
         child = os.fork()
         if child == 0:
@@ -51,12 +52,12 @@ def measure(program, text, folder):
         if status != 0:
             sys.exit('the program ended with status %d' % status)
         taken = used.ru_utime + used.ru_stime
-        best = taken if best is None else min(best, taken)
+        best = min(best, taken)
         most = max(most, used.ru_maxrss)
     return best, most
 
 
-def main():
+def main() -> None:
     program = os.path.abspath(sys.argv[1])
     sizes = [int(size) for size in (sys.argv[2] if len(sys.argv) > 2 else '4000,8000,16000,32000,64000').split(',')]
     with tempfile.TemporaryDirectory() as folder:

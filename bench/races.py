@@ -16,33 +16,37 @@ import os
 import select
 import subprocess
 import time
+from collections.abc import Callable, Iterator, Sequence
 
 from steps import TOP
 
+# The lines of a program with so many steps by so many tasks.
+OfSizes = Callable[[int, int], list[str]]
 
-def loop(count, *body):
+
+def loop(count: int, *body: str) -> list[str]:
     """Lines that do `body` count times, with r0 from 0 on."""
     return ['let r0 0', 'while r0 < %d' % count, *body, 'let r0 r0 + 1', 'end']
 
 
-def program(main, task):
+def program(main: Sequence[str], task: Sequence[str]) -> list[str]:
     return ['cells 2', 'body main 0', *main, 'end', 'body t 0', *task, 'end']
 
 
-def alone(steps, _):
+def alone(steps: int, _: int) -> list[str]:
     """One task that counts, and stores what it counted. A round has three steps."""
     return program(loop(steps // 3, 'store 0 r0'), [])
 
 
-def siblings(*spawn, body=('store 0 1',), after=()):
+def siblings(*spawn: str, body: Sequence[str] = ('store 0 1',), after: Sequence[str] = ()) -> OfSizes:
     """A root that generates each task by these lines, and then does `after`; a task does the body in rounds."""
-    def lines(steps, tasks):
+    def lines(steps: int, tasks: int) -> list[str]:
         rounds = steps // tasks // (2 + len(body))
         return program([*loop(tasks, *spawn), *after], loop(rounds, *body))
     return lines
 
 
-ROWS = [
+ROWS: list[tuple[str, OfSizes]] = [
     ('one task', alone),
     ('siblings that nothing orders', siblings('task t', after=['taskwait'])),
     ('siblings that only load', siblings('task t', body=['load r1 0'])),
@@ -56,40 +60,42 @@ ROWS = [
 ]
 
 
-def memory(child):
+def memory(child: subprocess.Popen[bytes]) -> float:
     with open('/proc/%d/status' % child.pid) as status:
         return [int(line.split()[1]) / 1024 for line in status if line.startswith('VmHWM')][0]
 
 
-def measure(program, lines, most):
+def measure(program: str, lines: Sequence[str], most: float) -> tuple[int, float | None, float, int]:
     """Steps of the run, seconds of `races`, memory in MB, and races; no seconds where it takes more than the most."""
     child = subprocess.Popen([program, '--limit', '1000000'], stdin=subprocess.PIPE, stdout=subprocess.PIPE)
+    commands, told = child.stdin, child.stdout
+    assert commands is not None and told is not None
     try:
-        child.stdin.write('\n'.join(lines).encode() + b'\n---\nrun 999999\n')
-        child.stdin.flush()
-        line = child.stdout.readline()
+        commands.write('\n'.join(lines).encode() + b'\n---\nrun 999999\n')
+        commands.flush()
+        line = told.readline()
         while not line.startswith(b'ran '):
             if not line:
                 raise OSError('the program ended')
-            line = child.stdout.readline()
+            line = told.readline()
         steps = int(line.split()[1])
         given = time.perf_counter()
-        child.stdin.write(b'races\n')
-        child.stdin.flush()
-        if not select.select([child.stdout], [], [], most)[0]:
+        commands.write(b'races\n')
+        commands.flush()
+        if not select.select([told], [], [], most)[0]:
             return steps, None, memory(child), 0
-        count = int(child.stdout.readline().split()[1])
+        count = int(told.readline().split()[1])
         for _ in range(count):
-            child.stdout.readline()
+            told.readline()
         return steps, time.perf_counter() - given, memory(child), count
     finally:
         child.kill()
         child.communicate()
 
 
-def row(given, lines):
+def row(given: argparse.Namespace, lines: OfSizes) -> Iterator[str]:
     """What is said of each size."""
-    before = None
+    before: float | None = None
     for steps in (1000, 10000, 100000, 1000000):
         if steps == 1000000 and lines is not alone:
             return
@@ -105,7 +111,7 @@ def row(given, lines):
         before = taken
 
 
-def main():
+def main() -> None:
     args = argparse.ArgumentParser(description=__doc__, formatter_class=argparse.RawDescriptionHelpFormatter)
     args.add_argument('--program', default=os.path.join(TOP, 'crates/taskback/out/taskback'))
     args.add_argument('--seconds', type=float, default=2)

@@ -12,6 +12,7 @@ run can't show less than the 10 MB of this script, from which it begins.
 import os
 import sys
 import tempfile
+from collections.abc import Callable, Sequence
 
 TOP = os.path.join(os.path.dirname(os.path.abspath(__file__)), '..')
 HEAD, END = b'cells 8\nbody main 0\n', b'end\n'
@@ -19,18 +20,22 @@ STATEMENTS = [b'  let r1 r0 + 1\n', b'  store r1 -7\n', b'  load r2 3\n', b'  pr
 TASKS = [b'  task main depend in r1 depend out all if r0 < 2 # a task\n', b'  taskwait depend inout 7\n']
 
 
-def of_lines(some, lines):
+# A text of so many lines.
+OfLines = Callable[[int], bytes]
+
+
+def of_lines(some: Sequence[bytes], lines: int) -> bytes:
     """A text of so many lines, whose body repeats these."""
     count = lines - 3
     return HEAD + b''.join(some) * (count // len(some)) + b''.join(some[:count % len(some)]) + END
 
 
-def nested(lines):
+def nested(lines: int) -> bytes:
     count = (lines - 3) // 2
     return HEAD + b'# odd\n' * ((lines - 3) % 2) + b'if r0 == 0\n' * count + END * count + END
 
 
-def bodies(lines):
+def bodies(lines: int) -> bytes:
     """About a thousand bodies, or a hundred, of 66 lines each."""
     count = lines // 66
     parts = [of_lines(STATEMENTS, lines - (count - 1) * 66)]
@@ -39,7 +44,7 @@ def bodies(lines):
     return b''.join(parts)
 
 
-TEXTS = [
+TEXTS: list[tuple[str, OfLines]] = [
     ('statements', lambda lines: of_lines(STATEMENTS, lines)),
     ('tasks and waits', lambda lines: of_lines(TASKS, lines)),
     ('nested ifs', nested),
@@ -48,12 +53,12 @@ TEXTS = [
 ]
 
 
-def faulty(text):
+def faulty(text: bytes) -> bytes:
     """The text with a fault in its last line, an `end`."""
     return text[:-len(END)] + b'fly\n'
 
 
-def prepare(path, text_of, lines, copies):
+def prepare(path: str, text_of: OfLines, lines: int, copies: int) -> None:
     """Writes the copies, in a process of its own, so that a measured run doesn't begin with its memory."""
     child = os.fork()
     if child == 0:
@@ -68,7 +73,7 @@ def prepare(path, text_of, lines, copies):
         sys.exit('the texts could not be written')
 
 
-def run(program, path):
+def run(program: str, path: str) -> tuple[float, float]:
     """The processor's time and the memory of a run."""
     child = os.fork()
     if child == 0:
@@ -81,7 +86,7 @@ def run(program, path):
     return used.ru_utime + used.ru_stime, used.ru_maxrss / 1024
 
 
-def report(program, name, how, text_of, folder):
+def report(program: str, name: str, how: str, text_of: OfLines, folder: str) -> None:
     sizes = [6553, 65536]
     paths = [os.path.join(folder, str(lines)) for lines in sizes]
     for path, lines in zip(paths, sizes):
@@ -95,7 +100,7 @@ def report(program, name, how, text_of, folder):
     print('%-18s %-8s ten times the lines take %.1f times the time' % (name, how, times[1] / times[0]))
 
 
-def main():
+def main() -> None:
     program = os.path.abspath(sys.argv[1] if len(sys.argv) > 1 else os.path.join(TOP, 'crates/tb_read_rows/out/tb_read_rows'))
     with tempfile.TemporaryDirectory() as folder:
         for name, text_of in TEXTS:

@@ -20,11 +20,11 @@ FEW = b'cells 0\nbody main 0\n  task t\n  let r0 0\n  while r0 < 1000000\n    le
     b'body t 0\n  let r0 1\nend\n---\nstep 0\nstep 0\nstep 0.1\nstep 0.1\nstep 0.1\nrun 99995\n'
 
 
-def in_turn():
+def in_turn() -> bytes:
     return b''.join(b'step 0.%d\n' % task for _ in range(640) for task in range(1, 101))
 
 
-def main():
+def main() -> None:
     program = os.path.abspath(sys.argv[1] if len(sys.argv) > 1 else os.path.join(TOP, 'crates/taskback/out/taskback'))
     kinds = [
         ('640 steps scattered among 64,000', TASKS + in_turn(), b''.join(b'rolltask 0.%d\nrun 640\n' % task for task in range(1, 101))),

@@ -14,11 +14,11 @@ import tempfile
 from steps import LOOP, TOP, measure
 
 
-def program(*lines):
+def program(*lines: str) -> bytes:
     return '\n'.join(lines).encode() + b'\n---\n'
 
 
-def siblings(kind, cells):
+def siblings(kind: str, cells: int) -> bytes:
     """A main body that generates 10,000 tasks by a loop, each with one item at the next cell in turn."""
     return program('cells %d' % cells, 'body main 0', '  let r0 0', '  let r1 0', '  while r0 < 10000', '    task t depend %s r1' % kind,
                    '    let r0 r0 + 1', '    let r1 r1 + 1', '    if r1 == %d' % cells, '      let r1 0', '    end', '  end', 'end',
@@ -35,11 +35,11 @@ KEPT = program('cells 1', 'body main 0', '  let r0 0', '  while r0 < 10000', '  
 SPAWN_ALL = b'run 30004\nstep 0.10000\n'
 
 
-def turns(count):
+def turns(count: int) -> bytes:
     return b'run 4\n' + b'step 0.1\nstep 0.2\n' * count
 
 
-def long_text():
+def long_text() -> bytes:
     return program('cells 1', 'body main 0', *['  store 0 %d' % n for n in range(65533)], 'end')
 
 
@@ -66,7 +66,7 @@ SESSIONS = [
 ]
 
 
-def main():
+def main() -> None:
     words = sys.argv[1:]
     program = os.path.abspath(words[0] if words else os.path.join(TOP, 'crates/taskback/out/taskback'))
     with tempfile.TemporaryDirectory() as folder:

@@ -13,21 +13,22 @@ import os
 import sys
 import tempfile
 import time
+from collections.abc import Callable
 
 TOP = os.path.join(os.path.dirname(os.path.abspath(__file__)), '..')
 STORE = b'cells 1\nbody main 0\n  store 0 7\nend\n---\nstep 0\n'
 LOOP = b'cells 0\nbody main 0\n  let r0 0\n  while r0 < 1000000\n    let r0 r0 + 1\n  end\nend\n---\n'
-KINDS = [
+KINDS: list[tuple[str, Callable[[int], bytes]]] = [
     ('steps and undos in turn', lambda count: STORE + b'step 0\nundo 0#2\n' * (count // 2)),
     ('one run of a loop', lambda count: LOOP + b'run %d\n' % count),
 ]
 
 
-def measure(program, text, folder):
+def measure(program: str, text: bytes, folder: str) -> tuple[float, int]:
     session = os.path.join(folder, 'session')
     with open(session, 'wb') as kept:
         kept.write(text)
-    best, most = None, 0
+    best, most = float('inf'), 0
     for _ in range(3):
         start = time.perf_counter()
         child = os.fork()
@@ -39,12 +40,12 @@ def measure(program, text, folder):
         taken = time.perf_counter() - start
         if status != 0:
             sys.exit('the program ended with status %d' % status)
-        best = taken if best is None else min(best, taken)
+        best = min(best, taken)
         most = max(most, used.ru_maxrss)
     return best, most
 
 
-def main():
+def main() -> None:
     program = os.path.abspath(sys.argv[1] if len(sys.argv) > 1 else os.path.join(TOP, 'crates/taskback/out/taskback'))
     with tempfile.TemporaryDirectory() as folder:
         for name, text_of in KINDS:

@@ -13,22 +13,23 @@ import subprocess
 import sys
 import tempfile
 import time
+from collections.abc import Callable, Sequence
 
 TOP = os.path.dirname(os.path.dirname(os.path.abspath(__file__)))
 
 
-def counters(workers, count, most):
+def counters(workers: int, count: int, most: int) -> list[str]:
     body = ['cells 0', 'body main 0'] + ['task loop'] * 8 + ['end', 'body loop 0', 'let r0 0', 'while r0 < 6000', 'let r0 r0 + 1', 'end', 'end', '---']
     return body + ['go %d %d' % (workers, most)] * count
 
 
-def sums(workers):
+def sums(workers: int) -> list[str]:
     body = ['cells 1', 'body main 0', 'let r0 0', 'while r0 < 2000', 'task add depend mutexinoutset 0', 'let r0 r0 + 1', 'end', 'end',
             'body add 0', 'load r1 0', 'let r1 r1 + 1', 'store 0 r1', 'end', '---']
     return body + ['go %d 1000000' % workers]
 
 
-def best(program, lines, rounds):
+def best(program: str, lines: Sequence[str], rounds: int) -> tuple[float, int]:
     with tempfile.TemporaryDirectory() as folder:
         session, reply = os.path.join(folder, 'session'), os.path.join(folder, 'reply')
         with open(session, 'w') as file:
@@ -44,12 +45,13 @@ def best(program, lines, rounds):
     return min(times), steps
 
 
-def main():
+def main() -> int:
     args = argparse.ArgumentParser(description=__doc__, formatter_class=argparse.RawDescriptionHelpFormatter)
     args.add_argument('--program', default=os.path.join(TOP, 'crates/taskback/out/taskback'))
     args.add_argument('--rounds', type=int, default=3)
     given = args.parse_args()
-    for name, session in (('counters', lambda w: counters(w, 1, 1000000)), ('sums', sums), ('cut', lambda w: counters(w, 100, 100))):
+    sessions: dict[str, Callable[[int], list[str]]] = {'counters': lambda w: counters(w, 1, 1000000), 'sums': sums, 'cut': lambda w: counters(w, 100, 100)}
+    for name, session in sessions.items():
         for workers in (1, 2, 4):
             spent, steps = best(given.program, session(workers), given.rounds)
             print('%-9s go %d  %7d steps  %6.2f s  %9d a second' % (name, workers, steps, spent, steps / spent))

@@ -96,6 +96,9 @@ class Breaking(Group):
         if not words:
             self.wrong("watch")
             return
+        if "if" in words:
+            self.fail("a watch has no condition: `break cell 0 if value > 1` has one, and so has `break line 12 if r0 > 3`")
+            return
         try:
             name, number = self.shell.stops.add_watch(" ".join(words), self.shell.focus, self.session)
         except Unreadable as fault:
@@ -214,6 +217,8 @@ class Breaking(Group):
         if not words:
             for name, value in now.items():
                 self.say(f"{name} {'on' if value else 'off'}")
+        elif len(words) > 2 or words[0] in ("var", "variable"):
+            self.fail("registers and cells can't be set: what a step computes follows from the steps before it; `flip`, or `roll` and another order, give others")
         elif len(words) != 2 or words[0] not in SETTINGS or words[1] not in ("on", "off"):
             self.wrong("set")
         elif words[0] == "run-breaks":

@@ -144,9 +144,14 @@ class Shell(cmd.Cmd):
     def onecmd(self, line: str) -> bool:
         """Carries out one line; true ends the shell."""
         if line == "EOF":
+            # The standard library's word for the end of what is typed.
             if self.prompt:
                 self.console.say("")
             return True
+        return self.take(line)
+
+    def take(self, line: str) -> bool:
+        """Carries out a line that was read; true ends the shell."""
         self.busy = True
         self.interrupted = False
         self.outcome = Outcome.DONE

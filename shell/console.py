@@ -13,7 +13,8 @@ from typing import TextIO
 
 # The version of the records that `--json` writes; docs/replies.schema.json describes them.
 VERSION = 1
-STEP = re.compile(r"([0-9][0-9.]*)#([0-9]+) (.*)")
+# A line that shows what a step did; a line of `races` has a second step there.
+STEP = re.compile(r"([0-9][0-9.]*)#([0-9]+) ([a-z].*)")
 REFUSED = re.compile(r"refused ([0-9]+) (\w+)(?: (\S+))?")
 # Progress is shown this often, in seconds, and not in front of the first time.
 PROGRESS = 0.5
@@ -51,6 +52,11 @@ class Console:
         self._paged = False
         self._shown = 0
         self._began = self._told = time.monotonic()
+
+    @property
+    def whole(self) -> bool:
+        """Whether each line of a reply is written, however long it is."""
+        return self.exact
 
     # One command
 
@@ -196,6 +202,10 @@ class JsonConsole(Console):
         super().__init__(out)
         self._count = 0
         self._records = [Record(0, "")]
+
+    @property
+    def whole(self) -> bool:
+        return True
 
     def begin(self, command: str, paged: bool) -> None:
         super().begin(command, False)

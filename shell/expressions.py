@@ -257,6 +257,8 @@ class Parser:
         """The expression that all tokens are."""
         found = self.either()
         if self.at < len(self.tokens):
+            if self.tokens[self.at - 1] == "cell" and self.tokens[self.at].isdigit():
+                raise Unreadable(f"a cell is written c[{self.tokens[self.at]}]")
             raise Unreadable(f"`{self.tokens[self.at]}` can't follow here")
         return found
 
@@ -343,6 +345,8 @@ class Parser:
             return made(int(numbered[2]))
         if numbered:
             raise Unreadable("the registers are r0 to r15, and the arguments arg0 to arg15")
+        if re.fullmatch(r"c[0-9]+", token):
+            raise Unreadable(f"a cell is written c[{token[1:]}]")
         raise Unreadable(f"`{token}` is no number: {ATOMS}")
 
 

@@ -2,6 +2,7 @@
 
 from __future__ import annotations
 
+import html
 import os
 import shutil
 import subprocess
@@ -29,6 +30,8 @@ QUICK = ("-Gnslimit=1", "-Gnslimit1=1", "-Gmclimit=0.1", "-Gsplines=line")
 # What takes longer, in seconds, is drawn as clusters.
 PATIENCE = 20.0
 RACE = "#b00020"
+# Of more pairs of racing tasks none has a say in the ranks, since that would take long and pull the picture apart.
+MOST_RANKING = 40
 
 
 @dataclass
@@ -107,9 +110,12 @@ def graph_of(session: Session, stop: Callable[[], bool] = lambda: False, progres
                  waits or [], races or [], [NO_CAUSES] * (waits is None) + [NO_RACES] * (races is None))
 
 
-def beside(label: str) -> str:
-    """A label that doesn't touch its arrow: Graphviz draws it right beside it."""
-    return f" {label}" if label else ""
+def plate(label: str) -> str:
+    """A label in the dot language, off its arrow, and on a white plate: Graphviz lets arrows pass below labels."""
+    if not label:
+        return '""'
+    rows = html.escape(label).replace("\n", "<br/>")
+    return f'<<table border="0" cellborder="0" cellspacing="0" cellpadding="2" bgcolor="white"><tr><td>{rows}</td></tr></table>>'
 
 
 def quoted(text: str) -> str:
@@ -169,25 +175,28 @@ def arrows(graph: Graph) -> list[str]:
     for name, task in graph.tasks.items():
         if task.parent is not None:
             label = "undeferred" if name in graph.undeferred else ""
-            lines.append(f'{quoted(task.parent)} -> {quoted(name)} [class=spawn, color="#8c8c8c", arrowhead=open, label={quoted(beside(label))}]')
+            lines.append(f'{quoted(task.parent)} -> {quoted(name)} [class=spawn, color="#8c8c8c", arrowhead=open, label={plate(label)}]')
         for other in graph.drawn[name]:
             label = "\n".join(label_of(task, graph.tasks[other], "after"))
-            lines.append(f"{quoted(other)} -> {quoted(name)} [class=before, penwidth=1.8, label={quoted(beside(label))}]")
+            lines.append(f"{quoted(other)} -> {quoted(name)} [class=before, penwidth=1.8, label={plate(label)}]")
         for other in task.apart:
             if by_name(other) < by_name(name):
                 label = "\n".join(["not together"] + label_of(task, graph.tasks[other], "apart"))
                 lines.append(f'{quoted(other)} -> {quoted(name)} [class=apart, dir=none, style=dashed, color="#8a4b00", '
-                             f"constraint=false, label={quoted(label)}]")
+                             f"constraint=false, label={plate(label)}]")
     for wait in graph.waits:
         place = f"taskwait\nline {wait.line}" if wait.line else "taskwait"
         lines.append(f'{quoted(wait.step)} [shape=diamond, fontsize=9, margin="0.02", label={quoted(place)}]')
         lines.append(f'{quoted(wait.step.split("#")[0])} -> {quoted(wait.step)} [class=at, color="#8c8c8c", arrowhead=none]')
         lines += [f'{quoted(child)} -> {quoted(wait.step)} [class=wait, color="#11693d", style=dotted]' for child in wait.children]
-    for (first, second), races in graph.pairs_of_races().items():
+    raced = graph.pairs_of_races()
+    # Graphviz drops the label of an arrow that has no say in the ranks and leads from one to another.
+    ranks = "weight=0" if len(raced) <= MOST_RANKING else "constraint=false"
+    for (first, second), races in raced.items():
         label = races[0].over if len(races) == 1 else f"{len(races)} races"
         style = "dashed" if all(race.apart for race in races) else "bold"
         lines.append(f'{quoted(first)} -> {quoted(second)} [class=race, dir=none, style={style}, color="{RACE}", fontcolor="{RACE}", '
-                     f"constraint=false, label={quoted(label)}]")
+                     f"{ranks}, label={plate(label)}]")
     return lines
 
 

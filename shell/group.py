@@ -113,7 +113,7 @@ class Group:
     def wrong(self, name: str) -> None:
         """A command with the wrong words: how it is written."""
         entry = help_texts.HELP[name]
-        self.fail(f"{entry.usage}, for example: {entry.example}")
+        self.fail(f"`{name}` stands alone" if entry.usage == name else f"{entry.usage}, for example: {entry.example}")
 
     def fail(self, text: str) -> None:
         """A command that can't be carried out as it is written."""

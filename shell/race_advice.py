@@ -291,11 +291,16 @@ def kinds_of(session: Session, races: Sequence[Race]) -> list[Kind]:
     """The races by pairs of lines, each kind with what would order its steps."""
     run = Run(session)
     found: dict[tuple[object, ...], Kind] = {}
+    # What is advised hangs on the tasks and the cell alone, and a loop has thousands of races of one pair of tasks.
+    advised: set[tuple[int, str, str, str]] = set()
     line_of = session.places.line_of
     for number, race in enumerate(races, 1):
         lines = (line_of(race.first), line_of(race.second))
         places = (session.source.place(lines[0]), session.source.place(lines[1]))
         kind = found.setdefault((*places, race.over == "print", race.apart), Kind(number, race, lines, places, place_of=session.source.place))
         kind.count += 1
-        advise(run, race, kind)
+        same = (kind.number, race.over, race.first.split("#")[0], race.second.split("#")[0])
+        if same not in advised:
+            advised.add(same)
+            advise(run, race, kind)
     return list(found.values())

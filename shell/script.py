@@ -71,7 +71,7 @@ class Script:
     def play(self, lines: Iterable[tuple[str, str]]) -> int:
         """Plays all commands, each with its place; returns the status."""
         for place, command in lines:
-            ends = self.shell.onecmd(command)
+            ends = self.shell.take(command)
             if self.shell.status:
                 return self.shell.status
             if self.checks and self.shell.outcome is not Outcome.DONE:

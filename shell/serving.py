@@ -6,14 +6,17 @@ import hmac
 import io
 import json
 import secrets
+import sys
+import threading
 from collections.abc import Callable
-from http.server import BaseHTTPRequestHandler, HTTPServer
+from functools import partial
+from http.server import BaseHTTPRequestHandler, ThreadingHTTPServer
 from typing import Any
 
 from shell.commands import Shell
 from shell.console import Console
 from shell.page import filled, part
-from shell.protocol import words_of
+from shell.protocol import Ended, words_of
 from shell.session import Session
 from shell.story import Story
 
@@ -25,6 +28,7 @@ ALLOWED = ("step", "run", "go", "finish", "until", "back", "undo", "roll", "roll
 MOST_STEPS = 1000
 # So often a server looks whether it should end, in seconds.
 LOOK = 0.2
+JSON = "application/json"
 
 
 class Live:
@@ -52,7 +56,7 @@ class Live:
         if words[0] in ("run", "go") and not (len(words) > 1 and words[-1].isdigit() and int(words[-1]) <= MOST_STEPS):
             words = [words[0], *words[1:-1], str(MOST_STEPS)]
         self.console.lines, self.console.words = [], []
-        self.shell.onecmd(" ".join(words))
+        self.shell.take(" ".join(words))
         return {"lines": self.console.lines, "words": self.console.words, "outcome": self.shell.outcome.name.lower(), "data": self.data()}
 
 
@@ -74,15 +78,21 @@ class Collected(Console):
         self.words.append(text)
 
 
-class LiveServer(HTTPServer):
-    """Serves one session under an address that nobody can guess."""
+class LiveServer(ThreadingHTTPServer):
+    """Serves one session under an address that nobody can guess.
+
+    Each connection has a thread, since browsers open some on which they ask for nothing; the session is for one at a time.
+    """
 
     timeout = LOOK
+    daemon_threads = True
 
     def __init__(self, live: Live, port: int) -> None:
         super().__init__((HOST, port), Handler)
         self.live = live
         self.token = secrets.token_urlsafe(16)
+        self._turn = threading.Lock()
+        self._over = False
 
     @property
     def address(self) -> str:
@@ -90,9 +100,24 @@ class LiveServer(HTTPServer):
         return f"http://{HOST}:{self.server_port}/{self.token}/"
 
     def serve_until(self, ends: Callable[[], bool]) -> None:
-        """Answers requests until it should end."""
+        """Answers requests until it should end; then the session is nobody's but the caller's."""
         while not ends():
             self.handle_request()
+        with self._turn:
+            self._over = True
+
+    def answer_of(self, ask: Callable[[Live], object]) -> bytes:
+        """What a request is answered, as bytes of a page or as JSON; raises Ended where the program has ended, or the serving."""
+        with self._turn:
+            if self._over:
+                raise Ended(0, "the page is served no more")
+            found = ask(self.live)
+        return (found if isinstance(found, str) else json.dumps(found)).encode("utf-8", "replace")
+
+    def handle_error(self, request: object, client_address: object) -> None:
+        """A client that left is no fault."""
+        if not isinstance(sys.exc_info()[1], ConnectionError):
+            super().handle_error(request, client_address)  # type: ignore[arg-type]
 
 
 class Handler(BaseHTTPRequestHandler):
@@ -120,11 +145,22 @@ class Handler(BaseHTTPRequestHandler):
         """The page, or its data."""
         path = self.allowed()
         if path == "":
-            self.answer(200, "text/html; charset=utf-8", self.server.live.page().encode("utf-8", "replace"))
+            self.look("text/html; charset=utf-8", lambda live: live.page())
         elif path == "state":
-            self.answer(200, "application/json", json.dumps(self.server.live.data()).encode())
+            self.look(JSON, lambda live: live.data())
         elif path is not None:
             self.answer(404, "text/plain", b"no such page")
+
+    def look(self, kind: str, ask: Callable[[Live], object]) -> None:
+        """Answers with what the session is asked for, or says why it can't be."""
+        try:
+            told = self.server.answer_of(ask)
+        except ValueError as fault:
+            self.answer(403, "text/plain", str(fault).encode())
+        except Ended as ended:
+            self.answer(503, "text/plain", str(ended).encode())
+        else:
+            self.answer(200, kind, told)
 
     def do_POST(self) -> None:
         """A command."""
@@ -135,17 +171,12 @@ class Handler(BaseHTTPRequestHandler):
         if path != "do" or command is None:
             self.answer(404 if path != "do" else 400, "text/plain", b"a command is asked for as {\"command\": \"step 0\"}")
             return
-        try:
-            told = self.server.live.do(command)
-        except ValueError as fault:
-            self.answer(403, "text/plain", str(fault).encode())
-            return
-        self.answer(200, "application/json", json.dumps(told).encode())
+        self.look(JSON, partial(Live.do, command=command))
 
     def command_in_body(self) -> str | None:
         """The command that a request asks for; None where there is none."""
         length = self.headers.get("Content-Length", "")
-        if not length.isdigit() or int(length) > LONGEST or self.headers.get("Content-Type") != "application/json":
+        if not length.isdigit() or int(length) > LONGEST or self.headers.get("Content-Type") != JSON:
             return None
         try:
             told: Any = json.loads(self.rfile.read(int(length)))

@@ -3,6 +3,7 @@
 import os
 import re
 from collections.abc import Sequence
+from functools import cached_property
 
 from shell.protocol import is_digits, words_of
 
@@ -59,6 +60,8 @@ class Source:
         self._end: dict[int, int] = {}
         self._else: dict[int, int] = {}
         self._body: list[str | None] = []
+        self._plain: list[str] = []
+        self._after: dict[tuple[int, bool], int | None] = {}
         self._read_blocks()
 
     def _read_blocks(self) -> None:
@@ -66,6 +69,7 @@ class Source:
         body = None
         for number, line in enumerate(self.lines, 1):
             words = words_of(line)
+            self._plain.append(" ".join(words))
             word = words[0] if words else ""
             if word == "body" and len(words) > 1:
                 self.bodies[words[1]] = number
@@ -85,14 +89,12 @@ class Source:
     @property
     def cells(self) -> int:
         """How many cells the program has."""
-        first: list[str] = next((words for words in map(words_of, self.lines) if words), [])
+        first = next(filter(None, self._plain), "").split(" ")
         return int(first[1]) if len(first) == 2 and is_digits(first[1]) else 0
 
     def line(self, number: int | None) -> str:
         """The text of a line without its indentation and comment; empty where there is none."""
-        if number is None or not 1 <= number <= len(self.lines):
-            return ""
-        return " ".join(words_of(self.lines[number - 1]))
+        return self._plain[number - 1] if number is not None and 1 <= number <= len(self.lines) else ""
 
     def comment(self, number: int | None) -> str:
         """The comment of a line without its mark; empty where there is none."""
@@ -140,7 +142,12 @@ class Source:
 
     def is_in_loop(self, number: int) -> bool:
         """Whether a line is in a `while`."""
-        return any(opener < number < end and self.line(opener).startswith("while ") for opener, end in self._end.items())
+        return any(opener < number < end for opener, end in self._loops)
+
+    @cached_property
+    def _loops(self) -> list[tuple[int, int]]:
+        """The first and last line of each `while`."""
+        return [(opener, end) for opener, end in self._end.items() if self.line(opener).startswith("while ")]
 
     def _settle(self, number: int) -> int | None:
         """The line of the next statement from here: an `end` that takes no step is passed by."""
@@ -161,10 +168,10 @@ class Source:
         """Where a task is after a step at this line; None after its end."""
         if number is None or did[0] in ("end", "fault"):
             return None
-        if list(did) == ["test", "no"]:
-            other = self._else.get(number, self._end[number])
-            return self._settle(other + 1)
-        return self._settle(number + 1)
+        fails = list(did) == ["test", "no"]
+        if (number, fails) not in self._after:
+            self._after[number, fails] = self._settle((self._else.get(number, self._end[number]) if fails else number) + 1)
+        return self._after[number, fails]
 
 
 class Places:

@@ -11,8 +11,10 @@ from shell.race_advice import kinds_of
 from shell.session import is_step
 
 VIEWS = ("tasks", "task", "cells", "out", "ready", "waits", "deps", "breaks", "hist", "why", "who", "races", "causes")
-# What other debuggers call a view.
-ELSEWHERE = {"threads": "tasks", "breakpoints": "breaks", "watchpoints": "breaks", "locals": "task", "registers": "task", "args": "task", "frame": "task"}
+# What other debuggers call a view, by any beginning of at least this many letters.
+ELSEWHERE = {"threads": "tasks", "breakpoints": "breaks", "watchpoints": "breaks", "locals": "task", "registers": "task", "args": "task", "frame": "task",
+             "display": "display", "line": "list", "source": "list", "scope": "task", "variables": "task"}
+LEAST = 3
 
 
 class Viewing(Group):
@@ -28,11 +30,13 @@ class Viewing(Group):
             return
         races = [race_of(line) for line in reply[1:] if is_step(line)]
         kinds = kinds_of(self.session, races)
+        told = {kind.number: kind.told() for kind in kinds}
         self.shell.show_line(reply[0])
-        lines = [reply[kind.number] for kind in kinds]
-        for kind, line in zip(kinds, self.shell.up_to_interrupt(lines)):
+        numbers = list(range(1, len(reply)) if self.console.whole else told)
+        for number, line in zip(numbers, self.shell.up_to_interrupt([reply[number] for number in numbers])):
             self.shell.show_line(line)
-            self.note(kind.told())
+            if number in told:
+                self.note(told[number])
         if len(kinds) < len(races):
             self.note(f"{counted(len(races), 'race')} of {counted(len(kinds), 'pair')} of lines; `flip N` shows both outcomes of race N")
 
@@ -56,8 +60,9 @@ class Viewing(Group):
             self.fail("info wants a view: " + ", ".join(VIEWS))
             return
         fitting = [name for name in VIEWS if name == words[0]] or [name for name in VIEWS if name.startswith(words[0])]
-        if words[0] in ELSEWHERE:
-            fitting = [ELSEWHERE[words[0]]]
+        other = None if words[0] in VIEWS else next((name for name in ELSEWHERE if name.startswith(words[0]) and len(words[0]) >= LEAST), None)
+        if other:
+            fitting = [ELSEWHERE[other]]
             words = [*words, self.shell.focus] if fitting == ["task"] and len(words) == 1 else words
         if not fitting:
             self.fail(f"no such view: {words[0]}; there are " + ", ".join(VIEWS))

@@ -27,7 +27,7 @@ class Shower:
 
     def __init__(self, group: Group, verbose: bool) -> None:
         self.group = group
-        self.room: float = float("inf") if verbose or group.console.exact else max(LEAST_SHOWN, SCREENS * (group.console.rows() or ROWS))
+        self.room: float = float("inf") if verbose or group.console.whole else max(LEAST_SHOWN, SCREENS * (group.console.rows() or ROWS))
         self.taken = 0
         self.hidden = 0
         self.last: deque[str] = deque(maxlen=LAST_SHOWN)
@@ -178,6 +178,9 @@ class Walking(Group):
     def do_until(self, words: Words) -> None:
         """Runs until a step is taken."""
         task, _, number = words[0].partition("#") if len(words) == 1 else ("", "", "")
+        if len(words) == 1 and is_digits(words[0]):
+            self.fail(f"until wants a step, as 0.2#4; `break line {words[0]}` and `go` stop at a line")
+            return
         if not is_digits(number) or number.startswith("0") or self.session.view(f"task {task}")[0].startswith("error"):
             self.wrong("until")
             return

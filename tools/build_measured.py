@@ -15,6 +15,7 @@ import re
 import subprocess
 import sys
 import tempfile
+from collections.abc import Iterable, Iterator, Sequence
 
 import build_unproved as unproved
 
@@ -24,9 +25,13 @@ NAME = re.compile(r'\bfn (\w+)')
 DEFINED = re.compile(r'^define .*? @"?([^"(]+)"?\(')
 
 
-def hints_of(folders):
+# The hints of a function, by the path of its module and its name.
+Hints = dict[tuple[str, str], set[str]]
+
+
+def hints_of(folders: Sequence[str]) -> Hints:
     """The hints that stand at functions of these sources, by the path of the module and the function's name."""
-    found = {}
+    found: Hints = {}
     for folder in folders:
         for file in glob.glob(os.path.join(folder, '*', 'src', '**', '*.rt'), recursive=True):
             crate, _, module = os.path.relpath(file, folder)[:-3].split(os.sep, 2)
@@ -40,7 +45,7 @@ def hints_of(folders):
     return found
 
 
-def hints_at(found, symbol):
+def hints_at(found: Hints, symbol: str) -> Iterable[str]:
     """The hints of a function of the program. A method may stand in another file than its type does."""
     parts = re.sub(r'::<#?[^>]*>', '', symbol).split('::')
     for end in range(len(parts) - 1, 0, -1):
@@ -52,13 +57,13 @@ def hints_at(found, symbol):
     return elsewhere[0] if is_method and len(elsewhere) == 1 else ()
 
 
-def is_dropped(line):
+def is_dropped(line: str) -> bool:
     """Whether the line calls a check, fills what isn't written yet, or stops at a fault."""
     checks = line.startswith('  call') and 'rattle-llvm-checks::' in line and 'Unreachable' not in line
     return checks or ('memset' in line and 'i8 -86' in line) or line == '  call void @llvm.trap()\n'
 
 
-def rewritten(lines, found):
+def rewritten(lines: Iterable[str], found: Hints) -> Iterator[str]:
     for line in lines:
         if is_dropped(line):
             continue
@@ -74,7 +79,7 @@ def rewritten(lines, found):
         yield line
 
 
-def main(words):
+def main(words: list[str]) -> int:
     if len(words) != 1 or words[0].startswith('-'):
         print(__doc__, file=sys.stderr)
         return 2
@@ -90,8 +95,8 @@ def main(words):
                 new.writelines(rewritten(old, found))
             unproved.compiled(text, os.path.abspath(words[0]), '-O3')
         except (OSError, subprocess.CalledProcessError) as fault:
-            with open(log, errors='replace') as said:
-                print(said.read() + 'build_measured: %s' % fault, file=sys.stderr)
+            with open(log, errors='replace') as told:
+                print(told.read() + 'build_measured: %s' % fault, file=sys.stderr)
             return 1
     return 0
 

@@ -15,6 +15,7 @@ import random
 import shlex
 import subprocess
 import sys
+from collections.abc import Callable, Iterable, Sequence
 
 NUMBERS = ['0', '1', '2', '3', '12', '-1', '-0', '007', '-08', '65535', '4294967296', '9223372036854775807',
            '-9223372036854775808', '0' * 30 + '1', '-' + '0' * 30 + '9223372036854775808']
@@ -34,8 +35,9 @@ BLANKS = [' '] * 6 + ['  ', '\t', '\r', ' \t ']
 class Text:
     """One random text: a list of lines, each a list of words, without a fault until it is spoilt."""
 
-    def __init__(self, r):
-        self.r, self.lines = r, []
+    def __init__(self, r: random.Random) -> None:
+        self.r = r
+        self.lines: list[list[str]] = []
         self.cells = r.choice([0, 1, 2, 5, 65536])
         self.params = {name: r.choice([0, 0, 1, 2, 16]) for name in BODIES[1:] if r.random() < 0.4}
         self.params['main'] = 0
@@ -48,16 +50,16 @@ class Text:
             self.block(1)
             self.lines.append(['end'])
 
-    def written(self, number):
+    def written(self, number: int) -> str:
         return self.r.choice(['', '', '', '0', '000', '-' if number == 0 else '']) + str(number)
 
-    def operand(self):
+    def operand(self) -> str:
         return 'r%d' % self.r.randrange(16) if self.r.random() < 0.5 else self.r.choice(NUMBERS)
 
-    def test(self, first):
+    def test(self, first: str) -> list[str]:
         return [first, self.operand(), self.r.choice(COMPARISONS), self.operand()]
 
-    def items(self, types):
+    def items(self, types: Sequence[str]) -> list[str]:
         words = []
         for _ in range(self.r.choice([0, 0, 1, 1, 2, 3] + ([63, 64] if self.r.random() < 0.05 else []))):
             kind = self.r.choice(types)
@@ -65,14 +67,14 @@ class Text:
             words += ['depend', kind, 'all' if everywhere else self.operand()]
         return words
 
-    def task(self):
+    def task(self) -> list[str]:
         name = self.r.choice(sorted(self.params))
         words = ['task', name] + [self.operand() for _ in range(self.params[name])] + self.items(TYPES)
         return words + (self.test('if') if self.r.random() < 0.3 else [])
 
-    def statement(self):
+    def statement(self) -> list[str]:
         register, operand = 'r%d' % self.r.randrange(16), self.operand
-        return self.r.choice([
+        kinds: list[Callable[[], list[str]]] = [
             lambda: ['let', register, operand()],
             lambda: ['let', register, operand(), self.r.choice('+-*'), operand()],
             lambda: ['load', register, operand()],
@@ -81,9 +83,10 @@ class Text:
             self.task,
             self.task,
             lambda: ['taskwait'] + self.items([kind for kind in TYPES if kind != 'mutexinoutset']),
-        ])()
+        ]
+        return self.r.choice(kinds)()
 
-    def block(self, depth):
+    def block(self, depth: int) -> None:
         for _ in range(self.r.choice([0, 0, 1, 1, 2, 3])):
             kind = self.r.random()
             if kind < 0.45 or depth > 5:
@@ -98,38 +101,38 @@ class Text:
 
     # ---- faults
 
-    def places(self, words, wanted):
+    def places(self, words: Sequence[str], wanted: Callable[[str], bool]) -> list[int]:
         return [at for at in range(1, len(words)) if wanted(words[at])]
 
-    def replace(self, words, wanted, others):
+    def replace(self, words: list[str], wanted: Callable[[str], bool], others: Sequence[str]) -> bool:
         """Puts one of the others into some place whose word is wanted; whether there was one."""
         places = self.places(words, wanted)
         if places:
             words[self.r.choice(places)] = self.r.choice(others)
         return bool(places)
 
-    def spoil_number(self, words):
+    def spoil_number(self, words: list[str]) -> bool:
         return self.replace(words, is_operand, WRONG_NUMBERS)
 
-    def spoil_register(self, words):
+    def spoil_register(self, words: list[str]) -> bool:
         if words and words[0] in ('let', 'load') and len(words) > 1 and self.r.random() < 0.3:
             words[1] = self.r.choice(WRONG_REGISTERS + NUMBERS)
             return True
         return self.replace(words, is_operand, WRONG_REGISTERS)
 
-    def spoil_word(self, words):
+    def spoil_word(self, words: list[str]) -> bool:
         if not words or self.r.random() < 0.3:
             words[:1] = [self.r.choice(WORDS)]
             return True
         return self.replace(words, lambda word: word in COMPARISONS + ['+', '-', '*', 'depend'], WORDS)
 
-    def spoil_name(self, words):
+    def spoil_name(self, words: list[str]) -> bool:
         if not words or words[0] not in ('task', 'body') or len(words) < 2:
             return False
         words[1] = self.r.choice(WRONG_NAMES + STRANGERS * 2 + BODIES)
         return True
 
-    def spoil_count(self, words):
+    def spoil_count(self, words: list[str]) -> bool:
         if not words:
             return False
         if self.r.random() < 0.5 and len(words) > 1:
@@ -138,7 +141,7 @@ class Text:
             words.insert(self.r.randrange(1, len(words) + 1), self.r.choice([self.operand()] + WORDS))
         return True
 
-    def spoil_type(self, words):
+    def spoil_type(self, words: list[str]) -> bool:
         types = self.places(words, lambda word: word in TYPES)
         if not types:
             return False
@@ -149,7 +152,7 @@ class Text:
             words[at] = self.r.choice(TYPES + ['x', 'all', 'r99', '0', 'if'])
         return True
 
-    def spoil_size(self, words):
+    def spoil_size(self, words: list[str]) -> bool:
         if words and words[0] == 'cells' and len(words) > 1:
             words[1] = self.r.choice(['65537', '1000000', '-1', '9223372036854775807'])
         elif words and words[0] == 'body' and len(words) > 2:
@@ -160,17 +163,17 @@ class Text:
             return False
         return True
 
-    def spoil_bytes(self, words):
+    def spoil_bytes(self, words: list[str]) -> bool:
         words.append(self.r.choice(['\x01', '\x7f', 'a\xe9', '\x0b', '\x0c', '\x1c', '\x85', '\xa0', '\x00',
                                     ' ' * 1030, '#' + 'y' * 1030, 'z' * 1030, ' ' * 1010]))
         return True
 
-    def spoil_cell(self, at):
+    def spoil_cell(self, at: int) -> None:
         """A `cell` line that can't stand: its cell isn't there, or was given, or it stands too late."""
         cell = self.r.choice([str(self.cells), str(self.cells + 1), '-1', '0', '00', '0', '1', '2', '70000'])
         self.lines.insert(self.r.choice([1, 2, 3, 4, at]), ['cell', cell, self.r.choice(NUMBERS)])
 
-    def spoil_lines(self, at):
+    def spoil_lines(self, at: int) -> None:
         """A line too many, or too few."""
         change = self.r.randrange(6)
         if change == 0:
@@ -181,7 +184,7 @@ class Text:
             self.lines.insert(at, self.r.choice([['end'], ['else'], ['taskgroup'], ['cells', '1'], ['cells', 'x', '2'],
                                                  ['body', 'main', '0'], ['while', '0', '<', 'r1']]))
 
-    def spoil_text(self):
+    def spoil_text(self) -> None:
         """A text without its `cells`, or without its `main`."""
         if self.r.random() < 0.35:
             self.lines[:1] = self.r.choice([[], [['body', 'a', '0']], [['fly']], [['cell', '0', '1']]])
@@ -190,7 +193,7 @@ class Text:
         if self.r.random() < 0.1:
             self.lines = [['#', 'nothing']] * self.r.randrange(3)
 
-    def spoil_line(self, faults):
+    def spoil_line(self, faults: int) -> None:
         """Faults in one line, that can have the first of them."""
         in_line = [self.spoil_number, self.spoil_register, self.spoil_register, self.spoil_word, self.spoil_name,
                    self.spoil_name, self.spoil_count, self.spoil_size, self.spoil_bytes] + [self.spoil_type] * 5
@@ -202,7 +205,7 @@ class Text:
                     faults -= 1
                 return
 
-    def spoil(self):
+    def spoil(self) -> None:
         """Faults in one to four places."""
         for _ in range(self.r.choice([1, 1, 1, 2, 2, 3, 4])):
             if not self.lines:
@@ -217,7 +220,7 @@ class Text:
             else:
                 self.spoil_line(self.r.choice([1, 1, 2, 2, 3]))
 
-    def bytes(self):
+    def encoded(self) -> bytes:
         """The text, with blanks, comments and empty lines."""
         lines = [''] if self.r.random() < 0.1 else []
         for words in self.lines:
@@ -230,18 +233,18 @@ class Text:
         return ('\n'.join(lines) + ('\n' if self.r.random() < 0.9 else '')).encode('latin-1')
 
 
-def is_operand(word):
+def is_operand(word: str) -> bool:
     return word.lstrip('-').isdigit() or (word[:1] == 'r' and word[1:].isdigit())
 
 
-def text_of(r):
+def text_of(r: random.Random) -> bytes:
     text = Text(r)
     if r.random() < 0.7:
         text.spoil()
-    return text.bytes()
+    return text.encoded()
 
 
-def texts_of(seed, count):
+def texts_of(seed: int, count: int) -> list[bytes]:
     r = random.Random(seed)
     texts = [text_of(r) for _ in range(count)]
     if seed == 0 and count >= 1000:
@@ -253,15 +256,15 @@ def texts_of(seed, count):
     return texts
 
 
-def run(command, texts):
+def run(command: str, texts: Iterable[bytes]) -> str:
     fed = b''.join(b'%d\n' % len(text) + text for text in texts)
     done = subprocess.run(shlex.split(command), input=fed, stdout=subprocess.PIPE, stderr=subprocess.PIPE)
     return done.stdout.decode('latin-1')
 
 
-def answers_of(command, texts):
+def answers_of(command: str, texts: Iterable[bytes]) -> list[list[str]]:
     """The answer to each text: those of a program have more lines than one."""
-    answers = []
+    answers: list[list[str]] = []
     for line in run(command, texts).splitlines():
         if line.startswith(('line ', 'program ')):
             answers.append([])
@@ -269,7 +272,7 @@ def answers_of(command, texts):
     return answers
 
 
-def main():
+def main() -> None:
     top = os.path.join(os.path.dirname(os.path.abspath(__file__)), '..')
     words = argparse.ArgumentParser(description=__doc__.split('\n')[0])
     words.add_argument('--other', required=True)
@@ -279,7 +282,8 @@ def main():
     words.add_argument('--seed', type=int, default=0)
     words.add_argument('--keep', default='/tmp/differing_texts')
     given = words.parse_args()
-    kinds, differing, done = collections.Counter(), 0, 0
+    kinds: collections.Counter[str] = collections.Counter()
+    differing = done = 0
     for seed in range(given.seed, given.seed + (given.count + given.batch - 1) // given.batch):
         texts = texts_of(seed, given.batch)
         ours, theirs = answers_of(given.program, texts), answers_of(given.other, texts)
@@ -299,4 +303,5 @@ def main():
     sys.exit(1 if differing else 0)
 
 
-main()
+if __name__ == '__main__':
+    main()

@@ -22,6 +22,7 @@ import shlex
 import subprocess
 import sys
 import tempfile
+from collections.abc import Iterator, Sequence
 from concurrent.futures import ThreadPoolExecutor
 
 NUMBERS = ['0', '1', '2', '3', '-1', '-0', '007', '9', '16', '65535', '65536', '65537', '1000000',
@@ -48,11 +49,16 @@ MALFORMED = ['fly', 'step', 'step 00', 'step 0 0', 'step 0.', 'step 0.0', 'step 
              'causes', 'causes 0', 'causes 0#0', 'causes 0#1 x', 'causes 0.1#1000001', 'cause 0#1', 'races 0', 'races #', 'race', 'Races', 'edges 0', 'edge', 'Edges']
 STEP = re.compile(rb'^(0(?:\.\d+)*)#(\d+) ([a-z].*)$', re.MULTILINE)
 
+# A step's task, its number and its text.
+Step = tuple[str, str, str]
+# Output, standard error and status.
+Answer = tuple[bytes, bytes, int]
+
 
 class Program:
     """A random program: lists of words. A body generates tasks of the bodies behind it, and seldom of others."""
 
-    def __init__(self, r):
+    def __init__(self, r: random.Random) -> None:
         self.r = r
         self.cells = r.choice([0, 1, 1, 2, 2, 3, 5])
         names = ['main'] + r.sample(['a', 'b', '_x1', 'longer_name'], r.choice([0, 1, 1, 2, 2, 3, 4]))
@@ -67,21 +73,21 @@ class Program:
             self.block(at, 0, r.choice([1, 2, 3, 4, 6]))
             self.lines.append(['end'])
 
-    def number(self):
+    def number(self) -> str:
         return str(self.r.choice([0, 1, 2, 3, 5, -1, -7, 1 << 62, 12]))
 
-    def register(self):
+    def register(self) -> str:
         return 'r%d' % self.r.choice([0, 0, 1, 1, 2, 3, 4, 15])
 
-    def operand(self):
+    def operand(self) -> str:
         return self.register() if self.r.random() < 0.5 else self.number()
 
-    def address(self):
+    def address(self) -> str:
         if self.r.random() < 0.95 and self.cells:
             return str(self.r.randrange(self.cells))
         return self.operand()
 
-    def items(self, types, most):
+    def items(self, types: Sequence[str], most: int) -> list[str]:
         words = []
         for _ in range(self.r.choice([0, 1, 1, 2, most])):
             kind = self.r.choice(types)
@@ -89,7 +95,7 @@ class Program:
             words += ['depend', kind, 'all' if everywhere else self.address()]
         return words
 
-    def task(self, at):
+    def task(self, at: int) -> list[str]:
         later = self.names[at + 1:]
         name = self.r.choice(later if later and self.r.random() < 0.95 else self.names)
         words = ['task', name] + [self.operand() for _ in range(self.params[name])] + self.items(TYPES, 3)
@@ -97,7 +103,7 @@ class Program:
             words += ['if', self.operand(), self.r.choice(COMPARISONS), self.operand()]
         return words
 
-    def statement(self, at):
+    def statement(self, at: int) -> list[str]:
         kind = self.r.randrange(9)
         if kind < 4:
             return self.task(at)
@@ -107,7 +113,7 @@ class Program:
                 ['print', self.operand()],
                 ['taskwait'] + self.items([kind for kind in TYPES if kind != 'mutexinoutset'], 2)][kind - 4]
 
-    def loop(self, at, depth):
+    def loop(self, at: int, depth: int) -> None:
         """A loop that ends after a few rounds, but for the one in ten that nothing counts for."""
         register = 'r%d' % (5 + depth)
         self.lines += [['let', register, '0'], ['while', register, '<', str(self.r.choice([1, 2, 3]))]]
@@ -115,7 +121,7 @@ class Program:
             self.lines.append(['let', register, register, '+', '1'])
         self.block(at, depth + 1, 2)
 
-    def block(self, at, depth, most):
+    def block(self, at: int, depth: int, most: int) -> None:
         for _ in range(self.r.choice([0, 1, most, most])):
             kind = self.r.random()
             if kind < 0.7 or depth > 2:
@@ -134,7 +140,7 @@ class Program:
                     self.block(at, depth + 1, 2)
             self.lines.append(['end'])
 
-    def spoil(self, wild):
+    def spoil(self, wild: float) -> None:
         """Faults in about as many lines of a hundred as `wild` says."""
         for words in self.lines:
             if self.r.random() >= wild:
@@ -152,7 +158,7 @@ class Program:
             self.r.shuffle(self.lines)
 
 
-def spell(r, words, wild):
+def spell(r: random.Random, words: Sequence[str], wild: float) -> str:
     """A line of these words."""
     text = r.choice(['', '', '  ', '\t']) + (' ' if r.random() >= wild else r.choice(BLANKS)).join(words)
     if r.random() < 0.1:
@@ -162,7 +168,7 @@ def spell(r, words, wild):
     return text
 
 
-def pick_command(r, steps, newest, scattered, wild, workers):
+def pick_command(r: random.Random, steps: list[Step], newest: list[Step], scattered: bool, wild: float, workers: int) -> str:
     """A command on a session that wrote these steps, each with its task, its number and its text."""
     if r.random() < wild:
         return r.choice(MALFORMED)
@@ -185,7 +191,7 @@ def pick_command(r, steps, newest, scattered, wild, workers):
     return r.choice(['cells', 'out', 'hist', 'why 0.2#2', 'who 0.1#1', 'undo 0.1#1', 'undo 0#%d' % r.randrange(1, 30)])
 
 
-def pick_break_or_view(r, steps, workers):
+def pick_break_or_view(r: random.Random, steps: list[Step], workers: int) -> str:
     """A breakpoint, a `go` that may meet it, or a view of tasks."""
     several = r.randrange(2, workers + 1) if workers > 1 and r.random() < 0.8 else 1
     return r.choice([
@@ -199,7 +205,7 @@ def pick_break_or_view(r, steps, workers):
         r.choice(['task ', 'deps ']) + pick_task(r, steps)])
 
 
-def pick_rollback(r, steps, newest):
+def pick_rollback(r: random.Random, steps: list[Step], newest: list[Step]) -> str:
     """Mostly of a late step, so that much stays."""
     task, number, _ = r.choice(newest if r.random() < 0.8 else steps)
     kind = r.random()
@@ -210,7 +216,7 @@ def pick_rollback(r, steps, newest):
     return 'rollcell %d' % r.randrange(4) if kind < 0.9 else 'rollprint'
 
 
-def pick_task(r, steps):
+def pick_task(r: random.Random, steps: list[Step]) -> str:
     """A task that the steps name: mostly one that hasn't ended, seldom another name."""
     if r.random() < 0.05:
         return r.choice(['0', '0.1', '0.2', '0.1.1', '0.9', '0.1.2'])
@@ -220,12 +226,12 @@ def pick_task(r, steps):
     return r.choice(going if going and r.random() < 0.8 else tasks)
 
 
-def answer(command, text, limit):
+def answer(command: list[str], text: bytes, limit: int) -> Answer:
     done = subprocess.run(command + ['--limit', str(limit)], input=text, capture_output=True, timeout=300)
     return done.stdout, done.stderr, done.returncode
 
 
-def judged(command, text, limit, workers, mine):
+def judged(command: list[str], text: bytes, limit: int, workers: int, mine: Answer) -> bytes:
     """What the judge says against the program's answer, and nothing where it is right."""
     with tempfile.TemporaryDirectory() as folder:
         names = [os.path.join(folder, name) for name in ('session', 'output', 'error')]
@@ -240,12 +246,13 @@ def judged(command, text, limit, workers, mine):
         return done.stdout + done.stderr if done.returncode else b''
 
 
-def steps_of(program, text, limit):
+def steps_of(program: list[str], text: bytes, limit: int) -> list[Step]:
     """The steps that the program wrote, the newest last."""
-    return [tuple(part.decode('latin-1') for part in step) for step in STEP.findall(answer(program, text, limit)[0])]
+    found = STEP.findall(answer(program, text, limit)[0])
+    return [(task.decode('latin-1'), number.decode('latin-1'), did.decode('latin-1')) for task, number, did in found]
 
 
-def pick_session(seed, program, workers):
+def pick_session(seed: int, program: list[str], workers: int) -> tuple[bytes, int]:
     r = random.Random(seed)
     wild = r.choice([0, 0, 0, 0.02, 0.1, 0.3])
     faults = r.choice([0, 0, 0, 0, wild])
@@ -266,7 +273,7 @@ def pick_session(seed, program, workers):
     return text.encode('latin-1', 'replace'), limit
 
 
-def kinds_of(text):
+def kinds_of(text: bytes) -> Iterator[str]:
     """The first two words of each line that answers a command, or the kind of a step."""
     for line in text.decode('latin-1').split('\n'):
         words = line.split()
@@ -280,7 +287,8 @@ def kinds_of(text):
             yield words[0] + ' ' + words[1] if words[0] == 'error' else (words[1] if '#' in words[0] else words[0])
 
 
-def main():
+def read_words() -> argparse.Namespace:
+    """The command line."""
     top = os.path.join(os.path.dirname(os.path.abspath(__file__)), '..')
     args = argparse.ArgumentParser(description=__doc__, formatter_class=argparse.RawDescriptionHelpFormatter)
     against = args.add_mutually_exclusive_group(required=True)
@@ -291,11 +299,15 @@ def main():
     args.add_argument('--count', type=int, default=2000)
     args.add_argument('--seed', type=int, default=1)
     args.add_argument('--keep', default='differing')
-    given = args.parse_args()
+    return args.parse_args()
+
+
+def main() -> None:
+    given = read_words()
     workers = given.workers if given.judge else 1
     program = [given.program] + (['--workers', str(workers)] if given.judge else [])
 
-    def compare(seed):
+    def compare(seed: int) -> tuple[int, bytes, int, Answer, Answer | bytes]:
         text, limit = pick_session(seed, program, workers)
         mine = answer(program, text, limit)
         if given.judge:
@@ -303,7 +315,8 @@ def main():
             return seed, text, limit, mine, against or mine
         return seed, text, limit, mine, answer(shlex.split(given.other), text, limit)
 
-    kinds, differing, refused, longest = collections.Counter(), 0, 0, 0
+    kinds: collections.Counter[str] = collections.Counter()
+    differing = refused = longest = 0
     with ThreadPoolExecutor(max_workers=os.cpu_count()) as pool:
         for seed, text, limit, mine, theirs in pool.map(compare, range(given.seed, given.seed + given.count)):
             refused += mine[2] == 1

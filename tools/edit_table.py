@@ -13,29 +13,29 @@ import sys
 TOP = os.path.dirname(os.path.dirname(os.path.abspath(__file__)))
 
 
-def pairs_of(edit):
+def pairs_of(edit: str) -> tuple[str, str, str]:
     """The file and the first pair of texts of an edit."""
     with open(edit, encoding="utf-8") as file:
         lines = file.read().splitlines()
-    found = {}
+    found: dict[str, str] = {}
     for line in lines:
         word, _, rest = line.partition(":")
         found.setdefault(word, rest.strip())
     return found["file"], found["old"], found["new"]
 
 
-def function_of(path, old):
+def function_of(path: str, old: str) -> str:
     """The function, or the definition, in which the text stands."""
     with open(path, encoding="utf-8") as file:
         before = file.read().partition(old)[0]
-    words = re.findall(r"^ *(?:pub(?:\([a-z]+\))? )?fn (\w+)", before, re.M)
-    names = re.findall(r"^(?:abbrev |pub |unfoldable |record |data )*(\w+) *:", before, re.M)
+    words: list[str] = re.findall(r"^ *(?:pub(?:\([a-z]+\))? )?fn (\w+)", before, re.M)
+    names: list[str] = re.findall(r"^(?:abbrev |pub |unfoldable |record |data )*(\w+) *:", before, re.M)
     return words[-1] if path.endswith(".rt") and words else names[-1] if names else ""
 
 
-def refusals(log):
+def refusals(log: str | None) -> dict[tuple[str, str], str]:
     """What the gate's log says of each edit."""
-    said = {}
+    said: dict[tuple[str, str], str] = {}
     if log:
         with open(log, encoding="utf-8", errors="replace") as file:
             for crate, name, why in re.findall(r"must-fail (\w+)/([\w.-]+)\.edit: refused, as it must be:? ?(.*)", file.read()):
@@ -45,12 +45,12 @@ def refusals(log):
     return said
 
 
-def short(text):
+def short(text: str) -> str:
     text = text if len(text) <= 70 else text[:67] + "..."
     return "`" + text.replace("|", "\\|") + "`"
 
 
-def main():
+def main() -> None:
     said = refusals(sys.argv[1] if len(sys.argv) > 1 else None)
     print("| crate | edit | function | instead of | it has |" + (" not shown |" if said else ""))
     print("|---|---|---|---|---|" + ("---|" if said else ""))

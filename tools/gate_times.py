@@ -16,14 +16,18 @@ import subprocess
 import sys
 import threading
 import time
+from collections.abc import Mapping, Sequence
 
 TOP = os.path.dirname(os.path.dirname(os.path.abspath(__file__)))
 KINDS = ("proof", "proof with tests", "edits", "runs")
 TICKS = os.sysconf("SC_CLK_TCK")
 LOOK_EVERY = 0.5
 
+# What a process works on: a crate, where it names one, and a kind of work.
+Work = tuple[str | None, str]
 
-def read(path):
+
+def read(path: str) -> bytes:
     """The bytes of a file below /proc, or none where the process has gone."""
     try:
         with open(path, "rb") as file:
@@ -32,7 +36,7 @@ def read(path):
         return b""
 
 
-def parent_and_ticks(pid):
+def parent_and_ticks(pid: int) -> tuple[int, int, int] | None:
     """A process's parent, its start (which tells it from a later one of that number), and its processor time in ticks."""
     fields = read(f"/proc/{pid}/stat").rpartition(b")")[2].split()
     if len(fields) < 20:
@@ -40,7 +44,7 @@ def parent_and_ticks(pid):
     return int(fields[1]), int(fields[19]), int(fields[11]) + int(fields[12])
 
 
-def crate_and_kind(pid):
+def crate_and_kind(pid: int) -> Work:
     """What a process works on, by its words and its folder."""
     words = read(f"/proc/{pid}/cmdline").decode(errors="replace").split("\0")
     try:
@@ -59,43 +63,44 @@ def crate_and_kind(pid):
 class Watch(threading.Thread):
     """Looks at the processes below one, again and again, and keeps what each has taken."""
 
-    def __init__(self, root):
+    def __init__(self, root: int) -> None:
         super().__init__(daemon=True)
-        self.root, self.seen, self.over = root, {}, threading.Event()
+        self.root, self.over = root, threading.Event()
+        self.seen: dict[tuple[int, int], tuple[int, Work]] = {}
 
-    def run(self):
+    def run(self) -> None:
         while not self.over.wait(LOOK_EVERY):
             self.look()
 
-    def look(self):
-        found = {int(it): parent_and_ticks(it) for it in os.listdir("/proc") if it.isdigit()}
-        found = {pid: stat for pid, stat in found.items() if stat}
+    def look(self) -> None:
+        there = {int(it): parent_and_ticks(int(it)) for it in os.listdir("/proc") if it.isdigit()}
+        found = {pid: stat for pid, stat in there.items() if stat}
         for pid, (_, start, ticks) in found.items():
             if self.is_below(pid, found):
                 self.note((pid, start), ticks)
 
-    def is_below(self, pid, found):
+    def is_below(self, pid: int, found: Mapping[int, tuple[int, int, int]]) -> bool:
         while pid in found and pid != self.root:
             pid = found[pid][0]
         return pid == self.root
 
-    def note(self, key, ticks):
-        known = self.seen.get(key, (None, None))[1]
+    def note(self, key: tuple[int, int], ticks: int) -> None:
+        known = self.seen[key][1] if key in self.seen else None
         # a process names its crate only once it has become the prover
         if known is None or known[0] is None:
             known = crate_and_kind(key[0])
         self.seen[key] = ticks, known
 
-    def minutes(self):
+    def minutes(self) -> dict[tuple[str, str], float]:
         """Processor minutes by crate and kind."""
-        taken = {}
+        taken: dict[tuple[str, str], float] = {}
         for ticks, (crate, kind) in self.seen.values():
             if crate:
                 taken[crate, kind] = taken.get((crate, kind), 0) + ticks / TICKS / 60
         return taken
 
 
-def table(taken, total):
+def table(taken: Mapping[tuple[str, str], float], total: float) -> str:
     """The table in Markdown, crates in the order of crates.txt; `total` is of all processes, seen or not."""
     with open(f"{TOP}/crates.txt", encoding="utf-8") as file:
         crates = [line.split(":")[0].split()[0] for line in file if ":" in line and not line.startswith("#")]
@@ -106,20 +111,21 @@ def table(taken, total):
         sums = {kind: sums[kind] + part for kind, part in zip(KINDS, parts)}
         rows.append(row(crate, [*parts, sum(parts)]))
     rows.append(row("all crates", [*sums.values(), sum(sums.values())]))
-    rows.append(row("all that ran", [None] * len(KINDS) + [total]))
+    rows.append(row("all that ran", [*[None] * len(KINDS), total]))
     return "\n".join(rows)
 
 
-def row(name, minutes):
+def row(name: str, minutes: Sequence[float | None]) -> str:
     shown = ["" if it is None or it < 0.05 else f"{it:.1f}" for it in minutes]
     return f"| {name} | " + " | ".join(shown) + " |"
 
 
-def main():
+def main() -> int:
     start = time.time()
     gate = subprocess.Popen(["rt", "ci", *sys.argv[1:]], cwd=TOP, stdin=subprocess.DEVNULL, stdout=subprocess.PIPE, stderr=subprocess.STDOUT, text=True, errors="replace")
     watch = Watch(gate.pid)
     watch.start()
+    assert gate.stdout is not None
     for line in gate.stdout:
         sys.stdout.write("%7.1f  %s" % (time.time() - start, line))
         sys.stdout.flush()

@@ -2,9 +2,13 @@
 import os
 import re
 import subprocess
+from collections.abc import Callable, Iterator
 
 TOP = os.path.join(os.path.dirname(os.path.abspath(__file__)), '..')
 DIVIDER = b'\n---\n'
+
+# Whether an answer is right, by its status, output and standard error.
+Judge = Callable[[int, bytes, bytes], bool]
 
 # Eight tasks exclude each other and add up.
 SUM = b'cells 1\nbody main 0\n' + b''.join(b'task add %d depend mutexinoutset 0\n' % k for k in range(1, 9)) + b'''end
@@ -40,12 +44,12 @@ end'''
 VIEWS = ('tasks', 'task 0.1', 'ready', 'waits', 'deps 0.2', 'breaks', 'cells', 'out', 'hist', 'why 0.1#2', 'causes 0.1#2', 'who 0#2', 'races', 'edges')
 
 
-def session_of(name):
+def session_of(name: str) -> bytes:
     with open(os.path.join(TOP, name), 'rb') as opened:
         return opened.read()
 
 
-def every_command():
+def every_command() -> bytes:
     """A session with each command, each kind of refusal and a full journal's neighbourhood."""
     body = session_of('examples/exclusion.session').split(DIVIDER)[0]
     commands = ('step 0\nrun 12\ntasks\ntask 0.1\nready\nwaits\ndeps 0.1\ncells\nout\nhist\nwhy 0#3\nwho 0#1\ncauses 0#3\nraces\nedges\nundo 0#1\n'
@@ -53,7 +57,7 @@ def every_command():
     return body + DIVIDER + commands.encode()
 
 
-def views():
+def views() -> Iterator[tuple[str, bytes]]:
     """Sessions that show one view each, in the midst of a run, by the names of what they show."""
     race = session_of('examples/race.session').split(DIVIDER)[0]
     for name, program, steps in (('sum', SUM, 13), ('groups', GROUPS, 14), ('race', race, 99)):
@@ -62,17 +66,20 @@ def views():
             yield '%s of %s' % (view, name), program + DIVIDER + commands.encode()
 
 
-def of_workers(count):
+def of_workers(count: int) -> bytes:
     """The sum by so many workers, half of it taken back and done again."""
     return SUM + DIVIDER + b'go %d 1000\ncells\nrolltask 0.3\ngo %d 1000\ncells\n' % (count, count)
 
 
-def replayed(text, out):
+def replayed(text: bytes, out: bytes) -> tuple[bytes, bytes]:
     """A session that takes by `step`, in their order, the steps which workers are told to have taken; and what it has to answer.
 
     Where a `go` is told to be at its end, no task can step: a `run` behind its steps says so.
     """
-    goes, said, taken, removed = [], [], [], 0
+    goes: list[list[bytes]] = []
+    said: list[bytes] = []
+    taken: list[bytes] = []
+    removed = 0
     for line in out.splitlines(keepends=True):
         step, ran = re.match(rb'([0-9.]+)#\d+ ', line), re.match(rb'ran (\d+) done\n', line)
         if ran:
@@ -85,29 +92,29 @@ def replayed(text, out):
             rolled = re.match(rb'rolled (\d+)\n', line)
             removed = int(rolled.group(1)) if rolled else max(0, removed - 1)
         said.append(line)
-    goes = iter(goes + [taken])
+    each = iter(goes + [taken])
     commands = text.partition(DIVIDER)[2].splitlines()
-    lines = [line for command in commands for line in (next(goes, []) if command.startswith(b'go ') else [command])]
+    lines = [line for command in commands for line in (next(each, []) if command.startswith(b'go ') else [command])]
     return text.partition(DIVIDER)[0] + DIVIDER + b'\n'.join(lines) + b'\n', b''.join(said)
 
 
-def is_answer(whole, status, out, err):
+def is_answer(whole: bytes, status: int, out: bytes, err: bytes) -> bool:
     """Whether the program gave the whole output, or a beginning that ends with a whole line and status 3."""
     if status == 0:
         return out == whole and err == b''
     return status == 3 and err == b'taskback: memory\n' and out[-1:] in (b'', b'\n') and whole.startswith(out)
 
 
-def judge(program, text):
+def judge(program: str, text: bytes) -> Judge:
     """What tells whether an answer to the session of one worker is right."""
     whole = subprocess.run([program], input=text, capture_output=True, check=False, timeout=300).stdout
     return lambda status, out, err: is_answer(whole, status, out, err)
 
 
-def judge_workers(program, text):
+def judge_workers(program: str, text: bytes) -> Judge:
     """What tells whether an answer to the session of several workers is right: one worker can take the same steps."""
 
-    def is_right(status, out, err):
+    def is_right(status: int, out: bytes, err: bytes) -> bool:
         steps, said = replayed(text, out)
         whole = subprocess.run([program], input=steps, capture_output=True, check=False, timeout=300).stdout
         return is_answer(whole, status, said, err)
@@ -115,7 +122,7 @@ def judge_workers(program, text):
     return is_right
 
 
-def built_library(folder):
+def built_library(folder: str) -> str:
     """The library that refuses, built there."""
     library = os.path.join(folder, 'refuse.so')
     subprocess.run(['cc', '-shared', '-fPIC', '-O1', '-o', library, os.path.join(TOP, 'tools/refuse.c'), '-ldl'], check=True)

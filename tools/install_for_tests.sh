@@ -16,12 +16,7 @@ apt() {
 }
 
 has_runtime() {
-    python3 - << 'PROBE' > /dev/null 2>&1
-import sys
-sys.path.insert(0, "openmp")
-from taskrun import building
-sys.exit(not building.has_runtime())
-PROBE
+    (cd openmp && python3 -c 'import sys; from taskrun import building; sys.exit(not building.has_runtime())') > /dev/null 2>&1
 }
 
 # The pass of the recorder is compiled with the headers of the clang that it finds.

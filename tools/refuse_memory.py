@@ -18,11 +18,12 @@ import re
 import subprocess
 import sys
 import tempfile
+from collections.abc import Iterator, Sequence
 
-from hostile_sessions import TOP, built_library, judge, judge_workers, of_workers, session_of, views
+from hostile_sessions import TOP, Judge, built_library, judge, judge_workers, of_workers, session_of, views
 
 
-def run(command, library, number, text=b''):
+def run(command: Sequence[str], library: str, number: int, text: bytes = b'') -> tuple[int, bytes, bytes, int | None]:
     there = dict(os.environ, LD_PRELOAD=library, REFUSE=str(number), REFUSE_COUNT='1')
     done = subprocess.run(command, input=text, capture_output=True, env=there, timeout=120)
     found = re.search(rb'calls (\d+)\n', done.stderr)
@@ -30,7 +31,7 @@ def run(command, library, number, text=b''):
     return done.returncode, done.stdout, re.sub(rb'calls \d+\n', b'', done.stderr), calls
 
 
-def refuse_each(name, command, library, is_right, text=b''):
+def refuse_each(name: str, command: Sequence[str], library: str, is_right: Judge, text: bytes = b'') -> int:
     """Counts upwards until a run meets no refusal, and tells how many were wrong."""
     number = wrong = 0
     while True:
@@ -47,13 +48,13 @@ def refuse_each(name, command, library, is_right, text=b''):
             return wrong
 
 
-def stored_sessions():
+def stored_sessions() -> list[str]:
     stored = ('sums_that_exclude_each_other', 'views_of_order_and_exclusion')
     rows = [os.path.join(TOP, 'crates/tb_session_rows/data', name + '.session') for name in stored]
     return sorted(glob.glob(os.path.join(TOP, 'examples/*.session'))) + rows
 
 
-def sessions(program, named):
+def sessions(program: str, named: Sequence[str]) -> Iterator[tuple[str, bytes, Judge]]:
     """Each session, with what it shows and what tells whether an answer to it is right."""
     for name in [os.path.abspath(name) for name in named] or stored_sessions():
         text = session_of(name)
@@ -66,7 +67,7 @@ def sessions(program, named):
     yield 'a sum by four workers', of_workers(4), judge_workers(program, of_workers(4))
 
 
-def tests_of_growth():
+def tests_of_growth() -> Iterator[tuple[str, str]]:
     """The tests of refused growth, each with the file that runs it."""
     for tests in sorted(glob.glob(os.path.join(TOP, 'crates/*/out/*_tests'))):
         listed = subprocess.run([tests, '--list'], capture_output=True, text=True, check=True).stdout
@@ -74,13 +75,14 @@ def tests_of_growth():
             yield tests, test
 
 
-def main():
+def main() -> None:
     args = argparse.ArgumentParser(description=__doc__, formatter_class=argparse.RawDescriptionHelpFormatter)
     args.add_argument('--program', default=os.path.join(TOP, 'crates/taskback/out/taskback'))
     args.add_argument('--wants-tests', action='store_true')
     args.add_argument('sessions', nargs='*')
     given = args.parse_args()
-    program, found = os.path.abspath(given.program), []
+    program = os.path.abspath(given.program)
+    found: list[int] = []
     with tempfile.TemporaryDirectory() as folder:
         library = built_library(folder)
         for tests, test in tests_of_growth():

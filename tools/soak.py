@@ -18,18 +18,20 @@ import tempfile
 import time
 from concurrent.futures import ThreadPoolExecutor
 
-from compare_sessions import answer, kinds_of, pick_session
+from compare_sessions import Answer, answer, kinds_of, pick_session
 from hostile_sessions import TOP, built_library
 
 
 class Soak:
     """One soak: the two implementations, the library that refuses, and what was found."""
 
-    def __init__(self, program, other, library):
+    def __init__(self, program: str, other: list[str], library: str) -> None:
         self.program, self.other, self.library = [program], other, library
-        self.found, self.kinds, self.failed = collections.Counter(), collections.Counter(), []
+        self.found: collections.Counter[str] = collections.Counter()
+        self.kinds: collections.Counter[str] = collections.Counter()
+        self.failed: list[int] = []
 
-    def refused(self, text, limit, number):
+    def refused(self, text: bytes, limit: int, number: int) -> tuple[Answer, int]:
         there = dict(os.environ, LD_PRELOAD=self.library, REFUSE=str(number), REFUSE_COUNT='1')
         done = subprocess.run(self.program + ['--limit', str(limit)], input=text, capture_output=True, env=there, timeout=300)
         lines = done.stderr.split(b'\n')
@@ -37,7 +39,7 @@ class Soak:
         said = b'\n'.join(line for line in lines if not line.startswith(b'calls '))
         return (done.stdout, said, done.returncode), counted[0] if counted else 0
 
-    def check_memory(self, seed, text, limit, whole):
+    def check_memory(self, seed: int, text: bytes, limit: int, whole: Answer) -> tuple[str, bool]:
         """Whether the session with one allocation refused gave all, or whole lines of it and status 3."""
         _, calls = self.refused(text, limit, 0)
         number = random.Random(seed).randrange(1, calls + 1)
@@ -48,7 +50,7 @@ class Soak:
         stopped = status == 3 and err == b'taskback: memory\n' and whole[0].startswith(out) and out[-1:] in (b'', b'\n')
         return 'memory refused', stopped
 
-    def check(self, seed):
+    def check(self, seed: int) -> tuple[str, str, bytes]:
         """What was wrong with a session, or nothing, and what was found."""
         try:
             text, limit = pick_session(seed, self.program, 1)
@@ -59,7 +61,7 @@ class Soak:
         wrong = 'differs' if mine != theirs else '' if stopped else 'wrong with memory refused'
         return wrong, kind, theirs[0]
 
-    def run(self, seed, minutes, jobs):
+    def run(self, seed: int, minutes: float, jobs: int) -> None:
         end = time.monotonic() + 60 * minutes
         with ThreadPoolExecutor(max_workers=jobs) as pool:
             while time.monotonic() < end:
@@ -74,7 +76,7 @@ class Soak:
                 seed += 64
 
 
-def main():
+def main() -> None:
     args = argparse.ArgumentParser(description=__doc__, formatter_class=argparse.RawDescriptionHelpFormatter)
     args.add_argument('--other', required=True)
     args.add_argument('--minutes', type=float, default=1)

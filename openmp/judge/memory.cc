@@ -18,7 +18,7 @@ u8 mask_of(u64 granule, u64 address, u64 size) {
 
 }  // namespace
 
-Memory::Memory(Run &run, bool is_plain) : run_(run), is_plain_(is_plain) {
+Memory::Memory(Run &run, bool is_plain) : run_(run), is_plain_(is_plain), handover_(run, blocks) {
     for (std::size_t at = 0; at < run.trace.size(); at++)
         take(at);
     tell_copies();
@@ -49,7 +49,15 @@ void Memory::take(std::size_t at) {
         strangers++;
     if (e.size == SET)
         return touch_set(at, e);
-    touch(at, e.address, size ? size : 1, e.kind == WRITE, e.mark);
+    if (size <= sizeof(u64) && !(e.mark & FREED))
+        handover_.see(at, e);
+    touch(at, e.address, size ? size : size_of_block(e), e.kind == WRITE, e.mark);
+}
+
+// Of a block that is given back without its size.
+u64 Memory::size_of_block(const event &e) const {
+    const Block *block = e.mark & FREED ? block_at(e.address) : nullptr;
+    return block ? block->size : 1;
 }
 
 // Whether it is a thread's copy of a reduced variable.
@@ -152,13 +160,14 @@ bool Memory::compare(const Now &now, Bucket &bucket) {
     for (u32 *link = &bucket.head; *link != NONE;) {
         u32 here = *link;
         Touch touch = touches_[here];
-        if (!is_plain_ && touch.segment == now.segment && is_alike && (touch.mask & now.mask) == now.mask)
+        if (!is_plain_ && touch.segment == now.segment && is_alike && (touch.mask & now.mask) == now.mask
+            && !handover_.is_offered(now.segment, touch.at, now.at, now.granule * GRANULE))
             return true;
         if (!conflicts && (is_plain_ || ++seen > FEW))
             return false;
         bool meets = touch.mask & now.mask && (conflicts || covers);
         bool is_ordered = meets && (run_.is_before(touch.segment, now.segment) || is_own(now, touch)
-                                    || (conflicts && is_in_turn(now, touch)));
+                                    || (conflicts && (is_in_turn(now, touch) || is_handed_over(now, touch))));
         if (meets && !is_ordered && conflicts)
             add_race(now, touch.at, touch.segment, run_.are_apart(touch.segment, now.segment), false);
         is_passed = is_passed && is_ordered;
@@ -237,6 +246,7 @@ void Memory::is_new(std::size_t at, const event &e) {
     if (e.kind != END && e.mark == STACK && run_.segment_of[at] != NONE)
         stacks_.emplace(run_.segments[run_.segment_of[at]].actor, std::make_pair(e.address, e.value));
     blocks.erase(first, last);
+    handover_.forget(e.address, e.value);
     blocks[e.address] = Block{e.value, static_cast<u32>(at), run_.segment_of[at]};
 }
 
@@ -309,6 +319,12 @@ bool Memory::is_in_turn(const Now &now, const Touch &earlier) {
     u32 unit = actors[made].unit;
     return unit != NONE && run_.units[unit].end < later && run_.units[unit].last != NONE
            && run_.is_before_node(earlier.segment, run_.units[unit].last);
+}
+
+bool Memory::is_handed_over(const Now &now, const Touch &earlier) {
+    bool is_between = handover_.is_between(Step{earlier.at, earlier.segment}, Step{now.at, now.segment}, now.granule * GRANULE);
+    by_handover += is_between ? 1 : 0;
+    return is_between;
 }
 
 // Whether one thread did both in units that might be two threads', on memory that is its own.

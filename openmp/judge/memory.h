@@ -7,6 +7,7 @@
 #include <unordered_map>
 #include <vector>
 
+#include "handover.h"
 #include "run.h"
 
 namespace judge {
@@ -30,13 +31,6 @@ struct Race {
     bool is_sure = true;      // else only where the place is no other one for each thread
 };
 
-// A block that was taken, or a task's part of a stack.
-struct Block {
-    u64 size;
-    u32 at;          // the event
-    u32 segment;     // in which it was taken
-};
-
 class Memory {
 public:
     // `is_plain`: each access is compared with all before it at its place, which shows that the short cuts lose nothing.
@@ -45,7 +39,7 @@ public:
     std::vector<Race> races;
     u64 by_thread_number = 0;      // kept out, since the program asked for the thread's number
     u64 by_one_number = 0;         // of these, and of what more threads would do, in a team of one that might have more
-    u64 by_atomics = 0, by_locks = 0, copies = 0, strangers = 0;
+    u64 by_atomics = 0, by_locks = 0, by_handover = 0, copies = 0, strangers = 0;
     std::map<u64, Block> blocks;   // as they were at the end
     // The block that an address was in when it was touched, for each race.
     std::vector<Block> block_of_race;
@@ -71,6 +65,7 @@ private:
 
     void take(std::size_t at);
     bool is_copy(u64 address) const;
+    u64 size_of_block(const event &e) const;
     void touch_set(std::size_t at, const event &e);
     void touch(std::size_t at, u64 address, u64 size, bool is_write, u8 mark);
     void touch_place(Now &now, u32 &place);
@@ -81,6 +76,7 @@ private:
     void pass(const Now &now, Bucket &bucket);
     bool is_own(const Now &now, const Touch &earlier);
     bool is_in_turn(const Now &now, const Touch &earlier);
+    bool is_handed_over(const Now &now, const Touch &earlier);
     bool is_on_stack(u32 part, u64 address) const;
     bool is_private(u32 part, u64 address) const;
     void look_for_copies(const Now &now);
@@ -93,6 +89,7 @@ private:
 
     Run &run_;
     const bool is_plain_;
+    Handover handover_;
     std::map<u64, std::unique_ptr<Page>> pages_;
     u64 last_page_number_ = ~u64{0};
     Page *last_page_ = nullptr;

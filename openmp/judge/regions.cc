@@ -10,13 +10,13 @@ void Run::begin_region(const event &e) {
     region.place = e.place;
     region.begun = now_;
     region.unit = s.unit;
-    region.is_one_by_clause = is_next_one_;
+    region.is_one_by_clause = s.is_next_one || s.is_one;
     region.is_league = leagues_.count(e.task) != 0;
     if (s.phase != NONE) {
         const Region &outer = regions[phases[s.phase].region];
         region.is_nested = outer.is_nested || !outer.is_league;
     }
-    is_next_one_ = false;
+    s.is_next_one = false;
     u32 number = static_cast<u32>(regions.size()), open = node_of(s);
     region_of_[e.address] = number;
     regions.push_back(std::move(region));
@@ -56,6 +56,7 @@ void Run::begin_part(const event &e, u32 thread) {
     State &s = fresh(e.task);
     s.actor = part;
     s.phase = phase;
+    s.is_one = state(number_of_[region.meeting]).is_one;
     u32 node = graph_.add(phases[phase].open);
     s.segment = add_segment(part, node, 0);
     actors[part].start = node;

@@ -64,6 +64,7 @@ void Report::write_counts(std::ostream &out) const {
         << ", \"forks\": " << c.forks << ", \"no_tool\": " << c.no_tool;
     if (memory_)
         out << ", \"by_atomics\": " << memory_->by_atomics << ", \"by_locks\": " << memory_->by_locks
+            << ", \"by_handover\": " << memory_->by_handover
             << ", \"copies\": " << memory_->copies << ", \"by_thread_number\": " << memory_->by_thread_number
             << ", \"by_one_number\": " << memory_->by_one_number
             << ", \"strangers\": " << memory_->strangers;

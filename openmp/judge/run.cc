@@ -177,7 +177,9 @@ void Run::note(const event &e) {
     case NOTE_DEEP: counts.deep++; return;
     case NOTE_FORK: counts.forks++; return;
     case NOTE_NO_TOOL: counts.no_tool++; return;
-    case NOTE_ONE_THREAD: is_next_one_ = true; return;
+    case NOTE_ONE_THREAD: s.is_next_one = true; return;
+    case NOTE_ONE_FROM_HERE: s.is_one = true; return;
+    case NOTE_MORE_FROM_HERE: s.is_one = false; return;
     case NOTE_THREAD_NUMBER:
         actors[s.actor].flags |= Actor::HAS_NUMBER;
         if (actors[s.actor].flags & Actor::IS_PART)

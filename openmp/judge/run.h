@@ -130,6 +130,8 @@ struct State {
     u32 masked_unit = NONE; // its first masked block
     std::map<std::array<u64, 3>, u32> static_units;     // in which it made tasks
     u32 unsettled = NONE;   // the last child, while its items come
+    bool is_next_one = false;   // the next region has one thread by a clause
+    bool is_one = false;        // so have those that no clause gives more, by the program's words
     Loop loop;
     std::vector<u32> children;       // not yet waited for
     std::vector<u32> outer_groups;
@@ -262,7 +264,6 @@ private:
     std::map<u64, RegionCopy> region_copies_;
     std::vector<u32> number_of_;    // the task number of each actor
     std::set<u32> leagues_;         // the first tasks of the teams of a league
-    bool is_next_one_ = false;
     std::size_t now_ = 0;           // the event that is taken
 };
 

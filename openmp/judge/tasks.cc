@@ -37,6 +37,7 @@ void Run::create(const event &e) {
     s.actor = child;
     s.phase = parent.phase;
     s.group = parent.group;
+    s.is_one = parent.is_one;
     parent.children.push_back(child);
     if (parent.group != NONE)
         groups[parent.group].members.push_back(child);

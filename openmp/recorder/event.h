@@ -53,12 +53,15 @@ enum kind {
 
 /* What the notation has no word for, and what else is told of a run. */
 enum note {
-    NOTE_REDUCTION = 1, NOTE_DETACH, NOTE_PRIORITY, NOTE_CANCEL, NOTE_DEEP, NOTE_THREAD_NUMBER, NOTE_ONE_THREAD,
-    NOTE_NO_TOOL, NOTE_NO_ROOM, NOTE_FORK
+    NOTE_REDUCTION = 1, NOTE_DETACH, NOTE_PRIORITY, NOTE_CANCEL, NOTE_DEEP, NOTE_THREAD_NUMBER,
+    NOTE_ONE_THREAD,        /* the next region has one thread by a clause */
+    NOTE_NO_TOOL, NOTE_NO_ROOM, NOTE_FORK,
+    NOTE_ONE_FROM_HERE,     /* regions that the task meets have one thread where no clause says more */
+    NOTE_MORE_FROM_HERE
 };
 
 /* Marks of a READ or WRITE; what is freed may be the frame of a function that ends, of a task's
-   outermost one. */
+   outermost one; a block that is freed and has no size is as large as it was when it was taken. */
 enum mark { ATOMIC = 1, FREED = 2, LIBRARY = 4, FRAME = 8, OUTERMOST = 16 };
 
 /* Above these marks stands, of several elements, 1 and the power of two that is the size of each. */

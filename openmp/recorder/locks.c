@@ -45,6 +45,22 @@ int __wrap_pthread_mutex_timedlock(pthread_mutex_t *lock, const struct timespec 
     return taken(__real_pthread_mutex_timedlock(lock, end), lock, PLACE);
 }
 
+/* Not in each C library. */
+__attribute__((weak)) int __real_pthread_mutex_clocklock(pthread_mutex_t *, clockid_t, const struct timespec *);
+int __wrap_pthread_mutex_clocklock(pthread_mutex_t *lock, clockid_t clock, const struct timespec *end) {
+    return taken(__real_pthread_mutex_clocklock(lock, clock, end), lock, PLACE);
+}
+
+int __real_pthread_rwlock_timedwrlock(pthread_rwlock_t *, const struct timespec *);
+int __wrap_pthread_rwlock_timedwrlock(pthread_rwlock_t *lock, const struct timespec *end) {
+    return taken(__real_pthread_rwlock_timedwrlock(lock, end), lock, PLACE);
+}
+
+__attribute__((weak)) int __real_pthread_rwlock_clockwrlock(pthread_rwlock_t *, clockid_t, const struct timespec *);
+int __wrap_pthread_rwlock_clockwrlock(pthread_rwlock_t *lock, clockid_t clock, const struct timespec *end) {
+    return taken(__real_pthread_rwlock_clockwrlock(lock, clock, end), lock, PLACE);
+}
+
 /* Readers of such a lock aren't kept apart from each other, but from who writes. */
 static int taken_to_read(int status, const void *lock, uint64_t place) {
     if (status == 0) {
@@ -63,7 +79,39 @@ int __wrap_pthread_rwlock_tryrdlock(pthread_rwlock_t *lock) {
     return taken_to_read(__real_pthread_rwlock_tryrdlock(lock), lock, PLACE);
 }
 
+int __real_pthread_rwlock_timedrdlock(pthread_rwlock_t *, const struct timespec *);
+int __wrap_pthread_rwlock_timedrdlock(pthread_rwlock_t *lock, const struct timespec *end) {
+    return taken_to_read(__real_pthread_rwlock_timedrdlock(lock, end), lock, PLACE);
+}
+
+__attribute__((weak)) int __real_pthread_rwlock_clockrdlock(pthread_rwlock_t *, clockid_t, const struct timespec *);
+int __wrap_pthread_rwlock_clockrdlock(pthread_rwlock_t *lock, clockid_t clock, const struct timespec *end) {
+    return taken_to_read(__real_pthread_rwlock_clockrdlock(lock, clock, end), lock, PLACE);
+}
+
 GIVES(pthread_rwlock_unlock, pthread_rwlock_t)
+
+/* Who waits for a condition gives the lock away until then. */
+#define WAITS(name, parameters, lock, ...)                         \
+    __attribute__((weak)) int __real_##name parameters;            \
+    int __wrap_##name parameters {                                 \
+        taskback_note_lock(UNLOCK, (const void *)(lock), PLACE);   \
+        int status = __real_##name(__VA_ARGS__);                   \
+        taskback_note_lock(LOCK, (const void *)(lock), PLACE);     \
+        return status;                                             \
+    }
+WAITS(pthread_cond_wait, (pthread_cond_t *where, pthread_mutex_t *lock), lock, where, lock)
+WAITS(pthread_cond_timedwait, (pthread_cond_t *where, pthread_mutex_t *lock, const struct timespec *end), lock, where, lock, end)
+WAITS(pthread_cond_clockwait, (pthread_cond_t *where, pthread_mutex_t *lock, clockid_t clock, const struct timespec *end), lock,
+      where, lock, clock, end)
+
+/* C++'s, within its library: a `unique_lock` begins with a pointer to its mutex, which is one of POSIX. */
+__attribute__((weak)) void __real__ZNSt18condition_variable4waitERSt11unique_lockISt5mutexE(void *, void **);
+void __wrap__ZNSt18condition_variable4waitERSt11unique_lockISt5mutexE(void *where, void **guard) {
+    taskback_note_lock(UNLOCK, *guard, PLACE);
+    __real__ZNSt18condition_variable4waitERSt11unique_lockISt5mutexE(where, guard);
+    taskback_note_lock(LOCK, *guard, PLACE);
+}
 
 /* What `pthread_once` does once comes in front of what all that call it do then; that is written down before it lets
    others go on. */

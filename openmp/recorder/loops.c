@@ -189,6 +189,7 @@ void __wrap___kmpc_doacross_wait(void *at, int32_t thread, const int64_t *number
 int __real_omp_get_thread_num(void);
 void __real_omp_set_num_threads(int);
 void __real___kmpc_push_num_threads(void *, int32_t, int32_t);
+void __real___kmpc_serialized_parallel(void *, int32_t);
 void __real___kmpc_flush(void *);
 
 static void note_of_threads(enum note note, uint64_t place) {
@@ -202,8 +203,7 @@ int __wrap_omp_get_thread_num(void) {
 }
 
 void __wrap_omp_set_num_threads(int count) {
-    if (count == 1)
-        note_of_threads(NOTE_ONE_THREAD, PLACE);
+    note_of_threads(count == 1 ? NOTE_ONE_FROM_HERE : NOTE_MORE_FROM_HERE, PLACE);
     __real_omp_set_num_threads(count);
 }
 
@@ -211,6 +211,12 @@ void __wrap___kmpc_push_num_threads(void *at, int32_t thread, int32_t count) {
     if (count == 1)
         note_of_threads(NOTE_ONE_THREAD, PLACE);
     __real___kmpc_push_num_threads(at, thread, count);
+}
+
+/* A region whose `if` clause doesn't hold. */
+void __wrap___kmpc_serialized_parallel(void *at, int32_t thread) {
+    note_of_threads(NOTE_ONE_THREAD, PLACE);
+    __real___kmpc_serialized_parallel(at, thread);
 }
 
 void __wrap___kmpc_flush(void *at) {

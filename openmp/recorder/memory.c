@@ -61,6 +61,52 @@ void __wrap_free(void *block) {
     __real_free(block);
 }
 
+/* ---- OpenMP's allocators: by its functions, and by the clause `allocate`. What the runtime gives for them isn't malloc's,
+   so the judge looks up how large it was. */
+
+static void *taken_of(void *block, size_t size, uint64_t place) {
+    if (block)
+        taskback_new_memory(own_state(), (uint64_t)block, size, place);
+    return block;
+}
+
+static void given_back_whole(void *block, uint64_t place) {
+    if (block)
+        taskback_access(WRITE, (uint64_t)block, 0, place, FREED);
+}
+
+/* Which memory it is stands in a number of the size of a pointer. */
+typedef uintptr_t kind_of_memory;
+
+#define ALLOCATES(name, parameters, size, ...)                                             \
+    __attribute__((weak)) void *__real_##name parameters;                                  \
+    void *__wrap_##name parameters { return taken_of(__real_##name(__VA_ARGS__), size, PLACE); }
+ALLOCATES(omp_alloc, (size_t size, kind_of_memory kind), size, size, kind)
+ALLOCATES(omp_calloc, (size_t count, size_t size, kind_of_memory kind), count * size, count, size, kind)
+ALLOCATES(omp_aligned_alloc, (size_t align, size_t size, kind_of_memory kind), size, align, size, kind)
+ALLOCATES(omp_aligned_calloc, (size_t align, size_t count, size_t size, kind_of_memory kind), count * size, align, count,
+          size, kind)
+ALLOCATES(__kmpc_alloc, (int32_t thread, size_t size, kind_of_memory kind), size, thread, size, kind)
+ALLOCATES(__kmpc_aligned_alloc, (int32_t thread, size_t align, size_t size, kind_of_memory kind), size, thread, align, size, kind)
+
+__attribute__((weak)) void *__real_omp_realloc(void *, size_t, kind_of_memory, kind_of_memory);
+void *__wrap_omp_realloc(void *block, size_t size, kind_of_memory kind, kind_of_memory before) {
+    given_back_whole(block, PLACE);
+    return taken_of(__real_omp_realloc(block, size, kind, before), size, PLACE);
+}
+
+__attribute__((weak)) void __real_omp_free(void *, kind_of_memory);
+void __wrap_omp_free(void *block, kind_of_memory kind) {
+    given_back_whole(block, PLACE);
+    __real_omp_free(block, kind);
+}
+
+__attribute__((weak)) void __real___kmpc_free(int32_t, void *, kind_of_memory);
+void __wrap___kmpc_free(int32_t thread, void *block, kind_of_memory kind) {
+    given_back_whole(block, PLACE);
+    __real___kmpc_free(thread, block, kind);
+}
+
 /* Memory of the system, whole pages of it. */
 #define MAPS(name)                                                                                              \
     void *__real_##name(void *, size_t, int, int, int, off_t);                                                 \

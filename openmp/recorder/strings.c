@@ -52,7 +52,9 @@ COPIES_MOST(strncat, to + __real_strlen(to), strnlen(from, most) + 1)
     type __real_##name(const char *, char **, int);                    \
     type __wrap_##name(const char *text, char **end, int base) {       \
         reads(text, whole(text), PLACE);                               \
-        return __real_##name(text, end, base);                         \
+        type given = __real_##name(text, end, base);                   \
+        writes(end, sizeof *end, PLACE);                               \
+        return given;                                                  \
     }
 #define SEEKS(name)                                        \
     char *__real_##name(const char *, int);                \
@@ -73,6 +75,8 @@ READS_ONE(long, atol)
 READS_ONE(double, atof)
 NUMBER_OF(long, strtol)
 NUMBER_OF(unsigned long, strtoul)
+NUMBER_OF(long long, strtoll)
+NUMBER_OF(unsigned long long, strtoull)
 SEEKS(strchr)
 SEEKS(strrchr)
 COMPARES(int, strcmp)
@@ -115,7 +119,9 @@ void *__wrap_memchr(const void *block, int byte, size_t size) {
 double __real_strtod(const char *, char **);
 double __wrap_strtod(const char *text, char **end) {
     reads(text, whole(text), PLACE);
-    return __real_strtod(text, end);
+    double given = __real_strtod(text, end);
+    writes(end, sizeof *end, PLACE);
+    return given;
 }
 
 int __real_strncmp(const char *, const char *, size_t);

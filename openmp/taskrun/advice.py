@@ -2,6 +2,7 @@
 
 import re
 
+from .finding import Actor, Finding, Race, Side
 from .places import postfix_expressions
 from .scopes import scope_name
 
@@ -9,21 +10,21 @@ OUT, INOUT = 2, 3
 TASK_CLAUSES = re.compile(r"#\s*pragma\s+omp\s+task\b")
 
 
-def branch(actor, ancestor):
+def branch(actor: Actor, ancestor: Actor) -> Actor:
     """The child of the ancestor that the actor is or comes from."""
-    while actor.parent is not ancestor:
+    while actor.parent and actor.parent is not ancestor:
         actor = actor.parent
     return actor
 
 
-def common(first, second):
+def common(first: Actor, second: Actor) -> Actor:
     """The innermost actor that both are or come from."""
-    while not second.is_under(first):
+    while first.parent and not second.is_under(first):
         first = first.parent
     return first
 
 
-def remedy(finding, race):
+def remedy(finding: Finding, race: Race) -> str:
     """What would order the two."""
     first, second = race.earlier.actor, race.later.actor
     if race.is_copied or (first is second and first.is_part):
@@ -47,14 +48,14 @@ def remedy(finding, race):
             "a depend clause orders children of one task alone")
 
 
-def both_order(race):
+def both_order(race: Race) -> bool:
     """Whether clauses of both would order the two if one thread surely made both tasks."""
     return race.earlier.actor is not race.later.actor and all(
         any(begin <= race.address < begin + max(length, 1) and bits in (OUT, INOUT) for begin, length, bits in side.actor.items)
         for side in (race.earlier, race.later))
 
 
-def wait_words(finding, side, task, maker):
+def wait_words(finding: Finding, side: Side, task: Actor, maker: Actor) -> str:
     """Of a task and what made it: a wait in front of the maker's step."""
     child = branch(task, maker)
     where = f"the end of the function at {finding.line_of(side)}" if side.is_frame else finding.line_of(side)
@@ -64,7 +65,7 @@ def wait_words(finding, side, task, maker):
     return f"add a taskwait in front of {where}"
 
 
-def shared_words(part):
+def shared_words(part: Actor) -> str:
     """Of what a team's threads do: they are kept apart, or each has a variable of its own."""
     del part
     return ("make it private, keep it apart by a critical section or an atomic operation, or let one thread do it "
@@ -73,7 +74,7 @@ def shared_words(part):
 
 # ---- depend clauses
 
-def depend_words(finding, race):
+def depend_words(finding: Finding, race: Race) -> str | None:
     """`add depend(inout: total)`; where one of the two names the place in a clause already, what the other lacks; None
     where the directives take no such clause, or both name it."""
     sides = (race.earlier, race.later)
@@ -84,8 +85,9 @@ def depend_words(finding, race):
     kinds = [kind_of(finding, side) for side in sides]
     known = [item_name(finding, side, race.address) for side in sides]
     for one, other in ((0, 1), (1, 0)):
-        if known[one] and not known[other] and places[0] != places[1]:
-            return (f"add depend({kinds[other]}: {own_name(finding, sides[other], known[one])}) to the task at "
+        name = known[one]
+        if name and not known[other] and places[0] != places[1]:
+            return (f"add depend({kinds[other]}: {own_name(finding, sides[other], name)}) to the task at "
                     f"{places[other]} (so the one at {places[one]} names that place)")
     if known[0] and known[1]:
         return type_words(places, known)
@@ -100,13 +102,13 @@ def depend_words(finding, race):
     return f"add depend({kinds[0]}: {name}) at {places[0]} and depend({kinds[1]}: {name}) at {places[1]}"
 
 
-def type_words(places, known):
+def type_words(places: list[str], known: list[str | None]) -> str:
     """Both name the place: the one that writes has to say so."""
     where = places[0] if places[0] == places[1] else f"{places[0]} and {places[1]}"
     return f"say depend(inout: {known[0]}) where it is written, at {where}"
 
 
-def item_name(finding, side, address):
+def item_name(finding: Finding, side: Side, address: int) -> str | None:
     """The name of the depend item of the side's task that covers the address, or None."""
     names = finding.sources.items(side.actor.place)
     for number, (begin, length, _) in enumerate(side.actor.items):
@@ -115,7 +117,7 @@ def item_name(finding, side, address):
     return None
 
 
-def own_name(finding, side, other_name):
+def own_name(finding: Finding, side: Side, other_name: str) -> str:
     """What the side's task calls the place that another one's clause names so: of the expressions in its own lines with
     that variable and as many indexes, the one that no clause of it has; else the other one's words."""
     variable = re.match(r"\w+", other_name)
@@ -128,7 +130,7 @@ def own_name(finding, side, other_name):
     return found[0] if len(found) == 1 else other_name
 
 
-def kind_of(finding, side):
+def kind_of(finding: Finding, side: Side) -> str:
     """The depend type for what the side's task does there, as far as the races show."""
     writes = any(other.done != "reads" and other.actor is side.actor and other.address == side.address
                  for race in finding.races for other in (race.earlier, race.later))

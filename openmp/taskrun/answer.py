@@ -1,6 +1,9 @@
 """The answer about a run: a fault, races by source lines, or that there are none."""
 
+from collections.abc import Iterable
+
 from .advice import remedy
+from .finding import Actor, Finding, Race, Side, Told
 
 FAULT, RACES, NONE, UNKNOWN = 1, 2, 0, 3
 RULES = {
@@ -19,13 +22,14 @@ AS_SEEN = "no race as far as was seen: nothing is said of other schedules"
 # What orders nothing, or is this run's alone: where one of these is there, what is said of every schedule says less.
 ALIKE = (("locks", "critical sections and locks"), ("reductions", "reductions"), ("cancellations", "cancellations"),
          ("by_atomics", "accesses by atomic operations alone"), ("by_locks", "accesses that one lock keeps apart"),
-         ("handed_over", "steps ordered by atomics as seen"),
+         ("handed_over", "steps ordered by atomics or signals as seen"),
+         ("by_handover", "accesses to what was handed over under a lock"),
          ("by_thread_number", "accesses by the thread's number, which the runtime chooses"))
 # What wasn't seen: where one of these is there, nothing is said of other schedules.
 UNSEEN = (("strangers", "accesses of threads that aren't OpenMP's"), ("forks", "processes that were forked"))
 
 
-def what_is_unseen(finding):
+def what_is_unseen(finding: Finding) -> list[str]:
     """Lines on what of the program wasn't seen."""
     lines = [f"not seen: {words}: {finding.counts[name]}" for name, words in UNSEEN if finding.counts.get(name)]
     if finding.told["unseen"]:
@@ -33,7 +37,7 @@ def what_is_unseen(finding):
     return lines
 
 
-def what_is_alike(finding):
+def what_is_alike(finding: Finding) -> list[str]:
     """Lines on what may come in either order without a race."""
     return [f"not ordered, or only as seen: {words}: {finding.counts[name]}" for name, words in ALIKE
             if finding.counts.get(name)]
@@ -41,13 +45,13 @@ def what_is_alike(finding):
 
 # ---- a fault of the run
 
-def task_words(finding, number):
+def task_words(finding: Finding, number: int) -> str:
     """`task 0.1 (sum.c:9)`."""
     actor = finding.actors[number]
     return f"task {actor.name} ({finding.line(actor.place)})" if actor.is_task else f"task {actor.name} (the program)"
 
 
-def tell_fault(finding):
+def tell_fault(finding: Finding) -> list[str]:
     """The lines about the step that broke a rule."""
     fault = finding.fault
     done, rule = RULES[fault["rule"]]
@@ -62,26 +66,27 @@ def tell_fault(finding):
 class Report:
     """The races of one pair of lines: one mistake."""
 
-    def __init__(self, race):
+    def __init__(self, race: Race) -> None:
         self.race = race
         self.count = race.count
 
-    def add(self, race):
+    def add(self, race: Race) -> None:
         """Takes another race of these lines in; the one in which both write is told."""
         self.count += race.count
         if writes_of(race) > writes_of(self.race):
             self.race = race
 
 
-def writes_of(race):
+def writes_of(race: Race) -> int:
     """How many of its two sides write."""
     return sum(side.done != "reads" for side in (race.earlier, race.later))
 
 
-def gather(finding, races):
+def gather(finding: Finding, races: Iterable[Race]) -> list[Report]:
     """The reports, in the order in which their first races came: one for each pair of lines, and of these one for what
     the same advice mends."""
-    by_lines, by_advice = {}, {}
+    by_lines: dict[frozenset[str], Report] = {}
+    by_advice: dict[tuple[str, str], Report] = {}
     for race in races:
         key = frozenset((finding.line_of(race.earlier), finding.line_of(race.later)))
         if key in by_lines:
@@ -95,7 +100,7 @@ def gather(finding, races):
     return list(by_advice.values())
 
 
-def step_words(finding, race, side):
+def step_words(finding: Finding, race: Race, side: Side) -> str:
     """`sum.c:9 writes total`; of memory without a name, where it was allocated."""
     name = finding.name_of(side)
     if side.is_frame:
@@ -106,14 +111,15 @@ def step_words(finding, race, side):
     return words
 
 
-def part_of_block(race, side):
+def part_of_block(race: Race, side: Side) -> str:
     """`element 12 of the array`, or which byte where the elements aren't one behind the other."""
-    number, rest = divmod(race.block["offset"], side.size or 1)
+    block = race.block or {"offset": 0}
+    number, rest = divmod(block["offset"], side.size or 1)
     is_element = rest == 0 and side.size in (1, 2, 4, 8, 16)
-    return f"element {number} of the array" if is_element else f"byte {race.block['offset']} of the block"
+    return f"element {number} of the array" if is_element else f"byte {block['offset']} of the block"
 
 
-def who_words(finding, race):
+def who_words(finding: Finding, race: Race) -> str:
     """`tasks at sum.c:9 and sum.c:9`; the one that made the other isn't called a task."""
     first, second = race.earlier.actor, race.later.actor
     if race.is_copied:
@@ -132,14 +138,14 @@ def who_words(finding, race):
                         for actor in (first, second))
 
 
-def part_words(finding, actor):
+def part_words(finding: Finding, actor: Actor) -> str:
     """`the threads of the region at sum.c:7`."""
     while not actor.is_part and actor.parent is not None:
         actor = actor.parent
     return f"the threads of the region at {finding.line(actor.place)}"
 
 
-def tell_races(finding, races):
+def tell_races(finding: Finding, races: Iterable[Race]) -> list[str]:
     """A line for each report."""
     lines = []
     for report in gather(finding, races):
@@ -152,7 +158,7 @@ def tell_races(finding, races):
 
 # ---- the whole answer
 
-def answer(finding):
+def answer(finding: Finding) -> tuple[int, list[str]]:
     """(exit status, lines)."""
     status, lines = answer_of(finding)
     if status != NONE and finding.sources.why_none:
@@ -160,7 +166,7 @@ def answer(finding):
     return status, lines
 
 
-def answer_of(finding):
+def answer_of(finding: Finding) -> tuple[int, list[str]]:
     """The same, without a remark on the program."""
     if finding.fault:
         return FAULT, tell_fault(finding)
@@ -174,7 +180,7 @@ def answer_of(finding):
     return NONE, lines + tell_outcome(finding)
 
 
-def why_unended(finding):
+def why_unended(finding: Finding) -> list[str]:
     """Lines on what keeps the trace from being a whole run's."""
     told = finding.told
     if finding.counts["no_tool"]:
@@ -190,7 +196,7 @@ def why_unended(finding):
     return []
 
 
-def tell_outcome(finding):
+def tell_outcome(finding: Finding) -> list[str]:
     """Lines for a legal and finished run without an open race."""
     told = finding.told
     lines = []
@@ -211,7 +217,7 @@ def tell_outcome(finding):
     return lines + [f"{kind}: {sentence}"]
 
 
-def as_json(finding, status, lines):
+def as_json(finding: Finding, status: int, lines: list[str]) -> Told:
     """The answer as one object: the status, the lines, and each report with its parts."""
     reports = []
     for report in gather(finding, finding.races):
@@ -223,7 +229,7 @@ def as_json(finding, status, lines):
             "events": finding.told["events"], "races": reports}
 
 
-def side_json(finding, race, side):
+def side_json(finding: Finding, race: Race, side: Side) -> Told:
     """One step of a race."""
     place = finding.sources.place(side.own)
     return {"file": place.file, "line": place.line, "column": place.column,

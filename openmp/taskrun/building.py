@@ -9,11 +9,14 @@ import signal
 import subprocess
 import sys
 import tempfile
+from collections.abc import Iterator
+
+from .directives import words_for_loops
 
 RECORDER = os.path.join(os.path.dirname(os.path.dirname(os.path.abspath(__file__))), "recorder")
 JUDGE = os.path.join(os.path.dirname(RECORDER), "judge")
 PARTS = ["buffers.c", "accesses.c", "atomics.c", "tool.c", "wraps.c", "reductions.c", "loops.c", "locks.c", "memory.c",
-         "strings.c", "formats.c", "operators.c"]
+         "signals.c", "strings.c", "formats.c", "numbers.c", "operators.c"]
 CXX_ENDINGS = (".cc", ".cpp", ".cxx", ".C", ".c++", ".cp", ".CPP")
 SOURCE_ENDINGS = (".c",) + CXX_ENDINGS
 OBJECT_ENDINGS = (".o", ".a", ".so")
@@ -30,13 +33,16 @@ RUNTIME_CALLS = ["omp_task_alloc", "omp_task", "omp_task_with_deps", "omp_task_b
                  "taskred_modifier_init", "task_reduction_modifier_fini", "task_reduction_get_th_data", "end_taskgroup",
                  "reduce", "reduce_nowait", "end_reduce", "end_reduce_nowait", "for_static_fini", "single", "end_single",
                  "master", "end_master", "masked", "end_masked", "ordered", "end_ordered", "doacross_init",
-                 "doacross_post", "doacross_wait", "push_num_threads", "flush",
+                 "doacross_post", "doacross_wait", "push_num_threads", "serialized_parallel", "flush", "alloc",
+                 "aligned_alloc", "free",
                  *(f"{name}_{kind}" for name in ("for_static_init", "dispatch_init", "dispatch_next")
                    for kind in LOOP_KINDS)]
-OTHER_CALLS = ["omp_get_thread_num", "omp_set_num_threads",
+OTHER_CALLS = ["omp_get_thread_num", "omp_set_num_threads", "omp_alloc", "omp_calloc", "omp_aligned_alloc",
+               "omp_aligned_calloc", "omp_realloc", "omp_free",
                "malloc", "calloc", "realloc", "reallocarray", "aligned_alloc", "posix_memalign", "memalign", "valloc",
-               "free", "mmap", "mmap64", "munmap", "memcpy", "memmove", "memset", "strcpy", "stpcpy", "strcat", "strncpy", "strncat", "strlen", "atoi",
-               "atol", "atof", "strtol", "strtoul", "strtod", "strchr", "strrchr", "strcmp", "strcasecmp", "strstr",
+               "free", "mmap", "mmap64", "munmap", "memcpy", "memmove", "memset", "strcpy", "stpcpy", "strcat", "strncpy",
+               "strncat", "strlen", "atoi", "atol", "atof", "strtol", "strtoul", "strtoll", "strtoull", "strtod", "strchr",
+               "strrchr", "strcmp", "strcasecmp", "strstr",
                "strncmp", "memcmp", "strdup", "strndup", "qsort", "bsearch", "printf", "fprintf", "sprintf", "snprintf",
                "puts", "fputs", "fgets", "fread", "fwrite", "strpbrk", "strspn", "strcspn", "strtok", "strtok_r", "memchr",
                "vprintf", "vfprintf", "vsprintf", "vsnprintf", "sscanf", "scanf", "fscanf", "__isoc99_sscanf",
@@ -44,7 +50,15 @@ OTHER_CALLS = ["omp_get_thread_num", "omp_set_num_threads",
                "pthread_mutex_lock", "pthread_mutex_trylock", "pthread_mutex_timedlock", "pthread_mutex_unlock",
                "pthread_spin_lock", "pthread_spin_trylock", "pthread_spin_unlock", "pthread_rwlock_rdlock",
                "pthread_rwlock_tryrdlock", "pthread_rwlock_wrlock", "pthread_rwlock_trywrlock", "pthread_rwlock_unlock",
+               "sem_post", "sem_wait", "sem_trywait", "sem_timedwait", "pthread_barrier_wait",
+               "pthread_mutex_clocklock", "pthread_rwlock_timedwrlock", "pthread_rwlock_clockwrlock",
+               "pthread_rwlock_timedrdlock", "pthread_rwlock_clockrdlock", "pthread_cond_wait", "pthread_cond_timedwait",
+               "pthread_cond_clockwait", "_ZNSt18condition_variable4waitERSt11unique_lockISt5mutexE",
                "pthread_once", "__cxa_guard_acquire", "__cxa_guard_release"]
+# A program may have one of its own by such a name.
+NUMBER_CALLS = ["frexp", "frexpf", "modf", "modff", "remquo", "lgamma_r", "time", "clock_gettime", "localtime_r", "gmtime_r",
+                "gettimeofday", "sincos", "sincosf", "rand_r", "erand48", "rand", "random", "drand48", "lrand48", "mrand48",
+                "srand", "srandom", "srand48"]
 OPERATORS = ["_Znwm", "_Znam", "_ZnwmRKSt9nothrow_t", "_ZnamRKSt9nothrow_t", "_ZnwmSt11align_val_t",
              "_ZnamSt11align_val_t", "_ZdlPv", "_ZdaPv", "_ZdlPvm", "_ZdaPvm", "_ZdlPvRKSt9nothrow_t",
              "_ZdaPvRKSt9nothrow_t", "_ZdlPvSt11align_val_t", "_ZdaPvSt11align_val_t", "_ZdlPvmSt11align_val_t",
@@ -55,13 +69,13 @@ class CannotBuild(Exception):
     """There is no such compiler, or it isn't clang."""
 
 
-def clang():
+def clang() -> str | None:
     """The compiler's path, or None where there is none."""
     named = os.environ.get("TASKBACK_CLANG")
     return shutil.which(named) if named else shutil.which("clang-14") or shutil.which("clang")
 
 
-def driver_of(compiler, is_cxx):
+def driver_of(compiler: str, is_cxx: bool) -> str:
     """The command that compiles C++ where that is wanted: beside the one that compiles C, by its own name."""
     if not is_cxx:
         return compiler
@@ -71,7 +85,7 @@ def driver_of(compiler, is_cxx):
     return os.path.join(folder, name.replace("clang", "clang++", 1))
 
 
-def has_runtime():
+def has_runtime() -> bool:
     """Whether clang and its OpenMP runtime are there: whether a program with a directive can be linked."""
     compiler = clang()
     if not compiler:
@@ -86,7 +100,7 @@ def has_runtime():
     return done.returncode == 0
 
 
-def need_clang():
+def need_clang() -> str:
     """The compiler's path; CannotBuild where there is none, or it is another one."""
     compiler = clang()
     if not compiler:
@@ -99,7 +113,7 @@ def need_clang():
     return compiler
 
 
-def cache_folder():
+def cache_folder() -> str:
     """Where what is compiled at first use is kept: beside the recorder, or where the user keeps such, if nobody may
     write there."""
     beside = os.path.dirname(RECORDER)
@@ -108,20 +122,20 @@ def cache_folder():
     return os.path.join(os.environ.get("XDG_CACHE_HOME") or os.path.expanduser("~/.cache"), "taskback")
 
 
-def is_newer(made, *sources):
+def is_newer(made: str, *sources: str) -> bool:
     """Whether the file is there and newer than all of these."""
     return os.path.exists(made) and os.path.getmtime(made) > max(os.path.getmtime(source) for source in sources)
 
 
 @contextlib.contextmanager
-def alone_at(made):
+def alone_at(made: str) -> Iterator[None]:
     """While one process makes this file, others wait."""
     with open(made + ".lock", "w", encoding="ascii") as file:
         fcntl.flock(file, fcntl.LOCK_EX)
         yield
 
 
-def compile_whole(command, made, told=None):
+def compile_whole(command: list[str], made: str, told: int | None = None) -> None:
     """Runs the command with ` -o FILE`, and puts the file in its place when it is whole; what it says goes to `told`."""
     handle, part = tempfile.mkstemp(dir=os.path.dirname(made), suffix=os.path.splitext(made)[1])
     os.close(handle)
@@ -133,7 +147,7 @@ def compile_whole(command, made, told=None):
             os.remove(part)
 
 
-def folder_for(compiler):
+def folder_for(compiler: str) -> str:
     """The part of the cache that belongs to this compiler."""
     real = os.path.realpath(compiler)
     name = f"{os.path.basename(compiler)}-{hashlib.sha1(real.encode()).hexdigest()[:8]}"
@@ -142,7 +156,7 @@ def folder_for(compiler):
     return folder
 
 
-def recorder_objects(compiler, names):
+def recorder_objects(compiler: str, names: list[str]) -> list[str]:
     """The recorder's parts, compiled where they aren't or are older than their text."""
     folder = folder_for(compiler)
     headers = [os.path.join(RECORDER, name) for name in ("recorder.h", "event.h")]
@@ -157,7 +171,7 @@ def recorder_objects(compiler, names):
     return objects
 
 
-def judge():
+def judge() -> str:
     """The program that judges traces, compiled by this clang where it isn't or is older than its text."""
     compiler = need_clang()
     sources = [os.path.join(JUDGE, name) for name in sorted(os.listdir(JUDGE)) if name.endswith((".cc", ".h"))]
@@ -173,7 +187,7 @@ def judge():
     return made
 
 
-def pass_plugin(compiler):
+def pass_plugin(compiler: str) -> str | None:
     """The pass that puts calls in front of loads and stores, compiled where it isn't or is older than its text; None where
     LLVM's headers aren't there (llvm-14-dev), or TASKBACK_PLUGIN is 0."""
     source = os.path.join(RECORDER, "instrument.cc")
@@ -197,13 +211,13 @@ def pass_plugin(compiler):
     return made
 
 
-def instrumenting(compiler):
+def instrumenting(compiler: str) -> list[str]:
     """The words by which clang puts the recorder's calls into a program."""
     plugin = pass_plugin(compiler)
     return COMPILING + ([f"-fpass-plugin={plugin}"] if plugin else COVERAGE)
 
 
-def tell_tools():
+def tell_tools() -> int:
     """Writes the paths of the compilers of C and C++ and of the judge, for scripts; the exit status."""
     try:
         compiler = need_clang()
@@ -214,7 +228,7 @@ def tell_tools():
     return 0
 
 
-def compile_options(words):
+def compile_options(words: list[str]) -> list[str]:
     """The words that aren't files, and don't speak of what is linked."""
     options, skip = [], False
     for word in words:
@@ -227,13 +241,24 @@ def compile_options(words):
     return options
 
 
-def wraps():
-    """The linker's words by which calls are led through the recorder."""
+def defined_in(words: list[str]) -> set[str]:
+    """The functions that the object files and archives among these define."""
+    objects = [word for word in words if word.endswith((".o", ".a")) and os.path.exists(word)]
+    if not objects:
+        return set()
+    listed = subprocess.run(["nm", "--defined-only", *objects], capture_output=True, text=True, check=False).stdout
+    return {line.split()[-1] for line in listed.splitlines() if " T " in line}
+
+
+def wraps(words: list[str]) -> list[str]:
+    """The linker's words by which the calls of what these link are led through the recorder."""
+    own = defined_in(words)
     names = ["__kmpc_" + name for name in RUNTIME_CALLS] + OTHER_CALLS + OPERATORS
+    names += [name for name in NUMBER_CALLS if name not in own]
     return [f"-Wl,--wrap={name}" for name in names]
 
 
-def unseen_objects(words):
+def unseen_objects(words: list[str]) -> list[str]:
     """The object files and archives among these that have code and none of the instrumentation's calls."""
     found = []
     for word in words:
@@ -245,7 +270,7 @@ def unseen_objects(words):
     return found
 
 
-def list_of_unseen(compiler, names, folder):
+def list_of_unseen(compiler: str, names: list[str], folder: str) -> list[str]:
     """An object that names them, or nothing."""
     if not names:
         return []
@@ -257,7 +282,7 @@ def list_of_unseen(compiler, names, folder):
     return [made]
 
 
-def is_in_cxx(words, sources):
+def is_in_cxx(words: list[str], sources: list[str]) -> bool:
     """Whether C++ is linked: by a source's name, or by what an object calls."""
     if any(word.endswith(CXX_ENDINGS) for word in sources):
         return True
@@ -268,7 +293,7 @@ def is_in_cxx(words, sources):
     return " U __gxx_personality_v0" in listed or " U _Zn" in listed or " U _ZSt" in listed or " U _ZNSt" in listed
 
 
-def compile_program(words, is_cxx=False):
+def compile_program(words: list[str], is_cxx: bool = False) -> int:
     """As clang with these words; the exit status."""
     try:
         compiler = need_clang()
@@ -279,22 +304,24 @@ def compile_program(words, is_cxx=False):
     sources = [word for word in inputs if word.endswith(SOURCE_ENDINGS)]
     is_cxx = is_cxx or is_in_cxx(inputs, sources)
     driver = driver_of(compiler, is_cxx)
-    if {"-c", "-S", "-E", "-M", "-MM", "-fsyntax-only"} & set(words) or not inputs:
-        return subprocess.run([driver, *instrumenting(compiler), *words], check=False).returncode
+    options = compile_options(words)
     with tempfile.TemporaryDirectory() as folder:
+        loops = words_for_loops(driver, sources, options, folder)
+        if {"-c", "-S", "-E", "-M", "-MM", "-fsyntax-only"} & set(words) or not inputs:
+            return subprocess.run([driver, *instrumenting(compiler), *loops, *words], check=False).returncode
         linking = list(words)
-        options = compile_options(words)
         for number, source in enumerate(sources):
             made = os.path.join(folder, f"{number}.o")
             one = driver if source.endswith(CXX_ENDINGS) or is_cxx else compiler
-            status = subprocess.run([one, *instrumenting(compiler), *options, "-c", source, "-o", made], check=False).returncode
+            status = subprocess.run([one, *instrumenting(compiler), *options, *loops, "-c", source, "-o", made],
+                                    check=False).returncode
             if status != 0:
                 return status
             replace_input(linking, source, made)
         return link_program(compiler, driver, linking, words, folder)
 
 
-def replace_input(words, source, made):
+def replace_input(words: list[str], source: str, made: str) -> None:
     """Puts the object in the source's place, which isn't behind `-o`."""
     for at, word in enumerate(words):
         if word == source and (at == 0 or words[at - 1] != "-o"):
@@ -302,21 +329,30 @@ def replace_input(words, source, made):
             return
 
 
-def inputs_of(words):
+def inputs_of(words: list[str]) -> list[str]:
     """The words that name what is compiled or linked."""
     return [word for before, word in zip(["", *words], words)
             if before != "-o" and not word.startswith("-") and word.endswith(SOURCE_ENDINGS + OBJECT_ENDINGS)]
 
 
-def link_program(compiler, driver, linking, words, folder):
+def link_program(compiler: str, driver: str, linking: list[str], words: list[str], folder: str) -> int:
     """Links these; a shared library has its calls led through the recorder that the program has."""
     if "-shared" in words:
-        return subprocess.run([driver, "-fopenmp", *linking, *wraps()], check=False).returncode
+        return subprocess.run([driver, "-fopenmp", *linking, *wraps(linking)], check=False).returncode
     parts = recorder_objects(compiler, PARTS) + list_of_unseen(compiler, unseen_objects(words), folder)
-    return subprocess.run([driver, "-fopenmp", "-rdynamic", *linking, *parts, *wraps()], check=False).returncode
+    return subprocess.run([driver, "-fopenmp", "-rdynamic", *linking, *parts, *wraps(linking), *runtime_of(compiler),
+                           "-Wl,--no-as-needed", "-lm"],
+                          check=False).returncode
 
 
-def run_program(trace, words):
+def runtime_of(compiler: str) -> list[str]:
+    """The linker's words by which a program runs with the runtime of the clang that has compiled it, where there are
+    several."""
+    told = subprocess.run([compiler, "-print-file-name=libomp.so"], capture_output=True, text=True, check=False).stdout.strip()
+    return [f"-Wl,--enable-new-dtags,-rpath,{os.path.dirname(os.path.realpath(told))}"] if os.path.isabs(told) else []
+
+
+def run_program(trace: str, words: list[str]) -> int:
     """Runs the program; its exit status, or 64 where it left no trace. An interrupt goes to the program."""
     try:
         with open(trace, "wb"):

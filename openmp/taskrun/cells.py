@@ -4,28 +4,32 @@ from bisect import bisect_left
 from collections import Counter
 
 from . import trace as t
-from .actors import Step
+from .actors import Access, Actor, Run, Step
 
+# A granule, and the accesses to it with the bytes that each touches.
+Lifetime = tuple[int, list[tuple[Access, int]]]
 GRANULE = 8
 
 
 class Quiet:
     """When the root is alone: no task was made since all that there were had ended."""
 
-    def __init__(self, run):
-        made = [(task.steps_stamp, task) for task in made_tasks(run)]
+    def __init__(self, run: Run) -> None:
+        made = [(task.made, task) for task in made_tasks(run)]
         # A region inside another one ends its own tasks alone.
         closes = [phase.closed for region, phase in run.phases
                   if phase.closed is not None and region.meeting is run.root]
         waits = [stamp for stamp, _, step in run.root.steps if step.kind == "taskwait" and not step.items]
-        self._ends = []  # (from, to): not alone
-        begin, nested = None, False
-        happenings = sorted([(stamp, 0, task) for stamp, task in made] + [(stamp, 1, None) for stamp in closes]
-                            + [(stamp, 2, None) for stamp in waits], key=lambda entry: entry[:2])
+        self._ends: list[tuple[int, float]] = []  # (from, to): not alone
+        begin: int | None = None
+        nested = False
+        happenings: list[tuple[int, int, Actor | None]] = [(stamp, 0, task) for stamp, task in made]
+        happenings += [(stamp, 1, None) for stamp in closes] + [(stamp, 2, None) for stamp in waits]
+        happenings.sort(key=lambda entry: entry[:2])
         for stamp, what, task in happenings:
             if what == 0:
                 begin = stamp if begin is None else begin
-                nested = nested or task.parent.whose() is not run.root
+                nested = nested or maker_of(task) is not run.root
             elif begin is not None and (what == 1 or not nested):
                 self._ends.append((begin, stamp))
                 begin, nested = None, False
@@ -33,28 +37,33 @@ class Quiet:
             self._ends.append((begin, float("inf")))
         self._begins = [begin for begin, _ in self._ends]
 
-    def is_before_all(self, stamp):
+    def is_before_all(self, stamp: int) -> bool:
         """Whether it is in front of the first task: what was stored there is what cells begin with."""
         return not self._begins or stamp < self._begins[0]
 
-    def at(self, stamp):
+    def at(self, stamp: int) -> bool:
         """Whether the root is alone then."""
         at = bisect_left(self._begins, stamp) - 1
         return at < 0 or stamp > self._ends[at][1]
 
 
-def made_tasks(run):
+def maker_of(task: Actor | None) -> Actor | None:
+    """Whose statement makes the task."""
+    return task.parent.whose() if task and task.parent else None
+
+
+def made_tasks(run: Run) -> list[Actor]:
     """The actors that have a task of their own, each with the stamp at which it was made."""
     found = []
     for home in all_homes(run):
         for stamp, _, step in home.steps:
             if step.child is not None:
-                step.child.steps_stamp = stamp
+                step.child.made = stamp
                 found.append(step.child)
     return found
 
 
-def all_homes(run):
+def all_homes(run: Run) -> list[Actor]:
     """The actors that keep their steps."""
     parts = [part for _, phase in run.phases for part in phase.active if part.home is None]
     return [run.root, *run.tasks.values(), *parts]
@@ -63,7 +72,7 @@ def all_homes(run):
 class Cell:
     """One cell: an address, how many others were touched alike, and its first number."""
 
-    def __init__(self, number, address):
+    def __init__(self, number: int, address: int) -> None:
         self.number = number
         self.address = address
         self.alike = 1
@@ -73,12 +82,12 @@ class Cell:
 class Memory:
     """The cells of a run; the actors get their loads and stores."""
 
-    def __init__(self, run):
+    def __init__(self, run: Run) -> None:
         self.run = run
-        self.counts = Counter()
-        self.cells = []
-        self.cell_at = {}      # the first cell of an address
-        self._alike = {}       # (cell, entries) by what touched it
+        self.counts: Counter[str] = Counter()
+        self.cells: list[Cell] = []
+        self.cell_at: dict[int, Cell] = {}      # the first cell of an address
+        self._alike: dict[tuple[object, ...], tuple[Cell, list[Access]]] = {}      # (cell, entries) by what touched it
         self._quiet = Quiet(run)
         self._stamps = {actor: sorted(stamp for stamp, _, _ in actor.steps) for actor in all_homes(run)}
         self._copies = {granule for address, size in run.copies.items() for granule in granules(address, size)}
@@ -88,9 +97,9 @@ class Memory:
                 self._take(address, atom)
         self._finish()
 
-    def _accesses(self):
+    def _accesses(self) -> list[Access]:
         """The accesses that count, each with the actor that it belongs to."""
-        homes = {}
+        homes: dict[Actor, Actor] = {}
         found = []
         root = self.run.root
         for access in self.run.accesses:
@@ -105,9 +114,10 @@ class Memory:
             found.append(access)
         return found
 
-    def _shared(self, accesses):
+    def _shared(self, accesses: list[Access]) -> list[int]:
         """The granules that two actors touch and one writes, sorted."""
-        touched, written = {}, set()
+        touched: dict[int, Actor | None] = {}
+        written: set[int] = set()
         for access in accesses:
             if access.quiet or access.mark & t.FREED:
                 continue
@@ -130,18 +140,19 @@ class Memory:
             sum(1 for granule in shared if granule not in written)
         return [granule for granule in shared if granule in written]
 
-    def _lifetimes(self, accesses):
+    def _lifetimes(self, accesses: list[Access]) -> list[Lifetime]:
         """For each shared granule its accesses, as (access, bytes) in lists, one for each time that it was new."""
         shared = self._shared(accesses)
         member = set(shared)
-        current, done = {}, []
+        current: dict[int, list[tuple[Access, int]]] = {}
+        done: list[Lifetime] = []
         memory = iter([entry for entry in self.run.memory
                        if between(shared, entry[1] >> 3, entry[1] + entry[2] + 7 >> 3)] + [(float("inf"), 0, 0)])
         stamp, address, size = next(memory)
         for access in accesses:
             low, high = access.low, access.high
             if high == low + 1:
-                touched = (low,) if low in member else ()
+                touched = [low] if low in member else []
             else:
                 touched = between(shared, low, high)
             if not touched:
@@ -156,7 +167,7 @@ class Memory:
                 current.setdefault(granule, []).append((access, mask_of(granule, access)))
         return done + list(current.items())
 
-    def _take(self, address, accesses):
+    def _take(self, address: int, accesses: list[Access]) -> None:
         """Makes a cell of an atom, or one with those that were touched alike."""
         loud = [access for access in accesses if not access.quiet]
         if len({access.home for access in loud}) < 2 or not any(access.is_write for access in loud):
@@ -171,16 +182,17 @@ class Memory:
         self.counts["repeated accesses"] += len(accesses) - len(kept)
         key = tuple((id(access.home), access.segment, access.is_write, access.place, access.mark, access.locks)
                     for access in kept)
-        cell, _ = self._alike.get(key, (None, None))
-        if cell is None:
+        known = self._alike.get(key)
+        if known is None:
             cell = Cell(len(self.cells), address)
             self.cells.append(cell)
             self._alike[key] = (cell, kept)
         else:
+            cell = known[0]
             cell.alike += 1
         self.cell_at.setdefault(address, cell)
 
-    def _finish(self):
+    def _finish(self) -> None:
         """Gives the actors their loads and stores."""
         for cell, kept in self._alike.values():
             while kept[0].is_write and self._quiet.is_before_all(kept[0].stamp):
@@ -193,9 +205,9 @@ class Memory:
             for access in kept:
                 add_step(access, cell, access.is_write)
         for actor in all_homes(self.run):
-            actor.steps.sort(key=lambda step: step[:2])
+            actor.steps.sort(key=in_turn)
 
-    def _spread(self, cell, kept):
+    def _spread(self, cell: Cell, kept: list[Access]) -> None:
         """Several cells for a place that some touch under a lock, so that two steps meet in a cell exactly where no
         lock keeps them apart: a guarded write loads the place's cell, which the others store, and stores one that
         belongs to its actor and lock, which those load that it isn't kept apart from."""
@@ -218,42 +230,47 @@ class Memory:
                 add_step(access, owned[access.home, access.locks, access.mark][1], True)
 
 
-def is_guarded(access):
+def in_turn(step: tuple[int, int, Step]) -> tuple[int, int]:
+    """By what an actor's steps are in order."""
+    return step[:2]
+
+
+def is_guarded(access: Access) -> bool:
     """Whether a lock is held, or the operation is atomic."""
     return bool(access.locks or access.mark & t.ATOMIC)
 
 
-def are_kept_apart(one, other):
+def are_kept_apart(one: Access, other: Access) -> bool:
     """Whether a lock or atomic operations keep two accesses apart: the notation doesn't say so."""
     return bool(one.locks & other.locks or one.mark & other.mark & t.ATOMIC)
 
 
-def add_step(access, cell, is_store):
+def add_step(access: Access, cell: Cell, is_store: bool) -> None:
     """Gives the access's actor a load or a store of the cell."""
     mark = access.mark | (t.WRITES if access.is_write else 0)
     access.home.steps.append((access.stamp, 0, Step("store" if is_store else "load", access.place, cell=cell,
                                                     value=access.value, mark=mark)))
 
 
-def granules(address, size):
+def granules(address: int, size: int) -> range:
     """The places of eight bytes that these bytes are in."""
     return range(address >> 3, address + size + GRANULE - 1 >> 3)
 
 
-def between(known, low, high):
+def between(known: list[int], low: int, high: int) -> list[int]:
     """Those of the sorted granules from `low` on that are below `high`."""
     first = bisect_left(known, low)
     return known[first:bisect_left(known, high, first)]
 
 
-def mask_of(granule, access):
+def mask_of(granule: int, access: Access) -> int:
     """Which bytes of the granule an access touches, as bits."""
     begin = access.address - granule * GRANULE
     end = begin + (access.size or 1)
     return (1 << (end if end < GRANULE else GRANULE)) - (1 << (begin if begin > 0 else 0))
 
 
-def atoms(lifetime):
+def atoms(lifetime: Lifetime) -> list[tuple[int, list[Access]]]:
     """The granule's pieces that each access touches whole or not at all: (address, accesses)."""
     granule, entries = lifetime
     masks = sorted({mask for _, mask in entries})
@@ -268,15 +285,17 @@ def atoms(lifetime):
     return pieces
 
 
-def lowest(mask):
+def lowest(mask: int) -> int:
     """The lowest bit that is set."""
     return (mask & -mask).bit_length() - 1
 
 
-def without_repeats(accesses):
+def without_repeats(accesses: list[Access]) -> list[Access]:
     """One of each kind and place in a row of accesses by one actor between two of its other steps; the root's reads
     while it is alone go too. A store that is kept has the last number of those it stands for."""
-    kept, row, seen = [], None, {}
+    kept: list[Access] = []
+    row: tuple[Actor, int] | None = None
+    seen: dict[tuple[bool, int, frozenset[int]], Access] = {}
     for access in accesses:
         if access.quiet and not access.is_write:
             continue

@@ -2,10 +2,13 @@
 
 import html
 import os
+from collections.abc import Iterable, Mapping
 
 from .advice import branch, common, remedy
-from .answer import gather, step_words, who_words
+from .answer import Report, gather, step_words, who_words
+from .finding import Actor, Finding, Race
 
+Point = tuple[int, int]
 MOST_REPORTS = 50
 AROUND = 4          # lines of source in front of and behind a marked one
 WIDTH, HEIGHT, GAP = 190, 44, 26
@@ -21,7 +24,7 @@ svg text {{ font: 12px ui-monospace, monospace; }} figure {{ margin: 1em 0; over
 """
 
 
-def page(finding, lines):
+def page(finding: Finding, lines: Iterable[str]) -> str:
     """The whole page."""
     title = f"a run of {os.path.basename(finding.told['program'])}"
     parts = [HEAD.format(title=html.escape(title)), f"<h1>{html.escape(title)}</h1>"]
@@ -37,7 +40,7 @@ def page(finding, lines):
     return "\n".join(parts) + "\n</body></html>\n"
 
 
-def section(finding, report):
+def section(finding: Finding, report: Report) -> str:
     """One report."""
     race = report.race
     both = [step_words(finding, race, side) for side in (race.earlier, race.later)]
@@ -49,9 +52,9 @@ def section(finding, report):
 
 # ---- the source
 
-def sources(finding, race):
+def sources(finding: Finding, race: Race) -> str:
     """The lines of the two steps and of their directives, with those around them, file by file."""
-    marks = {}
+    marks: dict[str, dict[int, str]] = {}
     for side in (race.earlier, race.later):
         for place, mark in ((side.actor.place, "directive"), (side.own, "step")):
             found = finding.sources.place(place)
@@ -60,7 +63,7 @@ def sources(finding, race):
     return "".join(excerpt(finding.sources.lines(file), os.path.basename(file), marks[file]) for file in sorted(marks))
 
 
-def excerpt(text, name, marks):
+def excerpt(text: list[str], name: str, marks: Mapping[int, str]) -> str:
     """The marked lines of one file and those around them."""
     near = sorted({line for mark in marks for line in range(mark - AROUND, mark + AROUND + 1) if 0 < line <= len(text)})
     if not near:
@@ -76,7 +79,7 @@ def excerpt(text, name, marks):
 
 # ---- the tasks
 
-def graph(finding, race):
+def graph(finding: Finding, race: Race) -> str:
     """The tasks around the two: what made them, and those that depend clauses put in front of them or behind."""
     first, second = race.earlier.actor, race.later.actor
     meeting = common(first, second)
@@ -96,7 +99,7 @@ def graph(finding, race):
     return draw(finding, rows, (first, second), ends)
 
 
-def draw(finding, rows, racing, ends):
+def draw(finding: Finding, rows: list[list[Actor]], racing: tuple[Actor, Actor], ends: list[Actor]) -> str:
     """Rows of boxes; what made a task in grey, what a clause orders in black, what nothing orders in red."""
     at = {actor: (10 + column * (WIDTH + GAP), 10 + row * (HEIGHT + GAP * 2))
           for row, actors in enumerate(rows) for column, actor in enumerate(actors)}
@@ -107,7 +110,7 @@ def draw(finding, rows, racing, ends):
         for other in actor.waits:
             if other in at:
                 parts.append(line(at[other], at[actor], "#222"))
-        if actor.parent in at:
+        if actor.parent and actor.parent in at:
             parts.append(line(at[actor.parent], at[actor], "#bbb"))
     if ends[0] is not ends[1]:
         parts.append(line(at[ends[0]], at[ends[1]], "#c0392b", "5 4"))
@@ -120,13 +123,13 @@ def draw(finding, rows, racing, ends):
     return "".join(parts) + "</svg>"
 
 
-def box_words(finding, actor):
+def box_words(finding: Finding, actor: Actor) -> tuple[str, str]:
     """The name, and where the directive is."""
     what = "task" if actor.is_task else "share of" if actor.is_part else "the program"
     return f"{what} {actor.name}", finding.line(actor.place) if actor.place else ""
 
 
-def line(start, end, color, dashes=""):
+def line(start: Point, end: Point, color: str, dashes: str = "") -> str:
     """From one box to another."""
     down = end[1] > start[1]
     x1, y1 = start[0] + WIDTH / 2, start[1] + (HEIGHT if down else HEIGHT / 2)

@@ -11,7 +11,7 @@ from .trace import FORMAT, PAGE, BadTrace, Trace
 MOST_EVENTS = 3 * MOST_STEPS    # some are no steps
 
 
-def places_at(trace, file, line):
+def places_at(trace: str, file: str, line: int) -> list[int]:
     """The places of the trace that are on this line."""
     with open(trace, "rb") as text:
         program = text.readline().decode("utf-8", "surrogateescape").strip().removeprefix("taskback trace 2 ")
@@ -25,7 +25,7 @@ def places_at(trace, file, line):
     return found
 
 
-def part_session(trace, words, told):
+def part_session(trace: str, words: list[str], told: str) -> Session:
     """The Session of a part, by the judge's words for it; `told` says which."""
     with tempfile.TemporaryDirectory() as folder:
         kept = os.path.join(folder, "trace")
@@ -36,7 +36,7 @@ def part_session(trace, words, told):
     return session
 
 
-def session_of(trace, around=None, tasks=None):
+def session_of(trace: str, around: tuple[str, int] | None = None, tasks: tuple[str, ...] | None = None) -> Session:
     """The Session of a run or of a part; TooLarge where it has no room, with the part to take."""
     if around:
         file, line = around
@@ -57,7 +57,7 @@ def session_of(trace, around=None, tasks=None):
     return session
 
 
-def which_part(trace):
+def which_part(trace: str) -> str:
     """The option that keeps what matters: the tasks of the first race, or some."""
     from .finding import judge_trace
     try:

@@ -4,6 +4,7 @@ import os
 import re
 import shutil
 import subprocess
+from collections.abc import Collection, Iterable
 from typing import NamedTuple
 
 IDENTIFIER = re.compile(r"[A-Za-z_]\w*")
@@ -19,14 +20,14 @@ class Place(NamedTuple):
     line: int
     column: int
 
-    def __str__(self):
+    def __str__(self) -> str:
         return f"{os.path.basename(self.file)}:{self.line}" if self.line else "a place without a line"
 
 
 NOWHERE = Place("", 0, 0)
 
 
-def symbolizer():
+def symbolizer() -> list[str] | None:
     """The command that tells source lines, or None."""
     for name in ("llvm-symbolizer-14", "llvm-symbolizer"):
         if shutil.which(name):
@@ -34,7 +35,7 @@ def symbolizer():
     return ["addr2line"] if shutil.which("addr2line") else None
 
 
-def find_places(program, addresses):
+def find_places(program: str, addresses: Iterable[int]) -> dict[int, Place]:
     """A Place for each of these return addresses, counted from where the program is loaded."""
     command = symbolizer()
     wanted = sorted(address for address in addresses if address > 0)
@@ -50,7 +51,7 @@ def find_places(program, addresses):
     return dict(zip(wanted, map(read_place, told)))
 
 
-def why_no_lines(program, addresses):
+def why_no_lines(program: str, addresses: Iterable[int]) -> str | None:
     """Why none of these has a line; None where none is asked for."""
     if not any(address > 0 for address in addresses):
         return None
@@ -61,7 +62,7 @@ def why_no_lines(program, addresses):
     return f"{program} was stripped, or is another program than the one that ran"
 
 
-def read_place(told):
+def read_place(told: str) -> Place:
     """A line of the symbolizer's: `file:line:column`, or `file:line` with remarks."""
     found = re.match(r"(.*?):(\d+)(?::(\d+))?(?: .*)?$", told)
     if not found or found[1] == "??":
@@ -72,17 +73,17 @@ def read_place(told):
 class Sources:
     """The places of one program and the text that stands there."""
 
-    def __init__(self, program, places):
+    def __init__(self, program: str, places: Collection[int]) -> None:
         self._places = find_places(program, places)
         self.why_none = None if any(place.line for place in self._places.values()) else why_no_lines(program, places)
-        self._texts = {}
-        self._names = {}
+        self._texts: dict[str, list[str]] = {}
+        self._names: dict[int, str] = {}
 
-    def place(self, address):
+    def place(self, address: int) -> Place:
         """The Place of a return address."""
         return self._places.get(address, NOWHERE)
 
-    def expression(self, address):
+    def expression(self, address: int) -> str:
         """What is read or written there, in the words of the source; `memory` where that can't be told."""
         if address not in self._names:
             place = self.place(address)
@@ -91,19 +92,19 @@ class Sources:
             self._names[address] = expression_at(line, place.column) or "memory"
         return self._names[address]
 
-    def is_own(self, address):
+    def is_own(self, address: int) -> bool:
         """Whether the program's own sources have the place, and not a header of the system."""
         place = self.place(address)
         return bool(place.line) and not place.file.startswith(SYSTEM)
 
-    def is_call(self, address):
+    def is_call(self, address: int) -> bool:
         """Whether a function's name stands there, in front of its arguments."""
         place = self.place(address)
         lines = self.lines(place.file) if place.line else []
         line = lines[place.line - 1] if 0 < place.line <= len(lines) else ""
         return bool(re.match(r"[\w.>:<,-]*[\w>]\s*\(", line[max(place.column - 1, 0):]))
 
-    def argument(self, address, is_written):
+    def argument(self, address: int, is_written: bool) -> str:
         """What the library's function that is called there writes, its first argument, or reads: the last one that is
         no literal and no format."""
         place = self.place(address)
@@ -119,7 +120,7 @@ class Sources:
             return "memory"
         return arguments[0].lstrip("&") if is_written else arguments[-1].lstrip("&")
 
-    def directive(self, address):
+    def directive(self, address: int) -> str:
         """The text of the directive there, with the lines that go on from it."""
         place = self.place(address)
         lines = self.lines(place.file) if place.line else []
@@ -130,13 +131,13 @@ class Sources:
                 break
         return text
 
-    def items(self, address):
+    def items(self, address: int) -> list[str]:
         """The names in the depend clauses of the directive there, in their order."""
         text = self.directive(address)
         return [name for clause in re.finditer(r"\bdepend\s*\(", text)
                 for name in names_in(text[clause.end():matching(text, clause.end() - 1) - 1])]
 
-    def statement(self, address):
+    def statement(self, address: int) -> str:
         """The statement that the directive there stands in front of: up to its semicolon, or its closing brace."""
         place = self.place(address)
         lines = self.lines(place.file) if place.line else []
@@ -151,7 +152,7 @@ class Sources:
                 return text[:number + 1]
         return text
 
-    def lines(self, file):
+    def lines(self, file: str) -> list[str]:
         """Those of a source; none where it can't be read."""
         if file not in self._texts:
             try:
@@ -162,7 +163,7 @@ class Sources:
         return self._texts[file]
 
 
-def names_in(clause):
+def names_in(clause: str) -> list[str]:
     """The names in `TYPE: NAME, NAME`; a comma within brackets parts none."""
     names, depth = [""], 0
     for letter in clause.partition(":")[2]:
@@ -174,17 +175,17 @@ def names_in(clause):
     return [shortened(name) for name in names]
 
 
-def postfix_expressions(text, name):
+def postfix_expressions(text: str, name: str) -> list[str]:
     """The expressions in the text that begin with this name."""
     return [postfixed(text, found.start()) for found in re.finditer(rf"(?<![\w.>]){re.escape(name)}\b", text)]
 
 
-def expression_at(line, column):
+def expression_at(line: str, column: int) -> str:
     """The expression at this column: the one that begins there, or the one in front of an operator that assigns."""
     if not 0 < column <= len(line):
         return ""
     at = column - 1
-    freed = re.match(r"(?:free|realloc)\s*\(\s*|delete\s*(?:\[\s*\])?\s*", line[at:])
+    freed = re.match(r"(?:omp_)?(?:free|realloc)\s*\(\s*|delete\s*(?:\[\s*\])?\s*", line[at:])
     if freed:
         at += freed.end()
     assigned = re.match(r"(?:[-+*/%&|^]|<<|>>)?=(?!=)|\+\+|--", line[at:])
@@ -200,7 +201,7 @@ def expression_at(line, column):
     return postfixed(line, at)
 
 
-def prefixed(line, at):
+def prefixed(line: str, at: int) -> str:
     """`*p`, `(*p).x`: the stars, or the pair of brackets, with what follows."""
     if line[at] == "(":
         end = matching(line, at)
@@ -212,7 +213,7 @@ def prefixed(line, at):
     return shortened(line[stars:at] + rest) if rest else ""
 
 
-def postfixed(line, at):
+def postfixed(line: str, at: int) -> str:
     """A name with its indexes and members."""
     name = IDENTIFIER.match(line, at)
     if not name or name[0] in ("return", "if", "while", "for"):
@@ -223,7 +224,7 @@ def postfixed(line, at):
     return shortened(line[at:end])
 
 
-def after_postfixes(line, at):
+def after_postfixes(line: str, at: int) -> int:
     """The end of the indexes and members that begin here."""
     while True:
         rest = line[at:]
@@ -236,7 +237,7 @@ def after_postfixes(line, at):
             return at
 
 
-def matching(line, at):
+def matching(line: str, at: int) -> int:
     """The column behind the bracket that closes the one here, or 0."""
     depth = 0
     for number in range(at, len(line)):
@@ -249,7 +250,7 @@ def matching(line, at):
     return 0
 
 
-def expression_before(text):
+def expression_before(text: str) -> str:
     """The expression that this text ends with: what an assignment stands after."""
     at = len(text)
     while at > 0:
@@ -273,7 +274,7 @@ def expression_before(text):
     return shortened(text[at:])
 
 
-def opening(text, end):
+def opening(text: str, end: int) -> int:
     """Where the bracket opens that the text up to here closes, or -1."""
     depth = 0
     for number in range(end - 1, -1, -1):
@@ -286,7 +287,7 @@ def opening(text, end):
     return -1
 
 
-def shortened(expression):
+def shortened(expression: str) -> str:
     """In printable ASCII, without blanks, and of a bearable length."""
     text = "".join(letter for letter in expression if 32 < ord(letter) < 127)
     return text if len(text) <= LONGEST else text[:LONGEST - 2] + ".."

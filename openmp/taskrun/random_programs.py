@@ -4,7 +4,8 @@ No `untied`: clang 14 itself ends by a fault in some programs that have it in a 
 """
 
 import random
-from typing import NamedTuple
+from collections.abc import Iterator, Mapping
+from typing import NamedTuple, Optional
 
 PLACES = 5
 DEPEND_TYPES = ("in", "out", "inout", "mutexinoutset")
@@ -17,10 +18,10 @@ class Statement(NamedTuple):
     """A directive with its clauses and what it stands in front of, or one line of C."""
 
     text: str
-    clauses: tuple = ()
-    body: tuple = None     # None: no braces
+    clauses: tuple[str, ...] = ()
+    body: Optional[tuple["Statement", ...]] = None     # None: no braces
 
-    def lines(self, indent):
+    def lines(self, indent: int) -> list[str]:
         """As C."""
         pad = " " * indent
         told = " ".join((self.text, *self.clauses))
@@ -30,23 +31,26 @@ class Statement(NamedTuple):
         return [told, pad + "{", *inner, pad + "}"]
 
 
+Statements = tuple[Statement, ...]
+
+
 class Writer:
     """The statements of one program, by a seed."""
 
-    def __init__(self, seed, has_new):
+    def __init__(self, seed: int, has_new: bool) -> None:
         self._random = random.Random(seed)
         self._left = self._random.randint(4, 14)   # tasks
         self._types = DEPEND_TYPES + (NEW_TYPES if has_new else ())
         self._has_new = has_new
 
-    def place(self):
+    def place(self) -> str:
         return f"x[{self._random.randrange(PLACES)}]"
 
-    def block(self, depth):
+    def block(self, depth: int) -> Statements:
         made = [self.statement(depth) for _ in range(self._random.randint(1, 4))]
         return tuple(statement for statements in made for statement in statements)
 
-    def statement(self, depth):
+    def statement(self, depth: int) -> list[Statement]:
         roll = self._random.random()
         if depth < DEEPEST and self._left > 0 and roll < 0.5:
             return [self.task(depth)]
@@ -60,7 +64,7 @@ class Writer:
             return self.loop()
         return [Statement(f"{self.place()} = {self.place()} + {self._random.randint(1, 9)};")]
 
-    def task(self, depth):
+    def task(self, depth: int) -> Statement:
         self._left -= 1
         clauses = []
         if self._random.random() < 0.2:
@@ -74,26 +78,26 @@ class Writer:
             clauses += [f"depend({self._random.choice(self._types)}: x[{place}])" for place in places]
         return Statement("#pragma omp task", tuple(clauses), self.block(depth + 1))
 
-    def loop(self):
+    def loop(self) -> list[Statement]:
         self._left -= 2
         extra = self._random.choice(((), ("nogroup",), ("if(0)",)))
         inner = Statement(f"for (int i = 0; i < 2; i++) x[i] += {self.place()};")
         return [Statement("#pragma omp taskloop num_tasks(2)", extra), inner]
 
 
-def program(seed, has_new=False):
+def program(seed: int, has_new: bool = False) -> Statements:
     """The statements of the program of this seed."""
     writer = Writer(seed, has_new)
     return tuple(statement for _ in range(3) for statement in writer.block(1))
 
 
-def function(name, statements):
+def function(name: str, statements: Statements) -> str:
     """A C function that does them."""
     lines = [line for statement in statements for line in statement.lines(4)]
     return f"static void {name}(void) {{\n" + "\n".join(lines) + "\n}\n"
 
 
-def source(programs):
+def source(programs: Mapping[int, Statements]) -> str:
     """A C program that runs the one of these, statements by a number, that its argument names."""
     cases = "".join(f"    case {number}: program_{number}(); break;\n" for number in programs)
     functions = "\n".join(function(f"program_{number}", statements) for number, statements in programs.items())
@@ -103,13 +107,13 @@ def source(programs):
             "    }\n    return 0;\n}\n")
 
 
-def alone(statements, remark):
+def alone(statements: Statements, remark: str) -> str:
     """A C program of these statements alone, below a remark."""
     return (f"/* {remark} */\n#include <omp.h>\n\nstatic int x[{PLACES}];\n\n{function('program', statements)}"
             "\nint main(void) {\n#pragma omp parallel\n#pragma omp single\n    program();\n    return 0;\n}\n")
 
 
-def smaller(statements):
+def smaller(statements: Statements) -> Iterator[Statements]:
     """What is left where one statement is taken out, or stands for its body, or lacks a clause; the smallest ones first."""
     for number, statement in enumerate(statements):
         front, back = statements[:number], statements[number + 1:]

@@ -2,13 +2,14 @@
 
 import re
 
-from .places import matching, names_in
+from .finding import Finding, Side
+from .places import Sources, matching, names_in
 
 HEADER = re.compile(r"\b(\w+)\s*\(([^()]*)\)\s*(?:const\s*|noexcept\s*|override\s*)*\{")
 NO_FUNCTIONS = ("if", "for", "while", "switch", "catch", "return", "sizeof")
 
 
-def scope_name(finding, side):
+def scope_name(finding: Finding, side: Side) -> str | None:
     """Of the side's name what stands in the task's own lines, or is known everywhere; None where that can't be told."""
     name, sources = finding.name_of(side), finding.sources
     root = re.search(r"[A-Za-z_]\w*", name)
@@ -24,14 +25,14 @@ def scope_name(finding, side):
     return None if is_local else name
 
 
-def is_in_task(sources, side):
+def is_in_task(sources: Sources, side: Side) -> bool:
     """Whether the step is in the statement behind the task's directive."""
     step, directive = sources.place(side.own), sources.place(side.actor.place)
     end = directive.line + sources.directive(side.actor.place).count("\n") + sources.statement(side.actor.place).count("\n") + 1
     return step.file == directive.file and directive.line <= step.line <= end
 
 
-def function_around(sources, address):
+def function_around(sources: Sources, address: int) -> tuple[str, list[str], str] | None:
     """(name, parameters, text up to the step) of the function that the place is in, or None."""
     place = sources.place(address)
     text = "\n".join(sources.lines(place.file)[:place.line])
@@ -43,7 +44,7 @@ def function_around(sources, address):
     return last[1], parameters, text[last.end():]
 
 
-def argument(text, function, number):
+def argument(text: str, function: str, number: int) -> str | None:
     """The argument of that number in the one call of the function in the text, or None."""
     calls = [found.end() - 1 for found in re.finditer(rf"(?<![\w.>]){re.escape(function)}\s*\(", text)]
     if len(calls) != 1:

@@ -7,12 +7,14 @@ import subprocess
 import sys
 import tempfile
 import time
-from concurrent.futures import ThreadPoolExecutor
+from collections.abc import Iterable, Iterator, Mapping, Sequence
+from concurrent.futures import Executor, ThreadPoolExecutor
 
 from . import random_programs
 from .answer import answer
 from .building import CannotBuild, judge, need_clang
 from .finding import Finding
+from .random_programs import Statements
 from .session import Session, TooLarge
 from .trace import BadTrace, Trace
 
@@ -24,7 +26,7 @@ TRIES = 40              # runs of a smaller program, of which one is to be refus
 SHRINKING = 90          # seconds
 
 
-def takes_new_types(compiler):
+def takes_new_types(compiler: str) -> bool:
     """Whether it has `inoutset` and `omp_all_memory`."""
     text = random_programs.alone((random_programs.Statement("#pragma omp task", ("depend(inoutset: x)",), ()),), "a probe")
     done = subprocess.run([compiler, "-fopenmp", "-fsyntax-only", "-x", "c", "-"], input=text, text=True,
@@ -35,7 +37,7 @@ def takes_new_types(compiler):
 class Refused:
     """A run that isn't legal: the trace, the rule that it breaks, and that in words."""
 
-    def __init__(self, trace, rule, lines):
+    def __init__(self, trace: str, rule: str, lines: list[str]) -> None:
         self.trace = trace
         self.rule = rule
         self.lines = lines
@@ -44,7 +46,7 @@ class Refused:
 class Stress:
     """One runtime under random programs; `library` is its file, or None for the compiler's own."""
 
-    def __init__(self, folder, threads, library=None):
+    def __init__(self, folder: str, threads: Sequence[int], library: str | None = None) -> None:
         self._folder = folder
         self._threads = threads
         self._environment = dict(os.environ)
@@ -54,7 +56,7 @@ class Stress:
         if library:
             self._use(library)
 
-    def _use(self, library):
+    def _use(self, library: str) -> None:
         """The library in place of the one that the program is linked with, by its name."""
         place = os.path.join(self._folder, "library")
         os.makedirs(place)
@@ -63,7 +65,7 @@ class Stress:
         before = self._environment.get("LD_LIBRARY_PATH")
         self._environment["LD_LIBRARY_PATH"] = place + (f":{before}" if before else "")
 
-    def compile(self, programs, name):
+    def compile(self, programs: Mapping[int, Statements], name: str) -> str:
         """The path of a program that has all of these, statements by a number."""
         source, made = (os.path.join(self._folder, name + ending) for ending in (".c", ""))
         with open(source, "w", encoding="utf-8") as file:
@@ -71,7 +73,7 @@ class Stress:
         subprocess.run([RECORD, "cc", source, "-o", made], check=True)
         return made
 
-    def refused(self, made, number, threads, turn=0):
+    def refused(self, made: str, number: int, threads: int, turn: int = 0) -> Refused | None:
         """Refused, or None where the run is legal and came to its end."""
         self.runs += 1
         trace = f"{made}.{number}.{threads}.{turn}.trace"
@@ -92,7 +94,7 @@ class Stress:
         os.remove(trace)
         return None
 
-    def try_seeds(self, seeds, pool):
+    def try_seeds(self, seeds: Iterable[int], pool: Executor) -> Iterator[tuple[int, int, Refused]]:
         """(seed, Refused) for each of these that is refused."""
         seeds = list(seeds)
         groups = [seeds[at:at + AT_ONCE] for at in range(0, len(seeds), AT_ONCE)]
@@ -104,7 +106,8 @@ class Stress:
             if found:
                 yield seed, threads, found
 
-    def shrink(self, statements, threads, found, pool):
+    def shrink(self, statements: Statements, threads: int, found: Refused,
+               pool: Executor) -> tuple[Statements, Refused]:
         """(the smallest program found that is refused in the same way, its Refused)."""
         begin, turn = time.monotonic(), 0
         is_smaller = True
@@ -123,7 +126,7 @@ class Stress:
                     break
         return statements, found
 
-    def _again(self, made, number, threads, rule, pool):
+    def _again(self, made: str, number: int, threads: int, rule: str, pool: Executor) -> Refused | None:
         """A run of this program that is refused by the same rule, or None."""
         for found in pool.map(lambda turn: self.refused(made, number, threads, turn), range(TRIES)):
             if found and found.rule == rule:
@@ -131,7 +134,7 @@ class Stress:
         return None
 
 
-def keep(name, statements, found, remark):
+def keep(name: str, statements: Statements, found: Refused, remark: str) -> list[str]:
     """Writes the program, its run, and where it fits its session; their names."""
     names = [name + ".c", name + ".trace"]
     with open(names[0], "w", encoding="utf-8") as file:
@@ -146,7 +149,7 @@ def keep(name, statements, found, remark):
     return [*names, name + ".session"]
 
 
-def stress(seeds, threads, library):
+def stress(seeds: Sequence[int], threads: Sequence[int], library: str) -> int:
     """The command: 0 where each run is legal, 1 where one isn't, 3 where nothing could be tried."""
     with tempfile.TemporaryDirectory() as folder, ThreadPoolExecutor(max(2, os.cpu_count() or 2)) as pool:
         try:

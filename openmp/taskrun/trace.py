@@ -8,7 +8,7 @@ from typing import NamedTuple
 EVENTS = os.path.join(os.path.dirname(os.path.dirname(os.path.abspath(__file__))), "recorder", "event.h")
 
 
-def numbers_of(text):
+def numbers_of(text: str) -> dict[str, int]:
     """The numbers of all names in the enumerations of a C text."""
     text = re.sub(r"/\*.*?\*/", "", text, flags=re.S)
     found = {}
@@ -20,7 +20,7 @@ def numbers_of(text):
     return found
 
 
-def numbers(names):
+def numbers(names: str) -> list[int]:
     """Those of these names, as the recorder and the judge have them."""
     with open(EVENTS, encoding="utf-8") as file:
         found = numbers_of(file.read())
@@ -36,7 +36,8 @@ def numbers(names):
                           "ORDERED_END POST AWAIT RELEASE ACQUIRE FULFIL RESUME CHAIN")
 NOTES = ("", "reductions", "detach clauses", "priority clauses", "cancellations", "tasks too deep to follow",
          "calls that ask for the thread's number", "teams of one thread by the program", "runs without OMPT",
-         "pieces without room", "processes that were forked")
+         "pieces without room", "processes that were forked", "words that regions have one thread from there on",
+         "words that regions have more threads from there on")
 ATOMIC, FREED, LIBRARY, FRAME, OUTERMOST, STACK, ROW_SHIFT, LARGE, SET = numbers(
     "ATOMIC FREED LIBRARY FRAME OUTERMOST STACK ROW_SHIFT LARGE SET")
 MARKS = (1 << ROW_SHIFT) - 1
@@ -61,7 +62,7 @@ class Event(NamedTuple):
     mark: int
 
 
-def takes_number(event):
+def takes_number(event: Event) -> bool:
     """Whether the event raises the one counter (event.h); the others have the number that it had."""
     if event.kind == WRITE:
         return event.mark & (FREED | FRAME) == FREED
@@ -75,7 +76,7 @@ class BadTrace(Exception):
 class Trace:
     """The program's path, and the events in their order, each with its place in it as its stamp."""
 
-    def __init__(self, path):
+    def __init__(self, path: str) -> None:
         try:
             with open(path, "rb") as file:
                 data = file.read()
@@ -93,9 +94,9 @@ class Trace:
         self.events = [event._replace(stamp=number) for number, event in enumerate(events, 1)]
 
 
-def in_order(events):
+def in_order(events: list[Event]) -> list[Event]:
     """The events of each thread in its order: its first piece, which it fills again and again, has its newest ones."""
-    threads = {}
+    threads: dict[int | None, list[list[Event]]] = {}
     for begin in range(0, len(events), PIECE):
         piece = events[begin:begin + PIECE]
         end = next((number for number, event in enumerate(piece) if event.kind == 0), len(piece))

@@ -4,6 +4,7 @@ import glob
 import os
 import shutil
 import subprocess
+import tempfile
 import unittest
 
 from support import FOLDER, TOP
@@ -24,6 +25,13 @@ class Rules(unittest.TestCase):
     def test_style(self):
         done = subprocess.run(["flake8", *files()], cwd=TOP, capture_output=True, text=True, check=False)
         self.assertEqual((done.stdout, done.returncode), ("", 0))
+
+    @unittest.skipUnless(shutil.which("mypy"), "left out: no mypy is here")
+    def test_types(self):
+        with tempfile.TemporaryDirectory() as cache:
+            words = ["mypy", "--cache-dir", cache, "--config-file", os.path.join("openmp", "mypy.ini")]
+            done = subprocess.run(words, cwd=TOP, capture_output=True, text=True, check=False)
+        self.assertEqual(done.returncode, 0, done.stdout + done.stderr)
 
     def test_packages_are_found_without_changing_the_path(self):
         for path in files():

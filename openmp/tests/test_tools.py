@@ -67,6 +67,21 @@ class Tools(support.Recorded):
         self.assertEqual(self.built("record", "cc", "one.c", "-o", "out.c"), (0, ""))
         self.assertEqual(self.answer_of("out.c")[0], 2)
 
+    def test_function_with_the_name_of_one_of_the_library(self):
+        self.write("part.c", "int random(int most, int least) { return most - least; }\n")
+        self.write("main.c", "int random(int, int);\n" + C_PROGRAM.replace("return 0", "return random(9, 9)"))
+        self.assertEqual(self.built("record", "cc", "-fno-builtin", "main.c", "part.c", "-o", "program"), (0, ""))
+        self.assertEqual(self.answer_of("program")[0], 2)
+
+    def test_loop_directive_keeps_its_lines(self):
+        self.write("one.c", "int a[9];\nint main(void) {\n#pragma omp parallel\n#pragma omp loop bind(parallel) \\\n    order(concurrent)\n"
+                            "for (int i = 0; i < 8; i++)\n    a[i] = a[i + 1];\nreturn 0;\n}\n")
+        self.assertEqual(self.built("record", "cc", "-c", "one.c", "-o", "one.o"), (0, ""))
+        self.assertEqual(self.built("record", "cc", "one.o", "-o", "program"), (0, ""))
+        status, lines = self.answer_of("program")
+        self.assertEqual(status, 2)
+        self.assertIn("one.c:7 ", lines[0])
+
     def test_gcc_is_refused_by_name(self):
         self.write("one.c", C_PROGRAM)
         compiler = self.write("gcc", "#!/bin/sh\necho 'gcc (Debian 12.2.0-14) 12.2.0'\n")

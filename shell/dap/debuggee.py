@@ -123,6 +123,6 @@ class Debuggee:
         """What the shell says to a command."""
         self._out.seek(0)
         self._out.truncate()
-        self.shell.onecmd(command)
+        self.shell.take(command)
         self.took_back()
         return self._out.getvalue().split("\n")[:-1]

@@ -130,7 +130,12 @@ class Server:
 
 def serve_port(program: str, port: int) -> int:
     """Serves one client on a port of this machine alone; says which port it is. Returns the status."""
-    with socket.create_server(("127.0.0.1", port)) as listening:
+    try:
+        listening = socket.create_server(("127.0.0.1", port))
+    except (OSError, OverflowError) as fault:
+        print(f"taskback-dap: can't listen on port {port}: {getattr(fault, 'strerror', None) or 'a port is 0 to 65535'}", file=sys.stderr)
+        return 2
+    with listening:
         print(f"taskback-dap: listening on 127.0.0.1:{listening.getsockname()[1]}", file=sys.stderr, flush=True)
         connection, _ = listening.accept()
     with connection, connection.makefile("rb") as source, connection.makefile("wb") as sink:

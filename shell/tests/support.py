@@ -168,7 +168,7 @@ class Typed:
         """The lines that a line says."""
         self.out.seek(0)
         self.out.truncate()
-        self.shell.onecmd(line)
+        self.shell.take(line)
         return self.out.getvalue().split("\n")[:-1]
 
     def plain(self, line: str) -> list[str]:

@@ -97,7 +97,7 @@ RACE: Rows = (
     ("go 0 5", ["error number"]),
     ("undo " + "0" * 1100, ["error line", "  the line is too long, or isn't text"]),
     ("finish 0 0", ["finish [T], for example: finish 0.1"]),
-    ("until 7", ["until T#K, for example: until 0.2#4"]),
+    ("until 7", ["until wants a step, as 0.2#4; `break line 7` and `go` stop at a line"]),
     ("until 0x#1", ["until T#K"]),
     ("random x", ["random SEED [N]"]),
     ("last x", ["last [N], for example: last 5"]),

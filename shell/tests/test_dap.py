@@ -338,6 +338,14 @@ class Port(unittest.TestCase):
         self.assertEqual(child.wait(timeout=20), 0)
         time.sleep(0)
 
+    def test_a_port_that_cannot_be_had(self) -> None:
+        with socket.create_server(("127.0.0.1", 0)) as other:
+            for port, why in ((str(other.getsockname()[1]), "Address already in use"), ("99999", "a port is 0 to 65535"), ("-1", "a port is 0 to 65535")):
+                done = subprocess.run([ADAPTER, "--port", port], stdin=subprocess.DEVNULL, capture_output=True, text=True, timeout=60, check=False,
+                                      env={**os.environ, "TASKBACK_PROGRAM": PROGRAM})
+                self.assertEqual((done.returncode, done.stderr.count("\n")), (2, 1), done.stderr)
+                self.assertTrue(done.stderr.startswith(f"taskback-dap: can't listen on port {port}: {why}"), done.stderr)
+
     def test_wrong_words(self) -> None:
         done = subprocess.run([ADAPTER, "--port", "x"], capture_output=True, text=True, timeout=60, check=False)
         self.assertEqual(done.returncode, 2)

@@ -96,7 +96,7 @@ class Stopping(unittest.TestCase):
         self.assertEqual(shell.session.newest, "0#6")
         self.assertEqual(shell.plain("rc")[-1], "went back 6 start")
         self.assertEqual(len(shell.plain("redo")), 7)
-        self.assertTrue(shell.ask("rc x")[0].startswith("rc, for example"))
+        self.assertEqual(shell.ask("rc x")[0], "`rc` stands alone")
 
     def test_lines_of_the_c_file_of_a_recorded_run(self) -> None:
         shell = Typed(self, RECORDED.split("---\n")[0], "sum.session")

@@ -14,7 +14,7 @@ from typing import Any
 from support import EXAMPLES, MAIN, PROGRAM, Terminal, needs_program, write_file
 from shell import graph
 from shell.opening import play_file
-from shell.graph import dot_of, graph_of, tree_of, write_graph
+from shell.graph import dot_of, graph_of, plate, tree_of, write_graph
 from shell.lanes import NO_CAUSES
 from test_lanes import walked
 from test_races import has_views
@@ -103,11 +103,11 @@ class GraphTest(unittest.TestCase):
         self.assertRegex(dot, r'"0.1.1" \[label="0.1.1  grandchild\\npending\\ncan step", style="filled,dashed".*penwidth=3\]')
         session = play_file(os.path.join(EXAMPLES, "tasks.session"), PROGRAM)
         self.addCleanup(session.close)
-        self.assertIn('"0.2" -> "0.3" [class=before, penwidth=1.8, label=" cell 0: inout, in"]', dot_of(graph_of(session)))
+        self.assertIn('"0.2" -> "0.3" [class=before, penwidth=1.8, label=' + plate("cell 0: inout, in") + "]", dot_of(graph_of(session)))
         self.assertIn("      after 0.2, cell 0: inout, in", tree_of(graph_of(session)))
         session = play_file(os.path.join(EXAMPLES, "exclusion.session"), PROGRAM)
         self.addCleanup(session.close)
-        self.assertIn("not together\\ncell 0: mutexinoutset, mutexinoutset", dot_of(graph_of(session)))
+        self.assertIn(plate("not together\ncell 0: mutexinoutset, mutexinoutset"), dot_of(graph_of(session)))
 
     def test_races_are_red(self) -> None:
         session = play_file(os.path.join(EXAMPLES, "luck.session"), PROGRAM)
@@ -171,6 +171,18 @@ class GraphTest(unittest.TestCase):
             drawn = [group for group in root.iter("{http://www.w3.org/2000/svg}g") if group.get("class", "").startswith("edge")]
             self.assertEqual(len(drawn), len(EDGE.findall(dot)))
             self.assertEqual(done.stderr, "")
+
+    @needs_dot
+    def test_each_label_is_drawn(self) -> None:
+        for name in ("luck", "right_sum", "exclusion", "apart", "undeferred", "tasks"):
+            session = play_file(os.path.join(EXAMPLES, name + ".session"), PROGRAM)
+            self.addCleanup(session.close)
+            dot = dot_of(graph_of(session))
+            done = subprocess.run(["dot", "-Tsvg"], input=dot, capture_output=True, text=True, check=True)
+            labels = [row for plated in re.findall("<td>(.*?)</td>", dot) for row in plated.split("<br/>")]
+            texts = ["".join(text.itertext()) for text in tree.fromstring(done.stdout).iter("{http://www.w3.org/2000/svg}text")]
+            self.assertTrue(labels, name)
+            self.assertEqual([label for label in labels if texts.count(label) < labels.count(label)], [], name)
 
     def test_commands(self) -> None:
         shell = Terminal(self, [os.path.join(EXAMPLES, "order.task")], NO_COLOR="1")

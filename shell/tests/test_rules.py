@@ -5,20 +5,21 @@ import glob
 import os
 import shutil
 import subprocess
-import tempfile
 import unittest
 
 from support import TOP
 
 PROGRAMS = ("taskback-shell", "taskback-dap")
-MADE = ("editors/vscode/build.py", "tools/draw_pictures.py")
+MADE = ("editors/vscode/build.py", "tools", "bench")
+# What is checked already is kept, for the next time.
+KEPT = os.path.join(TOP, ".cache", "mypy")
 MOST_LINES, MOST_OF_A_FUNCTION, MOST_PARAMETERS = 500, 40, 6
 
 
 def files() -> list[str]:
-    """All Python of the front end, tests among it."""
-    found = glob.glob(os.path.join(TOP, "shell", "**", "*.py"), recursive=True)
-    return found + [os.path.join(TOP, name) for name in (*PROGRAMS, *MADE)]
+    """All Python of the front end, and of the tools and measurements, tests among it."""
+    found = [path for folder in ("shell", "editors", "tools", "bench") for path in glob.glob(os.path.join(TOP, folder, "**", "*.py"), recursive=True)]
+    return found + [os.path.join(TOP, name) for name in PROGRAMS]
 
 
 def ran(*words: str) -> tuple[str, int]:
@@ -30,10 +31,9 @@ def ran(*words: str) -> tuple[str, int]:
 class Rules(unittest.TestCase):
     @unittest.skipUnless(shutil.which("mypy"), "left out: no mypy is here")
     def test_types(self) -> None:
-        with tempfile.TemporaryDirectory() as cache:
-            for words in ((), PROGRAMS, ("--config-file", os.path.join("shell", "tests", "mypy.ini"))):
-                told, status = ran("mypy", "--cache-dir", cache, *words)
-                self.assertEqual(status, 0, told)
+        for words in ((), PROGRAMS, ("--explicit-package-bases", "bench/lock.py"), ("--config-file", os.path.join("shell", "tests", "mypy.ini"))):
+            told, status = ran("mypy", "--cache-dir", KEPT, *words)
+            self.assertEqual(status, 0, told)
 
     @unittest.skipUnless(shutil.which("flake8"), "left out: no flake8 is here")
     def test_style(self) -> None:

@@ -6,7 +6,7 @@ import subprocess
 import unittest
 from typing import Any
 
-from support import EXAMPLES, TOP, example, needs_program, write_file
+from support import EXAMPLES, LOOP, TOP, example, needs_program, write_file
 
 RUN = os.path.join(TOP, "run")
 RACE = os.path.join(EXAMPLES, "race.task")
@@ -43,6 +43,9 @@ class Piped(unittest.TestCase):
         self.assertEqual((told, status), ("", 0))
         self.assertEqual(out.split("\n")[3:], ["ran 3 limit", "break s1 line 13", "0.1#1 start", "0.1#2 load r1 0 0", "0.1#3 let r1 1",
                                                "0.1#4 store 0 1", "0.1#5 end", "refused 5 Children 0.2", ""])
+
+    def test_the_standard_librarys_word_for_the_end_is_a_command_like_others(self) -> None:
+        self.assertEqual(ran(RACE, typed="step 0\nEOF\nstep 0\n"), ("0#1 start\nerror word\n0#2 spawn 0.1 add 1\n", "", 0))
 
     def test_a_session_is_played_as_it_is(self) -> None:
         path = os.path.join(EXAMPLES, "race.session")
@@ -177,6 +180,18 @@ class Json(unittest.TestCase):
         path = os.path.join(EXAMPLES, "race.session")
         out = ran("--json", "-x", path, RACE)[0]
         self.assertEqual("".join(text + "\n" for line in out.split("\n")[:-1] for text in json.loads(line)["lines"]), example("race.out"))
+
+    def test_no_line_of_a_reply_is_left_out(self) -> None:
+        races = "cells 1\nbody main 0\n  while r0 < 3\n    task f\n    let r0 r0 + 1\n  end\nend\nbody f 0\n  store 0 1\nend\n"
+        for text, commands in ((races, "run\nraces\ncauses 0.2#2\nwhy 0.2#2\n"), (LOOP, "run 900\nhist\ngo 1 900\nrandom 1 3\n")):
+            path = write_file(self, text)
+            records = [json.loads(line) for line in ran("--json", path, typed=commands)[0].split("\n")[:-1]]
+            self.assertEqual([line for record in records for line in record["lines"]], ran(path, typed=commands)[0].split("\n")[:-1])
+        self.assertEqual(len(records[0]["steps"]), 900)
+
+    def test_a_line_of_races_is_no_step(self) -> None:
+        told = json.loads(ran("--json", RACE, typed="run\nraces\n")[0].split("\n")[1])
+        self.assertEqual((told["lines"][1], told["steps"], len(told["words"])), ("0.1#4 0.2#2 cell 0", [], 2))
 
     def test_a_played_file_has_a_record_for_each_command(self) -> None:
         path = write_file(self, "run 2\nstep 0.7\n", "played")

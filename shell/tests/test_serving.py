@@ -1,10 +1,14 @@
 """The live page: who may ask for what, what a click does, and its ends; in a real browser too."""
 
+import contextlib
 import http.client
+import io
 import json
 import os
 import re
 import signal
+import socket
+import struct
 import subprocess
 import threading
 import time
@@ -13,7 +17,8 @@ from typing import Any
 
 from support import EXAMPLES, MAIN, PROGRAM, TOP, Terminal, example, needs_program, write_file
 from test_page import needs_browser, shown_by_browser
-from shell.serving import ALLOWED, LONGEST, Live, LiveServer
+from shell.protocol import Ended
+from shell.serving import ALLOWED, LONGEST, Handler, Live, LiveServer
 from shell.session import Session
 from shell.source import Source
 
@@ -131,6 +136,43 @@ class Served(unittest.TestCase):
         self.assertEqual(self.ask(server, "POST", f"/{server.token}/x", '{"command": "step 0"}')[0], 404)
         self.assertEqual(json.loads(self.ask(server, "GET", f"/{server.token}/state")[1])["moments"], 0)
         self.assertFalse({"save", "source", "page", "graph", "lanes", "compare", "quit", "serve"} & set(ALLOWED))
+
+    def test_connections_on_which_nothing_is_asked_keep_nobody(self) -> None:
+        server = self.serve()
+        with socket.create_connection(("127.0.0.1", server.server_port)), socket.create_connection(("127.0.0.1", server.server_port)):
+            began = time.monotonic()
+            self.assertEqual(self.ask(server, "GET", f"/{server.token}/state")[0], 200)
+            self.assertLess(time.monotonic() - began, Handler.timeout)
+
+    def test_requests_beside_each_other_come_one_after_another(self) -> None:
+        server = self.serve()
+        told: list[str] = []
+
+        def step() -> None:
+            told.append(json.loads(self.ask(server, "POST", f"/{server.token}/do", '{"command": "step 0"}')[1])["lines"][0])
+        threads = [threading.Thread(target=step) for _ in range(3)]
+        for thread in threads:
+            thread.start()
+        for thread in threads:
+            thread.join()
+        self.assertEqual(sorted(told), ["0#1 start", "0#2 spawn 0.1 add 1", "0#3 spawn 0.2 add 2"])
+
+    def test_a_client_that_leaves_is_no_fault(self) -> None:
+        server, said = self.serve(), io.StringIO()
+        with contextlib.redirect_stderr(said):
+            for _ in range(3):
+                with socket.create_connection(("127.0.0.1", server.server_port)) as client:
+                    client.setsockopt(socket.SOL_SOCKET, socket.SO_LINGER, struct.pack("ii", 1, 0))
+                    client.sendall(f"GET /{server.token}/ HTTP/1.1\r\nHost: 127.0.0.1:{server.server_port}\r\n\r\n".encode())
+            self.assertEqual(self.ask(server, "GET", f"/{server.token}/state")[0], 200)
+        self.assertEqual(said.getvalue(), "")
+
+    def test_after_its_end_nothing_is_asked_of_the_session(self) -> None:
+        live = Live(Session(PROGRAM, Source(example("race.task"), "race.task")))
+        self.addCleanup(live.session.close)
+        with LiveServer(live, 0) as server:
+            server.serve_until(lambda: True)
+            self.assertRaises(Ended, server.answer_of, lambda live: live.data())
 
     def test_a_run_without_an_end_is_short(self) -> None:
         session = Session(PROGRAM, Source("cells 1\nbody main 0\n  while 0 == 0\n    store 0 1\n  end\nend\n", "loop.task"))
