@@ -107,7 +107,7 @@ class Shell(cmd.Cmd):
         told = line.split(" ")
         if told[0] == "error":
             self.outcome = max(self.outcome, Outcome.ERROR)
-            if told == ["error", "word"] and words_of(command)[0] in ("races", "causes"):
+            if told == ["error", "word"] and words_of(command)[0] in ("races", "causes", "edges"):
                 self.console.note("this build has no such view")
             else:
                 self.console.note(texts.error_words(command, told[-1], self.session.workers, list(self.session.source.bodies)))

@@ -11,7 +11,7 @@ from collections.abc import Callable, Iterator
 from dataclasses import dataclass, field
 from typing import Any
 
-from shell.facts import Facts, Progress, Race, Task, by_name, causes_of, label_of
+from shell.facts import MOST_ASKED, Causes, Facts, Progress, Race, Task, by_name, label_of
 from shell.needs import Needs, items_of
 from shell.ordering import Order, Ordering
 from shell.protocol import words_of
@@ -19,10 +19,10 @@ from shell.race_advice import kinds_of
 from shell.session import TAKES_BACK, Done, Session, is_step
 from shell.source import Source
 
-# Of longer sessions the needs of each step are worked out from the lines of the history, since `causes` takes one reply each.
-MOST_ASKED = 2000
-# Of sessions with more tasks the page has no races: `races` takes time with the square of them.
-MOST_RACING = 4000
+# Where at most one step in so many is new, the needs of those alone are asked for.
+FEW = 4
+# Of sessions with more tasks the page has no races: `races` takes time with the square of tasks that others order.
+MOST_RACING = 10000
 # Who can step, and who waits for whom, is asked at each moment of a session with so few, and else at the end of it.
 MOST_LOOKS = 2000
 SHOWN_LINES = 60
@@ -271,12 +271,16 @@ class Story:
         if self.shows_causes and self.facts.causes(self.fresh[0]) is None:
             self.shows_causes = False
         if self.shows_causes and self.total <= MOST_ASKED:
-            asked = self.facts.ask_all([f"causes {name}" for name in self.fresh])
-            for name, lines in zip(self.fresh, asked):
-                self.steps[self.history[name]].causes = [(kind, self.history[early]) for kind, early in causes_of(lines or ())]
+            for name, causes in self.asked().items():
+                self.steps[self.history[name]].causes = [(kind, self.history[early]) for kind, early in causes]
         else:
             self.work_out_needs()
         self.fresh = []
+
+    def asked(self) -> dict[str, Causes]:
+        """The immediate needs of the new steps: of many by one reply with those of all steps."""
+        found = self.facts.edges() if len(self.fresh) * FEW > len(self.history) else None
+        return {name: found[name] for name in self.fresh} if found else self.facts.asked(self.fresh)
 
     def work_out_needs(self) -> None:
         """The needs of the new steps from the lines of the history, without the program's help."""

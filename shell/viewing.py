@@ -10,7 +10,7 @@ from shell.protocol import is_digits
 from shell.race_advice import kinds_of
 from shell.session import is_step
 
-VIEWS = ("tasks", "task", "cells", "out", "ready", "waits", "deps", "breaks", "hist", "why", "who", "races", "causes")
+VIEWS = ("tasks", "task", "cells", "out", "ready", "waits", "deps", "breaks", "hist", "why", "who", "races", "causes", "edges")
 # What other debuggers call a view, by any beginning of at least this many letters.
 ELSEWHERE = {"threads": "tasks", "breakpoints": "breaks", "watchpoints": "breaks", "locals": "task", "registers": "task", "args": "task", "frame": "task",
              "display": "display", "line": "list", "source": "list", "scope": "task", "variables": "task"}

@@ -168,6 +168,15 @@ class DataTest(unittest.TestCase):
         page_of(session)
         self.assertEqual((session.view("hist"), session.log), before)
 
+    def test_needs_by_one_reply_are_those_that_are_asked_for_one_by_one(self) -> None:
+        for seed in range(6):
+            session, _ = walked(self, seed)
+            told = []
+            for few in (0, 1000):
+                with unittest.mock.patch.object(story, "FEW", few):
+                    told.append(self.data(session)["steps"])
+            self.assertEqual(told[0], told[1], seed)
+
     def test_needs_from_the_lines_are_those_of_the_program(self) -> None:
         with unittest.mock.patch.multiple(story, MOST_ASKED=0, MOST_LOOKS=0):
             for seed in range(12):
