@@ -43,7 +43,10 @@ MEANT = (
 # A program, and what is said of its fault.
 FAULTY = (
     ("cells 1\nbody main 1\nend\n", 2, "Arity", "main takes no parameters: `body main 0`"),
-    ("cells 1\nbody main 0\n  while 0 == 1\n    print 1\nend\n", 6, "Nesting", "an `end` is missing: the `body main` of line 2 is still open"),
+    ("cells 1\nbody main 0\n  while 0 == 1\n    print 1\nend\n", 6, "Nesting", "an `end` is missing: the `body main` of line 2 is still open; "
+     "by its place the `end` of line 5 isn't that of the `while` of line 3, which lacks its own"),
+    ("cells 1\nbody main 0\n  while 0 == 1\n    print 1\n  end\n", 6, "Nesting", "an `end` is missing: the `body main` of line 2 is still open"),
+    ("cells 1\nbody main 0\n  task nobody\nend\nbody add 0\nend\n", 3, "UnknownBody", "no body has this name: there are main and add"),
     ("cells 1\nbody main 0\n  if 1 == 1\nbody f 0\nend\n", 4, "Nesting", "an `end` is missing in front of this line: the `if` of line 3 is still open"),
     ("cells 1\nbody main 0\nend\nend\n", 4, "Nesting", "no block is open here for this `end`"),
     ("cells 1\nbody main 0\n  else\nend\n", 3, "Nesting", "this `else` has no `if`: the innermost block is the `body main` of line 2"),
@@ -58,13 +61,20 @@ FAULTY = (
 )
 
 # A line as other languages have it, and the notation's.
+NUMBERS = "nothing: numbers have no names, so a number that a task keeps is a register, `let rK A`, and one that tasks share is a cell, `cell C V` in front of the bodies"
 FOREIGN = (
-    ("for (int i = 0; i < 3; i++)", "while A CMP B .. end, with a `let` in front and one at its end"), ("int x", "let rK A"),
+    ("for (int i = 0; i < 3; i++)", "while A CMP B .. end, with a `let` in front and one at its end"), ("int x", NUMBERS), ("double y;", NUMBERS),
     ("task f depend 0 in depend r1 out", "task f depend in 0 depend out r1"), ("body main 2", "body main 0"),
     ("task f depend(in: 0)", "task f depend in 0"), ("task f depend(in: 0, r1) depend(out: 2)", "task f depend in 0 depend in r1 depend out 2"),
     ("r1 += 2", "let r1 r1 + 2"), ("r2++", "let r2 r2 + 1"), ("printf(\"%d\", r0);", "print VAL"), ("return r0;", "end"), ("}", "end"),
-    ("Task f 0", "task f 0"), ("r1 = r2 + 3", "let r1 r2 + 3"),
+    ("Task f 0", "task f 0"), ("r1 = r2 + 3", "let r1 r2 + 3"), ("let r1 = 3", "let r1 3"), ("x = 5;", "let rK 5, or where tasks share it store C 5"), ("x++", "let rK rK + 1"),
     ("store r0 r1 + 1", "let rK r1 + 1, and in the next line store r0 rK"), ("print r0 * 2", "let rK r0 * 2, and in the next line print rK"), ("barrier", "taskwait"), ("stroe 0 1", "store ADDR VAL"),
+    ("// a bank", "# a bank"), ("/* a bank */", "# a bank"), ("store 0 r1 // done", "store 0 r1  # done"), ("task add(1, r2)", "task add 1 r2"), ("add(1);", "task add 1"),
+    ("task add(r1) depend inout 0", "task add r1 depend inout 0"), ("print(r1)", "print r1"), ("taskwait();", "taskwait"),
+    ("if r0", "if r0 != 0"), ("if (r0 == 3) {", "if r0 == 3"), ("while r0<=3:", "while r0 <= 3"), ("while true", "while 0 == 0"), ("if r0 > 3", "if 3 < r0"), ("while 4 >= r1", "while r1 <= 4"),
+    ("if r0 = 3", "if r0 == 3"), ("task f depend in 0 if r0", "task f depend in 0 if r0 != 0"), ("else if r0 == 1 {", "else, and in the next line if r0 == 1, which has an `end` of its own"),
+    ("} else {", "else"), ("c[3] = r1", "store 3 r1"), ("r1 = a[r2];", "load r1 r2"), ("let r1 c[0] + 1", "load rK 0, and in the next line let r1 rK + 1"),
+    ("body deposit amount", "body deposit 1, whose argument is r0"), ("body f(int a, b) {", "body f 2, whose arguments are r0 to r1"), ("body f(int a)", "body f 1, whose argument is r0"),
 )
 
 
