@@ -4,13 +4,11 @@ import io
 import json
 import os
 import re
-import shutil
-import subprocess
-import tempfile
 import unittest
 import unittest.mock
 from typing import Any
 
+from browser import InBrowser, browser
 from support import EXAMPLES, PROGRAM, TOP, Terminal, contrast, example, needs_program, write_file
 from shell import story
 from shell.commands import Shell
@@ -24,28 +22,6 @@ from shell.source import Source
 from test_lanes import walked
 from test_races import has_views
 
-BROWSER = shutil.which("chromium") or shutil.which("chromium-browser") or shutil.which("google-chrome")
-
-
-def shown_by_browser(address: str, size: str = "1400,4000", *more: str) -> str:
-    """The document of a page once the browser has shown it and run its scripts."""
-    with tempfile.TemporaryDirectory() as home:
-        return subprocess.run([BROWSER, "--headless", "--no-sandbox", "--disable-gpu", "--disable-dev-shm-usage", f"--user-data-dir={home}",
-                               f"--window-size={size}", *more, "--dump-dom", address], capture_output=True, text=True, timeout=600, check=True).stdout
-
-
-def why_no_browser() -> str:
-    """Why there are no tests in a browser, or nothing."""
-    if not BROWSER:
-        return "left out: no Chromium is here"
-    try:
-        return "" if "tried" in shown_by_browser("data:text/html,<p>tried</p>") else "left out: Chromium shows nothing here"
-    except (OSError, subprocess.SubprocessError):
-        return "left out: Chromium does not start here"
-
-
-NO_BROWSER = why_no_browser()
-needs_browser = unittest.skipIf(NO_BROWSER, NO_BROWSER)
 WATCH = """<script>window.faults = []; window.addEventListener("error", (event) => faults.push(event.message));
 document.addEventListener("securitypolicyviolation", (event) => faults.push(event.violatedDirective));</script>"""
 TOOLS = """
@@ -109,7 +85,7 @@ def page_file(test: unittest.TestCase, session: Session) -> str:
     return write_file(test, page_of(session)[0], "page.html")
 
 
-def in_browser(path: str, script: str, size: str = "1400,4000", *more: str) -> Any:
+def in_browser(path: str, script: str, size: str = "1400,4000", dark: bool = False) -> Any:
     """What a script that is added to the page returns, and the errors that came up."""
     with open(path, encoding="utf-8") as file:
         page = file.read()
@@ -118,7 +94,7 @@ def in_browser(path: str, script: str, size: str = "1400,4000", *more: str) -> A
     head, tail = page.split("<head>")
     with open(path + ".tried.html", "w", encoding="utf-8") as file:
         file.write(head + "<head>" + WATCH + tail.replace("</body>", told))
-    text = re.search(r"<body>(.*)</body>", shown_by_browser("file://" + path + ".tried.html", size, *more), re.S)[1]
+    text = re.search(r"<body>(.*)</body>", browser().shown("file://" + path + ".tried.html", size, dark), re.S)[1]
     for mark, sign in (("&lt;", "<"), ("&gt;", ">"), ("&amp;", "&")):
         text = text.replace(mark, sign)
     return json.loads(text)
@@ -254,8 +230,7 @@ class ContrastTest(unittest.TestCase):
 
 
 @needs_program
-@needs_browser
-class BrowserTest(unittest.TestCase):
+class BrowserTest(InBrowser):
     def agree(self, session: Session) -> None:
         """The page at each command against the views after it."""
         faults, moments = in_browser(page_file(self, session), EACH_MOMENT)
@@ -362,11 +337,11 @@ class BrowserTest(unittest.TestCase):
           return [unreached, unnamed, active && active.dataset.step, find("lanes").hasAttribute("aria-activedescendant")];""")
         self.assertEqual((faults, told), ([], [[], [], "0#1", False]))
 
-    def test_three_sizes(self) -> None:
+    def test_four_sizes(self) -> None:
         session = play_file(os.path.join(EXAMPLES, "tasks.session"), PROGRAM)
         self.addCleanup(session.close)
         path = page_file(self, session)
-        for size in ("1400,900", "800,1000", "500,900"):
+        for size in ("1920,1080", "1400,900", "800,1000", "375,800"):
             faults, told = in_browser(path, "return [document.documentElement.scrollWidth, innerWidth, names('.step').length, find('lanes').clientWidth];", size)
             self.assertEqual(faults, [])
             self.assertLessEqual(told[0], told[1], size)

@@ -4,8 +4,9 @@ import os
 import unittest
 from typing import Any
 
+from browser import InBrowser
 from support import EXAMPLES, PROGRAM, needs_program
-from test_page import in_browser, needs_browser, page_file
+from test_page import in_browser, page_file
 from shell.opening import play_file
 from shell.session import Session
 from shell.source import Source
@@ -48,17 +49,16 @@ IN_THE_GRAPH = LABELS.replace("#drawn .kind", "#graph .kind").replace(".step .la
 
 
 @needs_program
-@needs_browser
-class Ways(unittest.TestCase):
+class Ways(InBrowser):
     def page(self, name: str) -> str:
         """The page of a stored session."""
         session = play_file(os.path.join(EXAMPLES, name), PROGRAM)
         self.addCleanup(session.close)
         return page_file(self, session)
 
-    def tried(self, path: str, script: str, *more: str) -> Any:
+    def tried(self, path: str, script: str, size: str = "1400,4000", dark: bool = False) -> Any:
         """What a script returns, on a page where nothing goes wrong."""
-        faults, told = in_browser(path, script, *more)
+        faults, told = in_browser(path, script, size, dark)
         self.assertEqual(faults, [])
         return told
 
@@ -207,7 +207,7 @@ class Ways(unittest.TestCase):
         path = self.page("race.session")
         script = "return [getComputedStyle(document.body).backgroundColor, matchMedia('(prefers-color-scheme: dark)').matches];"
         self.assertEqual(self.tried(path, script), ["rgb(255, 255, 255)", False])
-        self.assertEqual(self.tried(path, script, "1400,900", "--blink-settings=preferredColorScheme=0"), ["rgb(22, 24, 28)", True])
+        self.assertEqual(self.tried(path, script, dark=True), ["rgb(22, 24, 28)", True])
 
 
 if __name__ == "__main__":
