@@ -25,6 +25,8 @@ from shell.viewing import Viewing
 from shell.walking import Walking
 
 STEP = re.compile(r"(?<![\w.#])[0-9][0-9.]*#[0-9]+")
+# A task of which no name was typed, in what may have been meant: it is the one that stepped last.
+TASK = re.compile(r"(?<= )T(?=[ `])")
 # What asks for much in small pieces: Ctrl-C ends it after one. Any other command's reply is cut.
 PIECEWISE = ("step", "run", "go", "finish", "until", "random", "last", "back", "rs", "rc", "source", "graph", "lanes", "slide", "page", "serve", "compare", "flip")
 # After these the expressions of `display` are shown.
@@ -110,7 +112,8 @@ class Shell(cmd.Cmd):
             if told == ["error", "word"] and words_of(command)[0] in ("races", "causes", "edges"):
                 self.console.note("this build has no such view")
             else:
-                self.console.note(texts.error_words(command, told[-1], self.session.workers, list(self.session.source.bodies)))
+                text = texts.error_words(command, told[-1], self.session.workers, list(self.session.source.bodies))
+                self.console.note(TASK.sub(self.focus, text) if told[-1] == "word" else text)
         elif told[0] == "refused":
             self.outcome = max(self.outcome, Outcome.REFUSED)
             text = texts.refusal_words(command, line, self.session)

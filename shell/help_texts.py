@@ -178,6 +178,16 @@ def meant(words: Sequence[str], bodies: Sequence[str]) -> str:
     return f"did you mean `{found}`?" if found else "no such command; `help` lists them"
 
 
+def instead(word: str) -> str:
+    """What there is in place of a word for which help is asked, after that there is no such command; empty where nothing is known."""
+    if word in ABSENT:
+        return f"; {ABSENT[word]}"
+    if word in ELSEWHERE:
+        return f"; here it is `{ELSEWHERE[word]}`"
+    near = difflib.get_close_matches(word, HELP, 1)
+    return f"; did you mean `help {near[0]}`?" if near else "; `help` lists them"
+
+
 def help_list(columns: int) -> list[str]:
     """All commands, each with what it does beside it, in so many columns."""
     width = max(len(entry.usage) for name, entry in HELP.items() if name != "break")

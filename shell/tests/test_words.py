@@ -17,10 +17,10 @@ MEANT = (
     ("b 5", "did you mean `break line 5`?"), ("brek 5", "did you mean `break line 5`?"), ("break add", "did you mean `break body add`?"),
     ("break 0.1", "did you mean `break task 0.1`?"), ("break c[0]", "did you mean `break cell 0`?"), ("break lin 5", "did you mean `break line 5`?"),
     ("taks", "did you mean `tasks`?"), ("delete 1", "did you mean `clear 1`?"), ("next 0.1", "did you mean `step 0.1`?"),
-    ("delete", "did you mean `clear N`?"), ("next 5", "did you mean `step T 5`?"), ("next", "did you mean `step`?"), ("tbreak 12", "did you mean `break line 12`?"),
+    ("delete", "did you mean `clear N`?"), ("next 5", "did you mean `step 0 5`?"), ("next", "did you mean `step`?"), ("tbreak 12", "did you mean `break line 12`?"),
     ("x 0", "did you mean `print c[0]`?"), ("x/4 0", "did you mean `print c[0]`?"), ("p/x r1", "did you mean `print r1`?"), ("thread 0.1", "did you mean `task 0.1`?"),
-    ("disable s1", "did you mean `clear s1`?"), ("reverse-finish 0.1", "did you mean `rolltask 0.1`?"), ("up", "did you mean `list T`?"),
-    ("d 1", "ambiguous: display, deps; or did you mean `clear 1`?"), ("restart-frame 0.1", "did you mean `rolltask 0.1`?"), ("disas", "did you mean `list T`?"), ("setp 0.1", "did you mean `step 0.1`?"),
+    ("disable s1", "did you mean `clear s1`?"), ("reverse-finish 0.1", "did you mean `rolltask 0.1`?"), ("up", "did you mean `list 0`?"), ("bt", "did you mean `task 0`?"),
+    ("d 1", "ambiguous: display, deps; or did you mean `clear 1`?"), ("restart-frame 0.1", "did you mean `rolltask 0.1`?"), ("disas", "did you mean `list 0`?"), ("setp 0.1", "did you mean `step 0.1`?"),
     ("b 12 if r1 > 1", "did you mean `break line 12 if r1 > 1`?"),
     ("rwatch c[0]", "did you mean `watch c[0]`?"), ("condition 1 r0 > 1", "did you mean `break line L if r0 > 1`?"), ("load a b", "did you mean `source a b`?"),
     ("start", "did you mean `step 0`?"), ("step 5", "a task is written 0.1, and a step 0.1#2; `step 0 5` takes 5 steps of task 0"),
@@ -38,6 +38,9 @@ MEANT = (
     ("info watch", "breaks 0"), ("info display", "no expression is displayed"), ("info reg", "task 0"), ("info thr", "tasks 3"), ("info line", "=>   10  body add 1   <- 0.1, 0.2"),
     ("p c0 + 1", "a cell is written c[0]"), ("p cell 3", "a cell is written c[3]"), ("watch c[0] if c[0] > 1", "a watch has no condition: `break cell 0 if value > 1`"),
     ("until 12", "until wants a step, as 0.2#4; `break line 12` and `go` stop at a line"), ("until 0.1#99", "0.1#99 was never reached"), ("help ro", "ambiguous: roll, rolltask, rollcell, rollprint"),
+    ("help next", "no such command: next; here it is `step`"), ("help jump", "no such command: jump; where a task is follows from its steps"),
+    ("help breakpoint", "no such command: breakpoint; did you mean `help break`?"), ("help xyzzy", "no such command: xyzzy; `help` lists them"),
+    ("clear 7", "`clear s1` takes away one that has an `s` in front of its number"),
 )
 
 # A program, and what is said of its fault.
