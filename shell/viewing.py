@@ -54,6 +54,13 @@ class Viewing(Group):
                 self.note(text)
         self.shell.explain(command, reply[0])
 
+    def do_edges(self, words: Words) -> None:
+        """What each step needs at once, which of a long history takes long."""
+        with self.console.waiting(f"edges of {counted(len(self.session.history), 'step')}"):
+            reply = self.session.do(" ".join(["edges", *words]))
+        self.shell.show(reply)
+        self.shell.explain(" ".join(["edges", *words]), reply[0])
+
     def do_info(self, words: Words) -> None:
         """A view by its name."""
         if not words:

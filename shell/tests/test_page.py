@@ -224,6 +224,7 @@ class ContrastTest(unittest.TestCase):
         light, dark = (dict(re.findall(r"--(\w+): (#\w+);", line)) for line in style.split("\n")[:2])
         self.assertEqual(light.keys(), dark.keys())
         rules = "\n".join(style.split("\n")[2:])
+        self.assertIn("::placeholder { color: var(--faint); opacity: 1; }", rules)
         self.check(rules, light)
         self.check(rules, dark)
         self.assertNotRegex(rules, "#[0-9a-f]{6}")

@@ -89,9 +89,10 @@ class Ways(InBrowser):
           document.querySelector("#race-list button").click();
           told.push(texts("#both strong"), texts("#both .race").map((text) => text.trim()), texts("#program li.race").map((text) => text.split("◀")[0].trim()));
           document.querySelector("#graph .edge.racing").dispatchEvent(new MouseEvent("click", { bubbles: true }));
-          told.push(texts("#both strong").length, names(".step.chosen"));
+          told.push(texts("#both strong").length, names(".step.chosen"), texts("#race-list button"));
           return told;""")
         self.assertEqual(told[0], [["0.2", "0.1"], ["0.1", "0.2"]])
+        self.assertEqual(told.pop(), ["✕ lines 11 and 13: 0.2#2 and 0.1#4, cell 0", "✕ line 13: 0.1#4 and 0.2#4, cell 0"])
         self.assertIn("depend inout 0 on lines 4 and 5 would order them, or a taskwait between", told[1])
         self.assertEqual(told[2:], [["0.2#2 load r1 0 0", "0.1#4 store 0 1"], ["11    load r1 0", "13    store 0 r1"], ["load r1 0", "store 0 r1"], 2, ["0.1#4"]])
 
