@@ -215,6 +215,10 @@ class Shell(cmd.Cmd):
         self.in_pieces = name in PIECEWISE
         self.console.begin(line, paged=not self.in_pieces)
         try:
+            if "\0" in "".join(words):
+                # No file has such a name; the program says what is wrong.
+                self.send(line)
+                return False
             ends = self.pass_line(line, words) if self.passes else self.command(name, line, words)
             if not self.passes and name in STEPS and self.outcome is not Outcome.ERROR:
                 self.breaking.show_displays()

@@ -108,6 +108,14 @@ class Meant(unittest.TestCase):
         self.assertEqual(shell.ask("go")[-1], "  breakpoint 1: body add")
         self.assertEqual(shell.ask("go")[-1], "  breakpoint 2: cell 0")
 
+    def test_a_zero_byte_is_in_no_command(self) -> None:
+        for exact in (False, True):
+            shell = Typed(self, example("race.task"), exact=exact)
+            for command in ("save a\0", "compare \0", "page \0", "lanes \0", "source \0", "print \0", "ru\0n"):
+                self.assertEqual(shell.ask(command)[0], "error line", command)
+            shell.shell.passes = True
+            self.assertEqual(shell.ask("save a\0"), ["error line"] + ["  " + texts.ERRORS["line"]] * (not exact))
+
     def test_counts(self) -> None:
         self.assertEqual([counted(1, "task"), counted(2, "task"), counted(0, "branch"), counted(12345, "step")],
                          ["1 task", "2 tasks", "0 branches", "12,345 steps"])
