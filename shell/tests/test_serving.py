@@ -132,7 +132,8 @@ class Served(unittest.TestCase):
         wrong: tuple[tuple[str, dict[str, str], int], ...] = (
             ('{"command": "save /tmp/x"}', {}, 403), ('{"command": "source /etc/passwd"}', {}, 403), ('{"command": "page x"}', {}, 403), ('{"command": ""}', {}, 403),
             ('{"command": "quit"}', {}, 403), ('{"command": "step 0\\nsave x"}', {}, 400), ('{"command": 3}', {}, 400), ("[]", {}, 400), ("{", {}, 400),
-            ("[" * 4000, {}, 400), (" " * (LONGEST + 1), {}, 400), ('{"command": "step 0"}', {"Content-Type": "text/plain"}, 400))
+            ("[" * 4000, {}, 400), (" " * (LONGEST + 1), {}, 400), ('{"command": "step 0"}', {"Content-Type": "text/plain"}, 400),
+            ("{}", {"Content-Length": "\u00b2"}, 400), ("{}", {"Content-Length": "9" * 5000}, 400), ("{}", {"Content-Length": "-2"}, 400))
         for body, headers, wanted in wrong:
             self.assertEqual(self.ask(server, "POST", path, body, **headers)[0], wanted, body[:60])
         self.assertEqual(self.ask(server, "POST", f"/{server.token}/x", '{"command": "step 0"}')[0], 404)
@@ -179,9 +180,11 @@ class Served(unittest.TestCase):
     def test_a_run_without_an_end_is_short(self) -> None:
         session = Session(PROGRAM, Source("cells 1\nbody main 0\n  while 0 == 0\n    store 0 1\n  end\nend\n", "loop.task"))
         self.addCleanup(session.close)
-        for command in ("run", "run 999999"):
+        for command in ("run", "run 999999", "run -v", "go", "go 1 " + "9" * 1000):
             told: dict[str, Any] = Live(session).do(command)
-            self.assertEqual(told["lines"][-1], "ran 1000 limit")
+            self.assertEqual(told["lines"][-1], "ran 1000 limit", command)
+        for command in ("run x", "run \u00b2", "go x y"):
+            self.assertEqual(Live(session).do(command)["outcome"], "error", command)
 
 
 @needs_program
