@@ -235,10 +235,15 @@ def drawn_by(program: str, words: list[str], text: str, seconds: float | None) -
     return done.stdout if not done.returncode else f"dot: {done.stderr.decode('utf-8', 'replace').strip()}"
 
 
+def written_to(path: str) -> str:
+    """The file that is written: where Graphviz isn't here, a text in its language beside the picture that was asked for."""
+    base, kind = os.path.splitext(path)
+    return path if kind == ".dot" or shutil.which("dot") else base + ".dot"
+
+
 def write_graph(path: str, graph: Graph) -> str:
     """Writes the picture, by Graphviz where the file isn't a `.dot`; returns what to say of it."""
-    base, kind = os.path.splitext(path)
-    program = shutil.which("dot")
+    kind, program = os.path.splitext(path)[1], shutil.which("dot")
     tasks = counted(len(graph.tasks), "task")
     if kind != ".dot" and program:
         words, said = [f"-T{kind[1:] or 'svg'}"], f"drawn to {path}, {tasks}"
@@ -251,6 +256,6 @@ def write_graph(path: str, graph: Graph) -> str:
             return drawn
         write_bytes(path, drawn)
         return said
-    path = path if kind == ".dot" else base + ".dot"
+    path = written_to(path)
     write_text(path, dot_of(graph))
     return f"written to {path}, {tasks}" + ("" if kind == ".dot" else "; Graphviz, which would draw it, isn't here")

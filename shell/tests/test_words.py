@@ -206,6 +206,23 @@ class Files(unittest.TestCase):
             shell.read_until(wanted)
             shell.read_until("(taskback) ")
 
+    def test_files_beside_the_one_that_is_named_are_kept_too(self) -> None:
+        """The pages of many lanes, and the text that is written where Graphviz isn't here."""
+        folder = self.folder()
+        shell = Typed(self, "cells 1\nbody main 0\n  while r0 < 60\n    task t\n    let r0 r0 + 1\n  end\nend\nbody t 0\nend\n")
+        shell.ask("run 999")
+        page, dot = os.path.join(folder, "a-2.svg"), os.path.join(folder, "b.dot")
+        for path in (page, dot):
+            files.write_text(path, "mine")
+        self.assertEqual(shell.ask(f"lanes {folder}/a.svg"), [f"{page} was not written: it is there already, and `-f` replaces it"])
+        with unittest.mock.patch("shutil.which", lambda name: None):
+            self.assertEqual(shell.ask(f"graph {folder}/b.svg"), [f"{dot} was not written: it is there already, and `-f` replaces it"])
+            self.assertEqual(sorted(os.listdir(folder)), ["a-2.svg", "b.dot"])
+            self.assertIn(f"written to {dot}, 61 tasks", shell.ask(f"graph -f {folder}/b.svg")[0])
+            self.assertIn(f"written to {dot}, 61 tasks", shell.ask(f"graph {folder}/b.svg")[0])
+        self.assertIn(f"drawn to {folder}/a.svg", shell.ask(f"lanes -f {folder}/a.svg")[0])
+        self.assertIn(f"drawn to {folder}/a.svg", shell.ask(f"lanes {folder}/a.svg")[0])
+
     def test_what_the_shell_drew_is_known_again(self) -> None:
         folder = self.folder()
         shell = Typed(self, example("race.task"))
