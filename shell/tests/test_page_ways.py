@@ -96,6 +96,15 @@ class Ways(InBrowser):
         self.assertIn("depend inout 0 on lines 4 and 5 would order them, or a taskwait between", told[1])
         self.assertEqual(told[2:], [["0.2#2 load r1 0 0", "0.1#4 store 0 1"], ["11    load r1 0", "13    store 0 r1"], ["load r1 0", "store 0 r1"], 2, ["0.1#4"]])
 
+    def test_a_press_is_no_pointing(self) -> None:
+        """A step that is drawn anew between a press and its release would not be clicked."""
+        told = self.tried(self.page("race.session"), """
+          const step = document.querySelector('.step[data-step="0.1#4"]'), told = [];
+          const over = (buttons) => { step.dispatchEvent(new PointerEvent("pointerover", { bubbles: true, buttons })); told.push(step.isConnected, find("told").textContent.split(",")[0]); };
+          over(1); over(0);
+          return told;""")
+        self.assertEqual(told, [True, "Point at a step", False, "0.1#4 store 0 1"])
+
     def test_filters_folding_and_search(self) -> None:
         told = self.tried(self.page("race.session"), """
           const told = [], all = names(".step");
