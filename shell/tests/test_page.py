@@ -9,6 +9,7 @@ import unittest.mock
 from typing import Any
 
 from browser import InBrowser, browser
+from programs import random_program
 from support import EXAMPLES, PROGRAM, TOP, Terminal, contrast, example, needs_program, write_file
 from shell import story
 from shell.commands import Shell
@@ -17,6 +18,7 @@ from shell.opening import play_file
 from shell.facts import Facts
 from shell.graph import groups_of, waits_of
 from shell.page import page_of
+from shell.race_advice import kinds_of
 from shell.session import Session
 from shell.source import Source
 from test_lanes import walked
@@ -131,6 +133,22 @@ class DataTest(unittest.TestCase):
         told = " ".join(self.data(session)["leftOut"])
         self.assertEqual(has_views(self), "causes" not in told and "races" not in told)
 
+    def test_what_would_order_races_is_told_of_those_that_were_taken_back_too(self) -> None:
+        for seed in range(8):
+            session = Session(PROGRAM, Source(random_program(seed), "x.task"))
+            wanted: set[str] = set()
+            self.addCleanup(session.close)
+            for command in ("run 40", "rolltask 0.1", "run 60", "rolltask 0.2"):
+                if command.startswith("rolltask"):
+                    wanted.update({"|".join([*kind.places, str(kind.example.over == "print").lower(), str(kind.example.apart).lower()])
+                                   for kind in kinds_of(session, Facts(session).races())})
+                session.do(command)
+            there = kinds_of(session, Facts(session).races())
+            told = self.data(session)["hints"]
+            self.assertEqual(told.keys(), wanted | {"|".join([*kind.places, str(kind.example.over == "print").lower(), str(kind.example.apart).lower()]) for kind in there})
+            for kind in there:
+                self.assertIn(kind.advice().replace("`", ""), told.values(), seed)
+
     def test_names_can_not_end_the_script(self) -> None:
         session = Session(PROGRAM, Source("# </script><script>alert(1)</script>\n" + example("first.task"), "</script>.task"))
         self.addCleanup(session.close)
@@ -154,9 +172,10 @@ class DataTest(unittest.TestCase):
             self.assertEqual(told[0], told[1], seed)
 
     def test_needs_from_the_lines_are_those_of_the_program(self) -> None:
-        with unittest.mock.patch.multiple(story, MOST_ASKED=0, MOST_LOOKS=0):
-            for seed in range(12):
-                session, _ = walked(self, seed)
+        """Also where after a rollback few steps are new, which are asked for."""
+        for seed in range(24):
+            session, _ = walked(self, seed // 2)
+            with unittest.mock.patch.multiple(story, MOST_ASKED=0, MOST_LOOKS=0, VERY_FEW=1 if seed % 2 else 100):
                 told = self.data(session)["steps"]
                 there = {step[0]: at for at, step in enumerate(told) if step[4] is None}
                 self.assertEqual(list(there), list(session.history))
