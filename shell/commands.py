@@ -25,6 +25,8 @@ from shell.viewing import Viewing
 from shell.walking import Walking
 
 STEP = re.compile(r"(?<![\w.#])[0-9][0-9.]*#[0-9]+")
+# A task of which no name was typed, in what may have been meant: it is the one that stepped last.
+TASK = re.compile(r"(?<= )T(?=[ `])")
 # What asks for much in small pieces: Ctrl-C ends it after one. Any other command's reply is cut.
 PIECEWISE = ("step", "run", "go", "finish", "until", "random", "last", "back", "rs", "rc", "source", "graph", "lanes", "slide", "page", "serve", "compare", "flip")
 # After these the expressions of `display` are shown.
@@ -107,10 +109,11 @@ class Shell(cmd.Cmd):
         told = line.split(" ")
         if told[0] == "error":
             self.outcome = max(self.outcome, Outcome.ERROR)
-            if told == ["error", "word"] and words_of(command)[0] in ("races", "causes"):
+            if told == ["error", "word"] and words_of(command)[0] in ("races", "causes", "edges"):
                 self.console.note("this build has no such view")
             else:
-                self.console.note(texts.error_words(command, told[-1], self.session.workers, list(self.session.source.bodies)))
+                text = texts.error_words(command, told[-1], self.session.workers, list(self.session.source.bodies))
+                self.console.note(TASK.sub(self.focus, text) if told[-1] == "word" else text)
         elif told[0] == "refused":
             self.outcome = max(self.outcome, Outcome.REFUSED)
             text = texts.refusal_words(command, line, self.session)
@@ -212,6 +215,10 @@ class Shell(cmd.Cmd):
         self.in_pieces = name in PIECEWISE
         self.console.begin(line, paged=not self.in_pieces)
         try:
+            if "\0" in "".join(words):
+                # No file has such a name; the program says what is wrong.
+                self.send(line)
+                return False
             ends = self.pass_line(line, words) if self.passes else self.command(name, line, words)
             if not self.passes and name in STEPS and self.outcome is not Outcome.ERROR:
                 self.breaking.show_displays()

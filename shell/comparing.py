@@ -7,7 +7,7 @@ from itertools import zip_longest
 from typing import NamedTuple
 
 from shell.console import counted
-from shell.facts import Race, race_of
+from shell.facts import MOST_ASKED, Causes, Facts, Race, race_of
 from shell.group import Group, Words, count_in
 from shell.protocol import Ended, Refused
 from shell.retaking import copy_of
@@ -36,9 +36,11 @@ def played(path: str, session: Session) -> Session:
     return other
 
 
-def needs_of(session: Session, names: Sequence[str]) -> list[list[str]]:
-    """The immediate needs of each step, as the lines of `causes`."""
-    return [reply[1:] for reply in session.views([f"causes {name}" for name in names])]
+def needs_of(session: Session, asks: bool) -> dict[str, Causes]:
+    """The needs of all steps: the immediate ones, or of long histories the direct ones that their lines show."""
+    facts = Facts(session)
+    steps = facts.steps()
+    return (facts.all_causes(steps) if asks else facts.worked_out(steps)) or {}
 
 
 def first_difference(one: Session, two: Session) -> Found | None:
@@ -46,14 +48,11 @@ def first_difference(one: Session, two: Session) -> Found | None:
 
     Runs with the same steps and the same immediate needs differ in the order of independent steps alone.
     """
-    names = [name for name in one.history if name in two.history and two.history[name] == one.history[name]]
-    differing = {name for name, here, there in zip(names, needs_of(one, names), needs_of(two, names)) if sorted(here) != sorted(there)}
-    same = set(names)
-    for name in one.history:
-        if name not in same:
-            return Found(name, one.history[name], two.history.get(name, "not taken"))
-        if name in differing:
-            return Found(name, one.history[name], two.history[name])
+    asks = max(len(one.history), len(two.history)) <= MOST_ASKED
+    here, there = needs_of(one, asks), needs_of(two, asks)
+    for name, did in one.history.items():
+        if two.history.get(name) != did or sorted(here.get(name, ())) != sorted(there.get(name, ())):
+            return Found(name, did, two.history.get(name, "not taken"))
     extra = next((name for name in two.history if name not in one.history), None)
     return None if extra is None else Found(extra, "not taken", two.history[extra])
 
@@ -124,7 +123,7 @@ class Comparing(Group):
         self.say(f"  there: {found.there}")
         for name, session in (("here", self.session), ("there", other)):
             if found.step in session.history:
-                needs = [line for line in needs_of(session, [found.step])[0] if not line.startswith("task: ")]
+                needs = [line for line in session.view(f"causes {found.step}")[1:] if not line.startswith("task: ")]
                 self.note(f"{name} it needs " + ("; ".join(needs) if needs else "no step of another task"))
 
     def do_flip(self, words: Words) -> None:

@@ -3,16 +3,16 @@
 from __future__ import annotations
 
 import shutil
-from collections.abc import Callable
+from collections.abc import Callable, Sequence
 from typing import TypeVar
 
 from shell.console import counted
 from shell.facts import Stopped
 from shell.filing import WRITTEN, Writing, forced
-from shell.graph import graph_of, tree_of, write_graph
+from shell.graph import graph_of, tree_of, write_graph, written_to
 from shell.group import Words, count_in
 from shell.lanes import lanes_of, text_rows
-from shell.lanes_pages import write_lanes
+from shell.lanes_pages import pages_of, write_lanes
 from shell.page import page_of
 from shell.protocol import Cut
 from shell.slide import write_slide
@@ -40,7 +40,7 @@ class Drawing(Writing):
         if len(names) > 1:
             self.wrong("graph")
             return
-        if names and not self.may_write(names[0], force):
+        if names and not self.may_write(written_to(names[0]), force):
             return
         graph = self.drawn(graph_of)
         if graph is None:
@@ -49,7 +49,7 @@ class Drawing(Writing):
             for line in tree_of(graph):
                 self.say(line)
             return
-        self.put(names[0], write_graph, graph)
+        self.put(names[0], write_graph, graph, [written_to(names[0])])
 
     def do_lanes(self, words: Words) -> None:
         """The history in lanes, as text or to a file."""
@@ -61,7 +61,7 @@ class Drawing(Writing):
         elif chosen and chosen not in self.session.history:
             self.refuse(f"step {chosen} isn't in the history")
         elif not files or self.may_write(files[0], force):
-            self.draw_lanes(chosen, files[0] if files else None)
+            self.draw_lanes(chosen, files[0] if files else None, force)
 
     def do_slide(self, words: Words) -> None:
         """The history as one picture for a lecture."""
@@ -77,21 +77,23 @@ class Drawing(Writing):
             if lanes is not None:
                 self.put(files[0], write_slide, lanes)
 
-    def put(self, path: str, write: Callable[[str, Drawn], str], what: Drawn) -> None:
-        """Writes a picture, and says so."""
+    def put(self, path: str, write: Callable[[str, Drawn], str], what: Drawn, more: Sequence[str] = ()) -> None:
+        """Writes a picture, and says so; `more` are files that are written besides."""
         try:
             self.say(write(path, what))
-            WRITTEN.add(path)
+            WRITTEN.update((path, *more))
         except OSError as fault:
             self.refuse(f"can't write {path}: {fault.strerror}")
 
-    def draw_lanes(self, chosen: str | None, path: str | None) -> None:
-        """Draws the lanes, as text where there is no file."""
+    def draw_lanes(self, chosen: str | None, path: str | None, force: bool) -> None:
+        """Draws the lanes, as text where there is no file; none is drawn where one of their pages may not be written."""
         lanes = self.drawn(lanes_of, chosen)
         if lanes is None:
             return
         if path is not None:
-            self.put(path, write_lanes, lanes)
+            pages = pages_of(path, lanes)
+            if all(self.may_write(page, force) for page in pages):
+                self.put(path, write_lanes, lanes, pages)
             return
         width = shutil.get_terminal_size((100, 24)).columns
         for row in text_rows(lanes, width, self.console.shaded):

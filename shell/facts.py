@@ -5,14 +5,17 @@ from __future__ import annotations
 from collections.abc import Callable, Iterator, Sequence
 from dataclasses import dataclass, field
 
-from shell.needs import Needs
+from shell.needs import Needs, items_of
+from shell.ordering import Ordering
 from shell.session import Session
 from shell.texts import matching_pairs
 
 NOT_THERE = ["error word"]
-# Of more steps the needs are worked out from the lines of the history, with some among them that others imply: that
-# takes a tenth of the time of asking for each.
-MOST_ASKED = 20000
+# Of more steps the needs are worked out from the lines of the history, with some among them that others imply: what
+# `edges` takes grows with the square of the steps where tasks begin long after they were generated.
+MOST_ASKED = 8000
+# Of more tasks the order is worked out from the lines of the history: `deps` names all siblings that a task comes after.
+MOST_ORDERED = 300
 # So many steps are worked out between two looks whether the user stops it.
 PIECE = 1000
 # Told how many are done, of what, and how many there are in all.
@@ -116,6 +119,17 @@ class Facts:
                 raise Stopped
             yield None if reply == NOT_THERE else reply[1:]
 
+    def edges(self) -> dict[str, Causes] | None:
+        """The immediate needs of all steps of the history by one reply; None where the program has no `edges`."""
+        lines = self.ask("edges")
+        if lines is None:
+            return None
+        found: dict[str, Causes] = {name: [] for name in self.session.history}
+        for line in lines:
+            early, late, kind = line.split(" ", 2)
+            found[late].append((kind, early))
+        return found
+
     def causes(self, step: str) -> Causes | None:
         """The immediate needs of a step as pairs of kind and step; None where the program doesn't show them."""
         lines = self.ask(f"causes {step}")
@@ -126,18 +140,21 @@ class Facts:
 
         Of more than MOST_ASKED steps they are the direct ones, some of which others imply.
         """
-        names = [step.name for step in steps]
-        if not steps or self.causes(names[0]) is None:
+        if not steps or self.causes(steps[0].name) is None:
             return None if steps else {}
-        if len(names) > MOST_ASKED:
+        if len(steps) > MOST_ASKED:
             return self.worked_out(steps, progress)
+        return self.edges() or self.asked([step.name for step in steps], progress)
+
+    def asked(self, names: Sequence[str], progress: Progress = lambda *told: None) -> dict[str, Causes]:
+        """The immediate needs of these steps, asked for one by one."""
         found: dict[str, Causes] = {}
         for name, lines in zip(names, self.ask_all([f"causes {name}" for name in names])):
             found[name] = causes_of(lines or ())
             progress(len(found), "steps", len(names))
         return found
 
-    def worked_out(self, steps: Sequence[Step], progress: Progress) -> dict[str, Causes]:
+    def worked_out(self, steps: Sequence[Step], progress: Progress = lambda *told: None) -> dict[str, Causes]:
         """The direct needs of all steps of the history, without asking for them."""
         needs, found = Needs(), {}
         for step in steps:
@@ -188,10 +205,24 @@ class Facts:
             at = next(place for place, line in enumerate(told) if line.startswith("items "))
             task.items = told[at + 1:]
 
+    def work_out_order(self, tasks: dict[str, Task]) -> None:
+        """The same from the lines of the history, without dependences that others imply."""
+        ordering = Ordering()
+        for name, did in self.session.history.items():
+            words = did.split(" ")
+            if words[0] == "spawn":
+                task = tasks[words[1]]
+                task.items = items_of(words)
+                order = ordering.add(name.partition("#")[0], task.name, task.items)
+                task.before, task.apart = order.before, order.apart
+
     def tasks(self) -> dict[str, Task]:
         """All tasks by names, with items and order."""
         found = self.task_states()
-        self.fill_in(list(found.values()))
+        if len(found) > MOST_ORDERED:
+            self.work_out_order(found)
+        else:
+            self.fill_in(list(found.values()))
         return found
 
 

@@ -5,10 +5,11 @@ import re
 from collections.abc import Callable, Iterable, Sequence
 
 from shell.console import counted
+from shell.foreign import in_the_notation, of_comment
 from shell.protocol import words_of
 
 FORMS = {
-    "cells": "cells N", "cell": "cell C V", "body": "body NAME PARAMETERS", "let": "let rK A   or   let rK A OP B, where OP is + - *",
+    "cells": "cells N", "cell": "cell C V", "body": "body NAME COUNT, the count of its parameters", "let": "let rK A   or   let rK A OP B, where OP is + - *",
     "load": "load rK ADDR", "store": "store ADDR VAL", "print": "print VAL", "taskwait": "taskwait   or   taskwait depend TYPE ADDR",
     "task": "task NAME ARG.. depend TYPE ADDR", "taskgroup": "taskgroup",
     "if": "if A CMP B, where CMP is == != < <=", "while": "while A CMP B, where CMP is == != < <=",
@@ -28,22 +29,10 @@ FAULTS = {
 TYPES = ("in", "out", "inout", "mutexinoutset", "inoutset")
 # How many words follow each word, where it is one number.
 WANTED = {"cells": 1, "cell": 2, "body": 2, "load": 2, "store": 2, "print": 1, "taskgroup": 0, "if": 3, "while": 3, "else": 0, "end": 0}
+# So many names of bodies are listed.
+MOST_NAMES = 8
 OPENERS = ("body", "if", "while", "taskgroup")
-# How the notation writes comparisons that it hasn't, from a line's words.
-COMPARED = {"=": "{0} {1} == {3}", ">": "{0} {3} < {1}", ">=": "{0} {3} <= {1}"}
-# Words of C and of other languages, and what the notation has in their place.
-FOREIGN = {
-    "for": "while A CMP B .. end, with a `let` in front and one at its end", "do": "while A CMP B .. end", "int": "let rK A",
-    "long": "let rK A", "unsigned": "let rK A", "auto": "let rK A", "const": "let rK A", "int64_t": "let rK A", "var": "let rK A",
-    "void": "body NAME PARAMETERS", "def": "body NAME PARAMETERS", "func": "body NAME PARAMETERS", "function": "body NAME PARAMETERS",
-    "return": "end", "}": "end", "};": "end", "{": "nothing: a block begins with its line and ends with `end`", "endif": "end", "done": "end",
-    "printf": "print VAL", "puts": "print VAL", "cout": "print VAL", "echo": "print VAL", "write": "store ADDR VAL", "read": "load rK ADDR",
-    "spawn": "task NAME ARG..", "async": "task NAME ARG..", "call": "task NAME ARG..", "wait": "taskwait", "join": "taskwait", "sync": "taskwait",
-    "barrier": "taskwait", "group": "taskgroup", "begin": "body NAME PARAMETERS", "proc": "body NAME PARAMETERS", "elif": "else, and an `if` in it",
-    "global": "cells N", "single": "nothing: the root is one task", "parallel": "nothing: the root is one task",
-}
 REGISTER = re.compile(r"r([0-9]|1[0-5])")
-CLAUSE = re.compile(r"depend\s*\(\s*(\w+)\s*:\s*([^)]*)\)")
 
 
 def is_number(word: str) -> bool:
@@ -143,14 +132,28 @@ def open_blocks(lines: Sequence[str], number: int) -> list[tuple[int, str]]:
     return stack
 
 
+def lacking(lines: Sequence[str], number: int) -> str:
+    """Which block perhaps lacks its `end`, where another one's stands further left than that block begins; empty where none does."""
+    stack: list[tuple[int, int, str]] = []
+    for at, line in enumerate(lines[:number - 1], 1):
+        words, left = words_of(line), len(line) - len(line.lstrip())
+        if words and words[0] in OPENERS:
+            stack.append((left, at, words[0]))
+        elif words[:1] == ["end"] and stack:
+            begun, where, word = stack.pop()
+            if left < begun:
+                return f"; by its place the `end` of line {at} isn't that of the `{word}` of line {where}, which lacks its own"
+    return ""
+
+
 def nesting_words(lines: Sequence[str], number: int, words: Sequence[str]) -> str:
     """Why a line can't be where it is, or what is open at the end of the text."""
     opened = open_blocks(lines, number)
     innermost = f"`{opened[-1][1]}` of line {opened[-1][0]}" if opened else ""
     if not words:
-        return f"an `end` is missing: the {innermost} is still open" if opened else FAULTS["Nesting"]
+        return f"an `end` is missing: the {innermost} is still open{lacking(lines, number)}" if opened else FAULTS["Nesting"]
     if words[0] == "body" and opened:
-        return f"an `end` is missing in front of this line: the {innermost} is still open"
+        return f"an `end` is missing in front of this line: the {innermost} is still open{lacking(lines, number)}"
     if words[0] == "end" and not opened:
         return "no block is open here for this `end`"
     if words[0] == "else":
@@ -185,6 +188,12 @@ def arity_words(lines: Sequence[str], words: Sequence[str]) -> str:
     return FAULTS["Arity"]
 
 
+def there_are(names: Sequence[str]) -> str:
+    """The first of these names, after what was said."""
+    shown = [*names[:MOST_NAMES], *["others"] * (len(names) > MOST_NAMES)]
+    return ": there " + (f"is {shown[0]} alone" if len(shown) == 1 else f"are {', '.join(shown[:-1])} and {shown[-1]}") if shown else ""
+
+
 def meaning_of(kind: str, lines: Sequence[str], number: int, words: Sequence[str]) -> str:
     """Why the line is refused."""
     if kind == "Nesting":
@@ -196,6 +205,8 @@ def meaning_of(kind: str, lines: Sequence[str], number: int, words: Sequence[str
             return "`all` has the type out or inout"
         types = types_of(words[0])
         return f"the types{' of a taskwait' if words[0] == 'taskwait' else ''} are {', '.join(types[:-1])} and {types[-1]}"
+    if kind == "UnknownBody":
+        return FAULTS[kind] + there_are([told[1] for told in map(words_of, lines) if told[:1] == ["body"] and len(told) > 1])
     if kind == "NoMain":
         near = next((told[1] for told in map(words_of, lines) if told[:1] == ["body"] and len(told) > 1 and told[1].lower() == "main"), None)
         return FAULTS[kind] + (f"; the name is written `main`, and not `{near}`" if near else "")
@@ -203,14 +214,6 @@ def meaning_of(kind: str, lines: Sequence[str], number: int, words: Sequence[str
 
 
 # What the line should look like
-
-def from_clauses(line: str) -> str | None:
-    """The line with clauses as the notation has them, where it has them as C does."""
-    def spelled(found: re.Match[str]) -> str:
-        return " ".join(f"depend {found[1]} {place.strip() or 'ADDR'}" for place in found[2].split(","))
-    mended = CLAUSE.sub(spelled, line)
-    return " ".join(mended.replace(";", " ").split()) if mended != line else None
-
 
 def with_type_first(words: Sequence[str]) -> str | None:
     """The line where a clause has its cell in front of its type."""
@@ -221,24 +224,6 @@ def with_type_first(words: Sequence[str]) -> str | None:
     return " ".join(turned) if turned != list(words) else None
 
 
-def from_other_languages(words: Sequence[str], line: str) -> str | None:
-    """What the notation has in place of words of C and of other languages."""
-    clauses = from_clauses(line)
-    if clauses:
-        return clauses
-    changed = re.fullmatch(r"(r[0-9]+)\s*(\+\+|--|[+*-]=)\s*(\w*);?", line)
-    if changed:
-        operand = changed[3] or "1"
-        return f"let {changed[1]} {changed[1]} {changed[2][0]} {operand}"
-    word = re.split(r"[(:;]", words[0])[0] or words[0]
-    if word in FOREIGN:
-        return FOREIGN[word]
-    lower = word.lower()
-    if word != lower and lower in FORMS:
-        return " ".join([lower, *words[1:]])
-    return None
-
-
 def should_be(words: Sequence[str], line: str | None = None) -> str | None:
     """What a faulty line should look like."""
     if not words:
@@ -246,17 +231,14 @@ def should_be(words: Sequence[str], line: str | None = None) -> str | None:
     line = " ".join(words) if line is None else line
     if list(words[:2]) == ["body", "main"]:
         return "body main 0"
-    if words[0] == "let" and "=" in words:
-        return " ".join(word for word in words if word != "=")
-    if list(words[1:2]) == ["="] and re.fullmatch(r"r[0-9]+", words[0]):
-        return " ".join(["let", words[0], *words[2:]])
-    if words[0] in ("if", "while") and len(words) == 4 and words[2] in COMPARED:
-        return COMPARED[words[2]].format(*words)
     if words[0] in ("store", "print") and len(words) >= 4 and words[-2] in "+-*" and is_operand(words[-1]) and is_operand(words[-3]):
         return f"let rK {' '.join(words[-3:])}, and in the next line {' '.join(words[:-3])} rK"
-    found = with_type_first(words) or from_other_languages(words, line)
+    found = with_type_first(words) or in_the_notation(line)
     if found:
         return found
+    lower = words[0].lower()
+    if words[0] != lower and lower in FORMS:
+        return " ".join([lower, *words[1:]])
     if words[0] not in FORMS:
         near = difflib.get_close_matches(words[0], FORMS, 1)
         return FORMS[near[0]] if near else None
@@ -275,7 +257,7 @@ def form_of(kind: str, lines: Sequence[str], words: Sequence[str], line: str) ->
     if kind == "UnknownBody":
         return nearest_body(lines, words)
     if kind == "NoCells":
-        return "cells N, in front of the first body"
+        return of_comment(line) or "cells N, in front of the first body"
     if kind in ("BadNumber", "UnknownWord", "Arity", "Register", "DependType"):
         return should_be(words, line)
     return None

@@ -11,7 +11,7 @@ from dataclasses import dataclass
 
 from shell.console import counted
 from shell.clusters import MOST_TASKS, clusters_in_dot
-from shell.facts import Facts, Progress, Race, Step, Task, by_name, label_of, reduced
+from shell.facts import MOST_ASKED, Facts, Progress, Race, Step, Task, by_name, label_of, reduced
 from shell.files import write_bytes, write_text
 from shell.lanes import NO_CAUSES, NO_RACES
 from shell.session import Session
@@ -30,6 +30,8 @@ QUICK = ("-Gnslimit=1", "-Gnslimit1=1", "-Gmclimit=0.1", "-Gsplines=line")
 # What takes longer, in seconds, is drawn as clusters.
 PATIENCE = 20.0
 RACE = "#b00020"
+# Of so many waits the needs are asked for one by one, and of more all needs by one reply.
+FEW_WAITS = 20
 # Of more pairs of racing tasks none has a say in the ranks, since that would take long and pull the picture apart.
 MOST_RANKING = 40
 
@@ -86,15 +88,13 @@ def groups_of(steps: Sequence[Step]) -> tuple[dict[str, str | None], dict[str, s
 
 
 def waits_of(facts: Facts, steps: Sequence[Step]) -> list[Wait] | None:
-    """The waits that are over, by the causes of each; None where the program doesn't show them."""
-    found = []
-    for step in steps:
-        if step.word == "wait":
-            causes = facts.causes(step.name)
-            if causes is None:
-                return None
-            found.append(Wait(step.name, step.line, [early.split("#")[0] for kind, early in causes if kind == "wait"]))
-    return found
+    """The waits that are over, by what each needs at once; None where the program doesn't show it."""
+    waits = [step for step in steps if step.word == "wait"]
+    if waits and facts.causes(waits[0].name) is None:
+        return None
+    needs = facts.edges() if len(waits) > FEW_WAITS and len(steps) <= MOST_ASKED else None
+    needs = needs or facts.asked([step.name for step in waits])
+    return [Wait(step.name, step.line, [early.split("#")[0] for kind, early in needs[step.name] if kind == "wait"]) for step in waits]
 
 
 def graph_of(session: Session, stop: Callable[[], bool] = lambda: False, progress: Progress = lambda *told: None) -> Graph:
@@ -235,10 +235,15 @@ def drawn_by(program: str, words: list[str], text: str, seconds: float | None) -
     return done.stdout if not done.returncode else f"dot: {done.stderr.decode('utf-8', 'replace').strip()}"
 
 
+def written_to(path: str) -> str:
+    """The file that is written: where Graphviz isn't here, a text in its language beside the picture that was asked for."""
+    base, kind = os.path.splitext(path)
+    return path if kind == ".dot" or shutil.which("dot") else base + ".dot"
+
+
 def write_graph(path: str, graph: Graph) -> str:
     """Writes the picture, by Graphviz where the file isn't a `.dot`; returns what to say of it."""
-    base, kind = os.path.splitext(path)
-    program = shutil.which("dot")
+    kind, program = os.path.splitext(path)[1], shutil.which("dot")
     tasks = counted(len(graph.tasks), "task")
     if kind != ".dot" and program:
         words, said = [f"-T{kind[1:] or 'svg'}"], f"drawn to {path}, {tasks}"
@@ -251,6 +256,6 @@ def write_graph(path: str, graph: Graph) -> str:
             return drawn
         write_bytes(path, drawn)
         return said
-    path = path if kind == ".dot" else base + ".dot"
+    path = written_to(path)
     write_text(path, dot_of(graph))
     return f"written to {path}, {tasks}" + ("" if kind == ".dot" else "; Graphviz, which would draw it, isn't here")

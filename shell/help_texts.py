@@ -54,6 +54,7 @@ HELP = {
     "who": Help("who T#K", "the steps that need a step", "who 0.1#4"),
     "races": Help("races", "steps that luck alone ordered, by pairs of lines, with the clause that is missing", "races"),
     "causes": Help("causes T#K", "the steps that a step needs at once, and for what", "causes 0#6"),
+    "edges": Help("edges", "for each step of the history the steps that it needs at once, and for what", "edges"),
     "flip": Help("flip [N]", "both outcomes of race N: as it came, and the other way round, to their ends", "flip 1"),
     "compare": Help("compare FILE", "whether the session of FILE did the same, but for the order of independent steps", "compare other.session"),
     "graph": Help("graph [-f] [FILE]", "the tasks as a tree with their order; to FILE as Graphviz draws it (.svg, .png), or .dot", "graph tasks.svg"),
@@ -81,7 +82,7 @@ ABBREVIATIONS = {"s": "step", "r": "run", "b": "break", "u": "undo", "i": "info"
 
 # The commands that the program has too, and answers itself.
 OF_THE_PROGRAM = ("step", "run", "go", "undo", "roll", "rolltask", "rollcell", "rollprint", "break", "clear", "breaks", "tasks", "task", "cells",
-                  "out", "ready", "waits", "deps", "hist", "why", "who", "races", "causes")
+                  "out", "ready", "waits", "deps", "hist", "why", "who", "races", "causes", "edges")
 
 # What other debuggers call it; the last word in capitals stands for what was typed after theirs.
 ELSEWHERE = {"next": "step", "n": "step", "ni": "step", "si": "step", "stepi": "step", "nexti": "step", "delete": "clear N", "d": "clear N", "disable": "clear N",
@@ -175,6 +176,16 @@ def meant(words: Sequence[str], bodies: Sequence[str]) -> str:
         if near == ["break"]:
             found = break_meant(["break", *words[1:]], bodies) or found
     return f"did you mean `{found}`?" if found else "no such command; `help` lists them"
+
+
+def instead(word: str) -> str:
+    """What there is in place of a word for which help is asked, after that there is no such command; empty where nothing is known."""
+    if word in ABSENT:
+        return f"; {ABSENT[word]}"
+    if word in ELSEWHERE:
+        return f"; here it is `{ELSEWHERE[word]}`"
+    near = difflib.get_close_matches(word, HELP, 1)
+    return f"; did you mean `help {near[0]}`?" if near else "; `help` lists them"
 
 
 def help_list(columns: int) -> list[str]:

@@ -24,7 +24,7 @@ class Helping(Group):
         elif fitting:
             self.fail("ambiguous: " + ", ".join(fitting))
         else:
-            self.fail(f"no such command: {words[0]}")
+            self.fail(f"no such command: {words[0]}{help_texts.instead(words[0])}")
 
     def do_quit(self, words: Words) -> bool:
         """Ends the shell."""

@@ -65,16 +65,20 @@ def overview_of(lanes: Lanes, files: list[str]) -> str:
             f'<rect width="100%" height="100%" fill="#fff"/>\n<text x="{LEFT}" y="20">{escape(told)}</text>\n' + "\n".join(parts) + "\n</svg>\n")
 
 
+def pages_of(path: str, lanes: Lanes) -> list[str]:
+    """The files of the pages beside the overview; none where all lanes are in one picture."""
+    base, ending = os.path.splitext(path)
+    return [f"{base}-{number}{ending}" for number in range(1, -(-len(lanes.tasks) // MOST_LANES) + 1)] if len(lanes.tasks) > MOST_LANES else []
+
+
 def write_lanes(path: str, lanes: Lanes) -> str:
     """Writes the picture, of many tasks as an overview and pages; returns what to say of it. Raises OSError."""
     steps, tasks = counted(len(lanes.steps), "step"), counted(len(lanes.tasks), "lane")
     if len(lanes.tasks) <= MOST_LANES:
         write_text(path, svg_of(lanes))
         return f"drawn to {path}, {steps} in {tasks}"
-    base, ending = os.path.splitext(path)
-    parts = parts_of(lanes)
-    files = [f"{base}-{number}{ending}" for number in range(1, len(parts) + 1)]
-    for name, part in zip(files, parts):
+    files = pages_of(path, lanes)
+    for name, part in zip(files, parts_of(lanes)):
         write_text(name, svg_of(part))
     write_text(path, overview_of(lanes, [os.path.basename(name) for name in files]))
     return f"drawn to {path}, {steps} in {tasks}: an overview of {files[0]} to {os.path.basename(files[-1])}, which have {MOST_LANES} lanes each"

@@ -16,7 +16,7 @@ from typing import Any
 from shell.commands import Shell
 from shell.console import Console
 from shell.page import filled, part
-from shell.protocol import Ended, words_of
+from shell.protocol import Ended, is_digits, words_of
 from shell.session import Session
 from shell.story import Story
 
@@ -53,8 +53,8 @@ class Live:
         words = words_of(command)
         if not words or words[0] not in ALLOWED:
             raise ValueError("a page may ask for " + ", ".join(ALLOWED))
-        if words[0] in ("run", "go") and not (len(words) > 1 and words[-1].isdigit() and int(words[-1]) <= MOST_STEPS):
-            words = [words[0], *words[1:-1], str(MOST_STEPS)]
+        if words[0] in ("run", "go"):
+            words = [*words[:-1], str(min(int(words[-1]), MOST_STEPS))] if is_digits(words[-1]) else [*words, str(MOST_STEPS)]
         self.console.lines, self.console.words = [], []
         self.shell.take(" ".join(words))
         return {"lines": self.console.lines, "words": self.console.words, "outcome": self.shell.outcome.name.lower(), "data": self.data()}
@@ -176,7 +176,7 @@ class Handler(BaseHTTPRequestHandler):
     def command_in_body(self) -> str | None:
         """The command that a request asks for; None where there is none."""
         length = self.headers.get("Content-Length", "")
-        if not length.isdigit() or int(length) > LONGEST or self.headers.get("Content-Type") != JSON:
+        if not is_digits(length) or int(length) > LONGEST or self.headers.get("Content-Type") != JSON:
             return None
         try:
             told: Any = json.loads(self.rfile.read(int(length)))

@@ -184,10 +184,10 @@ class Slide:
 
 def pairs_of(lanes: Lanes) -> list[str]:
     """Each pair of lines that races, with how often; of a recorded run, lines of the C file."""
-    line = {step.name: lanes.recorded.get(step.name, str(step.line)) for step in lanes.steps}
-    counts = Counter((line[race.first], line[race.second], race.apart) for race in lanes.races or ())
-    word = "" if lanes.recorded else "lines "
-    return [f"{word}{one} and {two}: {counted(count, 'race')}" + (", never at once" if apart else "") for (one, two, apart), count in counts.items()]
+    line = {step.name: (step.line or 0, lanes.recorded.get(step.name, str(step.line))) for step in lanes.steps}
+    counts = Counter((tuple(dict.fromkeys(place for _, place in sorted((line[race.first], line[race.second])))), race.apart) for race in lanes.races or ())
+    return [("" if lanes.recorded else "lines " if len(places) > 1 else "line ") + f"{' and '.join(places)}: {counted(count, 'race')}" + (", never at once" if apart else "")
+            for (places, apart), count in counts.items()]
 
 
 def slide_of(lanes: Lanes) -> str:

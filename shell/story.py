@@ -11,7 +11,7 @@ from collections.abc import Callable, Iterator
 from dataclasses import dataclass, field
 from typing import Any
 
-from shell.facts import Facts, Progress, Race, Task, by_name, causes_of, label_of
+from shell.facts import MOST_ASKED, Causes, Facts, Progress, Race, Task, by_name, label_of
 from shell.needs import Needs, items_of
 from shell.ordering import Order, Ordering
 from shell.protocol import words_of
@@ -19,10 +19,12 @@ from shell.race_advice import kinds_of
 from shell.session import TAKES_BACK, Done, Session, is_step
 from shell.source import Source
 
-# Of longer sessions the needs of each step are worked out from the lines of the history, since `causes` takes one reply each.
-MOST_ASKED = 2000
-# Of sessions with more tasks the page has no races: `races` takes time with the square of them.
-MOST_RACING = 4000
+# Where at most one step in so many is new, the needs of those alone are asked for.
+FEW = 4
+# In long sessions, where at most one step in so many is new: working all out after each rollback would take long.
+VERY_FEW = 100
+# Of sessions with more tasks the page has no races: `races` takes time with the square of tasks that others order.
+MOST_RACING = 10000
 # Who can step, and who waits for whom, is asked at each moment of a session with so few, and else at the end of it.
 MOST_LOOKS = 2000
 SHOWN_LINES = 60
@@ -119,7 +121,7 @@ class Story:
             self.look()
             for done in session.log:
                 self.play(done)
-            self.explain()
+            self.explain(True)
             self.look(True)
         finally:
             self.session.close()
@@ -262,21 +264,28 @@ class Story:
 
     # Why
 
-    def explain(self) -> None:
+    def explain(self, last: bool = False) -> None:
         """The needs and races of the steps that are new; they don't change while a step is in the history."""
-        if not self.fresh:
-            return
-        if self.shows_races and len(self.there) <= MOST_RACING:
-            self.note_races(self.facts.races())
+        if self.shows_races and len(self.there) <= MOST_RACING and (self.fresh or last):
+            self.note_races(self.facts.races(), last)
+        if self.fresh:
+            self.note_needs()
+        self.fresh = []
+
+    def note_needs(self) -> None:
+        """The needs of the new steps."""
         if self.shows_causes and self.facts.causes(self.fresh[0]) is None:
             self.shows_causes = False
-        if self.shows_causes and self.total <= MOST_ASKED:
-            asked = self.facts.ask_all([f"causes {name}" for name in self.fresh])
-            for name, lines in zip(self.fresh, asked):
-                self.steps[self.history[name]].causes = [(kind, self.history[early]) for kind, early in causes_of(lines or ())]
+        if self.shows_causes and (self.total <= MOST_ASKED or len(self.fresh) * VERY_FEW <= len(self.history)):
+            for name, causes in self.asked().items():
+                self.steps[self.history[name]].causes = [(kind, self.history[early]) for kind, early in causes]
         else:
             self.work_out_needs()
-        self.fresh = []
+
+    def asked(self) -> dict[str, Causes]:
+        """The immediate needs of the new steps: of many by one reply with those of all steps."""
+        found = self.facts.edges() if len(self.fresh) * FEW > len(self.history) else None
+        return {name: found[name] for name in self.fresh} if found else self.facts.asked(self.fresh)
 
     def work_out_needs(self) -> None:
         """The needs of the new steps from the lines of the history, without the program's help."""
@@ -286,14 +295,20 @@ class Story:
             if name in fresh:
                 self.steps[at].causes = [(kind, places[place]) for kind, place in found]
 
-    def note_races(self, races: list[Race] | None) -> None:
-        """The races of the history, and what would order them."""
+    def note_races(self, races: list[Race] | None, last: bool) -> None:
+        """The races of the new steps, and what would order them: of all races where a kind of them is new, and at the end."""
         self.shows_races = races is not None
-        for kind in kinds_of(self.session, races or ()):
-            key = "|".join([*kind.places, str(kind.example.over == "print").lower(), str(kind.example.apart).lower()])
-            self.hints[key] = kind.advice().replace("`", "")
-        for race in races or ():
+        fresh = [race for race in races or () if self.steps[self.history[race.second]].race is None]
+        for race in fresh:
             self.steps[self.history[race.second]].race = (self.history[race.first], race.over, race.apart)
+        if last or any(self.key_of(race) not in self.hints for race in fresh):
+            for kind in kinds_of(self.session, races or ()):
+                self.hints[self.key_of(kind.example)] = kind.advice().replace("`", "")
+
+    def key_of(self, race: Race) -> str:
+        """What the page calls a kind of races."""
+        places = [self.session.source.place(self.steps[self.history[name]].line) for name in (race.first, race.second)]
+        return "|".join([*places, str(race.over == "print").lower(), str(race.apart).lower()])
 
     def data(self) -> dict[str, object]:
         """All of it, as the page takes it."""

@@ -102,7 +102,7 @@ def refusal_words(command: str, reply: str, session: Session) -> str:
         "NoSuchBody": "no body of the program has this name",
         "NoSuchCell": f"the program has no cell {words[-1]}",
         "TooMany": "64 breakpoints are there already",
-        "NoSuchBreak": "no such breakpoint; `breaks` shows them",
+        "NoSuchBreak": "no such breakpoint; `breaks` shows them, and `clear s1` takes away one that has an `s` in front of its number",
     }.get(name, name)
 
 

@@ -10,7 +10,7 @@ from shell.protocol import is_digits
 from shell.race_advice import kinds_of
 from shell.session import is_step
 
-VIEWS = ("tasks", "task", "cells", "out", "ready", "waits", "deps", "breaks", "hist", "why", "who", "races", "causes")
+VIEWS = ("tasks", "task", "cells", "out", "ready", "waits", "deps", "breaks", "hist", "why", "who", "races", "causes", "edges")
 # What other debuggers call a view, by any beginning of at least this many letters.
 ELSEWHERE = {"threads": "tasks", "breakpoints": "breaks", "watchpoints": "breaks", "locals": "task", "registers": "task", "args": "task", "frame": "task",
              "display": "display", "line": "list", "source": "list", "scope": "task", "variables": "task"}
@@ -53,6 +53,13 @@ class Viewing(Group):
                     text += self.shell.clauses(words[0].split("#")[0], other)
                 self.note(text)
         self.shell.explain(command, reply[0])
+
+    def do_edges(self, words: Words) -> None:
+        """What each step needs at once, which of a long history takes long."""
+        with self.console.waiting(f"edges of {counted(len(self.session.history), 'step')}"):
+            reply = self.session.do(" ".join(["edges", *words]))
+        self.shell.show(reply)
+        self.shell.explain(" ".join(["edges", *words]), reply[0])
 
     def do_info(self, words: Words) -> None:
         """A view by its name."""

@@ -54,6 +54,7 @@
   (modify-syntax-entry ?\n ">" taskback-mode-syntax-table)
   (setq-local comment-start "# ")
   ;; 0#3 is the name of a step: a comment's mark begins a word.
+  (setq-local syntax-propertize-function (syntax-propertize-rules ("[^ \t\n]\\(#\\)" (1 "_"))))
   (setq-local comment-start-skip "\\(?:^\\|[ \t]\\)#+[ \t]*")
   (setq-local font-lock-defaults '(taskback-font-lock-keywords)))
 

@@ -68,7 +68,8 @@ function listenAtLanes() {
   const lanes = find("lanes"), stepAt = (event) => { const group = event.target.closest(".step"); return group ? Number(group.dataset.index) : null; };
   lanes.addEventListener("scroll", () => requestAnimationFrame(drawLanes));
   window.addEventListener("resize", () => { sizeLanes(); showGraph(); if (view.chosen === null) showBusyLanes(); else scrollTo(view.chosen); });
-  lanes.addEventListener("pointerover", (event) => { const index = stepAt(event); if (index !== null && !view.pinned && index !== view.chosen) choose(index, false); });
+  // What is drawn anew between a press and its release is clicked by nobody.
+  lanes.addEventListener("pointerover", (event) => { const index = stepAt(event); if (index !== null && !event.buttons && !view.pinned && index !== view.chosen) choose(index, false); });
   lanes.addEventListener("pointerleave", () => { if (!view.pinned) choose(null, false); });
   lanes.addEventListener("click", (event) => { const index = stepAt(event); choose(index, index !== null); });
   lanes.addEventListener("keydown", moveByKey);

@@ -60,8 +60,8 @@ function showRaces() {
   }
   for (const [key, raced] of [...kinds].slice(0, 500)) {
     const step = raced[0], [early, over, apart] = step.race;
-    const places = [steps[early].line, step.line].map(placeOfLine), inC = places.some((place) => place.includes(":"));
-    const made = button("✕ " + (inC ? "" : "lines ") + places.join(" and ") + (raced.length > 1 ? ", " + raced.length + " races, as " : ": ") + steps[early].name + " and " + step.name + ", " + over + (apart ? ", never at once but in either order" : ""), () => showRace(step));
+    const places = [...new Set([steps[early].line, step.line].map(placeOfLine))], inC = places.some((place) => place.includes(":"));
+    const made = button("✕ " + (inC ? "" : places.length > 1 ? "lines " : "line ") + places.join(" and ") + (raced.length > 1 ? ", " + raced.length + " races, as " : ": ") + steps[early].name + " and " + step.name + ", " + over + (apart ? ", never at once but in either order" : ""), () => showRace(step));
     made.dataset.races = raced.map((some) => steps[some.race[0]].name + " " + some.name).join("; ");
     const row = item(list, "");
     row.append(made);

@@ -177,7 +177,7 @@ class EachCommand(unittest.TestCase):
     def test_each_command_and_each_of_its_errors(self) -> None:
         self.talk(self.open(os.path.join(EXAMPLES, "race.task")), RACE)
         # The others are tried where they are: test_races.py, test_debugging.py and test_serving.py.
-        self.assertEqual(set(help_texts.HELP) - typed_names(RACE), {"quit", "races", "causes", "at", "serve"})
+        self.assertEqual(set(help_texts.HELP) - typed_names(RACE), {"quit", "races", "causes", "edges", "at", "serve"})
 
     def test_a_full_journal(self) -> None:
         self.talk(self.open("--limit", "4", os.path.join(EXAMPLES, "race.task")), FULL)

@@ -210,11 +210,13 @@ class Requests(unittest.TestCase):
         self.assertEqual(client.refused("launch"), "launch wants `program`: the path of a .task or .session file")
         self.assertIn("can't read /no/file", client.refused("launch", program="/no/file"))
         self.assertIn("the program is refused at line 2: Arity", client.refused("launch", program=write_file(self, "cells 1\nbody main 1\nend\n")))
+        for wrong in ({"program": "a\0b"}, {"program": RACE, "taskback": "a\0b"}):
+            self.assertIn("the arguments of launch are wrong: embedded null byte", client.refused("launch", **wrong))
         self.assertIn("can't start /no/program", client.refused("launch", program=RACE, taskback="/no/program"))
         client.do("launch", program=RACE)
         self.assertIn("launched already", client.refused("launch", program=RACE))
         client.begin()
-        wrong: tuple[tuple[str, dict[str, Any], str], ...] = (
+        refused: tuple[tuple[str, dict[str, Any], str], ...] = (
             ("next", {"threadId": 99}, "there is no thread 99"), ("next", {}, "there is no thread None"), ("stackTrace", {"threadId": "x"}, "there is no thread x"),
             ("scopes", {"frameId": 999999}, "there is no thread 999"), ("scopes", {"frameId": 1005}, "there is no such frame"),
             ("variables", {"variablesReference": 1}, "there is no such scope"), ("variables", {"variablesReference": 400}, "there is no thread 80"),
@@ -222,7 +224,7 @@ class Requests(unittest.TestCase):
             ("attach", {}, "there is nothing to attach to"), ("source", {}, "sources are files"), ("restartFrame", {"frameId": 1000}, "task 0 hasn't started"),
             ("setBreakpoints", {"breakpoints": [{"line": "x"}]}, "the arguments of setBreakpoints are wrong"),
             ("stackTrace", {"threadId": 1, "startFrame": "x"}, "the arguments of stackTrace are wrong"), ("__init__", {}, "the request __init__"))
-        for command, arguments, wanted in wrong:
+        for command, arguments, wanted in refused:
             self.assertIn(wanted, client.refused(command, **arguments), command)
 
     def test_the_ends(self) -> None:

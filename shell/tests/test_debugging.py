@@ -6,11 +6,13 @@ import random
 import struct
 import termios
 import unittest
+import unittest.mock
 from collections.abc import Sequence
 from typing import Any
 
 from programs import random_program
 from support import EXAMPLES, PROGRAM, Terminal, Typed, example, needs_program, write_file
+from shell import comparing
 from shell.comparing import first_difference
 from shell.session import Session
 from shell.source import Source
@@ -310,6 +312,8 @@ class SideBySide(unittest.TestCase):
             while ready := two.view("ready")[1:]:
                 two.do("step " + choice.choice(ready))
             difference = first_difference(one, two)
+            with unittest.mock.patch.object(comparing, "MOST_ASKED", 0):
+                self.assertEqual(first_difference(one, two), difference, seed)
             found.add(difference is None)
             if one.view("races") == ["races 0"]:
                 apart = {line for name in one.history for line in one.view(f"causes {name}")[1:] if line.startswith("apart")}

@@ -14,6 +14,7 @@ from typing import Any
 
 from support import EXAMPLES, PROGRAM, TOP, example, needs_program, write_file
 from test_dap import RECORDED
+from shell import help_texts
 
 EDITORS = os.path.join(TOP, "editors")
 CLIENT = os.path.join(TOP, "shell", "tests", "emacs_client.el")
@@ -76,6 +77,16 @@ class Emacs(unittest.TestCase):
                                   capture_output=True, text=True, timeout=120, check=False, env={**os.environ, "HOME": home, "TASKBACK_PROGRAM": PROGRAM})
         self.assertEqual(done.returncode, 0, done.stderr)
         return dict(line.split(" ", 1) for line in done.stdout.split("\n") if " " in line)
+
+    def test_the_mode(self) -> None:
+        """The mark of a comment begins a word; that of a step is in one."""
+        path = write_file(self, "cells 1 # why\n---\nroll 0.1#4 # back\n# roll\n", "a.session")
+        look = "(dolist (word '(\"cells\" \"why\" \"0.1#4\" \"back\" \"# roll\")) (goto-char (point-min)) (search-forward word) " \
+               "(princ (format \"%s %s \" (get-text-property (1- (point)) 'face) (and (nth 4 (syntax-ppss (1- (point)))) t))))"
+        done = subprocess.run(["emacs", "--batch", "-l", os.path.join(EDITORS, "emacs", "taskback.el"), path, "--eval", f"(progn (font-lock-ensure) {look})"],
+                              capture_output=True, text=True, timeout=120, check=False)
+        comment = "font-lock-comment-face t"
+        self.assertEqual(done.stdout.strip(), f"font-lock-keyword-face nil {comment} nil nil {comment} {comment}", done.stderr)
 
     def test_a_program_forwards_and_backwards(self) -> None:
         path = write_file(self, example("right_sum.task"), "right_sum.task")
@@ -165,6 +176,20 @@ class VsCode(unittest.TestCase):
                                   ("  if r0 <= -3", "-3", "constant.numeric"), ("cells 2", "cells", "storage.type"), ("why 0#4", "why", "keyword.other")):
             self.assertIn(scope, self.scope_of(patterns, line, word), (line, word))
 
+    def test_each_line_of_the_examples_has_its_words_scoped(self) -> None:
+        """The first word of each line, each number, register, type and step; and each command of a session."""
+        with open(os.path.join(EDITORS, "vscode", "syntaxes", "taskback.tmLanguage.json"), encoding="utf-8") as file:
+            grammar = json.load(file)
+        patterns = [grammar["repository"]["comment"], *grammar["patterns"][1:]]
+        lines = {line for name in os.listdir(EXAMPLES) if name.endswith((".task", ".session")) for line in example(name).split("\n")}
+        lines |= {f"{command} 0.1#4" for command in help_texts.OF_THE_PROGRAM} | {"  task add 1 depend inout all", "  taskwait depend out all if 1 == 2"}
+        bare = []
+        for line in sorted(lines):
+            words = re.split(r"(?:^|(?<=\s))#", line)[0].split()
+            wanted = words[:1] + [word for word in words[1:] if re.fullmatch(r"-?[0-9.]+(#[0-9]+)?|r[0-9]+|in|out|\w*inout\w*|all|depend", word)]
+            bare += [(line, word) for word in wanted if f" {word}" in f" {line}" and words.count(word) == 1 and line.count(word) == 1 and not self.scope_of(patterns, line, word)]
+        self.assertEqual(bare, [])
+
     @staticmethod
     def scope_of(patterns: Any, line: str, word: str) -> Any:
         """The scope of a word of a line."""
@@ -188,6 +213,9 @@ class VsCode(unittest.TestCase):
 class Vim(unittest.TestCase):
     def test_the_grammar(self) -> None:
         path = write_file(self, "cells 1\nbody main 0\n  task add 1 depend inout 0 # why\n  let r1 r1 + 2\nend\n---\nroll 0.1#4\n", "a.task")
+        with open(os.path.join(EDITORS, "vim", "syntax", "taskback.vim"), encoding="ascii") as file:
+            commands = re.search(r"taskbackCommand /(.*)/", file.read())[1]
+        self.assertLessEqual(set(help_texts.OF_THE_PROGRAM) - {"task", "cells"}, set(re.findall(r"\w+", commands)))
         wanted = [(1, 1, "taskbackCells"), (2, 6, "taskbackName"), (3, 3, "taskbackBlock"), (3, 14, "taskbackDepend"), (3, 21, "taskbackType"),
                   (3, 29, "taskbackComment"), (4, 3, "taskbackStatement"), (4, 7, "taskbackRegister"), (4, 15, "taskbackNumber"), (6, 1, "taskbackLine"),
                   (7, 1, "taskbackCommand"), (7, 6, "taskbackStep")]

@@ -12,7 +12,7 @@ from collections.abc import Iterable
 from typing import Any
 
 from support import EXAMPLES, MAIN, PROGRAM, Terminal, needs_program, write_file
-from shell import graph
+from shell import facts, graph
 from shell.opening import play_file
 from shell.graph import dot_of, graph_of, plate, tree_of, write_graph
 from shell.lanes import NO_CAUSES
@@ -86,6 +86,23 @@ class GraphTest(unittest.TestCase):
             self.assertEqual(edges(dot, "wait"), waits)
         self.assertGreater(implied, 0)
 
+    def test_many_tasks_and_waits_are_asked_for_by_few_replies(self) -> None:
+        """The order of many tasks is that of `deps`, and the waits have the children that `causes` names."""
+        for seed in range(25):
+            session, _ = walked(self, seed, 60)
+            wanted = dot_of(graph_of(session))
+            commands: list[str] = []
+            ask_all = session.program.ask_all
+
+            def ask(asked: list[str], ask_all: Any = ask_all, commands: list[str] = commands) -> Any:
+                commands.extend(asked)
+                return ask_all(asked)
+            with unittest.mock.patch.object(facts, "MOST_ORDERED", 0), unittest.mock.patch.object(graph, "FEW_WAITS", 0), \
+                    unittest.mock.patch.object(session.program, "ask_all", ask):
+                self.assertEqual(dot_of(graph_of(session)), wanted, seed)
+            self.assertLessEqual({command.split(" ")[0] for command in commands}, {"tasks", "ready", "waits", "races", "causes", "edges"})
+            self.assertLessEqual(len(commands), 6)
+
     def test_a_long_chain_of_siblings(self) -> None:
         path = write_file(self, "cells 1\nbody main 0\n  while r0 < 300\n    task t depend inout 0\n    let r0 r0 + 1\n  end\nend\n"
                           "body t 0\nend\n---\nrun 900\n", "chain.session")
@@ -150,7 +167,11 @@ class GraphTest(unittest.TestCase):
         session = play_file(write_file(self, text, "stencil.session"), PROGRAM)
         self.addCleanup(session.close)
         drawn, path = graph_of(session), write_file(self, "", "stencil.svg")
-        self.assertEqual(write_graph(path, drawn), f"drawn to {path}, 271 tasks")
+        before = os.times().children_user
+        with unittest.mock.patch.object(graph, "PATIENCE", 600):
+            self.assertEqual(write_graph(path, drawn), f"drawn to {path}, 271 tasks")
+        # Of the processor, since the machine may be busy.
+        self.assertLess(os.times().children_user - before, 20)
         with unittest.mock.patch.object(graph, "PATIENCE", 0.01):
             self.assertEqual(write_graph(path, drawn), f"drawn to {path}, 271 tasks as clusters: Graphviz took more than 0.01 s for each of its own")
         with open(path, encoding="utf-8") as file:

@@ -141,7 +141,8 @@ class LanesTest(unittest.TestCase):
             for at in range(1001):
                 point = curve.at(at / 1000)
                 self.assertTrue(any(Rect(point[0] - 1, point[1] - 1, 2, 2).crosses(line) for line in lines), (height, at))
-        labels = Labels([Curve(((0, 0), (30, 25e5), (60, 75e5), (90, 1e7)), "wait")] * 400, ())
+        # As high as the longest history whose arrows have labels.
+        labels = Labels([Curve(((0, 0), (30, 1e5), (60, 2e5), (90, 3e5)), "wait")] * 400, ())
         rect = labels.place(curve)
         self.assertIsNotNone(rect)
 

@@ -2,6 +2,7 @@
 
 import random
 import unittest
+import unittest.mock
 from typing import Any
 
 from programs import random_program
@@ -107,6 +108,25 @@ class NeedsTest(unittest.TestCase):
             self.assertEqual(found, wanted, (seed, text))
             kinds |= {kind.split(":")[0].split(" ")[0] for lines in wanted for kind in lines}
         self.assertEqual(kinds, {"task", "spawn", "cell", "print", "before", "apart", "wait", "group", "undeferred"})
+
+    def test_all_are_had_by_one_reply(self) -> None:
+        """`edges` says of each step what `causes` says; a program without `edges` is asked for the causes of each."""
+        for seed in range(12):
+            session = schedule(self, MANY if seed < 4 else random_program(seed), seed)
+            facts = Facts(session)
+            wanted = {name: facts.causes(name) for name in session.history}
+            self.assertEqual(facts.edges(), wanted)
+            with unittest.mock.patch.object(session, "view", side_effect=session.view) as view:
+                self.assertEqual(facts.all_causes(facts.steps()), wanted)
+            self.assertEqual([call.args[0] for call in view.mock_calls], ["causes 0#1", "edges"])
+            with unittest.mock.patch.object(Facts, "edges", lambda facts: None):
+                self.assertEqual(facts.all_causes(facts.steps()), wanted)
+
+    def test_a_program_without_edges(self) -> None:
+        session = schedule(self, MANY, 1)
+        with unittest.mock.patch.object(session.program, "ask", lambda command: ["error word"]):
+            self.assertIsNone(Facts(session).edges())
+            self.assertIsNone(Facts(session).all_causes(Facts(session).steps()))
 
     def test_a_picture_of_a_long_history_is_drawn_from_replies(self) -> None:
         if not has_views(self):

@@ -1,5 +1,6 @@
 """The archive and the Debian package: what is in them runs elsewhere, with nothing beside but Debian's own programs."""
 
+import functools
 import gzip
 import os
 import re
@@ -16,13 +17,12 @@ from test_docs import PAGES, text_of
 BARE = {"PATH": "/usr/bin:/bin"}
 
 
-class Copied(unittest.TestCase):
-    """A copy of the repository, in which the program that the tests use is the built one."""
+class Copy:
+    """A copy of the repository in a folder of its own, and what is made of it there."""
 
-    def setUp(self) -> None:
-        folder = tempfile.TemporaryDirectory()
-        self.addCleanup(folder.cleanup)
-        self.folder = folder.name
+    def __init__(self) -> None:
+        self.kept = tempfile.TemporaryDirectory()
+        self.folder = self.kept.name
         self.top = os.path.join(self.folder, "top")
         for part in ("README.md", "CHANGELOG.md", "LICENSE", "VERSION", "run", "taskback-shell", "taskback-dap", "shell", "editors", "completions", "openmp", "docs", "examples", "tools"):
             copy: Any = shutil.copytree if os.path.isdir(os.path.join(TOP, part)) else shutil.copy2
@@ -32,28 +32,41 @@ class Copied(unittest.TestCase):
         self.built = os.path.join(self.top, "crates", "taskback", "out", "taskback")
 
     def package(self) -> Any:
+        """Runs the script that makes the archive and the package."""
         return subprocess.run([os.path.join(self.top, "tools", "package.sh"), self.folder], env=BARE, capture_output=True, text=True, check=False)
 
 
+@functools.cache
+def made() -> tuple[Copy, list[str]]:
+    """The archive, and the Debian package where one can be made, each unpacked; the copy that they were made of is gone."""
+    copy = Copy()
+    shutil.copy2(PROGRAM, copy.built)
+    done = copy.package()
+    if (done.returncode, done.stderr) != (0, ""):
+        raise AssertionError(done.stderr)
+    shutil.rmtree(copy.top)
+    files = done.stdout.split("\n")[:-1]
+    subprocess.run(["tar", "-C", copy.folder, "-xzf", files[0]], check=True)
+    if shutil.which("dpkg-deb"):
+        subprocess.run(["dpkg-deb", "-x", files[1], os.path.join(copy.folder, "root")], check=True)
+    return copy, files
+
+
 @needs_program
-class Archive(Copied):
+class Archive(unittest.TestCase):
     def unpacked(self) -> Any:
-        """The archive's folder, elsewhere; the copy it was made of is gone."""
-        shutil.copy2(PROGRAM, self.built)
-        made = self.package()
-        self.assertEqual((made.returncode, made.stderr), (0, ""))
-        shutil.rmtree(self.top)
-        archive = made.stdout.split("\n")[0]
-        subprocess.run(["tar", "-C", self.folder, "-xzf", archive], check=True)
-        return archive.removesuffix(".tar.gz")
+        """The archive's folder."""
+        return made()[1][0].removesuffix(".tar.gz")
 
     def test_without_a_program_of_these_sources_there_is_none(self) -> None:
-        self.assertIn("./run --prove makes it", self.package().stderr)
-        shutil.copy2(PROGRAM, self.built)
-        source = os.path.join(self.top, "crates", "taskback", "main.rt")
+        copy = Copy()
+        self.addCleanup(copy.kept.cleanup)
+        self.assertIn("./run --prove makes it", copy.package().stderr)
+        shutil.copy2(PROGRAM, copy.built)
+        source = os.path.join(copy.top, "crates", "taskback", "main.rt")
         with open(source, "w", encoding="ascii"):
             os.utime(source, (time.time() + 9, time.time() + 9))
-        refused = self.package()
+        refused = copy.package()
         self.assertEqual((refused.returncode, refused.stdout), (2, ""))
         self.assertIn("no proved program of these sources", refused.stderr)
 
@@ -84,18 +97,17 @@ class Archive(Copied):
 
 @needs_program
 @unittest.skipUnless(shutil.which("dpkg-deb"), "left out: no dpkg-deb is here")
-class Debian(Copied):
+class Debian(unittest.TestCase):
+    def setUp(self) -> None:
+        folder = tempfile.TemporaryDirectory()
+        self.addCleanup(folder.cleanup)
+        self.folder = folder.name
+
     def unpacked(self) -> Any:
-        """The folder that the package would be laid into the system from; the copy it was made of is gone."""
-        shutil.copy2(PROGRAM, self.built)
-        made = self.package()
-        self.assertEqual((made.returncode, made.stderr), (0, ""))
-        shutil.rmtree(self.top)
-        package = made.stdout.split("\n")[1]
-        self.assertRegex(package, rf"/taskback_{text_of('VERSION').strip()}_\w+\.deb$")
-        root = os.path.join(self.folder, "root")
-        subprocess.run(["dpkg-deb", "-x", package, root], check=True)
-        return root, package
+        """The folder that the package would be laid into the system from, and the package."""
+        copy, files = made()
+        self.assertRegex(files[1], rf"/taskback_{text_of('VERSION').strip()}_\w+\.deb$")
+        return os.path.join(copy.folder, "root"), files[1]
 
     def ran(self, root: str, *words: str, **given: Any) -> tuple[str, str, int]:
         """What an installed program writes, where nothing but Debian's own programs is beside it."""

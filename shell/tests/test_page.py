@@ -4,13 +4,12 @@ import io
 import json
 import os
 import re
-import shutil
-import subprocess
-import tempfile
 import unittest
 import unittest.mock
 from typing import Any
 
+from browser import InBrowser, browser
+from programs import random_program
 from support import EXAMPLES, PROGRAM, TOP, Terminal, contrast, example, needs_program, write_file
 from shell import story
 from shell.commands import Shell
@@ -19,33 +18,12 @@ from shell.opening import play_file
 from shell.facts import Facts
 from shell.graph import groups_of, waits_of
 from shell.page import page_of
+from shell.race_advice import kinds_of
 from shell.session import Session
 from shell.source import Source
 from test_lanes import walked
 from test_races import has_views
 
-BROWSER = shutil.which("chromium") or shutil.which("chromium-browser") or shutil.which("google-chrome")
-
-
-def shown_by_browser(address: str, size: str = "1400,4000", *more: str) -> str:
-    """The document of a page once the browser has shown it and run its scripts."""
-    with tempfile.TemporaryDirectory() as home:
-        return subprocess.run([BROWSER, "--headless", "--no-sandbox", "--disable-gpu", "--disable-dev-shm-usage", f"--user-data-dir={home}",
-                               f"--window-size={size}", *more, "--dump-dom", address], capture_output=True, text=True, timeout=600, check=True).stdout
-
-
-def why_no_browser() -> str:
-    """Why there are no tests in a browser, or nothing."""
-    if not BROWSER:
-        return "left out: no Chromium is here"
-    try:
-        return "" if "tried" in shown_by_browser("data:text/html,<p>tried</p>") else "left out: Chromium shows nothing here"
-    except (OSError, subprocess.SubprocessError):
-        return "left out: Chromium does not start here"
-
-
-NO_BROWSER = why_no_browser()
-needs_browser = unittest.skipIf(NO_BROWSER, NO_BROWSER)
 WATCH = """<script>window.faults = []; window.addEventListener("error", (event) => faults.push(event.message));
 document.addEventListener("securitypolicyviolation", (event) => faults.push(event.violatedDirective));</script>"""
 TOOLS = """
@@ -109,7 +87,7 @@ def page_file(test: unittest.TestCase, session: Session) -> str:
     return write_file(test, page_of(session)[0], "page.html")
 
 
-def in_browser(path: str, script: str, size: str = "1400,4000", *more: str) -> Any:
+def in_browser(path: str, script: str, size: str = "1400,4000", dark: bool = False) -> Any:
     """What a script that is added to the page returns, and the errors that came up."""
     with open(path, encoding="utf-8") as file:
         page = file.read()
@@ -118,7 +96,7 @@ def in_browser(path: str, script: str, size: str = "1400,4000", *more: str) -> A
     head, tail = page.split("<head>")
     with open(path + ".tried.html", "w", encoding="utf-8") as file:
         file.write(head + "<head>" + WATCH + tail.replace("</body>", told))
-    text = re.search(r"<body>(.*)</body>", shown_by_browser("file://" + path + ".tried.html", size, *more), re.S)[1]
+    text = re.search(r"<body>(.*)</body>", browser().shown("file://" + path + ".tried.html", size, dark), re.S)[1]
     for mark, sign in (("&lt;", "<"), ("&gt;", ">"), ("&amp;", "&")):
         text = text.replace(mark, sign)
     return json.loads(text)
@@ -155,6 +133,22 @@ class DataTest(unittest.TestCase):
         told = " ".join(self.data(session)["leftOut"])
         self.assertEqual(has_views(self), "causes" not in told and "races" not in told)
 
+    def test_what_would_order_races_is_told_of_those_that_were_taken_back_too(self) -> None:
+        for seed in range(8):
+            session = Session(PROGRAM, Source(random_program(seed), "x.task"))
+            wanted: set[str] = set()
+            self.addCleanup(session.close)
+            for command in ("run 40", "rolltask 0.1", "run 60", "rolltask 0.2"):
+                if command.startswith("rolltask"):
+                    wanted.update({"|".join([*kind.places, str(kind.example.over == "print").lower(), str(kind.example.apart).lower()])
+                                   for kind in kinds_of(session, Facts(session).races())})
+                session.do(command)
+            there = kinds_of(session, Facts(session).races())
+            told = self.data(session)["hints"]
+            self.assertEqual(told.keys(), wanted | {"|".join([*kind.places, str(kind.example.over == "print").lower(), str(kind.example.apart).lower()]) for kind in there})
+            for kind in there:
+                self.assertIn(kind.advice().replace("`", ""), told.values(), seed)
+
     def test_names_can_not_end_the_script(self) -> None:
         session = Session(PROGRAM, Source("# </script><script>alert(1)</script>\n" + example("first.task"), "</script>.task"))
         self.addCleanup(session.close)
@@ -168,10 +162,20 @@ class DataTest(unittest.TestCase):
         page_of(session)
         self.assertEqual((session.view("hist"), session.log), before)
 
+    def test_needs_by_one_reply_are_those_that_are_asked_for_one_by_one(self) -> None:
+        for seed in range(6):
+            session, _ = walked(self, seed)
+            told = []
+            for few in (0, 1000):
+                with unittest.mock.patch.object(story, "FEW", few):
+                    told.append(self.data(session)["steps"])
+            self.assertEqual(told[0], told[1], seed)
+
     def test_needs_from_the_lines_are_those_of_the_program(self) -> None:
-        with unittest.mock.patch.multiple(story, MOST_ASKED=0, MOST_LOOKS=0):
-            for seed in range(12):
-                session, _ = walked(self, seed)
+        """Also where after a rollback few steps are new, which are asked for."""
+        for seed in range(24):
+            session, _ = walked(self, seed // 2)
+            with unittest.mock.patch.multiple(story, MOST_ASKED=0, MOST_LOOKS=0, VERY_FEW=1 if seed % 2 else 100):
                 told = self.data(session)["steps"]
                 there = {step[0]: at for at, step in enumerate(told) if step[4] is None}
                 self.assertEqual(list(there), list(session.history))
@@ -239,14 +243,14 @@ class ContrastTest(unittest.TestCase):
         light, dark = (dict(re.findall(r"--(\w+): (#\w+);", line)) for line in style.split("\n")[:2])
         self.assertEqual(light.keys(), dark.keys())
         rules = "\n".join(style.split("\n")[2:])
+        self.assertIn("::placeholder { color: var(--faint); opacity: 1; }", rules)
         self.check(rules, light)
         self.check(rules, dark)
         self.assertNotRegex(rules, "#[0-9a-f]{6}")
 
 
 @needs_program
-@needs_browser
-class BrowserTest(unittest.TestCase):
+class BrowserTest(InBrowser):
     def agree(self, session: Session) -> None:
         """The page at each command against the views after it."""
         faults, moments = in_browser(page_file(self, session), EACH_MOMENT)
@@ -353,11 +357,11 @@ class BrowserTest(unittest.TestCase):
           return [unreached, unnamed, active && active.dataset.step, find("lanes").hasAttribute("aria-activedescendant")];""")
         self.assertEqual((faults, told), ([], [[], [], "0#1", False]))
 
-    def test_three_sizes(self) -> None:
+    def test_four_sizes(self) -> None:
         session = play_file(os.path.join(EXAMPLES, "tasks.session"), PROGRAM)
         self.addCleanup(session.close)
         path = page_file(self, session)
-        for size in ("1400,900", "800,1000", "500,900"):
+        for size in ("1920,1080", "1400,900", "800,1000", "375,800"):
             faults, told = in_browser(path, "return [document.documentElement.scrollWidth, innerWidth, names('.step').length, find('lanes').clientWidth];", size)
             self.assertEqual(faults, [])
             self.assertLessEqual(told[0], told[1], size)

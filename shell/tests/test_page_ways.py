@@ -4,8 +4,9 @@ import os
 import unittest
 from typing import Any
 
+from browser import InBrowser
 from support import EXAMPLES, PROGRAM, needs_program
-from test_page import in_browser, needs_browser, page_file
+from test_page import in_browser, page_file
 from shell.opening import play_file
 from shell.session import Session
 from shell.source import Source
@@ -48,17 +49,16 @@ IN_THE_GRAPH = LABELS.replace("#drawn .kind", "#graph .kind").replace(".step .la
 
 
 @needs_program
-@needs_browser
-class Ways(unittest.TestCase):
+class Ways(InBrowser):
     def page(self, name: str) -> str:
         """The page of a stored session."""
         session = play_file(os.path.join(EXAMPLES, name), PROGRAM)
         self.addCleanup(session.close)
         return page_file(self, session)
 
-    def tried(self, path: str, script: str, *more: str) -> Any:
+    def tried(self, path: str, script: str, size: str = "1400,4000", dark: bool = False) -> Any:
         """What a script returns, on a page where nothing goes wrong."""
-        faults, told = in_browser(path, script, *more)
+        faults, told = in_browser(path, script, size, dark)
         self.assertEqual(faults, [])
         return told
 
@@ -89,11 +89,21 @@ class Ways(unittest.TestCase):
           document.querySelector("#race-list button").click();
           told.push(texts("#both strong"), texts("#both .race").map((text) => text.trim()), texts("#program li.race").map((text) => text.split("◀")[0].trim()));
           document.querySelector("#graph .edge.racing").dispatchEvent(new MouseEvent("click", { bubbles: true }));
-          told.push(texts("#both strong").length, names(".step.chosen"));
+          told.push(texts("#both strong").length, names(".step.chosen"), texts("#race-list button"));
           return told;""")
         self.assertEqual(told[0], [["0.2", "0.1"], ["0.1", "0.2"]])
+        self.assertEqual(told.pop(), ["✕ lines 11 and 13: 0.2#2 and 0.1#4, cell 0", "✕ line 13: 0.1#4 and 0.2#4, cell 0"])
         self.assertIn("depend inout 0 on lines 4 and 5 would order them, or a taskwait between", told[1])
         self.assertEqual(told[2:], [["0.2#2 load r1 0 0", "0.1#4 store 0 1"], ["11    load r1 0", "13    store 0 r1"], ["load r1 0", "store 0 r1"], 2, ["0.1#4"]])
+
+    def test_a_press_is_no_pointing(self) -> None:
+        """A step that is drawn anew between a press and its release would not be clicked."""
+        told = self.tried(self.page("race.session"), """
+          const step = document.querySelector('.step[data-step="0.1#4"]'), told = [];
+          const over = (buttons) => { step.dispatchEvent(new PointerEvent("pointerover", { bubbles: true, buttons })); told.push(step.isConnected, find("told").textContent.split(",")[0]); };
+          over(1); over(0);
+          return told;""")
+        self.assertEqual(told, [True, "Point at a step", False, "0.1#4 store 0 1"])
 
     def test_filters_folding_and_search(self) -> None:
         told = self.tried(self.page("race.session"), """
@@ -207,7 +217,7 @@ class Ways(unittest.TestCase):
         path = self.page("race.session")
         script = "return [getComputedStyle(document.body).backgroundColor, matchMedia('(prefers-color-scheme: dark)').matches];"
         self.assertEqual(self.tried(path, script), ["rgb(255, 255, 255)", False])
-        self.assertEqual(self.tried(path, script, "1400,900", "--blink-settings=preferredColorScheme=0"), ["rgb(22, 24, 28)", True])
+        self.assertEqual(self.tried(path, script, dark=True), ["rgb(22, 24, 28)", True])
 
 
 if __name__ == "__main__":

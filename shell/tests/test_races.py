@@ -253,6 +253,17 @@ class CauseWords(unittest.TestCase):
         self.assertEqual(shell.ask("causes 0#9"), ["refused 1 NoSuchStep", "  step 0#9 isn't in the history"])
         self.assertEqual(shell.ask("races x")[0], "error count")
         self.assertEqual(shell.ask("causes")[0], "error count")
+        self.assertEqual(shell.ask("edges x"), ["error count", "  too few words, or too many: edges, for example: edges"])
+
+    def test_edges(self) -> None:
+        """Each line has the source lines of both of its steps."""
+        shell = Typed(self, example("right_sum.task"))
+        shell.ask("run")
+        shown = shell.ask("edges")
+        self.assertEqual(shown[0].split(" ")[0], "edges")
+        self.assertIn("0.1#4 0.2#2 cell 0              13: store 0 r1  |  11: load r1 0", shown)
+        self.assertEqual([line.split("   ")[0] for line in shown], shell.session.view("edges"))
+        self.assertEqual(shell.ask("info ed"), shown)
 
 
 @needs_program
@@ -262,9 +273,9 @@ class WithoutTheViews(unittest.TestCase):
         setattr(session.program, "ask", lambda command: ["error word"])
         out = io.StringIO()
         shell = Shell(session, Console(out))
-        for typed in ("races", "causes 0#1"):
+        for typed in ("races", "causes 0#1", "edges"):
             shell.onecmd(typed)
-        self.assertEqual(out.getvalue(), "error word\n  this build has no such view\n" * 2)
+        self.assertEqual(out.getvalue(), "error word\n  this build has no such view\n" * 3)
 
 
 if __name__ == "__main__":

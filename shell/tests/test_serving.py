@@ -15,8 +15,8 @@ import time
 import unittest
 from typing import Any
 
+from browser import InBrowser, browser
 from support import EXAMPLES, MAIN, PROGRAM, TOP, Terminal, example, needs_program, write_file
-from test_page import needs_browser, shown_by_browser
 from shell.protocol import Ended
 from shell.serving import ALLOWED, LONGEST, Handler, Live, LiveServer
 from shell.session import Session
@@ -55,23 +55,25 @@ class Clicked(Live):
         return super().page().replace("</body>", CLICKS)
 
 
+def served(test: unittest.TestCase, kind: type[Live] = Live) -> LiveServer:
+    """A server of a program, for the time of the test."""
+    session = Session(PROGRAM, Source(example("race.task"), "race.task"))
+    server = LiveServer(kind(session), 0)
+    ended = threading.Event()
+    thread = threading.Thread(target=server.serve_until, args=(ended.is_set,))
+    thread.start()
+
+    def end() -> None:
+        ended.set()
+        thread.join()
+        server.server_close()
+        session.close()
+    test.addCleanup(end)
+    return server
+
+
 @needs_program
 class Served(unittest.TestCase):
-    def serve(self, kind: type[Live] = Live, name: str = "race.task") -> LiveServer:
-        """A server of this program, for the time of the test."""
-        session = Session(PROGRAM, Source(example(name), name))
-        server = LiveServer(kind(session), 0)
-        ended = threading.Event()
-        thread = threading.Thread(target=server.serve_until, args=(ended.is_set,))
-        thread.start()
-
-        def end() -> None:
-            ended.set()
-            thread.join()
-            server.server_close()
-            session.close()
-        self.addCleanup(end)
-        return server
 
     def ask(self, server: LiveServer, method: str, path: str, body: str | None = None, **headers: Any) -> tuple[int, str]:
         """The status and the body of an answer."""
@@ -92,7 +94,7 @@ class Served(unittest.TestCase):
         return json.loads(body)
 
     def test_commands(self) -> None:
-        server = self.serve()
+        server = served(self)
         self.assertRegex(server.address, r"^http://127\.0\.0\.1:\d+/[\w-]{20,}/$")
         status, page = self.ask(server, "GET", f"/{server.token}/")
         self.assertEqual(status, 200)
@@ -107,7 +109,7 @@ class Served(unittest.TestCase):
         self.assertEqual(json.loads(self.ask(server, "GET", f"/{server.token}/state")[1])["moments"], 28)
 
     def test_who_may_not_ask(self) -> None:
-        server = self.serve()
+        server = served(self)
         port, token = server.server_port, server.token
         wrong: tuple[tuple[str, str, dict[str, str], int], ...] = (
             ("GET", "/", {}, 404), ("GET", "/x/", {}, 404), ("GET", f"/{token[:-1]}/", {}, 404), ("GET", f"/{token}", {}, 404), ("GET", f"/{token}/../", {}, 404),
@@ -125,12 +127,13 @@ class Served(unittest.TestCase):
             self.assertEqual(self.ask(server, method, path, **headers)[0], wanted, (path, headers))
 
     def test_what_may_not_be_asked_for(self) -> None:
-        server = self.serve()
+        server = served(self)
         path = f"/{server.token}/do"
         wrong: tuple[tuple[str, dict[str, str], int], ...] = (
             ('{"command": "save /tmp/x"}', {}, 403), ('{"command": "source /etc/passwd"}', {}, 403), ('{"command": "page x"}', {}, 403), ('{"command": ""}', {}, 403),
             ('{"command": "quit"}', {}, 403), ('{"command": "step 0\\nsave x"}', {}, 400), ('{"command": 3}', {}, 400), ("[]", {}, 400), ("{", {}, 400),
-            ("[" * 4000, {}, 400), (" " * (LONGEST + 1), {}, 400), ('{"command": "step 0"}', {"Content-Type": "text/plain"}, 400))
+            ("[" * 4000, {}, 400), (" " * (LONGEST + 1), {}, 400), ('{"command": "step 0"}', {"Content-Type": "text/plain"}, 400),
+            ("{}", {"Content-Length": "\u00b2"}, 400), ("{}", {"Content-Length": "9" * 5000}, 400), ("{}", {"Content-Length": "-2"}, 400))
         for body, headers, wanted in wrong:
             self.assertEqual(self.ask(server, "POST", path, body, **headers)[0], wanted, body[:60])
         self.assertEqual(self.ask(server, "POST", f"/{server.token}/x", '{"command": "step 0"}')[0], 404)
@@ -138,14 +141,14 @@ class Served(unittest.TestCase):
         self.assertFalse({"save", "source", "page", "graph", "lanes", "compare", "quit", "serve"} & set(ALLOWED))
 
     def test_connections_on_which_nothing_is_asked_keep_nobody(self) -> None:
-        server = self.serve()
+        server = served(self)
         with socket.create_connection(("127.0.0.1", server.server_port)), socket.create_connection(("127.0.0.1", server.server_port)):
             began = time.monotonic()
             self.assertEqual(self.ask(server, "GET", f"/{server.token}/state")[0], 200)
             self.assertLess(time.monotonic() - began, Handler.timeout)
 
     def test_requests_beside_each_other_come_one_after_another(self) -> None:
-        server = self.serve()
+        server = served(self)
         told: list[str] = []
 
         def step() -> None:
@@ -158,7 +161,7 @@ class Served(unittest.TestCase):
         self.assertEqual(sorted(told), ["0#1 start", "0#2 spawn 0.1 add 1", "0#3 spawn 0.2 add 2"])
 
     def test_a_client_that_leaves_is_no_fault(self) -> None:
-        server, said = self.serve(), io.StringIO()
+        server, said = served(self), io.StringIO()
         with contextlib.redirect_stderr(said):
             for _ in range(3):
                 with socket.create_connection(("127.0.0.1", server.server_port)) as client:
@@ -177,14 +180,18 @@ class Served(unittest.TestCase):
     def test_a_run_without_an_end_is_short(self) -> None:
         session = Session(PROGRAM, Source("cells 1\nbody main 0\n  while 0 == 0\n    store 0 1\n  end\nend\n", "loop.task"))
         self.addCleanup(session.close)
-        for command in ("run", "run 999999"):
+        for command in ("run", "run 999999", "run -v", "go", "go 1 " + "9" * 1000):
             told: dict[str, Any] = Live(session).do(command)
-            self.assertEqual(told["lines"][-1], "ran 1000 limit")
+            self.assertEqual(told["lines"][-1], "ran 1000 limit", command)
+        for command in ("run x", "run \u00b2", "go x y"):
+            self.assertEqual(Live(session).do(command)["outcome"], "error", command)
 
-    @needs_browser
+
+@needs_program
+class ClickedTest(InBrowser):
     def test_clicks(self) -> None:
-        server = self.serve(Clicked)
-        page = shown_by_browser(server.address, "1400,2000", "--virtual-time-budget=60000")
+        server = served(self, Clicked)
+        page = browser().shown(server.address, "1400,2000", until="document.body.textContent.startsWith('[')")
         told = json.loads(re.search(r"<body>(.*)</body>", page, re.S)[1].replace("&gt;", ">").replace("&lt;", "<").replace("&amp;", "&"))
         self.assertEqual(told[:4], [["step 0"], "step 0: 0#1 start", "step 0: 0#2 spawn 0.1 add 1", "step 0: 0#3 spawn 0.2 add 2"])
         self.assertEqual(told[4:7], [["step 0.1", "step 0.2"], "step 0.2: 0.2#1 start", "0 Children 0.1"])

@@ -5,6 +5,7 @@ import tempfile
 import unittest
 import unittest.mock
 import xml.etree.ElementTree as tree
+from collections import Counter
 from collections.abc import Iterator
 from typing import Any
 
@@ -65,6 +66,15 @@ class SlideTest(unittest.TestCase):
         self.assertEqual({name for name, in drawn(svg, "shade", "step")}, taken)
         self.assertEqual(drawn(svg, "race", "from", "to")[:8], [tuple(line.split(" ")[:2]) for line in session.view("races")[1:]])
         self.assertEqual(len(drawn(svg, "step")), 77 - sum(" let " in line or " test " in line for line in session.view("hist")[1:]))
+
+    def test_lines_that_race_are_told_once_in_either_order(self) -> None:
+        text = "cells 1\nbody main 0\n  while r0 < 6\n    task write\n    task read\n    let r0 r0 + 1\n  end\nend\nbody write 0\n  store 0 1\nend\nbody read 0\n  load r0 0\n  print r0\nend\n"
+        session = Session(PROGRAM, Source(text, "x.task"))
+        self.addCleanup(session.close)
+        session.do("run 999")
+        lines = Counter(tuple(sorted({session.places.line_of(step) for step in line.split(" ")[:2]})) for line in session.view("races")[1:])
+        self.assertEqual(lines.keys(), {(10, 13), (14,)})
+        self.assertIn(f"✕ lines 10 and 13: {lines[10, 13]} races; line 14: {lines[14,]} races", slide_of(lanes_of(session)))
 
     def test_of_too_many_arrows_some_are_drawn_over_the_whole_picture(self) -> None:
         session, _ = self.looped(9)

@@ -35,7 +35,7 @@ class FaultTest(unittest.TestCase):
             self.assertEqual(self.show(line, kind)[-1], "  it should look like: " + wanted)
         text = "cells 1\nbody main 0\n  task ad 1\nend\nbody add 1\nend\n"
         self.assertEqual(faults.fault_lines("a.task", text, 3, "UnknownBody")[-1], "  it should look like: task add 1")
-        self.assertEqual(faults.fault_lines("a.task", text.replace("ad 1", "nobody"), 3, "UnknownBody")[-1], "  no body has this name (UnknownBody)")
+        self.assertEqual(faults.fault_lines("a.task", text.replace("ad 1", "nobody"), 3, "UnknownBody")[-1], "  no body has this name: there are main and add (UnknownBody)")
         self.assertEqual(faults.fault_lines("a.task", "cells 1\n", 2, "NoMain"), ["a.task:2: no body is named main (NoMain)"])
 
 

@@ -17,10 +17,10 @@ MEANT = (
     ("b 5", "did you mean `break line 5`?"), ("brek 5", "did you mean `break line 5`?"), ("break add", "did you mean `break body add`?"),
     ("break 0.1", "did you mean `break task 0.1`?"), ("break c[0]", "did you mean `break cell 0`?"), ("break lin 5", "did you mean `break line 5`?"),
     ("taks", "did you mean `tasks`?"), ("delete 1", "did you mean `clear 1`?"), ("next 0.1", "did you mean `step 0.1`?"),
-    ("delete", "did you mean `clear N`?"), ("next 5", "did you mean `step T 5`?"), ("next", "did you mean `step`?"), ("tbreak 12", "did you mean `break line 12`?"),
+    ("delete", "did you mean `clear N`?"), ("next 5", "did you mean `step 0 5`?"), ("next", "did you mean `step`?"), ("tbreak 12", "did you mean `break line 12`?"),
     ("x 0", "did you mean `print c[0]`?"), ("x/4 0", "did you mean `print c[0]`?"), ("p/x r1", "did you mean `print r1`?"), ("thread 0.1", "did you mean `task 0.1`?"),
-    ("disable s1", "did you mean `clear s1`?"), ("reverse-finish 0.1", "did you mean `rolltask 0.1`?"), ("up", "did you mean `list T`?"),
-    ("d 1", "ambiguous: display, deps; or did you mean `clear 1`?"), ("restart-frame 0.1", "did you mean `rolltask 0.1`?"), ("disas", "did you mean `list T`?"), ("setp 0.1", "did you mean `step 0.1`?"),
+    ("disable s1", "did you mean `clear s1`?"), ("reverse-finish 0.1", "did you mean `rolltask 0.1`?"), ("up", "did you mean `list 0`?"), ("bt", "did you mean `task 0`?"),
+    ("d 1", "ambiguous: display, deps; or did you mean `clear 1`?"), ("restart-frame 0.1", "did you mean `rolltask 0.1`?"), ("disas", "did you mean `list 0`?"), ("setp 0.1", "did you mean `step 0.1`?"),
     ("b 12 if r1 > 1", "did you mean `break line 12 if r1 > 1`?"),
     ("rwatch c[0]", "did you mean `watch c[0]`?"), ("condition 1 r0 > 1", "did you mean `break line L if r0 > 1`?"), ("load a b", "did you mean `source a b`?"),
     ("start", "did you mean `step 0`?"), ("step 5", "a task is written 0.1, and a step 0.1#2; `step 0 5` takes 5 steps of task 0"),
@@ -38,12 +38,18 @@ MEANT = (
     ("info watch", "breaks 0"), ("info display", "no expression is displayed"), ("info reg", "task 0"), ("info thr", "tasks 3"), ("info line", "=>   10  body add 1   <- 0.1, 0.2"),
     ("p c0 + 1", "a cell is written c[0]"), ("p cell 3", "a cell is written c[3]"), ("watch c[0] if c[0] > 1", "a watch has no condition: `break cell 0 if value > 1`"),
     ("until 12", "until wants a step, as 0.2#4; `break line 12` and `go` stop at a line"), ("until 0.1#99", "0.1#99 was never reached"), ("help ro", "ambiguous: roll, rolltask, rollcell, rollprint"),
+    ("help next", "no such command: next; here it is `step`"), ("help jump", "no such command: jump; where a task is follows from its steps"),
+    ("help breakpoint", "no such command: breakpoint; did you mean `help break`?"), ("help xyzzy", "no such command: xyzzy; `help` lists them"),
+    ("clear 7", "`clear s1` takes away one that has an `s` in front of its number"),
 )
 
 # A program, and what is said of its fault.
 FAULTY = (
     ("cells 1\nbody main 1\nend\n", 2, "Arity", "main takes no parameters: `body main 0`"),
-    ("cells 1\nbody main 0\n  while 0 == 1\n    print 1\nend\n", 6, "Nesting", "an `end` is missing: the `body main` of line 2 is still open"),
+    ("cells 1\nbody main 0\n  while 0 == 1\n    print 1\nend\n", 6, "Nesting", "an `end` is missing: the `body main` of line 2 is still open; "
+     "by its place the `end` of line 5 isn't that of the `while` of line 3, which lacks its own"),
+    ("cells 1\nbody main 0\n  while 0 == 1\n    print 1\n  end\n", 6, "Nesting", "an `end` is missing: the `body main` of line 2 is still open"),
+    ("cells 1\nbody main 0\n  task nobody\nend\nbody add 0\nend\n", 3, "UnknownBody", "no body has this name: there are main and add"),
     ("cells 1\nbody main 0\n  if 1 == 1\nbody f 0\nend\n", 4, "Nesting", "an `end` is missing in front of this line: the `if` of line 3 is still open"),
     ("cells 1\nbody main 0\nend\nend\n", 4, "Nesting", "no block is open here for this `end`"),
     ("cells 1\nbody main 0\n  else\nend\n", 3, "Nesting", "this `else` has no `if`: the innermost block is the `body main` of line 2"),
@@ -58,13 +64,20 @@ FAULTY = (
 )
 
 # A line as other languages have it, and the notation's.
+NUMBERS = "nothing: numbers have no names, so a number that a task keeps is a register, `let rK A`, and one that tasks share is a cell, `cell C V` in front of the bodies"
 FOREIGN = (
-    ("for (int i = 0; i < 3; i++)", "while A CMP B .. end, with a `let` in front and one at its end"), ("int x", "let rK A"),
+    ("for (int i = 0; i < 3; i++)", "while A CMP B .. end, with a `let` in front and one at its end"), ("int x", NUMBERS), ("double y;", NUMBERS),
     ("task f depend 0 in depend r1 out", "task f depend in 0 depend out r1"), ("body main 2", "body main 0"),
     ("task f depend(in: 0)", "task f depend in 0"), ("task f depend(in: 0, r1) depend(out: 2)", "task f depend in 0 depend in r1 depend out 2"),
     ("r1 += 2", "let r1 r1 + 2"), ("r2++", "let r2 r2 + 1"), ("printf(\"%d\", r0);", "print VAL"), ("return r0;", "end"), ("}", "end"),
-    ("Task f 0", "task f 0"), ("r1 = r2 + 3", "let r1 r2 + 3"),
+    ("Task f 0", "task f 0"), ("r1 = r2 + 3", "let r1 r2 + 3"), ("let r1 = 3", "let r1 3"), ("x = 5;", "let rK 5, or where tasks share it store C 5"), ("x++", "let rK rK + 1"),
     ("store r0 r1 + 1", "let rK r1 + 1, and in the next line store r0 rK"), ("print r0 * 2", "let rK r0 * 2, and in the next line print rK"), ("barrier", "taskwait"), ("stroe 0 1", "store ADDR VAL"),
+    ("// a bank", "# a bank"), ("/* a bank */", "# a bank"), ("store 0 r1 // done", "store 0 r1  # done"), ("task add(1, r2)", "task add 1 r2"), ("add(1);", "task add 1"),
+    ("task add(r1) depend inout 0", "task add r1 depend inout 0"), ("print(r1)", "print r1"), ("taskwait();", "taskwait"),
+    ("if r0", "if r0 != 0"), ("if (r0 == 3) {", "if r0 == 3"), ("while r0<=3:", "while r0 <= 3"), ("while true", "while 0 == 0"), ("if r0 > 3", "if 3 < r0"), ("while 4 >= r1", "while r1 <= 4"),
+    ("if r0 = 3", "if r0 == 3"), ("task f depend in 0 if r0", "task f depend in 0 if r0 != 0"), ("else if r0 == 1 {", "else, and in the next line if r0 == 1, which has an `end` of its own"),
+    ("} else {", "else"), ("c[3] = r1", "store 3 r1"), ("r1 = a[r2];", "load r1 r2"), ("let r1 c[0] + 1", "load rK 0, and in the next line let r1 rK + 1"),
+    ("body deposit amount", "body deposit 1, whose argument is r0"), ("body f(int a, b) {", "body f 2, whose arguments are r0 to r1"), ("body f(int a)", "body f 1, whose argument is r0"),
 )
 
 
@@ -94,6 +107,14 @@ class Meant(unittest.TestCase):
         shell.ask("break cell 0")
         self.assertEqual(shell.ask("go")[-1], "  breakpoint 1: body add")
         self.assertEqual(shell.ask("go")[-1], "  breakpoint 2: cell 0")
+
+    def test_a_zero_byte_is_in_no_command(self) -> None:
+        for exact in (False, True):
+            shell = Typed(self, example("race.task"), exact=exact)
+            for command in ("save a\0", "compare \0", "page \0", "lanes \0", "source \0", "print \0", "ru\0n"):
+                self.assertEqual(shell.ask(command)[0], "error line", command)
+            shell.shell.passes = True
+            self.assertEqual(shell.ask("save a\0"), ["error line"] + ["  " + texts.ERRORS["line"]] * (not exact))
 
     def test_counts(self) -> None:
         self.assertEqual([counted(1, "task"), counted(2, "task"), counted(0, "branch"), counted(12345, "step")],
@@ -184,6 +205,23 @@ class Files(unittest.TestCase):
             shell.send(answer + "\n")
             shell.read_until(wanted)
             shell.read_until("(taskback) ")
+
+    def test_files_beside_the_one_that_is_named_are_kept_too(self) -> None:
+        """The pages of many lanes, and the text that is written where Graphviz isn't here."""
+        folder = self.folder()
+        shell = Typed(self, "cells 1\nbody main 0\n  while r0 < 60\n    task t\n    let r0 r0 + 1\n  end\nend\nbody t 0\nend\n")
+        shell.ask("run 999")
+        page, dot = os.path.join(folder, "a-2.svg"), os.path.join(folder, "b.dot")
+        for path in (page, dot):
+            files.write_text(path, "mine")
+        self.assertEqual(shell.ask(f"lanes {folder}/a.svg"), [f"{page} was not written: it is there already, and `-f` replaces it"])
+        with unittest.mock.patch("shutil.which", lambda name: None):
+            self.assertEqual(shell.ask(f"graph {folder}/b.svg"), [f"{dot} was not written: it is there already, and `-f` replaces it"])
+            self.assertEqual(sorted(os.listdir(folder)), ["a-2.svg", "b.dot"])
+            self.assertIn(f"written to {dot}, 61 tasks", shell.ask(f"graph -f {folder}/b.svg")[0])
+            self.assertIn(f"written to {dot}, 61 tasks", shell.ask(f"graph {folder}/b.svg")[0])
+        self.assertIn(f"drawn to {folder}/a.svg", shell.ask(f"lanes -f {folder}/a.svg")[0])
+        self.assertIn(f"drawn to {folder}/a.svg", shell.ask(f"lanes {folder}/a.svg")[0])
 
     def test_what_the_shell_drew_is_known_again(self) -> None:
         folder = self.folder()

@@ -15,7 +15,7 @@ syntax match taskbackNumber /\(^\|\s\)\@<=-\?\d\+\(\s\|$\)\@=/
 syntax match taskbackStep /\(^\|\s\)\@<=0\(\.\d\+\)*#\d\+/
 syntax match taskbackTask /\(^\|\s\)\@<=0\(\.\d\+\)\+\(\s\|$\)\@=/
 syntax match taskbackOperator /\s\@<=\(==\|!=\|<=\|[-+*<]\)\s\@=/
-syntax match taskbackCommand /^\s*\(step\|run\|go\|undo\|roll\|rolltask\|rollcell\|rollprint\|break\|clear\|breaks\|tasks\|out\|ready\|waits\|deps\|hist\|why\|who\|races\|causes\)\>/
+syntax match taskbackCommand /^\s*\(step\|run\|go\|undo\|roll\|rolltask\|rollcell\|rollprint\|break\|clear\|breaks\|tasks\|out\|ready\|waits\|deps\|hist\|why\|who\|races\|causes\|edges\)\>/
 syntax match taskbackLine /^\s*---\s*\($\|#\)\@=/
 syntax match taskbackComment /\(^\|\s\)\@<=#.*$/
 
