@@ -7,8 +7,6 @@
 #[cfg(test)]
 mod depend;
 #[cfg(test)]
-mod depend_random;
-#[cfg(test)]
 mod excl;
 #[cfg(test)]
 mod ready;

@@ -38,31 +38,53 @@ fn opened(alloc: Global) -> Result<Tables, AllocError>
     }
 }
 
-/// The root starts and stores. The store is taken back and taken again. It tells what each of the
+/// What the three steps replaced: the start, the store, and the store again.
+#[derive(Drop)]
+struct Replacements {
+    begun: Replaced,
+    stored: Replaced,
+    again: Replaced,
+}
+
+/// The root starts and stores. The store is taken back and taken again. It returns what each of the
 /// three steps replaced.
-fn run(alloc: Global, tables: &mut Tables) -> Result<[Replaced; 3], AllocError>
-    requires { IsState (ℤ.pos 5 ∷ []) 2 [] tables.old }
+fn run(tables: &mut Tables, start: &Event, store: &Event) -> Result<Replacements, AllocError>
+    requires state { IsState (ℤ.pos 5 ∷ []) 2 [] tables.old }
+    requires start { start.now ≡ record { task = []; action = Start } }
+    requires store { store.now ≡ record { task = []; action = Store 0 (ℤ.pos 7) } }
 {
-    let start = start(alloc);
-    let store = store(alloc);
-    let begun = tables.apply(&start, 3)?;
-    let stored = tables.apply(&store, 4)?;
-    tables.revert(&store, stored);
-    let again = tables.apply(&store, 4)?;
-    Ok([begun, stored, again])
+    let begun = tables.apply(start, 3)?;
+    let stored = tables.apply(store, 4)?;
+    tables.revert(store, stored);
+    let again = tables.apply(store, 4)?;
+    Ok(Replacements {
+        begun,
+        stored,
+        again,
+    })
 }
 
 /// Nothing but the opening takes memory in this run.
 #[test]
 fn a_refused_growth_changes_nothing(rt: HostRuntime) {
     let mut tables = opened(rt.alloc()).expect(&rt, "memory is there again");
-    let [begun, stored, again] = run(rt.alloc(), &mut tables).expect(&rt, "no memory is wanted");
+    let start = start(rt.alloc());
+    let store = store(rt.alloc());
+    let Replacements {
+        begun,
+        stored,
+        again,
+    } = run(&mut tables, &start, &store).expect(&rt, "no memory is wanted");
     assert_eq!(rt; begun.at, 2);
     assert_eq!(rt; stored.at, 3);
     assert_eq!(rt; stored.number, Some(5));
     assert_eq!(rt; again.at, 3);
     assert_eq!(rt; again.number, Some(5));
     assert!(rt; tables.cells() == [7].as_slice());
-    assert!(rt; tables.is_clear(&TaskName::root(rt.alloc()), &Action::End));
+    let end = Action::End;
+    assert!(rt; tables.is_clear(&start.task, &end));
+    mem::forget(end);
+    mem::forget(start);
+    mem::forget(store);
     mem::forget(tables);
 }
