@@ -41,7 +41,8 @@ Commands:
                                             take a step back with all that need it
   cells, out, hist, tasks, task T, ready, waits, deps T, breaks
                                             show what stands
-  why T#K, causes T#K, who T#K, races       show what needs what, and what races
+  why T#K, causes T#K, who T#K, edges, races
+                                            show what needs what, and what races
   break task T, break cell C, break body B, break print, break fault, clear K
                                             stop `go` after such a step
 
