@@ -1,0 +1,17 @@
+//! What has been made of an order so far.
+
+use crate::clocks::Clocks;
+use crate::ends::Ends;
+use crate::rows::Rows;
+
+/// An order of the first steps of a history, with exclusion or without.
+#[derive(Drop)]
+pub struct Past {
+    pub exclusion: bool,
+    /// What it puts in front of each.
+    pub clocks: Clocks,
+    /// All ends.
+    pub ends: Ends,
+    /// The ends by what waits for them.
+    pub rows: Rows,
+}
