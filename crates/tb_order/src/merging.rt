@@ -53,6 +53,7 @@ pub fn clocks_of(
         clocks,
         ends: no_ends(alloc),
         rows: IndexMap::new(alloc),
+        free: 0,
     };
     for at in 0..entries.len() {
         let first = begin(tasks, &past.clocks, at);
@@ -120,8 +121,9 @@ fn finish(
     ensures stands { IfOk result (λ s. IsStanding (order_of past.old.exclusion) entries.now
         tasks.now past.new.clocks s.row s.lane step.at) }
 {
+    past.free = first_free(&past.clocks, &past.ends, past.free);
     if !may_wait(entries, tasks, step.at) {
-        return Ok(stay(tasks, &past.clocks, &past.ends, step));
+        return Ok(stay(tasks, &past.clocks, &past.ends, past.free, step));
     }
     let next = Vec::from_slice(alloc, row(&past.clocks.rows, step.row))?;
     let mut joined = Joined { next, end: None };
@@ -132,7 +134,7 @@ fn finish(
     };
     merge_all(&mut joined, &waiter, entries, tasks, past)?;
     match joined.end {
-        None => Ok(stay(tasks, &past.clocks, &past.ends, step)),
+        None => Ok(stay(tasks, &past.clocks, &past.ends, past.free, step)),
         Some(end) => {
             past.clocks.rows.push(joined.next)?;
             Ok(Step {
@@ -159,9 +161,28 @@ fn whose_children(entries: &History<'_>, tasks: &Tasks, at: usize) -> usize
     }
 }
 
-/// The step with its row as it is. One that opens a lane goes on in that of the newest end, where
-/// that is in front of it: what generates its task may have waited for it.
-fn stay(tasks: &Tasks, clocks: &Clocks, ends: &Ends, step: Step) -> Step
+/// The number of the first end, this one or one behind it, in whose lane no step went on.
+fn first_free(clocks: &Clocks, ends: &Ends, from: usize) -> usize
+    requires ends { (i : ℕ) → i < length ends.now.places.items
+        → end_at ends.now i < length clocks.now.lanes.items }
+    requires few { (q : ℕ) → q < length clocks.now.lanes.items
+        → lane clocks.now q < length clocks.now.lasts.items }
+    ensures { from ≤ result }
+{
+    let mut free = from;
+    'pass: while free < ends.places.len() {
+        let end = ends.places[free];
+        if clocks.lasts[clocks.lanes[end]] == end {
+            return free;
+        }
+        free += 1;
+    }
+    free
+}
+
+/// The step with its row as it is. One that opens a lane goes on in that of the end of this number,
+/// where that is in front of it: what generates its task may have waited for it.
+fn stay(tasks: &Tasks, clocks: &Clocks, ends: &Ends, free: usize, step: Step) -> Step
     requires shaped { IsShaped tasks.now }
     requires listed { step.at ≡ length clocks.now.of.items }
     requires laned { step.at ≡ length clocks.now.lanes.items }
@@ -176,11 +197,10 @@ fn stay(tasks: &Tasks, clocks: &Clocks, ends: &Ends, step: Step) -> Step
         → GoesOn o entries tasks.now clocks.now (row_in clocks.now.rows.items step.row) step.lane
         step.at result.lane }
 {
-    let count = ends.places.len();
-    if step.lane < clocks.lasts.len() || count == 0 {
+    if step.lane < clocks.lasts.len() || free >= ends.places.len() {
         return step;
     }
-    let end = ends.places[count - 1];
+    let end = ends.places[free];
     let waiter = Waiter {
         at: step.at,
         lane: step.lane,

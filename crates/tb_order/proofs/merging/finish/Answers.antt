@@ -54,7 +54,11 @@ merge_all-requires-clause-waiting c = record {
   legal = c.requires.legal;
   by_task = c.requires.tasks;
   at = c.requires.at;
-  front = c.requires.past;
+  front = record {
+    clocks = c.requires.past.clocks;
+    ends = c.requires.past.ends;
+    rows = c.requires.past.rows;
+  };
   whose = record {
     start = c.whose_children.ensures.start;
     other = c.whose_children.ensures.other;
