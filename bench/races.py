@@ -46,6 +46,53 @@ def siblings(*spawn: str, body: Sequence[str] = ('store 0 1',), after: Sequence[
     return lines
 
 
+def at_cells(count: int) -> OfSizes:
+    """Siblings with `inout` at so many cells in turn; each loads its cell and stores to it."""
+    def lines(steps: int, _: int) -> list[str]:
+        spawn = loop(steps // 9, 'task t r1 depend inout r1', 'let r1 r1 + 1', 'if r1 == %d' % count, 'let r1 0', 'end')
+        return ['cells %d' % count, 'body main 0', *spawn, 'end', 'body t 1', 'load r1 r0', 'store r0 r1', 'end']
+    return lines
+
+
+def readers(steps: int, _: int) -> list[str]:
+    """A writer, then siblings that read its cell, then a writer."""
+    writer = 'task t depend inout 0'
+    main = [writer, *loop(steps // 6, 'task u depend in 0'), writer]
+    return ['cells 1', 'body main 0', *main, 'end', 'body t 0', 'store 0 1', 'end', 'body u 0', 'load r1 0', 'end']
+
+
+def stencil(second: str) -> OfSizes:
+    """As many columns as rounds: a task for each cell and round, which reads its neighbours by items."""
+    def lines(steps: int, _: int) -> list[str]:
+        width = max(1, round((steps / 11) ** 0.5))
+        spawn = ['let r3 r2 + 1', 'let r4 r2 + 2', 'task t r2 r3 r4 depend in r2%s depend inout r3' % second, 'let r2 r2 + 1']
+        main = loop(width, 'let r2 0', 'while r2 < %d' % width, *spawn, 'end')
+        body = ['load r5 r0', 'load r6 r2', 'let r5 r5 + r6', 'store r1 r5']
+        return ['cells %d' % (width + 2), 'body main 0', *main, 'end', 'body t 3', *body, 'end']
+    return lines
+
+
+def tree(before: Sequence[str], after: Sequence[str]) -> OfSizes:
+    """A tree of tasks, each of which generates two between these lines, or none."""
+    def lines(steps: int, _: int) -> list[str]:
+        depth = max(1, (steps // 7).bit_length() - 1)
+        body = ['if 0 < r0', 'let r1 r0 - 1', *before, 'task t r1', 'task t r1', *after, 'end']
+        return ['cells 1', 'body main 0', 'task t %d' % depth, 'end', 'body t 1', *body, 'end']
+    return lines
+
+
+def fib(wait: Sequence[str]) -> OfSizes:
+    """The Fibonacci numbers by tasks, each with a cell of its own while there are any."""
+    def lines(steps: int, _: int) -> list[str]:
+        calls, last, number = 1, 1, 1
+        while 12 * (calls + last + 1) < steps:
+            calls, last, number = calls + last + 1, calls, number + 1
+        body = ['if r0 < 2', 'store r1 r0', 'else', 'let r2 r0 - 1', 'let r3 r0 - 2', 'let r4 r1 * 2', 'let r4 r4 + 1', 'let r5 r4 + 1',
+                'task f r2 r4', 'task f r3 r5', *wait, 'store r1 1', 'end']
+        return ['cells 65536', 'body main 0', 'task f %d 0' % number, 'end', 'body f 2', *body, 'end']
+    return lines
+
+
 ROWS: list[tuple[str, OfSizes]] = [
     ('one task', alone),
     ('siblings that nothing orders', siblings('task t', after=['taskwait'])),
@@ -57,6 +104,15 @@ ROWS: list[tuple[str, OfSizes]] = [
     ('each waited for, by taskwait', siblings('task t', 'taskwait')),
     ('each in a taskgroup', siblings('taskgroup', 'task t', 'end')),
     ('undeferred tasks', siblings('task t if 0 < 0')),
+    ('siblings by inout at 64 cells', at_cells(64)),
+    ('siblings that read one cell', readers),
+    ('stencil by in, in, inout', stencil(' depend in r4')),
+    ('stencil by in, inout', stencil('')),
+    ('tree with taskwaits', tree([], ['taskwait'])),
+    ('tree by groups', tree(['taskgroup'], ['end'])),
+    ('tree that nothing waits for', tree([], [])),
+    ('fib by tasks', fib(['taskwait'])),
+    ('fib without its taskwait', fib([])),
 ]
 
 

@@ -1,5 +1,5 @@
 -- The immediate needs of one entry more.
-use Rattle.std.proofs.Common.{◌≡◌, ◌<◌, ◌+◌, ℕ, List, ◌++◌, length, take, reverse, map, refl, sym, ap, ap₂, ◌∙◌, Some, get_or}
+use Rattle.std.proofs.Common.{◌≡◌, ◌<◌, ◌+◌, ℕ, List, ◌++◌, length, take, reverse, map, sym, ap, ap₂, ◌∙◌, Some, get_or}
 use Rattle.std.proofs.lemmas.List.{reverse-append}
 use Rattle.indexmap.proofs.ReorderLemmas.{map-reverse}
 use Rattle.tb_model.specs.declared.step_id.StepId.{StepId}

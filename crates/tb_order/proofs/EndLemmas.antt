@@ -1,6 +1,6 @@
 -- The ends of a history, and what a walk along them passes over.
-use Rattle.std.proofs.Common.{◌≡◌, ◌≢◌, ◌==◌, ◌<◌, ◌≤◌, ◌+◌, ℕ, List, [], ◌∷◌, Bool, true, false, length, get_or, refl, sym, ap, ap₂, ◌∙◌, subst, arith, ◌⊎◌, inl, inr, ⊎_elim, eqb-true}
-use Rattle.std.proofs.lemmas.Bool.{both_ways, cases_eq, cases_lt, cases_order, or_cases}
+use Rattle.std.proofs.Common.{◌≡◌, ◌≢◌, ◌==◌, ◌<◌, ◌≤◌, ◌+◌, ℕ, List, [], ◌∷◌, Bool, true, length, get_or, refl, sym, ap, ap₂, ◌∙◌, subst, arith, ◌⊎◌, inl, inr, ⊎_elim, eqb-true}
+use Rattle.std.proofs.lemmas.Bool.{cases_eq, cases_lt, cases_order, or_cases}
 use Rattle.std.proofs.lemmas.List.{get_or_append_left, length-append}
 use Rattle.std.proofs.lemmas.Option.{slice_get_read}
 use Rattle.std.proofs.Math.Seq.{get_or-append_seam}
@@ -10,35 +10,44 @@ use Rattle.tb_races.specs.Orders.{Order}
 use Rattle.tb_order.specs.declared.tasks.Tasks.{Tasks}
 use Rattle.tb_order.specs.declared.clocks.Clocks.{Clocks}
 use Rattle.tb_order.specs.declared.ends.Ends.{Ends}
-use Rattle.tb_order.specs.Clocks.{AreEnds, IsEndMore, IsSound, end_at, ends_so, is_after, is_end_at, is_told, reaches, skip_at}
+use Rattle.tb_order.specs.Clocks.{AreRow, AreTied, IsEnd, IsEndMore, IsSound, end_at, ends_so, is_after, is_end_at, is_told, reaches, skip_at}
+use Rattle.tb_order.specs.Rows.{IsFit, IsRow}
 use Rattle.tb_order.proofs.AfterLemmas.{reached, reaches_so, reach_on}
 
-pub ends_none : (o : Order) (entries : List Entry) (ends : Ends) → ends.places.items ≡ [] → ends.skips.items ≡ [] → AreEnds o entries 0 ends
-ends_none o entries ends a b = record {
-  each = λ i l. absurd (omega (arith, l, ap length a));
-  all = λ x l. absurd (omega (arith, l));
+-- ---- one end more
+
+-- a row without ends
+pub tied_none : (o : Order) (entries : List Entry) (ends : Ends) → ends.places.items ≡ [] → ends.skips.items ≡ [] → AreTied o entries ends
+tied_none o entries ends a b = record {
   listed = ap length b ∙ sym (ap length a);
   low = λ i l. absurd (omega (arith, l, ap length a));
   skipped = λ i j l. absurd (omega (arith, l, ap length a));
 }
 
-module _ (o : Order) (entries : List Entry) (n : ℕ) (old : Ends) (are : AreEnds o entries n old) where
-  -- one step more, no end
-  pub ends_same : is_end_at entries n ≡ false → AreEnds o entries (n + 1) old
-  ends_same none = record {
-    each = λ i l. let f = are.each i l in (omega (arith, f.0), f.1);
-    all = λ y l q. are.all y (other y l q (cases_eq y n)) q;
-    listed = are.listed;
-    low = are.low;
-    skipped = are.skipped;
-  }
-    where
-      other : (y : ℕ) → y < n + 1 → is_end_at entries y ≡ true → (y ≡ n) ⊎ (y ≢ n) → y < n
-      other y l q (inl s) = absurd (both_ways (is_end_at entries n) none (subst (λ m. is_end_at entries m ≡ true) s q))
-      other y l q (inr d) = omega (arith, l, d)
+pub row_none : (o : Order) (entries : List Entry) (P : ℕ → Type 0) (ends : Ends) → ends.places.items ≡ [] → ends.skips.items ≡ [] → ((x : ℕ) → P x → ⊥) → AreRow o entries P ends
+row_none o entries P ends a b none = record {
+  each = λ i l. absurd (omega (arith, l, ap length a));
+  all = λ x h. absurd (none x h);
+  tied = tied_none o entries ends a b;
+}
 
-  -- one end more
-  module _ (from : ℕ) (new : Ends) (one : IsEndMore old n from new) (over : is_end_at entries n ≡ true) (few : from ≤ length old.places.items) (reached : (j : ℕ) → from ≤ j → j < length old.places.items → reaches o entries n (end_at old j) ≡ true) where
+-- the same ends, meant in other words
+pub row_same : (o : Order) (entries : List Entry) (P Q : ℕ → Type 0) (ends : Ends) → ((x : ℕ) → P x → Q x) → ((x : ℕ) → Q x → P x) → AreRow o entries P ends → AreRow o entries Q ends
+row_same o entries P Q ends there back are = record {
+  each = λ i l. there (end_at ends i) (are.each i l);
+  all = λ x h. are.all x (back x h);
+  tied = are.tied;
+}
+
+-- a row of ends in front of a step, as it is walked along
+pub row_walked : (o : Order) (entries : List Entry) (P : ℕ → Type 0) (n : ℕ) (ends : Ends) → ((x : ℕ) → P x → IsEnd entries n x) → AreRow o entries P ends → IsRow o entries n ends
+row_walked o entries P n ends low are = record {
+  each = λ i l. low (end_at ends i) (are.each i l);
+  tied = are.tied;
+}
+
+module _ (n : ℕ) (old : Ends) (listed : length old.skips.items ≡ length old.places.items) (low : (i : ℕ) → i < length old.places.items → skip_at old i ≤ i) where
+  module _ (from : ℕ) (new : Ends) (one : IsEndMore old n from new) (few : from ≤ length old.places.items) where
     abbrev count : ℕ
     count = length old.places.items
 
@@ -52,10 +61,10 @@ module _ (o : Order) (entries : List Entry) (n : ℕ) (old : Ends) (are : AreEnd
     kept i l = ap (λ (xs : List ℕ). get_or xs i 0) one.places ∙ get_or_append_left old.places.items (n ∷ []) 0 i l
 
     skip_last : skip_at new count ≡ from
-    skip_last = ap₂ (λ (xs : List ℕ) (m : ℕ). get_or xs m 0) one.skips (sym are.listed) ∙ get_or-append_seam old.skips.items from [] 0
+    skip_last = ap₂ (λ (xs : List ℕ) (m : ℕ). get_or xs m 0) one.skips (sym listed) ∙ get_or-append_seam old.skips.items from [] 0
 
     skip_kept : (i : ℕ) → i < count → skip_at new i ≡ skip_at old i
-    skip_kept i l = ap (λ (xs : List ℕ). get_or xs i 0) one.skips ∙ get_or_append_left old.skips.items (from ∷ []) 0 i (omega (arith, l, are.listed))
+    skip_kept i l = ap (λ (xs : List ℕ). get_or xs i 0) one.skips ∙ get_or_append_left old.skips.items (from ∷ []) 0 i (omega (arith, l, listed))
 
     -- each of the old ones, and the new one
     each_end : (P : ℕ → Type 0) → ((i : ℕ) → i < count → P i) → P count → (i : ℕ) → i < length new.places.items → P i
@@ -65,34 +74,52 @@ module _ (o : Order) (entries : List Entry) (n : ℕ) (old : Ends) (are : AreEnd
         by (inl e) = subst P (sym e) here
         by (inr d) = before i (omega (arith, l, d, many))
 
-    pub ends_more : AreEnds o entries (n + 1) new
-    ends_more = record {
-      each = each_end (λ i. (end_at new i < n + 1) × (is_end_at entries (end_at new i) ≡ true))
-          (λ i l. let f = are.each i l in (omega (arith, kept i l, f.0), subst (λ y. is_end_at entries y ≡ true) (sym (kept i l)) f.1))
-          (omega (arith, last), subst (λ y. is_end_at entries y ≡ true) (sym last) over);
-      all = λ y l q. all y l q (cases_eq y n);
-      listed = ap length one.skips ∙ length-append old.skips.items (from ∷ []) ∙ ap (λ m. m + 1) are.listed ∙ sym many;
-      low = each_end (λ i. skip_at new i ≤ i) (λ i l. omega (arith, skip_kept i l, are.low i l)) (omega (arith, skip_last, few));
-      skipped = λ i j l. each_end (λ i. (j : ℕ) → skip_at new i ≤ j → j < i → reaches o entries (end_at new i) (end_at new j) ≡ true)
-          (λ i l j m k. ap₂ (reaches o entries) (kept i l) (kept j (omega (arith, k, l))) ∙ are.skipped i j l (omega (arith, m, skip_kept i l)) k)
-          (λ j m k. ap₂ (reaches o entries) last (kept j k) ∙ reached j (omega (arith, m, skip_last)) k) i l j;
+    listed_more : length new.skips.items ≡ length new.places.items
+    listed_more = ap length one.skips ∙ length-append old.skips.items (from ∷ []) ∙ ap (λ m. m + 1) listed ∙ sym many
+
+    low_more : (i : ℕ) → i < length new.places.items → skip_at new i ≤ i
+    low_more = each_end (λ i. skip_at new i ≤ i) (λ i l. omega (arith, skip_kept i l, low i l)) (omega (arith, skip_last, few))
+
+    -- it can take the end once more
+    pub fit_more : ((i : ℕ) → i < count → end_at old i ≤ n) → IsFit n new
+    fit_more small = record {
+      low = each_end (λ i. end_at new i ≤ n) (λ i l. omega (arith, kept i l, small i l)) (omega (arith, last));
+      listed = listed_more;
+      skips = low_more;
     }
-      where
-        all : (y : ℕ) → y < n + 1 → is_end_at entries y ≡ true → (y ≡ n) ⊎ (y ≢ n) → (i : ℕ) × (i < length new.places.items) × (end_at new i ≡ y)
-        all y l q (inl s) = (count, omega (arith, many), last ∙ sym s)
-        all y l q (inr d) = let f = are.all y (omega (arith, l, d)) q in (f.0, omega (arith, f.1, many), kept f.0 f.1 ∙ f.2)
+
+    module _ (o : Order) (entries : List Entry) (tied : AreTied o entries old) (reached : (j : ℕ) → from ≤ j → j < length old.places.items → reaches o entries n (end_at old j) ≡ true) where
+      pub tied_more : AreTied o entries new
+      tied_more = record {
+        listed = listed_more;
+        low = low_more;
+        skipped = λ i j l. each_end (λ i. (j : ℕ) → skip_at new i ≤ j → j < i → reaches o entries (end_at new i) (end_at new j) ≡ true)
+            (λ i l j m k. ap₂ (reaches o entries) (kept i l) (kept j (omega (arith, k, l))) ∙ tied.skipped i j l (omega (arith, m, skip_kept i l)) k)
+            (λ j m k. ap₂ (reaches o entries) last (kept j k) ∙ reached j (omega (arith, m, skip_last)) k) i l j;
+      }
+
+      pub row_more : (P : ℕ → Type 0) → AreRow o entries P old → AreRow o entries (λ x. P x ⊎ (x ≡ n)) new
+      row_more P are = record {
+        each = each_end (λ i. P (end_at new i) ⊎ (end_at new i ≡ n)) (λ i l. inl (subst P (sym (kept i l)) (are.each i l))) (inr last);
+        all = λ x h. by x h;
+        tied = tied_more;
+      }
+        where
+          by : (x : ℕ) → P x ⊎ (x ≡ n) → (i : ℕ) × (i < length new.places.items) × (end_at new i ≡ x)
+          by x (inl h) = let f = are.all x h in (f.0, omega (arith, f.1, many), kept f.0 f.1 ∙ f.2)
+          by x (inr e) = (count, omega (arith, many), last ∙ sym e)
 
 -- what comes after an end comes after what that skips
-pub passed_more : (o : Order) (entries : List Entry) (n : ℕ) → n < length entries → (ends : Ends) → AreEnds o entries n ends → (i : ℕ) → i < length ends.places.items → reaches o entries n (end_at ends i) ≡ true
+pub passed_more : (o : Order) (entries : List Entry) (n : ℕ) → n < length entries → (ends : Ends) → AreTied o entries ends → ((i : ℕ) → i < length ends.places.items → end_at ends i ≤ n) → (i : ℕ) → i < length ends.places.items → reaches o entries n (end_at ends i) ≡ true
     → ((j : ℕ) → i < j → j < length ends.places.items → reaches o entries n (end_at ends j) ≡ true) → (j : ℕ) → skip_at ends i ≤ j → j < length ends.places.items → reaches o entries n (end_at ends j) ≡ true
-passed_more o entries n w ends are i l top rest j m h = by (cases_order i j)
+passed_more o entries n w ends are low i l top rest j m h = by (cases_order i j)
   where
     by : (i ≡ j) ⊎ ((i < j) ⊎ (j < i)) → reaches o entries n (end_at ends j) ≡ true
     by (inl e) = subst (λ y. reaches o entries n (end_at ends y) ≡ true) e top
     by (inr (inl a)) = rest j a h
     by (inr (inr a)) =
-        let x : end_at ends i < length entries = omega (arith, (are.each i l).0, w) in
-        let y : end_at ends j < length entries = omega (arith, (are.each j h).0, w) in
+        let x : end_at ends i < length entries = omega (arith, low i l, w) in
+        let y : end_at ends j < length entries = omega (arith, low j h, w) in
         reaches_so o entries n (end_at ends j)
         (reach_on o entries n (end_at ends i) (end_at ends j) (reached o entries n (end_at ends i) w x top)
         (reached o entries (end_at ends i) (end_at ends j) x y (are.skipped i j l m a)))
@@ -102,7 +129,7 @@ pub end_here : (entries : List Entry) (n : ℕ) (x : Entry) → n < length entri
 end_here entries n x w here b h = ap ends_so (slice_get_read entries (length entries) n x refl w here) ∙ sym h
 
 -- of whatever an end comes after, of which a row tells, the row tells too
-module _ (o : Order) (entries : List Entry) (tasks : Tasks) (clocks : Clocks) (row : List ℕ) (k p : ℕ) (so : IsSound o entries tasks clocks row k p) (ends : Ends) (are : AreEnds o entries p ends) where
+module _ (o : Order) (entries : List Entry) (tasks : Tasks) (clocks : Clocks) (row : List ℕ) (k p : ℕ) (so : IsSound o entries tasks clocks row k p) (ends : Ends) (are : IsRow o entries p ends) where
   abbrev Told : ℕ → Type 0
   Told q = is_told o entries tasks clocks row k p q ≡ true
 
@@ -114,7 +141,7 @@ module _ (o : Order) (entries : List Entry) (tasks : Tasks) (clocks : Clocks) (r
       by (inr d) =
           ⊎_elim (λ e. subst Told (eqb-true (end_at ends i) (end_at ends j) e) t)
           (λ a. so.closed (end_at ends i) (end_at ends j) (are.each i l).0 (are.each j (omega (arith, h, l))).0 t a)
-          (or_cases (end_at ends i == end_at ends j) (is_after o entries (end_at ends i) (end_at ends j)) (are.skipped i j l m (omega (arith, h, d))))
+          (or_cases (end_at ends i == end_at ends j) (is_after o entries (end_at ends i) (end_at ends j)) (are.tied.skipped i j l m (omega (arith, h, d))))
 
   -- so all that were looked at are told of, where those that were skipped are
   pub seen_more : (i : ℕ) → i < length ends.places.items → Told (end_at ends i) → (P : ℕ → Type 0) → ((j : ℕ) → i < j → j < length ends.places.items → P j → Told (end_at ends j)) → (j : ℕ) → skip_at ends i ≤ j → j < length ends.places.items → P j → Told (end_at ends j)

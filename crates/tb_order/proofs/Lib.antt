@@ -17,3 +17,6 @@ pub mod NumberLemmas
 pub mod TableLemmas
 pub mod CauseLemmas
 pub mod EdgeLemmas
+pub mod JoinedLemmas
+pub mod AskedLemmas
+pub mod RowLemmas

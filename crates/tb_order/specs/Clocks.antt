@@ -1,5 +1,5 @@
 -- What an order puts in front of each step, by places and by tasks.
-use Rattle.std.specs.Prelude.{ℕ, suc, ◌≡◌, ◌≢◌, ◌⊎◌, ◌<◌, ◌≤◌, List, [], ◌∷◌, ◌++◌, Bool, false, ◌&&◌, ◌||◌, ◌==◌, ◌-◌, if◌then◌else◌, Option, Some, None, IsTrue, length, take, slice_get, slice_index_or, nat_lt, nat_le, Vec, map}
+use Rattle.std.specs.Prelude.{ℕ, suc, ◌≡◌, ◌≢◌, ◌⊎◌, ◌<◌, ◌≤◌, List, [], ◌∷◌, ◌++◌, Bool, false, ◌&&◌, ◌||◌, ◌==◌, ◌-◌, ◌+◌, if◌then◌else◌, Option, Some, None, IsTrue, length, take, slice_get, slice_index_or, nat_lt, nat_le, Vec, map}
 use Rattle.std.specs.declared.alloc.Global.{Global}
 use Rattle.tb_model.specs.declared.event.Event.{Event}
 use Rattle.tb_model.specs.declared.step_id.StepId.{StepId}
@@ -174,18 +174,36 @@ end_at ends i = slice_index_or ends.places.items i 0
 abbrev pub skip_at : Ends → ℕ → ℕ
 skip_at ends i = slice_index_or ends.skips.items i 0
 
--- the ends among the first n steps, the oldest first; each comes after those in front of it from the one on that is told
-pub record AreEnds (o : Order) (entries : List Entry) (n : ℕ) (ends : Ends) : Type 0 where
-  pub each : (i : ℕ) → i < length ends.places.items → (end_at ends i < n) × IsTrue (is_end_at entries (end_at ends i))
-  pub all : (x : ℕ) → x < n → IsTrue (is_end_at entries x) → (i : ℕ) × (i < length ends.places.items) × (end_at ends i ≡ x)
+-- an end among the first n steps
+abbrev pub IsEnd : List Entry → ℕ → ℕ → Type 0
+IsEnd entries n x = (x < n) × IsTrue (is_end_at entries x)
+
+-- the ends stand with what is skipped from each
+pub record AreTied (o : Order) (entries : List Entry) (ends : Ends) : Type 0 where
   pub listed : length ends.skips.items ≡ length ends.places.items
   pub low : (i : ℕ) → i < length ends.places.items → skip_at ends i ≤ i
   pub skipped : (i j : ℕ) → i < length ends.places.items → skip_at ends i ≤ j → j < i → IsTrue (reaches o entries (end_at ends i) (end_at ends j))
+
+-- these are the ends that are meant, the oldest first; each comes after those in front of it from the one on that is told
+pub record AreRow (o : Order) (entries : List Entry) (P : ℕ → Type 0) (ends : Ends) : Type 0 where
+  pub each : (i : ℕ) → i < length ends.places.items → P (end_at ends i)
+  pub all : (x : ℕ) → P x → (i : ℕ) × (i < length ends.places.items) × (end_at ends i ≡ x)
+  pub tied : AreTied o entries ends
+
+abbrev pub AreEnds : Order → List Entry → ℕ → Ends → Type 0
+AreEnds o entries n ends = AreRow o entries (IsEnd entries n) ends
 
 -- one end more, the one at n, which comes after those from the one on that is told
 pub record IsEndMore (old : Ends) (n from : ℕ) (new : Ends) : Type 0 where
   pub places : new.places.items ≡ old.places.items ++ n ∷ []
   pub skips : new.skips.items ≡ old.skips.items ++ from ∷ []
+
+-- the end at p was added
+pub record AddsEnd (tasks : Tasks) (clocks : Clocks) (p : ℕ) (old new : Ends) : Type 0 where
+  pub from : ℕ
+  pub more : IsEndMore old p from new
+  pub few : from ≤ length old.places.items
+  pub reached : (o : Order) (entries : List Entry) → AreTasks entries tasks → AreClocks o entries tasks (p + 1) clocks → AreTied o entries old → (j : ℕ) → from ≤ j → j < length old.places.items → IsTrue (reaches o entries p (end_at old j))
 
 -- what the row tells of comes before the step at p, and so does what is in front of that
 pub record IsSound (o : Order) (entries : List Entry) (tasks : Tasks) (clocks : Clocks) (row : List ℕ) (k p : ℕ) : Type 0 where

@@ -5,3 +5,4 @@ pub mod Numbering
 pub mod Told
 pub mod Exclusion
 pub mod Edges
+pub mod Rows

@@ -1,10 +1,11 @@
 //! The ends of a history, of which a step that waits asks.
 
-ghost use Rattle.std.specs.Prelude.{◌≡◌, ◌<◌, ◌≤◌, ◌+◌, ℕ, List, length, IsTrue, OnOk};
+ghost use Rattle.std.specs.Prelude.{◌≡◌, ◌<◌, ◌≤◌, ◌+◌, ℕ, List, [], length, IsTrue, OnOk};
 ghost use Rattle.tb_core.specs.Entries.{Entry};
 ghost use Rattle.tb_races.specs.Orders.{Order};
 ghost use Rattle.tb_order.specs.Clocks as is;
-ghost use Rattle.tb_order.specs.Clocks.{AreClocks, AreEnds, AreTasks, IsShaped, end_at};
+ghost use Rattle.tb_order.specs.Clocks.{AddsEnd, AreClocks, AreTasks, AreTied, IsShaped, end_at};
+ghost use Rattle.tb_order.specs.Rows.{IsFit};
 
 use crate::clocks::{Clocks, reaches};
 use crate::tasks::Tasks;
@@ -21,7 +22,8 @@ pub struct Ends {
 
 /// No ends yet.
 pub fn no_ends(alloc: Global) -> Ends
-    ensures { (o : Order) (entries : List Entry) → AreEnds o entries 0 result }
+    ensures places { result.places.items ≡ [] }
+    ensures skips { result.skips.items ≡ [] }
 {
     Ends {
         places: Vec::new(alloc),
@@ -40,12 +42,11 @@ pub fn note_end(
     requires listed { length clocks.now.of.items ≤ length tasks.now.numbers.items }
     requires laned { length clocks.now.lanes.items ≡ length clocks.now.of.items }
     requires at { at < length clocks.now.of.items }
-    requires low { (i : ℕ) → i < length ends.old.places.items → end_at ends.old i < at }
+    requires low { (i : ℕ) → i < length ends.old.places.items → end_at ends.old i ≤ at }
     requires marked { length ends.old.skips.items ≡ length ends.old.places.items }
     requires skips { (i : ℕ) → i < length ends.old.places.items → is.skip_at ends.old i ≤ i }
-    ensures { OnOk result ((o : Order) (entries : List Entry) → AreTasks entries tasks.now
-        → AreClocks o entries tasks.now (at + 1) clocks.now → AreEnds o entries at ends.old
-        → IsTrue (is.is_end_at entries at) → AreEnds o entries (at + 1) ends.new) }
+    ensures fit { OnOk result (IsFit at ends.new) }
+    ensures more { OnOk result (AddsEnd tasks.now clocks.now at ends.old ends.new) }
 {
     let from = first_skipped(tasks, clocks, ends, at);
     ends.places.push(at)?;
@@ -59,12 +60,12 @@ fn first_skipped(tasks: &Tasks, clocks: &Clocks, ends: &Ends, at: usize) -> usiz
     requires listed { length clocks.now.of.items ≤ length tasks.now.numbers.items }
     requires laned { length clocks.now.lanes.items ≡ length clocks.now.of.items }
     requires at { at < length clocks.now.of.items }
-    requires low { (i : ℕ) → i < length ends.now.places.items → end_at ends.now i < at }
+    requires low { (i : ℕ) → i < length ends.now.places.items → end_at ends.now i ≤ at }
     requires marked { length ends.now.skips.items ≡ length ends.now.places.items }
     requires skips { (i : ℕ) → i < length ends.now.places.items → is.skip_at ends.now i ≤ i }
     ensures within { result ≤ length ends.now.places.items }
     ensures reached { (o : Order) (entries : List Entry) → AreTasks entries tasks.now
-        → AreClocks o entries tasks.now (at + 1) clocks.now → AreEnds o entries at ends.now
+        → AreClocks o entries tasks.now (at + 1) clocks.now → AreTied o entries ends.now
         → (j : ℕ) → result ≤ j → j < length ends.now.places.items
         → IsTrue (is.reaches o entries at (end_at ends.now j)) }
 {

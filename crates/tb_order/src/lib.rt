@@ -1,6 +1,7 @@
 //! Why a step needs another, and which steps race: the answers of a core.
 #![tactic(auto)]
 
+mod asked;
 mod asking;
 mod clocks;
 mod edge;
@@ -8,13 +9,18 @@ mod ends;
 mod exclusion;
 mod immediate;
 mod immediate_all;
+mod joined;
 mod kept;
 mod kinds;
 mod merging;
+mod noting;
 mod numbering;
 mod ordinals;
+mod past;
 mod racing;
+mod rows;
 mod tasks;
+mod waiter;
 mod waiting;
 
 pub use asking::{causes, edges, races};

@@ -1,17 +1,25 @@
 //! The clocks of a history.
 
-ghost use Rattle.std.specs.Prelude.{◌≡◌, ◌⊎◌, ◌<◌, ◌≤◌, ◌+◌, ◌||◌, ◌&&◌, ◌==◌, ℕ, List, Vec, None, length, nat_lt, slice_index_or, IfOk, IfSome, OnOk};
+ghost use Rattle.std.specs.Prelude.{◌≡◌, ◌⊎◌, ◌<◌, ◌≤◌, ◌+◌, ◌||◌, ◌&&◌, ◌==◌, ℕ, List, Vec, Some, false, length, nat_lt, slice_index_or, IfOk, IsTrue, OnOk};
 ghost use Rattle.tb_core.specs.Entries.{Entry};
 ghost use Rattle.tb_core.specs.Scans.{AreLegal};
 ghost use Rattle.tb_races.specs.Orders.{Order};
 ghost use Rattle.tb_order.specs.Clocks as is;
-ghost use Rattle.tb_order.specs.Clocks.{AreClocks, AreEnds, AreTasks, GoesOn, IsJoined, IsLane, IsLow, IsOneMore, IsShaped, IsSound, IsStanding, TellsEnds, adds, end_at, is_told, lane, row_in, says};
+ghost use Rattle.tb_order.specs.Clocks.{AreClocks, AreEnds, AreTasks, GoesOn, IsLane, IsLow, IsOneMore, IsShaped, IsSound, IsStanding, adds, end_at, is_told, lane, links_at, number, row_in, says};
+ghost use Rattle.tb_order.specs.Rows.{AreJoined, IsPast, IsRow, IsTold, IsWaiting, JoinsMore, parent, starts_at};
 ghost use Rattle.tb_order.specs.Linking.{order_of};
 
+use crate::asked::merge_all;
 use crate::clocks::{Clocks, bound, reaches, row};
 use crate::ends::{Ends, no_ends, note_end};
+use crate::joined::Joined;
+use crate::noting::note_rows;
+use crate::past::Past;
+use crate::rows::parent_of;
 use crate::tasks::{Tasks, step_before};
+use crate::waiter::Waiter;
 use crate::waiting::{may_wait, waits};
+use indexmap::IndexMap;
 use std::alloc::{AllocError, Global};
 use tb_core::History;
 
@@ -34,22 +42,29 @@ pub fn clocks_of(
     requires tasks { AreTasks entries.now tasks.now }
     ensures { IfOk result (AreClocks (order_of exclusion) entries.now tasks.now (length entries.now)) }
 {
-    let mut clocks = Clocks {
+    let clocks = Clocks {
         of: Vec::new(alloc),
         rows: Vec::new(alloc),
         lanes: Vec::new(alloc),
         lasts: Vec::new(alloc),
     };
-    let mut ends = no_ends(alloc);
+    let mut past = Past {
+        exclusion,
+        clocks,
+        ends: no_ends(alloc),
+        rows: IndexMap::new(alloc),
+        free: 0,
+    };
     for at in 0..entries.len() {
-        let first = begin(tasks, &clocks, at);
-        let step = finish(alloc, exclusion, entries, tasks, &mut clocks, &ends, first)?;
-        add(&mut clocks, &step)?;
+        let first = begin(tasks, &past.clocks, at);
+        let step = finish(alloc, entries, tasks, &mut past, first)?;
+        add(&mut past.clocks, &step)?;
         if entries.action(at).is_end() {
-            note_end(tasks, &clocks, &mut ends, at)?;
+            note_end(tasks, &past.clocks, &mut past.ends, at)?;
+            note_rows(alloc, entries, tasks, &past.clocks, &mut past.rows, at)?;
         }
     }
-    Ok(clocks)
+    Ok(past.clocks)
 }
 
 /// The step at this place, with the row and the lane of the step of its task in front of it, else
@@ -87,48 +102,87 @@ fn begin(tasks: &Tasks, clocks: &Clocks, at: usize) -> Step
 /// The step with its own row, in which all ends are to which it is linked, and with its own lane.
 fn finish(
     alloc: Global,
-    exclusion: bool,
     entries: &History<'_>,
     tasks: &Tasks,
-    clocks: &mut Clocks,
-    ends: &Ends,
+    past: &mut Past,
     step: Step,
 ) -> Result<Step, AllocError>
     requires legal { AreLegal entries.now }
     requires tasks { AreTasks entries.now tasks.now }
     requires at { step.at < length entries.now }
-    requires clocks { AreClocks (order_of exclusion) entries.now tasks.now step.at clocks.old }
-    requires ends { AreEnds (order_of exclusion) entries.now step.at ends.now }
-    requires row { step.row ≤ length clocks.old.rows.items }
-    requires sound { IsSound (order_of exclusion) entries.now tasks.now clocks.old
-        (row_in clocks.old.rows.items step.row) step.lane step.at }
-    requires lane { IsLane entries.now clocks.old step.lane step.at }
+    requires past { IsPast entries.now tasks.now past.old step.at }
+    requires row { step.row ≤ length past.old.clocks.rows.items }
+    requires sound { IsSound (order_of past.old.exclusion) entries.now tasks.now past.old.clocks
+        (row_in past.old.clocks.rows.items step.row) step.lane step.at }
+    requires lane { IsLane entries.now past.old.clocks step.lane step.at }
     ensures at { IfOk result (λ s. s.at ≡ step.at) }
-    ensures clocks { OnOk result
-        (AreClocks (order_of exclusion) entries.now tasks.now step.at clocks.new) }
-    ensures stands { IfOk result (λ s.
-        IsStanding (order_of exclusion) entries.now tasks.now clocks.new s.row s.lane step.at) }
+    ensures past { OnOk result (IsPast entries.now tasks.now past.new step.at) }
+    ensures same { past.new.exclusion ≡ past.old.exclusion }
+    ensures stands { IfOk result (λ s. IsStanding (order_of past.old.exclusion) entries.now
+        tasks.now past.new.clocks s.row s.lane step.at) }
 {
+    past.free = first_free(&past.clocks, &past.ends, past.free);
     if !may_wait(entries, tasks, step.at) {
-        return Ok(stay(tasks, clocks, ends, step));
+        return Ok(stay(tasks, &past.clocks, &past.ends, past.free, step));
     }
-    let mut next = Vec::from_slice(alloc, row(&clocks.rows, step.row))?;
-    match merge(&mut next, exclusion, entries, tasks, clocks, ends, &step)? {
-        None => Ok(stay(tasks, clocks, ends, step)),
+    let next = Vec::from_slice(alloc, row(&past.clocks.rows, step.row))?;
+    let mut joined = Joined { next, end: None };
+    let waiter = Waiter {
+        at: step.at,
+        lane: step.lane,
+        parent: whose_children(entries, tasks, step.at),
+    };
+    merge_all(&mut joined, &waiter, entries, tasks, past)?;
+    match joined.end {
+        None => Ok(stay(tasks, &past.clocks, &past.ends, past.free, step)),
         Some(end) => {
-            clocks.rows.push(next)?;
+            past.clocks.rows.push(joined.next)?;
             Ok(Step {
                 at: step.at,
-                row: clocks.rows.len(),
-                lane: lane_behind(clocks, step.lane, end),
+                row: past.clocks.rows.len(),
+                lane: lane_behind(&past.clocks, step.lane, end),
             })
         }
     }
 }
 
-/// The step with its row as it is. One that opens a lane goes on in that of the newest end, where
-/// that is in front of it: what generates its task may have waited for it.
-fn stay(tasks: &Tasks, clocks: &Clocks, ends: &Ends, step: Step) -> Step
+/// For whose children the step at this place may wait: a start for those of its parent, others for
+/// their own.
+fn whose_children(entries: &History<'_>, tasks: &Tasks, at: usize) -> usize
+    requires tasks { AreTasks entries.now tasks.now }
+    requires at { at < length entries.now }
+    ensures start { IsTrue (starts_at entries.now at) → result ≡ parent tasks.now at }
+    ensures other { starts_at entries.now at ≡ false → result ≡ number tasks.now at }
+{
+    if entries.action(at).is_start() {
+        parent_of(tasks, at)
+    } else {
+        tasks.numbers[at]
+    }
+}
+
+/// The number of the first end, this one or one behind it, in whose lane no step went on.
+fn first_free(clocks: &Clocks, ends: &Ends, from: usize) -> usize
+    requires ends { (i : ℕ) → i < length ends.now.places.items
+        → end_at ends.now i < length clocks.now.lanes.items }
+    requires few { (q : ℕ) → q < length clocks.now.lanes.items
+        → lane clocks.now q < length clocks.now.lasts.items }
+    ensures { from ≤ result }
+{
+    let mut free = from;
+    'pass: while free < ends.places.len() {
+        let end = ends.places[free];
+        if clocks.lasts[clocks.lanes[end]] == end {
+            return free;
+        }
+        free += 1;
+    }
+    free
+}
+
+/// The step with its row as it is. One that opens a lane goes on in that of the end of this number,
+/// where that is in front of it: what generates its task may have waited for it.
+fn stay(tasks: &Tasks, clocks: &Clocks, ends: &Ends, free: usize, step: Step) -> Step
     requires shaped { IsShaped tasks.now }
     requires listed { step.at ≡ length clocks.now.of.items }
     requires laned { step.at ≡ length clocks.now.lanes.items }
@@ -143,12 +197,16 @@ fn stay(tasks: &Tasks, clocks: &Clocks, ends: &Ends, step: Step) -> Step
         → GoesOn o entries tasks.now clocks.now (row_in clocks.now.rows.items step.row) step.lane
         step.at result.lane }
 {
-    let count = ends.places.len();
-    if step.lane < clocks.lasts.len() || count == 0 {
+    if step.lane < clocks.lasts.len() || free >= ends.places.len() {
         return step;
     }
-    let end = ends.places[count - 1];
-    if !is_merged(tasks, clocks, row(&clocks.rows, step.row), &step, end) {
+    let end = ends.places[free];
+    let waiter = Waiter {
+        at: step.at,
+        lane: step.lane,
+        parent: 0,
+    };
+    if !is_merged(tasks, clocks, row(&clocks.rows, step.row), &waiter, end) {
         return step;
     }
     Step {
@@ -191,65 +249,66 @@ fn add(clocks: &mut Clocks, step: &Step) -> Result<(), AllocError>
     Ok(())
 }
 
-/// Adds the ends to which the step is linked, with all that is in front of them, and tells the
-/// newest of those that were added.
-fn merge(
-    next: &mut Vec<usize>,
-    exclusion: bool,
+/// Adds the ends of the row to which the step is linked, with all that is in front of them.
+pub fn merge(
+    joined: &mut Joined,
+    waiter: &Waiter,
     entries: &History<'_>,
     tasks: &Tasks,
-    clocks: &Clocks,
+    past: &Past,
     ends: &Ends,
-    step: &Step,
-) -> Result<Option<usize>, AllocError>
-    requires legal { AreLegal entries.now }
-    requires tasks { AreTasks entries.now tasks.now }
-    requires at { step.now.at < length entries.now }
-    requires clocks { AreClocks (order_of exclusion) entries.now tasks.now step.now.at clocks.now }
-    requires ends { AreEnds (order_of exclusion) entries.now step.now.at ends.now }
-    requires sound { IsSound (order_of exclusion) entries.now tasks.now clocks.now
-        next.old.items step.now.lane step.now.at }
-    ensures sound { OnOk result (IsSound (order_of exclusion) entries.now tasks.now clocks.now
-        next.new.items step.now.lane step.now.at) }
-    ensures ends { OnOk result (TellsEnds (order_of exclusion) entries.now tasks.now clocks.now
-        next.new.items step.now.lane step.now.at) }
-    ensures same { IfOk result (λ j. j ≡ None → next.new.items ≡ next.old.items) }
-    ensures joined { IfOk result (λ j. IfSome j
-        (IsJoined (order_of exclusion) entries.now tasks.now clocks.now next.new.items
-        step.now.lane step.now.at)) }
+) -> Result<(), AllocError>
+    requires waiting { IsWaiting entries.now tasks.now past.now waiter.now }
+    requires joined { AreJoined entries.now tasks.now past.now waiter.now.lane waiter.now.at joined.old }
+    requires row { IsRow (order_of past.now.exclusion) entries.now waiter.now.at ends.now }
+    ensures more { OnOk result
+        (JoinsMore entries.now tasks.now past.now waiter.now.lane waiter.now.at joined.old joined.new) }
+    ensures told { OnOk result ((i : ℕ) → i < length ends.now.places.items
+        → IsTrue (links_at (order_of past.now.exclusion) entries.now waiter.now.at (end_at ends.now i))
+        → IsTold entries.now tasks.now past.now waiter.now.lane waiter.now.at joined.new
+        (end_at ends.now i)) }
 {
-    let mut joined = None;
     let mut left = ends.places.len();
     'back: while left > 0 {
         left -= 1;
         let end = ends.places[left];
-        if is_merged(tasks, clocks, next, step, end) {
+        if is_merged(tasks, &past.clocks, &joined.next, waiter, end) {
             left = ends.skips[left];
-        } else if waits(exclusion, entries, tasks, step.at, end) {
-            join(next, tasks, clocks, end)?;
+        } else if waits(past.exclusion, entries, tasks, waiter.at, end) {
+            join(&mut joined.next, tasks, &past.clocks, end)?;
             left = ends.skips[left];
-            if joined.is_none() {
-                joined = Some(end);
-            }
+            joined.end = Some(better(&past.clocks, joined.end, end));
         }
     }
-    Ok(joined)
+    Ok(())
+}
+
+/// Of an end that was found and a further one, the one in whose lane a step may go on.
+fn better(clocks: &Clocks, found: Option<usize>, end: usize) -> usize
+    requires end { end < length clocks.now.lanes.items }
+    requires few { is.lane clocks.now end < length clocks.now.lasts.items }
+    ensures { (result ≡ end) ⊎ (found ≡ Some result) }
+{
+    match found {
+        Some(other) if clocks.lasts[clocks.lanes[end]] != end => other,
+        _ => end,
+    }
 }
 
 /// Whether the row tells of the step at `early` as one in front of the step.
-fn is_merged(tasks: &Tasks, clocks: &Clocks, next: &[usize], step: &Step, early: usize) -> bool
+fn is_merged(tasks: &Tasks, clocks: &Clocks, next: &[usize], waiter: &Waiter, early: usize) -> bool
     requires shaped { IsShaped tasks.now }
-    requires listed { step.now.at ≡ length clocks.now.of.items }
-    requires laned { step.now.at ≡ length clocks.now.lanes.items }
-    requires at { step.now.at < length tasks.now.numbers.items }
-    requires early { early < step.now.at }
+    requires listed { waiter.now.at ≡ length clocks.now.of.items }
+    requires laned { waiter.now.at ≡ length clocks.now.lanes.items }
+    requires at { waiter.now.at < length tasks.now.numbers.items }
+    requires early { early < waiter.now.at }
     ensures { (o : Order) (entries : List Entry) → AreTasks entries tasks.now
-        → AreClocks o entries tasks.now step.now.at clocks.now
-        → result ≡ is_told o entries tasks.now clocks.now next.now step.now.lane step.now.at early }
+        → AreClocks o entries tasks.now waiter.now.at clocks.now → result
+        ≡ is_told o entries tasks.now clocks.now next.now waiter.now.lane waiter.now.at early }
 {
     let lane = clocks.lanes[early];
-    (step.lane == lane && early < step.at)
-        || (early < bound(next, lane) || origin_reaches(tasks, clocks, step.at, early))
+    (waiter.lane == lane && early < waiter.at)
+        || (early < bound(next, lane) || origin_reaches(tasks, clocks, waiter.at, early))
 }
 
 /// Whether what generates the task of the step at this place is the step at `early`, or comes after

@@ -44,7 +44,7 @@ fn waits_by_itself(action: &Action, items: &[Item]) -> bool
 }
 
 /// Whether the task generated an undeferred child right in front of the step at this place.
-fn is_held(entries: &History<'_>, tasks: &Tasks, at: usize) -> bool
+pub fn is_held(entries: &History<'_>, tasks: &Tasks, at: usize) -> bool
     requires tasks { AreTasks entries.now tasks.now }
     requires at { at < length entries.now }
     ensures { IsFalse result → (v : Entry) → slice_get entries.now at ≡ Some v → (u : Name) →
@@ -214,7 +214,7 @@ fn start_kind(
 }
 
 /// The depend items of the task of the step at this place.
-fn items_of<'a>(entries: &History<'a>, tasks: &Tasks, at: usize) -> &'a [Item]
+pub fn items_of<'a>(entries: &History<'a>, tasks: &Tasks, at: usize) -> &'a [Item]
     requires legal { AreLegal entries.now }
     requires tasks { AreTasks entries.now tasks.now }
     requires at { at < length entries.now }

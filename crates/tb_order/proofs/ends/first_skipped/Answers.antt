@@ -16,7 +16,7 @@ back-preserved c =
     let low = c.requires.skips i inside in record {
       within = omega (arith, skip, low, inside);
       passed = λ o entries are told is j m h.
-          passed_more o entries at (omega (arith, c.requires.at, c.requires.listed, are.numbers_listed)) ends is i inside
+          passed_more o entries at (omega (arith, c.requires.at, c.requires.listed, are.numbers_listed)) ends is c.requires.low i inside
           (subst (λ y. reaches o entries at y ≡ true) e (sym (c.reaches.ensures o entries (at + 1) are told (omega arith)) ∙ c.if-reaches.true))
           (λ n a b. l.invariant.passed o entries are told is n (omega (arith, a)) b) j (omega (arith, m, skip)) h;
     }

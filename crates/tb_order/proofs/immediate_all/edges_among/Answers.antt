@@ -1,4 +1,4 @@
-use Rattle.std.proofs.Common.{◌<◌, ◌∙◌, ap, length, arith}
+use Rattle.std.proofs.Common.{◌<◌, ◌∙◌, length, arith}
 use Rattle.tb_cause.proofs.ConeLemmas.{there}
 use Rattle.tb_order.proofs.EdgeLemmas.{edges_more}
 use Rattle.tb_order.proofs.immediate_all.edges_among.Goals as goal

@@ -1,0 +1,49 @@
+-- What is joined, end by end.
+use Rattle.std.proofs.Common.{◌≡◌, ◌<◌, ℕ, Option, Some, None, List, refl, sym, ◌∙◌, subst, ◌⊎◌, inl, inr}
+use Rattle.tb_core.specs.Entries.{Entry}
+use Rattle.tb_order.specs.declared.tasks.Tasks.{Tasks}
+use Rattle.tb_order.specs.declared.past.Past.{Past}
+use Rattle.tb_order.specs.declared.joined.Joined.{Joined}
+use Rattle.tb_order.specs.Clocks.{IsJoined, IsSound}
+use Rattle.tb_order.specs.Linking.{order_of}
+use Rattle.tb_order.specs.Rows.{AreJoined, IsTold, JoinsMore}
+
+module _ (entries : List Entry) (tasks : Tasks) (past : Past) (k p : ℕ) where
+  pub joins_none : (j : Joined) → AreJoined entries tasks past k p j → JoinsMore entries tasks past k p j j
+  joins_none j are = record {
+    are = are;
+    kept = λ q l t. t;
+    same = λ e. (refl, e);
+  }
+
+  pub joins_trans : (a b c : Joined) → JoinsMore entries tasks past k p a b → JoinsMore entries tasks past k p b c → JoinsMore entries tasks past k p a c
+  joins_trans a b c f g = record {
+    are = g.are;
+    kept = λ q l t. g.kept q l (f.kept q l t);
+    same = λ e. let s = g.same e in let r = f.same s.1 in (s.0 ∙ r.0, r.1);
+  }
+
+  -- one end more
+  pub joins_one : (a b c : Joined) (s : ℕ) → JoinsMore entries tasks past k p a b → IsSound (order_of past.exclusion) entries tasks past.clocks c.next.items k p → ((q : ℕ) → q < p → IsTold entries tasks past k p b q → IsTold entries tasks past k p c q)
+      → IsJoined (order_of past.exclusion) entries tasks past.clocks c.next.items k p s → (y : ℕ) → (y ≡ s) ⊎ (b.end ≡ Some y) → c.end ≡ Some y → JoinsMore entries tasks past k p a c
+  joins_one a b c s f sound stays here y found is = record {
+    are = record {
+      sound = sound;
+      end = λ x e. subst (IsJoined (order_of past.exclusion) entries tasks past.clocks c.next.items k p) (the_some y x (sym_some is e)) (one y found);
+    };
+    kept = λ q l t. stays q l (f.kept q l t);
+    same = λ e. absurd (no_some y (sym_some is e));
+  }
+    where
+      sym_some : {o : Option ℕ} {w : Option ℕ} → c.end ≡ o → c.end ≡ w → o ≡ w
+      sym_some a b = sym a ∙ b
+
+      no_some : (x : ℕ) → ◌≡◌ {A = Option ℕ} (Some x) None → ⊥
+      no_some x e = cc
+
+      the_some : (x y : ℕ) → ◌≡◌ {A = Option ℕ} (Some x) (Some y) → x ≡ y
+      the_some x y e = cc
+
+      one : (y : ℕ) → (y ≡ s) ⊎ (b.end ≡ Some y) → IsJoined (order_of past.exclusion) entries tasks past.clocks c.next.items k p y
+      one y (inl e) = subst (IsJoined (order_of past.exclusion) entries tasks past.clocks c.next.items k p) (sym e) here
+      one y (inr e) = let j = f.are.end y e in (j.0, j.1, stays y j.0 j.2)

@@ -1,0 +1,20 @@
+//! What has been made of an order so far.
+
+use crate::clocks::Clocks;
+use crate::ends::Ends;
+use crate::rows::Rows;
+
+/// An order of the first steps of a history, with exclusion or without.
+#[derive(Drop)]
+pub struct Past {
+    pub exclusion: bool,
+    /// What it puts in front of each.
+    pub clocks: Clocks,
+    /// All ends.
+    pub ends: Ends,
+    /// The ends by what waits for them.
+    pub rows: Rows,
+    /// The number of the first end in whose lane no step went on: none of those in front of it is
+    /// the last of its lane.
+    pub free: usize,
+}
