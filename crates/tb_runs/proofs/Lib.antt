@@ -1,0 +1,4 @@
+pub mod NameLemmas
+pub mod WordsLemmas
+pub mod OrdinalLemmas
+pub mod ListedLemmas

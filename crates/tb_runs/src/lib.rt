@@ -1,0 +1,17 @@
+//! Recorded runs: reads a run text, line by line.
+#![tactic(auto)]
+
+mod action;
+mod fault;
+mod items;
+mod line;
+mod name;
+mod said;
+mod taking;
+mod verb;
+mod word;
+mod words;
+
+pub use fault::{Fault, Unread};
+pub use line::{read_line, stage_behind};
+pub use said::{Said, Stage};
