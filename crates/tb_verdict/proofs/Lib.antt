@@ -1,0 +1,3 @@
+mod NumberedLemmas
+mod RefusalLemmas
+mod FollowLemmas
