@@ -12,7 +12,7 @@ use Rattle.tb_runs.specs.declared.said.Said.TheVariants.{Cells, Cell, Hist, Even
 use Rattle.tb_runs.specs.declared.said.Stage.{Stage}
 use Rattle.tb_runs.specs.declared.said.Stage.TheVariants as stage
 
--- the cells that were given a first number, the last one first
+-- the cells that were given a first number, the first of them first
 abbrev pub Firsts : Type 0
 Firsts = List (ℕ × ℤ)
 
@@ -94,11 +94,8 @@ line_said firsts at line =
     else (if not (is_text (before_comment line)) then Err NotText
     else said_by firsts at (line_words line))
 
--- ---- the lines behind it
-
-abbrev pub stage_behind : Stage → Said → Stage
-stage_behind at (Cells count) = stage.Cells count
-stage_behind at (Cell c x) = at
-stage_behind (stage.Cells count) Hist = stage.Events count
-stage_behind (stage.Cells count) (AnEvent step event) = stage.Events count
-stage_behind at said = at
+-- the number of cells, once a line told it
+abbrev pub cells_at : Stage → ℕ
+cells_at stage.Begin = 0
+cells_at (stage.Cells count) = count
+cells_at (stage.Events count) = count

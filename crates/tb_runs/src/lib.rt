@@ -4,6 +4,7 @@
 mod action;
 mod fault;
 mod items;
+pub mod laws;
 mod line;
 mod name;
 mod said;
@@ -13,5 +14,5 @@ mod word;
 mod words;
 
 pub use fault::{Fault, Unread};
-pub use line::{read_line, stage_behind};
+pub use line::{read_event, read_line};
 pub use said::{Said, Stage};

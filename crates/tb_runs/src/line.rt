@@ -1,10 +1,11 @@
 //! Reads a line of a run text.
 
-ghost use Rattle.std.specs.Prelude.{◌≡◌, Err, IfErr, IfOk, Ok, length, nat_lt};
+ghost use Rattle.std.specs.Prelude.{◌≡◌, [], Err, IfErr, IfOk, Ok, length, nat_lt};
 ghost use Rattle.tb_runs.specs.Reading.{ended};
-ghost use Rattle.tb_runs.specs.Lines.{begun_in, cell_said, cells_said, count_in, event_said, fresh_in, headed_in, hist_said, line_said, longest, said_in, stage_behind};
+ghost use Rattle.tb_runs.specs.Lines.{begun_in, cell_said, cells_said, count_in, event_said, fresh_in, headed_in, hist_said, line_said, longest, said_in};
 ghost use Rattle.tb_runs.specs.declared.fault.Fault.{Fault as TheFault};
 ghost use Rattle.tb_runs.specs.declared.fault.Unread.TheVariants.{Faulty};
+ghost use Rattle.tb_runs.specs.declared.said.Stage.TheVariants.{Events};
 
 use crate::action::take_action;
 use crate::fault::{Fault, Unread};
@@ -150,6 +151,16 @@ fn take_all(
     Ok(said)
 }
 
+/// An event, where no other word may come.
+fn take_whole_event(alloc: Global, words: &mut Words<'_>, cells: u32) -> Result<Said, Unread>
+    ensures ok { IfOk result (λ said. ended (event_said cells words.old) ≡ Ok said) }
+    ensures err { (fault : TheFault) → result ≡ Err (Faulty fault) → ended (event_said cells words.old) ≡ Err fault }
+{
+    let said = take_event(alloc, words, cells)?;
+    take_end(words)?;
+    Ok(said)
+}
+
 /// Whether the line is too long.
 fn is_long(line: &[u8]) -> bool
     ensures { result ≡ nat_lt longest (length line.now) }
@@ -157,7 +168,8 @@ fn is_long(line: &[u8]) -> bool
     LONGEST < line.len()
 }
 
-/// What a line says, and `None` where it has no words.
+/// What a line says, by the first numbers and the stage in front of it, and `None` where it has no
+/// words.
 pub fn read_line(
     alloc: Global,
     firsts: &IndexMap<u32, i64>,
@@ -180,13 +192,21 @@ pub fn read_line(
     Ok(Some(take_all(alloc, &mut words, firsts, stage)?))
 }
 
-/// The stage behind a line.
-pub fn stage_behind(stage: Stage, said: &Said) -> Stage
-    ensures { result ≡ stage_behind stage said.now }
+/// What a line says behind the first event, where there are so many cells. It needs no first
+/// numbers.
+pub fn read_event(alloc: Global, cells: u32, line: &[u8]) -> Result<Option<Said>, Unread>
+    ensures ok { IfOk result (λ said. line_said [] (Events cells) line.now ≡ Ok said) }
+    ensures err { (fault : TheFault) → result ≡ Err (Faulty fault) → line_said [] (Events cells) line.now ≡ Err fault }
 {
-    match (stage, said) {
-        (_, Said::Cells { count }) => Stage::Cells { count: *count },
-        (Stage::Cells { count }, Said::Hist | Said::Event { .. }) => Stage::Events { count },
-        _ => stage,
+    if is_long(line) {
+        return Err(Unread::Faulty(Fault::TooLarge));
     }
+    if !is_text(before_comment(line)) {
+        return Err(Unread::Faulty(Fault::NotText));
+    }
+    let mut words = Words::of(line);
+    if words.peek().is_none() {
+        return Ok(None);
+    }
+    Ok(Some(take_whole_event(alloc, &mut words, cells)?))
 }
