@@ -1,3 +1,4 @@
 mod NumberedLemmas
 mod RefusalLemmas
 mod FollowLemmas
+mod HeldLemmas

@@ -51,8 +51,8 @@ pub returns : goal.returns
 returns c =
     let t = c.args.event.now.task in
     mapped c.unfit.result c.unfit.ensures (λ r is first root_line D run.
-      let spawned = there root_line D t c.in-Some.standing (sym (c.standing.ensures first root_line D run.state) ∙ c.in-Some.is) in
-      let going = sym (c.has_ended_at.ensures first root_line D run.legal run.state) ∙ c.if-has_ended_at.false in
-      let turn = ap (λ n. out_of_turn c.args.step n c.args.event.now.action) (spawned.1 ∙ sym c.steps.ensures) ∙ sym c.out_of_turn.ensures ∙ c.in_default-out_of_turn.is in
-      let way = c.in_the_way.ensures first root_line D run.legal run.state (unended (events_of D) t spawned.0 going) ∙ ap (option_map (hindrance_by t)) c.in_default-in_the_way.is in
-      clear first (events_of D) c.args.step c.args.event.now spawned.0 going turn way ∙ sym (is first root_line D run))
+    let spawned = there root_line D t c.in-Some.standing (sym (c.standing.ensures first root_line D run.state) ∙ c.in-Some.is) in
+    let going = sym (c.has_ended_at.ensures first root_line D run.legal run.state) ∙ c.if-has_ended_at.false in
+    let turn = ap (λ n. out_of_turn c.args.step n c.args.event.now.action) (spawned.1 ∙ sym c.steps.ensures) ∙ sym c.out_of_turn.ensures ∙ c.in_default-out_of_turn.is in
+    let way = c.in_the_way.ensures first root_line D run.legal run.state (unended (events_of D) t spawned.0 going) ∙ ap (option_map (hindrance_by t)) c.in_default-in_the_way.is in
+    clear first (events_of D) c.args.step c.args.event.now spawned.0 going turn way ∙ sym (is first root_line D run))

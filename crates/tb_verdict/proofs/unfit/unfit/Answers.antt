@@ -29,9 +29,9 @@ returns-in-Load c first root_line D run =
 pub returns-in-Spawn : goal.returns-in-Spawn
 returns-in-Spawn c =
     mapped c.misnamed.result c.misnamed.ensures (λ r is first root_line D run.
-      let count = counted c.children.result (is_spawned (events_of D) c.args.task.now) (spawn_count (own c.args.task.now (events_of D))) (c.children.ensures first root_line D run.state) (c.requires.there first root_line D run) in
-      is ∙ ap₂ (λ name n. misnamed name (child c.args.task.now (suc n))) (ap (λ s. s.child) c.get-in-Spawn.ensures) (c.unwrap_or-children.ensures ∙ count)
-      ∙ sym (ap (unfit first (events_of D) c.args.task.now) c.in-Spawn.is))
+    let count = counted c.children.result (is_spawned (events_of D) c.args.task.now) (spawn_count (own c.args.task.now (events_of D))) (c.children.ensures first root_line D run.state) (c.requires.there first root_line D run) in
+    is ∙ ap₂ (λ name n. misnamed name (child c.args.task.now (suc n))) (ap (λ s. s.child) c.get-in-Spawn.ensures) (c.unwrap_or-children.ensures ∙ count)
+    ∙ sym (ap (unfit first (events_of D) c.args.task.now) c.in-Spawn.is))
 
 pub returns-in-Close : goal.returns-in-Close
 returns-in-Close c first root_line D run =
