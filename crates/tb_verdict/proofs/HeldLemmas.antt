@@ -1,15 +1,15 @@
 -- A run without lines, with one event more.
-use Rattle.std.proofs.Common.{◌≡◌, ◌<◌, ◌+◌, ℕ, zero, suc, ℤ, List, [], ◌∷◌, length, map, drop, replicate, set, refl, sym, ap, ◌∙◌, subst, arith, Option, Some, None, Result, Ok, Err, OnErr, slice_get}
+use Rattle.std.proofs.Common.{◌≡◌, ◌<◌, ◌+◌, ℕ, zero, suc, ℤ, List, [], ◌∷◌, length, drop, replicate, set, refl, sym, ap, ◌∙◌, subst, arith, Option, Some, None, Result, Ok, Err, OnErr, slice_get}
 use Rattle.std.proofs.lemmas.List.{length-map, length-set, length-replicate}
 use Rattle.tb_model.specs.declared.event.Event.{Event}
 use Rattle.tb_model.specs.Facts.{History}
-use Rattle.tb_model.specs.Legal.{Cells, Legal}
-use Rattle.tb_model.specs.Lines.{Departure, events_of}
+use Rattle.tb_model.specs.Legal.{Cells}
+use Rattle.tb_model.specs.Lines.{events_of}
 use Rattle.tb_runs.specs.Lines.{Firsts}
-use Rattle.tb_undo.specs.State.{Seen, IsState}
+use Rattle.tb_undo.specs.State.{Seen}
 use Rattle.tb_undo.specs.Changes.{AreSame}
 use Rattle.tb_undo.proofs.StateLemmas.{state_same}
-use Rattle.tb_verdict.specs.Judged.{IsRun, Takes}
+use Rattle.tb_verdict.specs.Judged.{Takes}
 use Rattle.tb_verdict.specs.Held.{departures, Holds, Counts, Runs, Begins, HeadsOn, HeadsBy, IsAllowed, IsHead, IsRunning, Goes}
 use Rattle.tb_runs.proofs.LineLemmas.{line_allowed}
 use Rattle.tb_verdict.specs.declared.judge.Headed.{Headed}
@@ -21,7 +21,7 @@ use Rattle.tb_runs.specs.declared.said.Said.{Said}
 use Rattle.tb_runs.specs.declared.said.Said.TheVariants as says
 use Rattle.tb_runs.specs.declared.said.Stage.{Stage}
 use Rattle.tb_runs.specs.declared.said.Stage.TheVariants as stage
-use Rattle.tb_verdict.specs.Texts.{Sofar, Heading, Running, with_firsts, first_numbers, line_behind, said_behind, said_by, taken_by}
+use Rattle.tb_verdict.specs.Texts.{Sofar, Heading, Running, with_firsts, first_numbers, line_behind, said_by}
 use Rattle.tb_verdict.specs.declared.ending.Ending.{Ending}
 use Rattle.tb_verdict.specs.declared.ending.Ending.TheVariants.{Faulty, Refused}
 use Rattle.tb_verdict.specs.declared.refusal.Refusal.{Refusal}

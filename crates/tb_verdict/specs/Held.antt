@@ -1,5 +1,5 @@
 -- What the judge holds of the lines so far.
-use Rattle.std.specs.Prelude.{◌≡◌, ℕ, List, [], ◌∷◌, length, map, Option, Some, None, Result, Ok, Err, IsTrue, ⊤}
+use Rattle.std.specs.Prelude.{◌≡◌, ℕ, List, [], ◌∷◌, length, map, Option, Some, None, Ok, Err, IsTrue, ⊤}
 use Rattle.tb_model.specs.declared.event.Event.{Event}
 use Rattle.tb_model.specs.Facts.{History}
 use Rattle.tb_model.specs.Legal.{Cells}
@@ -13,7 +13,6 @@ use Rattle.tb_runs.specs.Lines.{Firsts, cells_at}
 use Rattle.tb_runs.specs.declared.said.Said.{Said}
 use Rattle.tb_runs.specs.declared.said.Said.TheVariants as says
 use Rattle.tb_runs.specs.declared.said.Stage.{Stage}
-use Rattle.tb_verdict.specs.declared.refusal.Refusal.{Refusal}
 use Rattle.tb_verdict.specs.declared.ending.Ending.{Ending}
 use Rattle.tb_verdict.specs.declared.ending.Ending.TheVariants.{Faulty, Refused}
 use Rattle.tb_verdict.specs.declared.judge.Headed.{Headed}

@@ -1,5 +1,5 @@
 -- What the lines of a run text come to, one after another.
-use Rattle.std.specs.Prelude.{ℕ, suc, ℤ, List, [], ◌∷◌, length, replicate, slice_set, nat_eq, Option, Some, None, Result, Ok, Err}
+use Rattle.std.specs.Prelude.{ℕ, suc, List, [], ◌∷◌, length, replicate, slice_set, nat_eq, Option, Some, None, Result, Ok, Err}
 use Rattle.indexmap.specs.IndexMap.{insert_entry}
 use Rattle.tb_model.specs.declared.event.Event.{Event}
 use Rattle.tb_model.specs.Facts.{History}
@@ -7,7 +7,6 @@ use Rattle.tb_model.specs.Legal.{Cells}
 use Rattle.tb_model.specs.Program.{zero_ℤ}
 use Rattle.tb_runs.specs.Lines.{Firsts, line_said, cells_at}
 use Rattle.tb_runs.specs.declared.fault.Fault.{Fault}
-use Rattle.tb_runs.specs.declared.fault.Fault.TheVariants.{NoCells}
 use Rattle.tb_runs.specs.declared.said.Said.{Said}
 use Rattle.tb_runs.specs.declared.said.Said.TheVariants as says
 use Rattle.tb_runs.specs.declared.said.Stage.{Stage}

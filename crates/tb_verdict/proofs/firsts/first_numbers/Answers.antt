@@ -1,4 +1,4 @@
-use Rattle.std.proofs.Common.{◌≡◌, ℕ, ℤ, Some, sym, ap, ◌∙◌, option_map, rules, to_z-of_z, w64, SFits, set, slice_get}
+use Rattle.std.proofs.Common.{◌≡◌, Some, sym, ap, ◌∙◌, rules, to_z-of_z, w64, SFits, slice_get}
 use Rattle.tb_verdict.proofs.HeldLemmas.{firsts_step, next_place}
 use Rattle.tb_verdict.proofs.firsts.first_numbers.Goals as goal
 

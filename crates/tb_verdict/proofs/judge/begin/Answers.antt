@@ -1,4 +1,4 @@
-use Rattle.std.proofs.Common.{[], sym, ap, ◌∙◌, subst}
+use Rattle.std.proofs.Common.{[], ap, ◌∙◌, subst}
 use Rattle.tb_plan.specs.Plans.{names_allowed}
 use Rattle.tb_runs.specs.Lines.{cells_at}
 use Rattle.tb_verdict.specs.Held.{Holds, Counts}

@@ -1,6 +1,4 @@
-use Rattle.std.proofs.Common.{◌≡◌, [], Ok, Some, sym, ap, ◌∙◌, subst, length}
-use Rattle.tb_model.specs.Facts.{History}
-use Rattle.tb_model.specs.Legal.{Cells}
+use Rattle.std.proofs.Common.{◌≡◌, [], Ok, Some, sym, ap, ◌∙◌, subst}
 use Rattle.tb_plan.specs.Plans.{names_allowed}
 use Rattle.tb_runs.specs.Lines.{line_said}
 use Rattle.tb_runs.specs.declared.said.Said.TheVariants as says
