@@ -56,7 +56,10 @@ fn each_word_has_its_place(rt: HostRuntime) {
         (b"0 spawn 0.1 t depend in all", Fault::DependType),
         (b"0 wait depend mutexinoutset 0", Fault::DependType),
         (b"0 spawn 0.1 t depend out", Fault::Arity),
-        (b"0 spawn 0.1 t 0 0 0 0 0 0 0 0 0 0 0 0 0 0 0 0 0", Fault::TooLarge),
+        (
+            b"0 spawn 0.1 t 0 0 0 0 0 0 0 0 0 0 0 0 0 0 0 0 0",
+            Fault::TooLarge,
+        ),
         (b"0 spawn 0.1 t undeferred 1", Fault::Arity),
     ];
     assert!(rt; are_faulty(&rt, Stage::Events { count: 2 }, &lines));
