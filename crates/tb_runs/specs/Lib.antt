@@ -1,0 +1,4 @@
+pub mod Names
+pub mod Reading
+pub mod Actions
+pub mod Lines

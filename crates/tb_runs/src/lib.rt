@@ -1,0 +1,18 @@
+//! Recorded runs: reads a run text, line by line.
+#![tactic(auto)]
+
+mod action;
+mod fault;
+mod items;
+pub mod laws;
+mod line;
+mod name;
+mod said;
+mod taking;
+mod verb;
+mod word;
+mod words;
+
+pub use fault::{Fault, Unread};
+pub use line::{read_event, read_line};
+pub use said::{Said, Stage};

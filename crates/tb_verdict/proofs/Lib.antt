@@ -1,0 +1,4 @@
+mod NumberedLemmas
+mod RefusalLemmas
+mod FollowLemmas
+mod HeldLemmas

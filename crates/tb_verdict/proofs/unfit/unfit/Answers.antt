@@ -1,0 +1,38 @@
+use Rattle.std.proofs.Common.{ap, ap₂, sym, ◌∙◌, suc, rules, arith, to_z-of_z, w64, SFits}
+use Rattle.std.proofs.lemmas.List.{length-map}
+use Rattle.tb_model.specs.Facts.{own, is_spawned}
+use Rattle.tb_model.specs.Legal.{spawn_count}
+use Rattle.tb_model.specs.Lines.{Departure, events_of}
+use Rattle.tb_model.specs.Names.{child}
+use Rattle.tb_verdict.specs.Refusals.{misread, misnamed, unopened, unfit}
+use Rattle.tb_verdict.proofs.FollowLemmas.{counted, few_children}
+use Rattle.tb_verdict.proofs.RefusalLemmas.{mapped}
+use Rattle.tb_verdict.proofs.unfit.unfit.Goals as goal
+
+pub misnamed-requires : goal.misnamed-requires
+misnamed-requires c =
+    let first = c.requires.run.0 in
+    let root_line = c.requires.run.1 in
+    let D = c.requires.run.2 in
+    let run = c.requires.run.3 in
+    let count = counted c.children.result (is_spawned (events_of D) c.args.task.now) (spawn_count (own c.args.task.now (events_of D))) (c.children.ensures first root_line D run.state) (c.requires.there first root_line D run) in
+    let few = few_children c.args.task.now (events_of D) 4294967295 (omega (arith, length-map D (λ (d : Departure). d.event), run.few)) in
+    omega (arith, c.unwrap_or-children.ensures, count, few)
+
+pub returns-in-Load : goal.returns-in-Load
+returns-in-Load c first root_line D run =
+    let value : SFits w64 c.in-Load.value = search rules in
+    let number : SFits w64 c.get.result = search rules in
+    let read = c.get.ensures first root_line D run.state in
+    c.misread.ensures ∙ ap₂ misread (to_z-of_z value) (to_z-of_z number ∙ read) ∙ sym (ap (unfit first (events_of D) c.args.task.now) c.in-Load.is)
+
+pub returns-in-Spawn : goal.returns-in-Spawn
+returns-in-Spawn c =
+    mapped c.misnamed.result c.misnamed.ensures (λ r is first root_line D run.
+    let count = counted c.children.result (is_spawned (events_of D) c.args.task.now) (spawn_count (own c.args.task.now (events_of D))) (c.children.ensures first root_line D run.state) (c.requires.there first root_line D run) in
+    is ∙ ap₂ (λ name n. misnamed name (child c.args.task.now (suc n))) (ap (λ s. s.child) c.get-in-Spawn.ensures) (c.unwrap_or-children.ensures ∙ count)
+    ∙ sym (ap (unfit first (events_of D) c.args.task.now) c.in-Spawn.is))
+
+pub returns-in-Close : goal.returns-in-Close
+returns-in-Close c first root_line D run =
+    c.unopened.ensures ∙ ap unopened (c.groups.ensures first root_line D run.legal run.state) ∙ sym (ap (unfit first (events_of D) c.args.task.now) c.in-Close.is)

@@ -1,0 +1,5 @@
+pub mod Refusals
+pub mod Judged
+pub mod Numbered
+pub mod Texts
+pub mod Held

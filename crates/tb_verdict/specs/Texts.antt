@@ -1,0 +1,80 @@
+-- What the lines of a run text come to, one after another.
+use Rattle.std.specs.Prelude.{ℕ, suc, List, [], ◌∷◌, length, replicate, slice_set, nat_eq, Option, Some, None, Result, Ok, Err}
+use Rattle.indexmap.specs.IndexMap.{insert_entry}
+use Rattle.tb_model.specs.declared.event.Event.{Event}
+use Rattle.tb_model.specs.Facts.{History}
+use Rattle.tb_model.specs.Legal.{Cells}
+use Rattle.tb_model.specs.Program.{zero_ℤ}
+use Rattle.tb_runs.specs.Lines.{Firsts, line_said, cells_at}
+use Rattle.tb_runs.specs.declared.fault.Fault.{Fault}
+use Rattle.tb_runs.specs.declared.said.Said.{Said}
+use Rattle.tb_runs.specs.declared.said.Said.TheVariants as says
+use Rattle.tb_runs.specs.declared.said.Stage.{Stage}
+use Rattle.tb_runs.specs.declared.said.Stage.TheVariants as stage
+use Rattle.tb_verdict.specs.Refusals.{refusal_of}
+use Rattle.tb_verdict.specs.declared.refusal.Refusal.{Refusal}
+use Rattle.tb_verdict.specs.declared.ending.Ending.{Ending}
+use Rattle.tb_verdict.specs.declared.ending.Ending.TheVariants.{Faulty, Refused}
+
+-- ---- the first numbers of all cells
+
+abbrev pub with_firsts : Firsts → Cells → Cells
+with_firsts [] cells = cells
+with_firsts (first ∷ firsts) cells = with_firsts firsts (slice_set cells first.0 first.1)
+
+-- a cell without one begins at 0
+abbrev pub first_numbers : ℕ → Firsts → Cells
+first_numbers count firsts = with_firsts firsts (replicate count zero_ℤ)
+
+-- ---- the lines so far
+
+-- no event came yet, and the cells have these first numbers; or events may come, the newest of those that did first
+pub data Sofar : Type 0 where
+  Heading : Stage → Firsts → Sofar
+  Running : Cells → History → Sofar
+
+abbrev pub start : Sofar
+start = Heading stage.Begin []
+
+-- what a line says there
+abbrev pub says_at : Sofar → List ℕ → Result (Option Said) Fault
+says_at (Heading at firsts) line = line_said firsts at line
+says_at (Running first H) line = line_said [] (stage.Events (length first)) line
+
+abbrev pub taken_by : Cells → History → Event → Option Refusal → Result Sofar Ending
+taken_by first H v None = Ok (Running first (v ∷ H))
+taken_by first H v (Some refusal) = Err (Refused refusal)
+
+-- an event is taken, unless it is refused
+abbrev pub event_behind : Cells → History → Option ℕ → Event → Result Sofar Ending
+event_behind first H k v = taken_by first H v (refusal_of first H k v)
+
+-- behind the first event no line says anything else
+abbrev pub said_behind : Sofar → Said → Result Sofar Ending
+said_behind (Heading at firsts) (says.Cells count) = Ok (Heading (stage.Cells count) firsts)
+said_behind (Heading at firsts) (says.Cell c x) = Ok (Heading at (insert_entry nat_eq firsts c x))
+said_behind (Heading at firsts) says.Hist = Ok (Running (first_numbers (cells_at at) firsts) [])
+said_behind (Heading at firsts) (says.Event k v) = event_behind (first_numbers (cells_at at) firsts) [] k v
+said_behind (Running first H) (says.Event k v) = event_behind first H k v
+said_behind (Running first H) said = Ok (Running first H)
+
+abbrev pub said_by : Sofar → Result (Option Said) Fault → Result Sofar Ending
+said_by s (Err fault) = Err (Faulty fault)
+said_by s (Ok None) = Ok s
+said_by s (Ok (Some said)) = said_behind s said
+
+-- the lines with one line more; or why the judgement ends there
+abbrev pub line_behind : Sofar → List ℕ → Result Sofar Ending
+line_behind s line = said_by s (says_at s line)
+
+-- ---- a whole text
+
+-- an ending, at the line with this number
+abbrev pub ended_at : ℕ → Result Sofar Ending → (Sofar → Result Sofar (ℕ × Ending)) → Result Sofar (ℕ × Ending)
+ended_at n (Err ending) more = Err (n, ending)
+ended_at n (Ok s) more = more s
+
+-- these lines behind others, of which the first has this number
+abbrev pub lines_behind : ℕ → Sofar → List (List ℕ) → Result Sofar (ℕ × Ending)
+lines_behind n s [] = Ok s
+lines_behind n s (line ∷ lines) = ended_at n (line_behind s line) (λ s. lines_behind (suc n) s lines)

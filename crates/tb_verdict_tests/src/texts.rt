@@ -1,0 +1,65 @@
+//! Where the judgement of a text ends, and why.
+
+use std::mem::forget;
+use std::process::Abort;
+use tb_verdict::{Ending, Judge};
+
+/// The line at which the judgement ends, with the number of the refusal, or 0 at a faulty line.
+fn ending_of(rt: &HostRuntime, lines: &[&[u8]]) -> Option<(usize, u8)> {
+    let mut judge = Judge::new(rt.alloc());
+    let mut found = None;
+    'lines: for at in 0..lines.len() {
+        match judge.take_line(rt.alloc(), lines[at]) {
+            Ok(None) => {}
+            Ok(Some(ending)) => {
+                found = Some((at + 1, number_of(&ending)));
+                forget(ending);
+                break 'lines;
+            }
+            Err(_) => break 'lines,
+        }
+    }
+    forget(judge);
+    found
+}
+
+fn number_of(ending: &Ending) -> u8 {
+    match ending {
+        Ending::Faulty { .. } => 0,
+        Ending::Refused { refusal } => refusal.number(),
+    }
+}
+
+#[test]
+fn an_event_comes_in_its_task_s_turn(rt: HostRuntime) {
+    assert!(rt; ending_of(&rt, &[b"cells 1", b"0.1 start"]) == Some((2, 1)));
+    assert!(rt; ending_of(&rt, &[b"cells 1", b"0#1 start", b"0#3 end"]) == Some((3, 19)));
+    assert!(rt; ending_of(&rt, &[b"cells 1", b"0 start", b"0 print"]) == Some((3, 0)));
+}
+
+#[test]
+fn a_load_has_the_number_of_its_cell(rt: HostRuntime) {
+    let text: [&[u8]; 5] = [
+        b"cells 1",
+        b"cell 0 4",
+        b"0 start",
+        b"0 load r0 0 4",
+        b"0 load r0 0 5",
+    ];
+    assert!(rt; ending_of(&rt, &text) == Some((5, 16)));
+}
+
+#[test]
+fn a_start_waits_for_what_it_depends_on(rt: HostRuntime) {
+    let text: [&[u8]; 8] = [
+        b"cells 1",
+        b"hist 6",
+        b"0 start",
+        b"0 spawn 0.1 t depend out 0",
+        b"0 spawn 0.2 t depend in 0",
+        b"0.1 start # ends later",
+        b"",
+        b"0.2 start",
+    ];
+    assert!(rt; ending_of(&rt, &text) == Some((8, 3)));
+}
