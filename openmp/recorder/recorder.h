@@ -55,6 +55,14 @@ struct loop {
     int is_on;
 };
 
+/* A `simd` loop that the thread is in. */
+struct lanes {
+    uint32_t depth;            /* of such loops within each other */
+    uint32_t task;             /* that is in the outermost one */
+    uint64_t count;
+    int was_alone;
+};
+
 /* An array that is being sorted, and the room for that: the sort's own. */
 struct sorted {
     uint64_t array, room, size;
@@ -99,6 +107,8 @@ struct own {
     struct loop loop;
     struct loop outer[NESTED]; /* those around the regions that the thread has met */
     uint32_t nesting;
+    struct lanes lanes;
+    int is_last;               /* it does what falls to who did a loop's last iteration */
     struct running running[RUNNING_MOST];
     struct touched touched[1 << TOUCHED_BITS];
 };

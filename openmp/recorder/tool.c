@@ -226,8 +226,10 @@ static void on_implicit(ompt_scope_endpoint_t end, ompt_data_t *region, ompt_dat
     uint32_t before = own->task;
     name_task(task, STARTED);
     own->task = number_of(task);
-    uint64_t where = flags & ompt_task_initial || !region ? 0 : region->value;
-    taskback_note(own, IMPLICIT_BEGIN, own->task, where, index, 0)->size = (uint16_t)size;
+    uint64_t where = region ? region->value : 0;
+    struct event *event = taskback_note(own, IMPLICIT_BEGIN, own->task, where, index, 0);
+    event->size = (uint16_t)size;
+    event->mark = where && flags & ompt_task_initial ? TEAMS : 0;
     if (where)
         push_task(own, own->task, before, 0, 0);
 }

@@ -15,7 +15,7 @@ from .directives import words_for_loops
 
 RECORDER = os.path.join(os.path.dirname(os.path.dirname(os.path.abspath(__file__))), "recorder")
 JUDGE = os.path.join(os.path.dirname(RECORDER), "judge")
-PARTS = ["buffers.c", "accesses.c", "atomics.c", "tool.c", "wraps.c", "reductions.c", "loops.c", "locks.c", "memory.c",
+PARTS = ["buffers.c", "accesses.c", "atomics.c", "tool.c", "wraps.c", "reductions.c", "loops.c", "lanes.c", "locks.c", "memory.c",
          "signals.c", "strings.c", "formats.c", "numbers.c", "operators.c"]
 CXX_ENDINGS = (".cc", ".cpp", ".cxx", ".C", ".c++", ".cp", ".CPP")
 SOURCE_ENDINGS = (".c",) + CXX_ENDINGS
@@ -33,11 +33,11 @@ RUNTIME_CALLS = ["omp_task_alloc", "omp_task", "omp_task_with_deps", "omp_task_b
                  "taskred_modifier_init", "task_reduction_modifier_fini", "task_reduction_get_th_data", "end_taskgroup",
                  "reduce", "reduce_nowait", "end_reduce", "end_reduce_nowait", "for_static_fini", "single", "end_single",
                  "master", "end_master", "masked", "end_masked", "ordered", "end_ordered", "doacross_init",
-                 "doacross_post", "doacross_wait", "push_num_threads", "serialized_parallel", "flush", "alloc",
+                 "doacross_post", "doacross_wait", "push_num_threads", "push_num_teams", "push_num_teams_51", "serialized_parallel", "flush", "alloc",
                  "aligned_alloc", "free",
                  *(f"{name}_{kind}" for name in ("for_static_init", "dispatch_init", "dispatch_next")
                    for kind in LOOP_KINDS)]
-OTHER_CALLS = ["omp_get_thread_num", "omp_set_num_threads", "omp_alloc", "omp_calloc", "omp_aligned_alloc",
+OTHER_CALLS = ["omp_get_thread_num", "omp_get_team_num", "omp_set_num_threads", "omp_alloc", "omp_calloc", "omp_aligned_alloc",
                "omp_aligned_calloc", "omp_realloc", "omp_free",
                "malloc", "calloc", "realloc", "reallocarray", "aligned_alloc", "posix_memalign", "memalign", "valloc",
                "free", "mmap", "mmap64", "munmap", "memcpy", "memmove", "memset", "strcpy", "stpcpy", "strcat", "strncpy",
