@@ -106,6 +106,8 @@ struct own {
     uint64_t loaded[FENCED];
     struct loop loop;
     struct loop outer[NESTED]; /* those around the regions that the thread has met */
+    uint32_t depths[NESTED];   /* of the tasks on the stack when it met them */
+    uint64_t met;              /* the region that it has met last, while it goes on */
     uint32_t nesting;
     struct lanes lanes;
     int is_last;               /* it does what falls to who did a loop's last iteration */
