@@ -1,5 +1,5 @@
 /* The last iteration that writes the variable gives its value on.
-   expect: told critical */
+   expect: none */
 #include <stdio.h>
 
 int main(void) {

@@ -1,5 +1,5 @@
 /* The library has one place for the parts of a time, which all get.
-   expect: race memory parts */
+   expect: race gmtime parts */
 #include <stdio.h>
 #include <time.h>
 

@@ -36,7 +36,7 @@ GIVES(struct tm *, gmtime_r, (const time_t *of, struct tm *parts), parts, of, pa
     type *__wrap_##name parameters {                        \
         type *given = __real_##name(__VA_ARGS__);           \
         if (given)                                          \
-            writes(given, size, PLACE);                     \
+            taskback_access(WRITE, (uint64_t)given, size, PLACE, 0); \
         return given;                                       \
     }
 GIVES_ITS_OWN(struct tm, localtime, (const time_t *of), sizeof *given, of)

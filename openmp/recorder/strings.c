@@ -92,8 +92,8 @@ static char rest_of_tokens;
 char *__real_strtok(char *, const char *);
 char *__wrap_strtok(char *text, const char *signs) {
     if (!text)
-        reads(&rest_of_tokens, 1, PLACE);
-    writes(&rest_of_tokens, 1, PLACE);
+        taskback_access(READ, (uint64_t)&rest_of_tokens, 1, PLACE, 0);
+    taskback_access(WRITE, (uint64_t)&rest_of_tokens, 1, PLACE, 0);
     reads(text, whole(text), PLACE);
     char *found = __real_strtok(text, signs);
     if (found) {
