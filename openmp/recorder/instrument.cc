@@ -285,12 +285,14 @@ public:
         for (Function &function : module)
             if (!function.isDeclaration() && !function.hasAvailableExternallyLinkage() && is_of_program(function))
                 take(function);
-        tell(module);
+        if (!is_optimised_)
+            tell(module);
         return PreservedAnalyses::none();
     }
 
 private:
-    // By this the recorder knows that the pass tells what falls to who did a loop's last iteration.
+    // By this the recorder knows that the pass tells what falls to who did a loop's last iteration, as code that isn't
+    // optimised has it.
     static void tell(Module &module) {
         Constant *one = ConstantInt::get(Type::getInt8Ty(module.getContext()), 1);
         if (!module.getNamedGlobal("taskback_tells_last"))
@@ -306,7 +308,7 @@ private:
         std::vector<std::pair<Instruction *, Value *>> found;
         DenseMap<const AllocaInst *, bool> known;
         const bool is_loop = has_loop(function);
-        const auto lasts = is_loop ? branches_of_last(function) : std::vector<BranchInst *>();
+        const auto lasts = is_loop && !is_optimised_ ? branches_of_last(function) : std::vector<BranchInst *>();
         Simd simd(function, is_optimised_);
         for (BasicBlock &block : function) {
             DenseSet<const Value *> loaded;

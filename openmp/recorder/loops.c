@@ -30,7 +30,7 @@ static void watch_number(struct own *own, void *last, void *low, void *high, voi
     own->loop = (struct loop){0, {(uint64_t)low, (uint64_t)last, (uint64_t)high, (uint64_t)stride}, 0, size, own->task, 1, 1};
 }
 
-/* There where the pass has made the calls for loads and stores. */
+/* There where the pass has made the calls, of a program that isn't optimised. */
 extern __attribute__((weak)) const char taskback_tells_last;
 
 static void end_loop(struct own *own, int is_last, uint64_t place) {
