@@ -28,8 +28,10 @@ void Memory::take(std::size_t at) {
     const event &e = run_.trace[at];
     if (e.kind == BARRIER_END || e.kind == REGION_END)
         copied_at_.clear();
-    if (e.kind == MEMORY || ((e.kind == START || e.kind == END) && e.mark == STACK))
+    if (e.kind == MEMORY || (e.kind == LANE && e.value != 0) || ((e.kind == START || e.kind == END) && e.mark == STACK))
         return is_new(at, e);
+    if (e.kind == LOCK && e.mark == REDUCES)
+        return reduce(at);
     if (e.kind == GROUP_CLOSE || e.kind == COPY) {
         auto found = run_.combined.find(at);
         if (found != run_.combined.end())
@@ -47,10 +49,32 @@ void Memory::take(std::size_t at) {
     }
     if (run_.segments[run_.segment_of[at]].actor == 0 && run_.trace.thread(at) != 0)
         strangers++;
+    if (e.size != SET && size <= sizeof(u64) && !(e.mark & FREED))
+        handover_.see(at, e);
+    touch_all(at, e);
+}
+
+// Each thread of a team may put its part of a reduction into the variable when it has come to its end.
+void Memory::reduce(std::size_t at) {
+    auto found = run_.reduction_at.find(at);
+    if (found == run_.reduction_at.end())
+        return;
+    const Reduction &reduction = run_.reductions[found->second];
+    const u32 region = run_.actors[run_.segments[run_.segment_of[at]].actor].region;
+    for (std::size_t written : reduction.writes) {
+        const event &e = run_.trace[written];
+        const Block *block = block_at(e.address);
+        if (is_copy(e.address) || is_on_stack(reduction.actor, e.address) || (block && block->at > run_.regions[region].begun))
+            continue;
+        touch_all(at, e);
+    }
+}
+
+// As the event does, which may be another one's.
+void Memory::touch_all(std::size_t at, const event &e) {
     if (e.size == SET)
         return touch_set(at, e);
-    if (size <= sizeof(u64) && !(e.mark & FREED))
-        handover_.see(at, e);
+    u64 size = e.size == LARGE ? e.value : e.size;
     touch(at, e.address, size ? size : size_of_block(e), e.kind == WRITE, e.mark);
 }
 
@@ -166,8 +190,9 @@ bool Memory::compare(const Now &now, Bucket &bucket) {
         if (!conflicts && (is_plain_ || ++seen > FEW))
             return false;
         bool meets = touch.mask & now.mask && (conflicts || covers);
-        bool is_ordered = meets && (run_.is_before(touch.segment, now.segment) || is_own(now, touch)
-                                    || (conflicts && (is_in_turn(now, touch) || is_handed_over(now, touch))));
+        bool is_ordered = meets && (run_.is_before(touch.segment, now.segment)
+                                    || (!run_.are_lanes(touch.segment, now.segment)
+                                        && (is_own(now, touch) || (conflicts && (is_in_turn(now, touch) || is_handed_over(now, touch))))));
         if (meets && !is_ordered && conflicts)
             add_race(now, touch.at, touch.segment, run_.are_apart(touch.segment, now.segment), false);
         is_passed = is_passed && is_ordered;
@@ -422,7 +447,7 @@ Race *Memory::add_race(const Now &now, u32 at, u32 segment, bool is_apart, bool 
         races[added.first->second].count++;
         return nullptr;
     }
-    u64 address = std::max({now.address, e.address, is_copied ? 0 : now.granule * GRANULE});
+    u64 address = std::max({now.address, e.kind == LOCK ? 0 : e.address, is_copied ? 0 : now.granule * GRANULE});
     races.push_back(Race{at, now.at, segment, now.segment, address, 1, is_apart, is_copied});
     u64 begin = 0;
     const Block *block = block_at(races.back().address, &begin);

@@ -66,6 +66,8 @@ private:
     void take(std::size_t at);
     bool is_copy(u64 address) const;
     u64 size_of_block(const event &e) const;
+    void reduce(std::size_t at);
+    void touch_all(std::size_t at, const event &e);
     void touch_set(std::size_t at, const event &e);
     void touch(std::size_t at, u64 address, u64 size, bool is_write, u8 mark);
     void touch_place(Now &now, u32 &place);

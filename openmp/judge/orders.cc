@@ -7,11 +7,24 @@ void Run::lock(std::size_t at, const event &e) {
     State &s = state_of(e);
     part_ways(s, at);
     if (e.kind == UNLOCK) {
+        s.reduction = NONE;
         s.locks = locks.without(s.locks, e.address);
         return;
     }
     (e.value ? counts.reductions : counts.locks)++;
     s.locks = locks.with(s.locks, e.address, e.mark == SHARED);
+    if (e.mark == REDUCES && s.phase != NONE && actors[s.actor].flags & Actor::IS_PART)
+        reduce(s, at, e.address);
+}
+
+// Whoever of the team's threads puts the parts together, any other one might.
+void Run::reduce(State &s, std::size_t at, u64 lock) {
+    auto added = reduction_of_.emplace(std::make_pair(s.phase, lock), static_cast<u32>(reductions.size()));
+    if (added.second)
+        reductions.emplace_back();
+    s.reduction = reduction_at[at] = added.first->second;
+    segment_of[at] = s.segment;
+    locks_of[at] = s.locks;
 }
 
 // Makes it a node after both.

@@ -12,11 +12,13 @@ void Run::begin_region(const event &e) {
     region.unit = s.unit;
     region.is_one_by_clause = s.is_next_one || s.is_one;
     region.is_league = leagues_.count(e.task) != 0;
+    region.is_one_team = s.is_next_team_one;
     if (s.phase != NONE) {
         const Region &outer = regions[phases[s.phase].region];
         region.is_nested = outer.is_nested || !outer.is_league;
+        region.may_be_teams = region.is_league && outer.size == 1 && !outer.is_one_team;
     }
-    s.is_next_one = false;
+    s.is_next_one = s.is_next_team_one = false;
     u32 number = static_cast<u32>(regions.size()), open = node_of(s);
     region_of_[e.address] = number;
     regions.push_back(std::move(region));
@@ -34,11 +36,12 @@ u32 Run::open_phase(u32 region, u32 open) {
 void Run::begin_part(const event &e, u32 thread) {
     auto known = region_of_.find(e.address);
     bool is_of_program = e.size == 1 && e.value == 1;
-    if (e.address == 0 && !is_of_program)
+    if (e.mark == TEAMS || (e.address == 0 && !is_of_program))
         leagues_.insert(e.task);
     if (e.address == 0 || known == region_of_.end())
         return;
     Region &region = regions[known->second];
+    region.is_league = region.is_league || e.mark == TEAMS;
     u32 part = static_cast<u32>(actors.size()), phase = region.phases[0];
     actors.emplace_back();
     number_of_.push_back(e.task);

@@ -61,7 +61,7 @@ void Report::write_counts(std::ostream &out) const {
     const Counts &c = run_.counts;
     out << "\"counts\": {\"locks\": " << c.locks << ", \"reductions\": " << c.reductions << ", \"detached\": " << c.detached
         << ", \"cancellations\": " << c.cancellations << ", \"deep\": " << c.deep << ", \"handed_over\": " << c.soft
-        << ", \"forks\": " << c.forks << ", \"no_tool\": " << c.no_tool;
+        << ", \"forks\": " << c.forks << ", \"no_tool\": " << c.no_tool << ", \"simd\": " << c.simd;
     if (memory_)
         out << ", \"by_atomics\": " << memory_->by_atomics << ", \"by_locks\": " << memory_->by_locks
             << ", \"by_handover\": " << memory_->by_handover
@@ -101,10 +101,10 @@ void Report::write_side(std::ostream &out, u32 at, u32 segment) {
     const event &e = run_.trace[at];
     u32 actor = run_.segments[segment].actor;
     name(actor);
-    const char *done = e.kind == GROUP_CLOSE || e.kind == COPY ? "writes" : e.mark & FREED ? "frees" : e.kind == WRITE ? "writes" : "reads";
+    const char *done = e.kind == GROUP_CLOSE || e.kind == COPY || e.kind == LOCK ? "writes" : e.mark & FREED ? "frees" : e.kind == WRITE ? "writes" : "reads";
     out << "{\"done\": \"" << done << "\", \"place\": " << e.place << ", \"actor\": " << actor << ", \"address\": " << e.address
         << ", \"size\": " << (e.mark >> ROW_SHIFT ? 1u << ((e.mark >> ROW_SHIFT) - 1) : e.size) << ", \"unit\": " << (run_.segments[segment].flags & Segment::IS_UNIT ? "true" : "false")
-        << ", \"frame\": " << (e.mark & FRAME && e.kind == WRITE ? "true" : "false") << ", \"library\": " << (e.mark & LIBRARY && e.kind != GROUP_CLOSE && e.kind != COPY ? "true" : "false")
+        << ", \"frame\": " << (e.mark & FRAME && e.kind == WRITE ? "true" : "false") << ", \"library\": " << (e.mark & LIBRARY && (e.kind == READ || e.kind == WRITE) ? "true" : "false")
         << ", \"callers\": ";
     write_callers(out, at);
     out << "}";
@@ -116,7 +116,8 @@ void Report::write_races(std::ostream &out) {
         const Race &race = memory_->races[i];
         const Block &block = memory_->block_of_race[i];
         out << (i ? ",\n" : "\n") << "{\"count\": " << race.count << ", \"apart\": " << (race.is_apart ? "true" : "false")
-            << ", \"copied\": " << (race.is_copied ? "true" : "false") << ", \"sure\": " << (race.is_sure ? "true" : "false") << ", \"address\": " << race.address;
+            << ", \"copied\": " << (race.is_copied ? "true" : "false") << ", \"sure\": " << (race.is_sure ? "true" : "false")
+            << ", \"lanes\": " << (run_.are_lanes(race.earlier_segment, race.later_segment) ? "true" : "false") << ", \"address\": " << race.address;
         if (block.at != NONE && run_.trace[block.at].place != 0)
             out << ", \"block\": {\"place\": " << run_.trace[block.at].place
                 << ", \"offset\": " << race.address - memory_->block_begin[i] << ", \"size\": " << block.size << "}";

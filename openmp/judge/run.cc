@@ -34,7 +34,7 @@ State &Run::fresh(u32 number) {
 }
 
 u32 Run::add_segment(u32 actor, u32 node, u32 flags) {
-    segments.push_back(Segment{actor, node, flags});
+    segments.push_back(Segment{actor, node, flags, NONE});
     return static_cast<u32>(segments.size() - 1);
 }
 
@@ -52,7 +52,9 @@ void Run::split(State &s, u32 also) {
     u32 node = graph_.add(node_of(s));
     if (also != NONE)
         graph_.lead(also, node);
+    const u32 lanes = segments[s.segment].lanes;
     s.segment = add_segment(s.actor, node, segments[s.segment].flags);
+    segments[s.segment].lanes = lanes;
 }
 
 void Run::refuse(const char *rule, const char *step, const State &s, u32 other, const event &e) {
@@ -84,6 +86,10 @@ void Run::access(std::size_t at, const event &e) {
     segment_of[at] = s.segment;
     locks_of[at] = region_copies_.empty() ? s.locks : locks_with_copy(s, e);
     chain_of[at] = s.callers;
+    if (s.reduction != NONE && e.kind == WRITE && !(e.mark & FREED)) {
+        reductions[s.reduction].actor = s.actor;
+        reductions[s.reduction].writes.push_back(at);
+    }
     if (e.mark & ATOMIC)
         part_ways(s, at);
 }
@@ -140,6 +146,10 @@ void Run::take_sync(std::size_t at, const event &e) {
         segment_of[at] = state_of(e).segment;
         forget_released(e);
         return;
+    case LANE:
+        segment_of[at] = state_of(e).segment;
+        forget_released(e);
+        return begin_lane(e);
     case ENDED: return;
     default: return take_share(e);
     }
@@ -161,6 +171,10 @@ void Run::take_share(const event &e) {
     case MASKED_END: return end_masked(e);
     case ORDERED_BEGIN: return begin_ordered(e);
     case ORDERED_END: return end_ordered(e);
+    case LAST_BEGIN: return begin_last(e);
+    case LAST_END: return end_last(e);
+    case LANES_BEGIN: return begin_lanes(e);
+    case LANES_END: return end_lanes(e);
     case POST: return post(e);
     case AWAIT: return await(e);
     default: return;
@@ -179,6 +193,7 @@ void Run::note(const event &e) {
     case NOTE_NO_TOOL: counts.no_tool++; return;
     case NOTE_ONE_THREAD: s.is_next_one = true; return;
     case NOTE_ONE_FROM_HERE: s.is_one = true; return;
+    case NOTE_ONE_TEAM: s.is_next_team_one = true; return;
     case NOTE_MORE_FROM_HERE: s.is_one = false; return;
     case NOTE_THREAD_NUMBER:
         actors[s.actor].flags |= Actor::HAS_NUMBER;
@@ -250,7 +265,7 @@ bool Run::is_before(u32 one, u32 other) {
     if (one == other)
         return true;
     if (a.flags & b.flags & Segment::IS_LIGHT && a.node == b.node)
-        return false;
+        return is_lane_before(one, other);
     return is_before_node(one, begin_of(other));
 }
 

@@ -50,11 +50,16 @@ struct Segment {
     u32 actor;
     u32 node;    // of a light one: its phase
     u32 flags;
+    u32 lanes = NONE;   // the phase that is the `simd` loop of which it is a lane
 };
 
+// A part of a region between two barriers, or a `simd` loop, which has no region.
 struct Phase {
     u32 open = NONE, close = NONE;    // nodes
     u32 region = NONE;
+    u64 safelen = 0;                  // lanes as far apart as that come one after the other; 0: none do
+    u32 lane_count = 0;
+    u32 ordered = NONE;               // the last ordered block's node
     std::vector<u32> arrivals;        // nodes
     std::vector<u32> tasks;           // that were made in it
 };
@@ -78,19 +83,29 @@ struct Region {
     u32 size = 0;           // of the team
     std::size_t begun = 0;  // the event
     u32 unit = NONE;        // in which it was met
-    bool is_league = false;     // of `teams`: what a team's first thread does, which is one
+    bool is_league = false;     // of `teams`: its teams' first threads, or what such a one does
+    bool is_one_team = false;   // by a clause
+    bool may_be_teams = false;  // what the only team's first thread does, where there might be more teams
     bool is_one_by_clause = false, is_nested = false, has_number = false, is_ended = false;
     std::vector<u32> phases;
     std::vector<std::unique_ptr<Shared>> shared;
     std::vector<u32> parts;     // the numbers of its threads' tasks
 
     // Whether it has one thread, and might have more without a change of the program.
-    bool stands_for_more() const { return size == 1 && !is_one_by_clause && !is_nested && !is_league; }
+    bool stands_for_more() const {
+        return !is_nested && (is_league ? may_be_teams : size == 1 && !is_one_by_clause);
+    }
 };
 
 struct Group {
     std::vector<u32> members;
     std::vector<std::pair<u64, u64>> reduced;   // address, size
+};
+
+// What one thread writes to put a reduction of its team together: each of them may do it. The events.
+struct Reduction {
+    u32 actor = NONE;
+    std::vector<std::size_t> writes;
 };
 
 struct Fault {
@@ -103,7 +118,7 @@ struct Fault {
 // What isn't order, or is only this run's; counted.
 struct Counts {
     u64 locks = 0, reductions = 0, detached = 0, priorities = 0, cancellations = 0, deep = 0, soft = 0, forks = 0,
-        strangers = 0, copies = 0, no_tool = 0;
+        strangers = 0, copies = 0, no_tool = 0, simd = 0;
 };
 
 // A worksharing loop that a thread is in.
@@ -127,9 +142,13 @@ struct State {
     u32 fulfilled = NONE;   // the node of the call that fulfils its event
     u32 masked = NONE;      // the node of the last masked block of the phase
     u32 unit = NONE;        // that the thread is in
+    u32 reduction = NONE;   // that it puts together
+    u32 lanes = NONE;       // the phase that is the `simd` loop it is in
+    u32 lane_flags = 0;     // of its segment around that
     u32 masked_unit = NONE; // its first masked block
     std::map<std::array<u64, 3>, u32> static_units;     // in which it made tasks
     u32 unsettled = NONE;   // the last child, while its items come
+    bool is_next_team_one = false;
     bool is_next_one = false;   // the next region has one thread by a clause
     bool is_one = false;        // so have those that no clause gives more, by the program's words
     Loop loop;
@@ -157,6 +176,8 @@ public:
     bool is_node_before(u32 node, u32 segment) { return graph_.leads(node, begin_of(segment)); }
     // Whether two tasks that exclude each other keep these segments apart.
     bool are_apart(u32 one, u32 other);
+    // Whether they are two lanes of one `simd` loop.
+    bool are_lanes(u32 one, u32 other) const;
     // The actor, or what met the region of which it is a share.
     u32 home(u32 actor) const;
     // `0.1.2`: the second child of the first child of the program.
@@ -181,6 +202,8 @@ public:
     std::map<u64, u64> copies;
     // Writes that the runtime does when it puts a reduction together: the event behind which, address and size.
     std::map<std::size_t, std::vector<std::pair<u64, u64>>> combined;
+    std::vector<Reduction> reductions;
+    std::map<std::size_t, u32> reduction_at;    // by the event at which a thread gives its part
     bool has_ended = false;
     u32 open_regions = 0, team_most = 1, explicit_tasks = 0;
 
@@ -224,6 +247,8 @@ private:
     void enter_unit(State &s, u32 segment);
     void leave_unit(State &s);
     void end_loop(const event &e);
+    void begin_last(const event &e);
+    void end_last(const event &e);
     void begin_single(const event &e);
     void end_single(const event &e);
     void join(u32 &node, u32 other);
@@ -231,9 +256,15 @@ private:
     void end_masked(const event &e);
     void begin_ordered(const event &e);
     void end_ordered(const event &e);
+    void begin_lanes(const event &e);
+    void begin_lane(const event &e);
+    void leave_lane(State &s);
+    void end_lanes(const event &e);
+    bool is_lane_before(u32 one, u32 other) const;
     void post(const event &e);
     void await(const event &e);
     void lock(std::size_t at, const event &e);
+    void reduce(State &s, std::size_t at, u64 lock);
     void release(const event &e);
     void acquire(const event &e);
     void note(const event &e);
@@ -263,6 +294,8 @@ private:
     };
     std::map<u64, RegionCopy> region_copies_;
     std::vector<u32> number_of_;    // the task number of each actor
+    std::map<std::pair<u32, u64>, u32> reduction_of_;   // by phase and lock
+    std::unordered_map<u32, u32> lane_of_;  // where there is a `safelen`: the number of a segment's lane
     std::set<u32> leagues_;         // the first tasks of the teams of a league
     std::size_t now_ = 0;           // the event that is taken
 };

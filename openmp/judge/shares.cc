@@ -106,6 +106,19 @@ void Run::end_loop(const event &e) {
         s.segment = add_segment(s.actor, graph_.add(node_of(s)), Segment::IS_ALONE);
 }
 
+// Where the pass tells it, it may come behind a barrier.
+void Run::begin_last(const event &e) {
+    State &s = state_of(e);
+    if (has_share(s, actors) && s.chain == NONE)
+        s.segment = add_segment(s.actor, graph_.add(node_of(s)), Segment::IS_ALONE);
+}
+
+void Run::end_last(const event &e) {
+    State &s = state_of(e);
+    if (has_share(s, actors) && s.chain == NONE)
+        s.segment = add_segment(s.actor, graph_.add(node_of(s)), 0);
+}
+
 void Run::begin_single(const event &e) {
     State &s = state_of(e);
     if (!has_share(s, actors))
@@ -157,6 +170,8 @@ void Run::end_masked(const event &e) {
 // Ordered blocks come in the order of the iterations.
 void Run::begin_ordered(const event &e) {
     State &s = state_of(e);
+    if (s.lanes != NONE)
+        return split(s, phases[s.lanes].ordered);
     if (!s.loop.is_on)
         return;
     split(s, s.loop.shared->ordered);
@@ -164,6 +179,10 @@ void Run::begin_ordered(const event &e) {
 
 void Run::end_ordered(const event &e) {
     State &s = state_of(e);
+    if (s.lanes != NONE)
+        phases[s.lanes].ordered = node_of(s);
+    if (s.lanes != NONE)
+        return split(s);
     if (!s.loop.is_on)
         return;
     s.loop.shared->ordered = node_of(s);

@@ -240,6 +240,8 @@ __attribute__((constructor(101))) static void at_the_beginning(void) {
     __libc_single_threaded = 0; /* or a lone thread's counts of shared pointers aren't atomic */
     if (!name)
         return;
+    /* Libomp 14 ends by a fault where `target nowait` has a thread of its own beside a team of one. */
+    setenv("LIBOMP_USE_HIDDEN_HELPER_TASK", "0", 0);
     file = open(name, O_RDWR | O_CREAT | O_TRUNC | O_CLOEXEC, 0666);
     taskback_is_recording = file >= 0 && put_header();
     pthread_atfork(note_fork, 0, leave_to_the_parent);

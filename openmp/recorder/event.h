@@ -17,7 +17,8 @@ enum kind {
     GROUP_CLOSE,    /* task */
     REGION_BEGIN,   /* task: who met the parallel region; address: the region */
     REGION_END,     /* the same */
-    IMPLICIT_BEGIN, /* task: the implicit task; address: its region, 0 for the initial task; value: its index */
+    IMPLICIT_BEGIN, /* task: the implicit task; address: its region, 0 for the initial task; value: its index; size: of
+                       the team; mark: TEAMS where it is the first task of a team of a league, whose teams that counts */
     BARRIER_BEGIN,  /* task: an implicit task; address: its region */
     BARRIER_END,    /* the same */
     READ,           /* task; address; value: the number read; size; place; mark. Of elements that one place touches in
@@ -25,7 +26,8 @@ enum kind {
                        a SET of elements, whose numbers aren't kept: the address is that of the first of 64 */
     WRITE,          /* the same; the number written */
     MEMORY,         /* task; address, value: from here on this many bytes are new; place: who took them; mark: STACK */
-    LOCK,           /* task; address: the lock; value: 1 where it is a reduction's; mark: SHARED */
+    LOCK,           /* task; address: the lock; value: 1 where it is a reduction's; mark: SHARED, or REDUCES where the
+                       team's threads put their parts together there */
     UNLOCK,         /* task; address: the lock */
     NOTE,           /* task; value: one of enum note; place */
     COPY,           /* address: a thread's copy of a reduced variable; value: the variable; with a size, its own */
@@ -33,7 +35,7 @@ enum kind {
     ENDED,          /* the program has come to its end */
     LOOP_BEGIN,     /* task: an implicit task; address: how many iterations; value: the chunk's size, 0 for none; mark */
     ITERATION,      /* task; address: of the loop's number, or 0; value: the number; mark: HANDED_OUT */
-    LOOP_END,       /* task; mark: 1 where it did the last iteration */
+    LOOP_END,       /* task; mark: 1 where it did the last iteration, and nothing else tells that */
     SINGLE_BEGIN,   /* task; mark: 1 where it is the one that does it */
     SINGLE_END,     /* task */
     MASKED_BEGIN,   /* task */
@@ -47,6 +49,11 @@ enum kind {
     ACQUIRE,        /* task; address; mark: UP where it counts up */
     FULFIL,         /* task; address: the task whose event it fulfils */
     RESUME,         /* task: it goes on on this thread, where it hasn't been */
+    LAST_BEGIN,     /* task: from here on it does what falls to who did the last iteration of a loop */
+    LAST_END,       /* task */
+    LANES_BEGIN,    /* task: a `simd` loop; value: its `safelen`, 0 for none */
+    LANE,           /* task: its next iteration; address, value: the stack below its function, which is new */
+    LANES_END,      /* task */
     CHAIN           /* task: its next loads and stores are in a function that was called at place, its caller at the low
                        half of address, and so on: the high half, and the halves of value */
 };
@@ -57,7 +64,8 @@ enum note {
     NOTE_ONE_THREAD,        /* the next region has one thread by a clause */
     NOTE_NO_TOOL, NOTE_NO_ROOM, NOTE_FORK,
     NOTE_ONE_FROM_HERE,     /* regions that the task meets have one thread where no clause says more */
-    NOTE_MORE_FROM_HERE
+    NOTE_MORE_FROM_HERE,
+    NOTE_ONE_TEAM           /* the next league has one team by a clause */
 };
 
 /* Marks of a READ or WRITE; what is freed may be the frame of a function that ends, of a task's
@@ -70,7 +78,7 @@ enum { ROW_SHIFT = 5 };
 /* Marks of a loop, of an iteration, of a release, of a lock that several may hold, and of a task's
    own part of a stack. */
 enum { LOOP_STATIC = 1, LOOP_ORDERED = 2, HANDED_OUT = 1, KEEPS = 1, GUARD = 2, NOTHING = 4, DOWN = 8, UP = 8, SHARED = 1,
-       STACK = 1 };
+       REDUCES = 2, STACK = 1, TEAMS = 1 };
 
 /* 32 bytes: what is written is most of what recording costs. */
 struct event {
@@ -89,7 +97,7 @@ struct event {
 static inline int takes_number(uint8_t kind, uint8_t mark) {
     switch (kind) {
     case WRITE: return (mark & FREED) && !(mark & FRAME);
-    case READ: case CHAIN: case MEMORY: case ITEM: case WAIT_ITEM: case ITERATION: case COPY: case NOTE: return 0;
+    case READ: case CHAIN: case MEMORY: case ITEM: case WAIT_ITEM: case ITERATION: case LANE: case COPY: case NOTE: return 0;
     default: return 1;
     }
 }

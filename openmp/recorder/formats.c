@@ -60,6 +60,15 @@ static void reads_of(const char *format, va_list *arguments, uint64_t place) {
 
 /* ---- printing */
 
+/* The text is in a block that the library has taken. */
+static void given_text(char **to, int length, uint64_t place) {
+    if (length < 0)
+        return;
+    taskback_taken(*to, place);
+    writes(*to, (size_t)length + 1, place);
+    writes(to, sizeof *to, place);
+}
+
 #define FORMATTED(type, name, parameters, arguments, real, after)   \
     type __wrap_##name parameters {                                 \
         va_list list, again;                                        \
@@ -78,6 +87,8 @@ FORMATTED(int, sprintf, (char *to, const char *format, ...), (to, format, list),
           writes(to, done < 0 ? 0 : (size_t)done + 1, PLACE))
 FORMATTED(int, snprintf, (char *to, size_t most, const char *format, ...), (to, most, format, list), vsnprintf,
           writes(to, done < 0 ? 0 : (size_t)done < most ? (size_t)done + 1 : most, PLACE))
+
+FORMATTED(int, asprintf, (char **to, const char *format, ...), (to, format, list), vasprintf, given_text(to, done, PLACE))
 
 #define FORMATTED_LIST(name, parameters, arguments, after)          \
     int __real_##name parameters;                                   \

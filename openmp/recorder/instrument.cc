@@ -1,6 +1,9 @@
 // A pass of clang: a call in front of each load and store that somebody else may see. The coverage's calls, which it stands
 // for, are made for all variables of a function, also for those whose address nobody else can have.
+#include "llvm/Analysis/LoopInfo.h"
 #include "llvm/Analysis/ValueTracking.h"
+#include "llvm/IR/DebugInfoMetadata.h"
+#include "llvm/IR/Dominators.h"
 #include "llvm/IR/IRBuilder.h"
 #include "llvm/IR/InstIterator.h"
 #include "llvm/IR/IntrinsicInst.h"
@@ -51,18 +54,251 @@ bool has_loop(const Function &function) {
     return false;
 }
 
+// ---- `simd` loops, as code that isn't optimised has them
+
+// What is said of a loop: whether it is one of `simd`, and its `safelen` (0: none).
+struct Lanes {
+    bool is_simd = false;
+    uint64_t safelen = 0;
+    unsigned line = 0;
+};
+
+uint64_t number_in(const MDNode *node) {
+    const auto *number = node->getNumOperands() > 1 ? mdconst::dyn_extract_or_null<ConstantInt>(node->getOperand(1)) : nullptr;
+    return number ? number->getZExtValue() : 0;
+}
+
+Lanes lanes_of(const Loop &loop) {
+    Lanes found;
+    const MDNode *told = loop.getLoopID();
+    uint64_t width = 0;
+    bool is_parallel = false;
+    for (unsigned i = 1; told && i < told->getNumOperands(); i++) {
+        const auto *one = dyn_cast<MDNode>(told->getOperand(i));
+        const auto *name = one && one->getNumOperands() ? dyn_cast<MDString>(one->getOperand(0)) : nullptr;
+        if (name && name->getString() == "llvm.loop.vectorize.enable")
+            found.is_simd = number_in(one) != 0;
+        else if (name && name->getString() == "llvm.loop.vectorize.width")
+            width = number_in(one);
+        else if (name && name->getString() == "llvm.loop.parallel_accesses")
+            is_parallel = true;
+        else if (const auto *place = dyn_cast<DILocation>(told->getOperand(i)))
+            found.line = found.line ? found.line : place->getLine();
+    }
+    found.safelen = is_parallel ? 0 : width;
+    found.is_simd = found.is_simd && (is_parallel || width > 0);
+    return found;
+}
+
+// Whether it is a thread's share of a worksharing loop, whose end the runtime says: its iterations are told apart already.
+bool is_shared_out(const Loop &loop) {
+    for (const Instruction &one : *loop.getHeader()) {
+        const auto *load = dyn_cast<LoadInst>(&one);
+        const auto *variable = load ? dyn_cast<AllocaInst>(load->getPointerOperand()) : nullptr;
+        if (!variable)
+            continue;
+        for (const User *user : variable->users()) {
+            const auto *call = dyn_cast<CallBase>(user);
+            if (call && call->getCalledFunction() && begins(call->getCalledFunction()->getName(), "__kmpc_"))
+                return true;
+        }
+    }
+    return false;
+}
+
+// The variables that the program has declared, without the copies that clang makes for a clause: their lines.
+DenseMap<const Value *, unsigned> declared_in(const Function &function) {
+    DenseMap<const Value *, unsigned> lines;
+    auto add = [&](const auto &told) {
+        if (!told.getVariable()->isArtificial() && told.getNumVariableLocationOps() > 0)
+            lines.try_emplace(told.getVariableLocationOp(0), told.getVariable()->getLine());
+    };
+    for (const Instruction &one : instructions(function)) {
+        if (const auto *told = dyn_cast<DbgVariableIntrinsic>(&one))
+            add(*told);
+#if LLVM_VERSION_MAJOR >= 19
+        for (const DbgVariableRecord &told : filterDbgVars(one.getDbgRecordRange()))
+            add(told);
+#endif
+    }
+    return lines;
+}
+
+// How many bytes it has; 0 where that is known only when the function runs.
+uint64_t size_of(const AllocaInst *variable, const DataLayout &layout) {
+    const auto *count = dyn_cast<ConstantInt>(variable->getArraySize());
+    return count ? layout.getTypeAllocSize(variable->getAllocatedType()) * count->getZExtValue() : 0;
+}
+
+class Simd {
+public:
+    Simd(Function &function, bool is_optimised) : function_(function) {
+        if (is_optimised)
+            return;
+        tree_ = std::make_unique<DominatorTree>(function);
+        loops_ = std::make_unique<LoopInfo>(*tree_);
+        for (Loop *loop : loops_->getLoopsInPreorder()) {
+            const Lanes lanes = lanes_of(*loop);
+            if (lanes.is_simd && !is_shared_out(*loop) && is_simple(*loop) && !around(loop->getHeader()))
+                found_.emplace_back(loop, lanes);
+        }
+        if (!found_.empty())
+            lines_ = declared_in(function);
+    }
+
+    // Whether the access is one of a lane to a local variable that the lanes share, and that one of them may change.
+    bool is_lanes_shared(const Instruction &one, const AllocaInst *variable) const {
+        const auto *loop = around(one.getParent());
+        return loop && is_shared(*loop, variable) && is_stored_in(*loop->first, variable);
+    }
+
+    void put_calls() {
+        for (const auto &loop : found_)
+            put_calls(loop);
+    }
+
+private:
+    using Found = std::pair<Loop *, Lanes>;
+
+    static bool is_simple(const Loop &loop) { return loop.getLoopPredecessor() && body(loop) && loop.getUniqueExitBlock(); }
+
+    // The first block of an iteration.
+    static BasicBlock *body(const Loop &loop) {
+        BasicBlock *inside = nullptr;
+        for (BasicBlock *next : successors(loop.getHeader()))
+            if (loop.contains(next) && next != loop.getHeader()) {
+                if (inside)
+                    return nullptr;
+                inside = next;
+            }
+        return inside;
+    }
+
+    const Found *around(const BasicBlock *block) const {
+        for (const Found &loop : found_)
+            if (loop.first->contains(block))
+                return &loop;
+        return nullptr;
+    }
+
+    bool is_shared(const Found &loop, const AllocaInst *variable) const {
+        const auto line = lines_.find(variable);
+        return line != lines_.end() && line->second < loop.second.line;
+    }
+
+    static bool is_stored_in(const Loop &loop, const AllocaInst *variable) {
+        SmallVector<const Value *, 8> left(1, variable);
+        while (!left.empty()) {
+            const Value *pointer = left.pop_back_val();
+            for (const User *user : pointer->users()) {
+                const auto *one = dyn_cast<Instruction>(user);
+                if (isa<GetElementPtrInst>(user) || isa<BitCastInst>(user))
+                    left.push_back(user);
+                else if (one && !isa<LoadInst>(one) && !isa<DbgInfoIntrinsic>(one) && loop.contains(one->getParent()))
+                    return true;
+            }
+        }
+        return false;
+    }
+
+    FunctionCallee callee(const char *name, ArrayRef<Type *> given) const {
+        return function_.getParent()->getOrInsertFunction(name, FunctionType::get(Type::getVoidTy(function_.getContext()), given, false));
+    }
+
+    void put_calls(const Found &loop) {
+        IRBuilder<> builder(loop.first->getLoopPredecessor()->getTerminator());
+        Type *number = builder.getInt64Ty(), *address = PointerType::get(builder.getInt8Ty(), 0);
+        builder.CreateCall(callee("taskback_lanes_begin", {number}), {builder.getInt64(loop.second.safelen)});
+        put_ordered(*loop.first);
+        builder.SetInsertPoint(&*body(*loop.first)->getFirstInsertionPt());
+        builder.CreateCall(callee("taskback_lane", {}), {});
+        for (Instruction &one : function_.getEntryBlock()) {
+            auto *variable = dyn_cast<AllocaInst>(&one);
+            const uint64_t size = variable ? size_of(variable, function_.getParent()->getDataLayout()) : 0;
+            if (size && is_known_elsewhere(variable) && !is_shared(loop, variable) && is_stored_in(*loop.first, variable))
+                builder.CreateCall(callee("taskback_lane_has", {address, number}),
+                                   {builder.CreatePointerCast(variable, address), builder.getInt64(size)});
+        }
+        builder.SetInsertPoint(&*loop.first->getUniqueExitBlock()->getFirstInsertionPt());
+        builder.CreateCall(callee("taskback_lanes_end", {}), {});
+    }
+
+    // Clang makes a function of an ordered block.
+    void put_ordered(const Loop &loop) {
+        std::vector<CallInst *> blocks;
+        for (BasicBlock *block : loop.blocks())
+            for (Instruction &one : *block) {
+                auto *call = dyn_cast<CallInst>(&one);
+                const Function *called = call ? call->getCalledFunction() : nullptr;
+                if (called && begins(called->getName(), "__captured_stmt"))
+                    blocks.push_back(call);
+            }
+        for (CallInst *call : blocks) {
+            IRBuilder<> builder(call);
+            builder.CreateCall(callee("taskback_lane_in_order", {}), {});
+            builder.SetInsertPoint(call->getNextNode());
+            builder.CreateCall(callee("taskback_lane_out_of_order", {}), {});
+        }
+    }
+
+    Function &function_;
+    std::unique_ptr<DominatorTree> tree_;
+    std::unique_ptr<LoopInfo> loops_;
+    std::vector<Found> found_;
+    DenseMap<const Value *, unsigned> lines_;
+};
+
+// Whether a call sets the variable to whether the thread does the last iteration.
+bool tells_last(const User *user, const Value *variable) {
+    const auto *call = dyn_cast<CallBase>(user);
+    const StringRef name = call && call->getCalledFunction() ? call->getCalledFunction()->getName() : "";
+    const unsigned at = begins(name, "__kmpc_for_static_init") ? 3 : begins(name, "__kmpc_dispatch_next") ? 2 : 0;
+    return at != 0 && call->getArgOperand(at) == variable;
+}
+
+// Where a thread goes on that does the last iteration, and where all go on: it alone writes what is `lastprivate`.
+std::vector<BranchInst *> branches_of_last(Function &function) {
+    std::vector<BranchInst *> found;
+    for (Instruction &one : instructions(function)) {
+        auto *branch = dyn_cast<BranchInst>(&one);
+        auto *test = branch && branch->isConditional() ? dyn_cast<ICmpInst>(branch->getCondition()) : nullptr;
+        auto *load = test && test->getPredicate() == CmpInst::ICMP_NE ? dyn_cast<LoadInst>(test->getOperand(0)) : nullptr;
+        auto *variable = load ? dyn_cast<AllocaInst>(load->getPointerOperand()) : nullptr;
+        if (variable && any_of(variable->users(), [&](const User *user) { return tells_last(user, variable); }))
+            found.push_back(branch);
+    }
+    return found;
+}
+
+void put_call_of_last(Module &module, BasicBlock *block, const char *name) {
+    IRBuilder<> builder(&*block->getFirstInsertionPt());
+    builder.CreateCall(module.getOrInsertFunction(name, FunctionType::get(builder.getVoidTy(), false)), {});
+}
+
 class Instrument : public PassInfoMixin<Instrument> {
 public:
+    explicit Instrument(bool is_optimised) : is_optimised_(is_optimised) {}
+
     static bool isRequired() { return true; }
 
     PreservedAnalyses run(Module &module, ModuleAnalysisManager &) {
         for (Function &function : module)
             if (!function.isDeclaration() && !function.hasAvailableExternallyLinkage() && is_of_program(function))
                 take(function);
+        if (!is_optimised_)
+            tell(module);
         return PreservedAnalyses::none();
     }
 
 private:
+    // By this the recorder knows that the pass tells what falls to who did a loop's last iteration, as code that isn't
+    // optimised has it.
+    static void tell(Module &module) {
+        Constant *one = ConstantInt::get(Type::getInt8Ty(module.getContext()), 1);
+        if (!module.getNamedGlobal("taskback_tells_last"))
+            new GlobalVariable(module, one->getType(), true, GlobalValue::WeakODRLinkage, one, "taskback_tells_last");
+    }
+
     static bool is_of_program(const Function &function) {
         StringRef name = function.getName();
         return !begins(name, "__sanitizer_") && !begins(name, "__tsan_") && !begins(name, "tsan.");
@@ -72,6 +308,8 @@ private:
         std::vector<std::pair<Instruction *, Value *>> found;
         DenseMap<const AllocaInst *, bool> known;
         const bool is_loop = has_loop(function);
+        const auto lasts = is_loop && !is_optimised_ ? branches_of_last(function) : std::vector<BranchInst *>();
+        Simd simd(function, is_optimised_);
         for (BasicBlock &block : function) {
             DenseSet<const Value *> loaded;
             for (Instruction &one : block) {
@@ -81,12 +319,17 @@ private:
                     loaded.clear();
                 if (isa<StoreInst>(one))
                     loaded.erase(pointer);
-                if (pointer && is_seen(one, pointer, known, is_loop) && !(isa<LoadInst>(one) && !one.isAtomic() && !loaded.insert(pointer).second))
+                if (pointer && is_seen(one, pointer, known, is_loop, simd) && !(isa<LoadInst>(one) && !one.isAtomic() && !loaded.insert(pointer).second))
                     found.emplace_back(&one, pointer);
             }
         }
         for (auto &access : found)
             put_call(*access.first, access.second);
+        simd.put_calls();
+        for (BranchInst *branch : lasts) {
+            put_call_of_last(*function.getParent(), branch->getSuccessor(0), "taskback_last_begin");
+            put_call_of_last(*function.getParent(), branch->getSuccessor(1), "taskback_last_end");
+        }
     }
 
     // Whether the recorder may begin a new part of the task there: up to it a pointer that is loaded from again tells nothing.
@@ -102,12 +345,12 @@ private:
         return is_loop && variable && isa<StoreInst>(one) && variable->getAllocatedType()->isIntegerTy();
     }
 
-    static bool is_seen(const Instruction &one, const Value *pointer, DenseMap<const AllocaInst *, bool> &known, bool is_loop) {
+    static bool is_seen(const Instruction &one, const Value *pointer, DenseMap<const AllocaInst *, bool> &known, bool is_loop, const Simd &simd) {
         const Value *object = getUnderlyingObject(pointer, 0);
         if (const auto *constant = dyn_cast<GlobalVariable>(object))
             return !constant->isConstant();
         const auto *variable = dyn_cast<AllocaInst>(object);
-        if (!variable)
+        if (!variable || simd.is_lanes_shared(one, variable))
             return true;
         if (is_number(one, pointer, is_loop))
             return true;
@@ -133,6 +376,8 @@ private:
         auto name = (store ? "__sanitizer_cov_store" : "__sanitizer_cov_load") + std::to_string(size);
         builder.CreateCall(module.getOrInsertFunction(name, builder.getVoidTy(), address), {given});
     }
+
+    const bool is_optimised_;
 };
 
 }  // namespace
@@ -140,11 +385,11 @@ private:
 extern "C" LLVM_ATTRIBUTE_WEAK PassPluginLibraryInfo llvmGetPassPluginInfo() {
     return {LLVM_PLUGIN_API_VERSION, "taskback", "1", [](PassBuilder &builder) {
 #if LLVM_VERSION_MAJOR >= 20
-                builder.registerOptimizerLastEPCallback([](ModulePassManager &passes, OptimizationLevel, ThinOrFullLTOPhase) {
+                builder.registerOptimizerLastEPCallback([](ModulePassManager &passes, OptimizationLevel level, ThinOrFullLTOPhase) {
 #else
-                builder.registerOptimizerLastEPCallback([](ModulePassManager &passes, OptimizationLevel) {
+                builder.registerOptimizerLastEPCallback([](ModulePassManager &passes, OptimizationLevel level) {
 #endif
-                    passes.addPass(Instrument());
+                    passes.addPass(Instrument(level != OptimizationLevel::O0));
                 });
             }};
 }

@@ -30,10 +30,13 @@ static void watch_number(struct own *own, void *last, void *low, void *high, voi
     own->loop = (struct loop){0, {(uint64_t)low, (uint64_t)last, (uint64_t)high, (uint64_t)stride}, 0, size, own->task, 1, 1};
 }
 
+/* There where the pass has made the calls, of a program that isn't optimised. */
+extern __attribute__((weak)) const char taskback_tells_last;
+
 static void end_loop(struct own *own, int is_last, uint64_t place) {
     own->loop.is_on = 0;
     begin_part(own);
-    taskback_note(own, LOOP_END, own->task, 0, 0, place)->mark = (uint8_t)is_last;
+    taskback_note(own, LOOP_END, own->task, 0, 0, place)->mark = (uint8_t)(is_last && !&taskback_tells_last);
 }
 
 static int *last_of_static(struct own *own) { return (int *)own->loop.bounds[1]; }
@@ -89,6 +92,24 @@ DISPATCHED_LOOP(4, int32_t)
 DISPATCHED_LOOP(4u, uint32_t)
 DISPATCHED_LOOP(8, int64_t)
 DISPATCHED_LOOP(8u, uint64_t)
+
+/* By the pass. */
+void taskback_last_begin(void) {
+    struct own *own = own_state();
+    begin_part(own);
+    own->is_last = 1;
+    taskback_note(own, LAST_BEGIN, own->task, 0, 0, 0);
+}
+
+/* Others come here too. */
+void taskback_last_end(void) {
+    struct own *own = own_state();
+    if (!own->is_last)
+        return;
+    begin_part(own);
+    own->is_last = 0;
+    taskback_note(own, LAST_END, own->task, 0, 0, 0);
+}
 
 static void note_here(enum kind kind, int mark, uint64_t place) {
     struct own *own = own_state();
@@ -189,6 +210,9 @@ void __wrap___kmpc_doacross_wait(void *at, int32_t thread, const int64_t *number
 int __real_omp_get_thread_num(void);
 void __real_omp_set_num_threads(int);
 void __real___kmpc_push_num_threads(void *, int32_t, int32_t);
+void __real___kmpc_push_num_teams(void *, int32_t, int32_t, int32_t);
+__attribute__((weak)) void __real___kmpc_push_num_teams_51(void *, int32_t, int32_t, int32_t, int32_t);
+int __real_omp_get_team_num(void);
 void __real___kmpc_serialized_parallel(void *, int32_t);
 void __real___kmpc_flush(void *);
 
@@ -202,6 +226,11 @@ int __wrap_omp_get_thread_num(void) {
     return __real_omp_get_thread_num();
 }
 
+int __wrap_omp_get_team_num(void) {
+    note_of_threads(NOTE_THREAD_NUMBER, PLACE);
+    return __real_omp_get_team_num();
+}
+
 void __wrap_omp_set_num_threads(int count) {
     note_of_threads(count == 1 ? NOTE_ONE_FROM_HERE : NOTE_MORE_FROM_HERE, PLACE);
     __real_omp_set_num_threads(count);
@@ -211,6 +240,19 @@ void __wrap___kmpc_push_num_threads(void *at, int32_t thread, int32_t count) {
     if (count == 1)
         note_of_threads(NOTE_ONE_THREAD, PLACE);
     __real___kmpc_push_num_threads(at, thread, count);
+}
+
+void __wrap___kmpc_push_num_teams(void *at, int32_t thread, int32_t teams, int32_t threads) {
+    if (teams == 1)
+        note_of_threads(NOTE_ONE_TEAM, PLACE);
+    __real___kmpc_push_num_teams(at, thread, teams, threads);
+}
+
+/* Not in the runtime of clang 14. */
+void __wrap___kmpc_push_num_teams_51(void *at, int32_t thread, int32_t least, int32_t most, int32_t threads) {
+    if (most == 1)
+        note_of_threads(NOTE_ONE_TEAM, PLACE);
+    __real___kmpc_push_num_teams_51(at, thread, least, most, threads);
 }
 
 /* A region whose `if` clause doesn't hold. */

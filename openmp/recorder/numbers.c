@@ -30,6 +30,20 @@ GIVES(int, clock_gettime, (clockid_t clock, struct timespec *now), now, clock, n
 GIVES(struct tm *, localtime_r, (const time_t *of, struct tm *parts), parts, of, parts)
 GIVES(struct tm *, gmtime_r, (const time_t *of, struct tm *parts), parts, of, parts)
 
+/* These give what the library has for all. */
+#define GIVES_ITS_OWN(type, name, parameters, size, ...)    \
+    __attribute__((weak)) type *__real_##name parameters;   \
+    type *__wrap_##name parameters {                        \
+        type *given = __real_##name(__VA_ARGS__);           \
+        if (given)                                          \
+            taskback_access(WRITE, (uint64_t)given, size, PLACE, 0); \
+        return given;                                       \
+    }
+GIVES_ITS_OWN(struct tm, localtime, (const time_t *of), sizeof *given, of)
+GIVES_ITS_OWN(struct tm, gmtime, (const time_t *of), sizeof *given, of)
+GIVES_ITS_OWN(char, asctime, (const struct tm *of), __builtin_strlen(given) + 1, of)
+GIVES_ITS_OWN(char, ctime, (const time_t *of), __builtin_strlen(given) + 1, of)
+
 __attribute__((weak)) int __real_gettimeofday(struct timeval *, void *);
 int __wrap_gettimeofday(struct timeval *now, void *zone) {
     int status = __real_gettimeofday(now, zone);

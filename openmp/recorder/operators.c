@@ -11,6 +11,15 @@ TAKES(_ZnamRKSt9nothrow_t, (size_t size, const void *mark), size, mark)
 TAKES(_ZnwmSt11align_val_t, (size_t size, size_t align), size, align)
 TAKES(_ZnamSt11align_val_t, (size_t size, size_t align), size, align)
 
+/* An exception that is thrown, which the library has from malloc or from a store of its own. */
+__attribute__((weak)) void *__real___cxa_allocate_exception(size_t);
+void *__wrap___cxa_allocate_exception(size_t size) {
+    void *block = __real___cxa_allocate_exception(size);
+    if (block)
+        taskback_new_memory(own_state(), (uint64_t)block, size, PLACE);
+    return block;
+}
+
 #define GIVES_BACK(name, parameters, ...)       \
     __attribute__((weak)) void __real_##name parameters; \
     void __wrap_##name parameters {             \

@@ -55,6 +55,14 @@ struct loop {
     int is_on;
 };
 
+/* A `simd` loop that the thread is in. */
+struct lanes {
+    uint32_t depth;            /* of such loops within each other */
+    uint32_t task;             /* that is in the outermost one */
+    uint64_t count;
+    int was_alone;
+};
+
 /* An array that is being sorted, and the room for that: the sort's own. */
 struct sorted {
     uint64_t array, room, size;
@@ -98,7 +106,11 @@ struct own {
     uint64_t loaded[FENCED];
     struct loop loop;
     struct loop outer[NESTED]; /* those around the regions that the thread has met */
+    uint32_t depths[NESTED];   /* of the tasks on the stack when it met them */
+    uint64_t met;              /* the region that it has met last, while it goes on */
     uint32_t nesting;
+    struct lanes lanes;
+    int is_last;               /* it does what falls to who did a loop's last iteration */
     struct running running[RUNNING_MOST];
     struct touched touched[1 << TOUCHED_BITS];
 };

@@ -83,7 +83,7 @@ static void lock_reduction(const void *lock, uint64_t place) {
     struct own *own = own_state();
     begin_loud_part(own);
     taskback_note(own, NOTE, own->task, 0, NOTE_REDUCTION, place);
-    taskback_note(own, LOCK, own->task, (uint64_t)lock, 1, place);
+    taskback_note(own, LOCK, own->task, (uint64_t)lock, 1, place)->mark = REDUCES;
 }
 
 static void unlock_reduction(const void *lock, uint64_t place) {

@@ -86,9 +86,14 @@ COMPARES(char *, strpbrk)
 COMPARES(size_t, strspn)
 COMPARES(size_t, strcspn)
 
-/* A piece of the text is found, and the sign behind it overwritten. What is left of the text the library keeps. */
+/* A piece of the text is found, and the sign behind it overwritten. Where the rest begins the library keeps, for all. */
+static char rest_of_tokens;
+
 char *__real_strtok(char *, const char *);
 char *__wrap_strtok(char *text, const char *signs) {
+    if (!text)
+        taskback_access(READ, (uint64_t)&rest_of_tokens, 1, PLACE, 0);
+    taskback_access(WRITE, (uint64_t)&rest_of_tokens, 1, PLACE, 0);
     reads(text, whole(text), PLACE);
     char *found = __real_strtok(text, signs);
     if (found) {

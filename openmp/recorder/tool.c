@@ -197,8 +197,11 @@ static void on_region_begin(ompt_data_t *task, const ompt_frame_t *frame, ompt_d
     begin_loud_part(own);
     region->value = __atomic_add_fetch(&region_count, 1, __ATOMIC_RELAXED);
     own->is_alone = 0;
-    if (own->nesting < NESTED)
+    if (own->nesting < NESTED) {
         own->outer[own->nesting] = own->loop;
+        own->depths[own->nesting] = own->depth;
+    }
+    own->met = region->value;
     own->nesting++;
     own->loop.is_on = 0;
     taskback_note(own, REGION_BEGIN, number_of(task), region->value, wanted, (uint64_t)place);
@@ -210,8 +213,12 @@ static void on_region_end(ompt_data_t *region, ompt_data_t *task, int flags, con
     begin_loud_part(own);
     own->task = number_of(task);
     taskback_note(own, REGION_END, own->task, region->value, 0, (uint64_t)place);
-    if (own->nesting > 0 && --own->nesting < NESTED)
+    own->met = 0;
+    if (own->nesting > 0 && --own->nesting < NESTED) {
         own->loop = own->outer[own->nesting];
+        if (own->depth > own->depths[own->nesting])     /* of a team's first task the runtime doesn't tell the end */
+            own->depth = own->depths[own->nesting];
+    }
     own->is_alone = own->index == 0 && own->depth == 0 && !taskback_has_strangers;
 }
 
@@ -226,8 +233,11 @@ static void on_implicit(ompt_scope_endpoint_t end, ompt_data_t *region, ompt_dat
     uint32_t before = own->task;
     name_task(task, STARTED);
     own->task = number_of(task);
-    uint64_t where = flags & ompt_task_initial || !region ? 0 : region->value;
-    taskback_note(own, IMPLICIT_BEGIN, own->task, where, index, 0)->size = (uint16_t)size;
+    /* Of a league with one team the runtime doesn't say which region it is. */
+    uint64_t where = region && region->value ? region->value : flags & ompt_task_initial ? own->met : 0;
+    struct event *event = taskback_note(own, IMPLICIT_BEGIN, own->task, where, index, 0);
+    event->size = (uint16_t)size;
+    event->mark = where && flags & ompt_task_initial ? TEAMS : 0;
     if (where)
         push_task(own, own->task, before, 0, 0);
 }

@@ -27,6 +27,8 @@ def common(first: Actor, second: Actor) -> Actor:
 def remedy(finding: Finding, race: Race) -> str:
     """What would order the two."""
     first, second = race.earlier.actor, race.later.actor
+    if race.is_of_lanes:
+        return "leave simd out, make it private or a reduction, or say safelen(N) where N iterations apart is safe"
     if race.is_copied or (first is second and first.is_part):
         return shared_words(first)
     meeting = common(first, second)

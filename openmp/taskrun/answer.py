@@ -122,6 +122,8 @@ def part_of_block(race: Race, side: Side) -> str:
 def who_words(finding: Finding, race: Race) -> str:
     """`tasks at sum.c:9 and sum.c:9`; the one that made the other isn't called a task."""
     first, second = race.earlier.actor, race.later.actor
+    if race.is_of_lanes:
+        return "the iterations of a simd loop"
     if race.is_copied:
         return f"{part_words(finding, first)} (seen with one: each would do it)"
     if first is second:
@@ -203,10 +205,11 @@ def tell_outcome(finding: Finding) -> list[str]:
     pairs = sorted({f"{step_words(finding, race, race.earlier)}, {step_words(finding, race, race.later)}"
                     for race in finding.races})
     lines += [f"either may come first, never both at once (mutexinoutset): {pair}" for pair in pairs]
-    if not told["tasks"] and told["team"] < 2 and not told["regions"]:
+    if not told["tasks"] and told["team"] < 2 and not told["regions"] and not finding.counts["simd"]:
         return lines + ["the run had no task and no parallel region: it has one schedule"]
     kind = f"a legal run of {told['tasks']} tasks without a race" if told["tasks"] else \
-        f"a legal run of {told['regions']} parallel regions, without a task and without a race"
+        f"a legal run of {told['regions']} parallel regions, without a task and without a race" if told["regions"] else \
+        f"a legal run of {finding.counts['simd']} simd loops, without a task and without a race"
     if what_is_unseen(finding):
         return lines + [f"a legal run of {told['tasks']} tasks; {AS_SEEN}"]
     sentence = FOR_EVERY

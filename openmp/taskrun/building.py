@@ -15,8 +15,8 @@ from .directives import words_for_loops
 
 RECORDER = os.path.join(os.path.dirname(os.path.dirname(os.path.abspath(__file__))), "recorder")
 JUDGE = os.path.join(os.path.dirname(RECORDER), "judge")
-PARTS = ["buffers.c", "accesses.c", "atomics.c", "tool.c", "wraps.c", "reductions.c", "loops.c", "locks.c", "memory.c",
-         "signals.c", "strings.c", "formats.c", "numbers.c", "operators.c"]
+PARTS = ["buffers.c", "accesses.c", "atomics.c", "tool.c", "wraps.c", "reductions.c", "loops.c", "lanes.c", "locks.c",
+         "memory.c", "signals.c", "strings.c", "formats.c", "numbers.c", "operators.c"]
 CXX_ENDINGS = (".cc", ".cpp", ".cxx", ".C", ".c++", ".cp", ".CPP")
 SOURCE_ENDINGS = (".c",) + CXX_ENDINGS
 OBJECT_ENDINGS = (".o", ".a", ".so")
@@ -33,19 +33,19 @@ RUNTIME_CALLS = ["omp_task_alloc", "omp_task", "omp_task_with_deps", "omp_task_b
                  "taskred_modifier_init", "task_reduction_modifier_fini", "task_reduction_get_th_data", "end_taskgroup",
                  "reduce", "reduce_nowait", "end_reduce", "end_reduce_nowait", "for_static_fini", "single", "end_single",
                  "master", "end_master", "masked", "end_masked", "ordered", "end_ordered", "doacross_init",
-                 "doacross_post", "doacross_wait", "push_num_threads", "serialized_parallel", "flush", "alloc",
-                 "aligned_alloc", "free",
+                 "doacross_post", "doacross_wait", "push_num_threads", "push_num_teams", "push_num_teams_51",
+                 "serialized_parallel", "flush", "alloc", "aligned_alloc", "free",
                  *(f"{name}_{kind}" for name in ("for_static_init", "dispatch_init", "dispatch_next")
                    for kind in LOOP_KINDS)]
-OTHER_CALLS = ["omp_get_thread_num", "omp_set_num_threads", "omp_alloc", "omp_calloc", "omp_aligned_alloc",
-               "omp_aligned_calloc", "omp_realloc", "omp_free",
+OTHER_CALLS = ["omp_get_thread_num", "omp_get_team_num", "omp_set_num_threads", "omp_alloc", "omp_calloc",
+               "omp_aligned_alloc", "omp_aligned_calloc", "omp_realloc", "omp_free",
                "malloc", "calloc", "realloc", "reallocarray", "aligned_alloc", "posix_memalign", "memalign", "valloc",
                "free", "mmap", "mmap64", "munmap", "memcpy", "memmove", "memset", "strcpy", "stpcpy", "strcat", "strncpy",
                "strncat", "strlen", "atoi", "atol", "atof", "strtol", "strtoul", "strtoll", "strtoull", "strtod", "strchr",
                "strrchr", "strcmp", "strcasecmp", "strstr",
                "strncmp", "memcmp", "strdup", "strndup", "qsort", "bsearch", "printf", "fprintf", "sprintf", "snprintf",
                "puts", "fputs", "fgets", "fread", "fwrite", "strpbrk", "strspn", "strcspn", "strtok", "strtok_r", "memchr",
-               "vprintf", "vfprintf", "vsprintf", "vsnprintf", "sscanf", "scanf", "fscanf", "__isoc99_sscanf",
+               "asprintf", "vprintf", "vfprintf", "vsprintf", "vsnprintf", "sscanf", "scanf", "fscanf", "__isoc99_sscanf",
                "__isoc99_scanf", "__isoc99_fscanf", "getline",
                "pthread_mutex_lock", "pthread_mutex_trylock", "pthread_mutex_timedlock", "pthread_mutex_unlock",
                "pthread_spin_lock", "pthread_spin_trylock", "pthread_spin_unlock", "pthread_rwlock_rdlock",
@@ -57,12 +57,13 @@ OTHER_CALLS = ["omp_get_thread_num", "omp_set_num_threads", "omp_alloc", "omp_ca
                "pthread_once", "__cxa_guard_acquire", "__cxa_guard_release"]
 # A program may have one of its own by such a name.
 NUMBER_CALLS = ["frexp", "frexpf", "modf", "modff", "remquo", "lgamma_r", "time", "clock_gettime", "localtime_r", "gmtime_r",
+                "localtime", "gmtime", "asctime", "ctime",
                 "gettimeofday", "sincos", "sincosf", "rand_r", "erand48", "rand", "random", "drand48", "lrand48", "mrand48",
                 "srand", "srandom", "srand48"]
 OPERATORS = ["_Znwm", "_Znam", "_ZnwmRKSt9nothrow_t", "_ZnamRKSt9nothrow_t", "_ZnwmSt11align_val_t",
              "_ZnamSt11align_val_t", "_ZdlPv", "_ZdaPv", "_ZdlPvm", "_ZdaPvm", "_ZdlPvRKSt9nothrow_t",
              "_ZdaPvRKSt9nothrow_t", "_ZdlPvSt11align_val_t", "_ZdaPvSt11align_val_t", "_ZdlPvmSt11align_val_t",
-             "_ZdaPvmSt11align_val_t"]
+             "_ZdaPvmSt11align_val_t", "__cxa_allocate_exception"]
 
 
 class CannotBuild(Exception):

@@ -78,6 +78,7 @@ class Race:
         self.is_apart = told["apart"]
         self.is_copied = told["copied"]
         self.is_sure = told["sure"]
+        self.is_of_lanes = told["lanes"]    # of two iterations of a `simd` loop
         self.address = told["address"]
         self.block = told.get("block")
         self.earlier = Side(told["earlier"], actors)

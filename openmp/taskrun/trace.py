@@ -30,14 +30,15 @@ def numbers(names: str) -> list[int]:
 (CREATE, ITEM, START, END, WAIT, WAIT_ITEM, WAIT_ITEMS, GROUP_OPEN, GROUP_CLOSE, REGION_BEGIN, REGION_END, IMPLICIT_BEGIN,
  BARRIER_BEGIN, BARRIER_END, READ, WRITE, MEMORY, LOCK, UNLOCK, NOTE, COPY, CHUNK, ENDED, LOOP_BEGIN, ITERATION, LOOP_END,
  SINGLE_BEGIN, SINGLE_END, MASKED_BEGIN, MASKED_END, ORDERED_BEGIN, ORDERED_END, POST, AWAIT, RELEASE, ACQUIRE, FULFIL,
- RESUME, CHAIN) = numbers("CREATE ITEM START END WAIT WAIT_ITEM WAIT_ITEMS GROUP_OPEN GROUP_CLOSE REGION_BEGIN REGION_END "
-                          "IMPLICIT_BEGIN BARRIER_BEGIN BARRIER_END READ WRITE MEMORY LOCK UNLOCK NOTE COPY CHUNK ENDED "
-                          "LOOP_BEGIN ITERATION LOOP_END SINGLE_BEGIN SINGLE_END MASKED_BEGIN MASKED_END ORDERED_BEGIN "
-                          "ORDERED_END POST AWAIT RELEASE ACQUIRE FULFIL RESUME CHAIN")
+ RESUME, LAST_BEGIN, LAST_END, LANES_BEGIN, LANE, LANES_END, CHAIN) = numbers(
+    "CREATE ITEM START END WAIT WAIT_ITEM WAIT_ITEMS GROUP_OPEN GROUP_CLOSE REGION_BEGIN REGION_END IMPLICIT_BEGIN "
+    "BARRIER_BEGIN BARRIER_END READ WRITE MEMORY LOCK UNLOCK NOTE COPY CHUNK ENDED LOOP_BEGIN ITERATION LOOP_END "
+    "SINGLE_BEGIN SINGLE_END MASKED_BEGIN MASKED_END ORDERED_BEGIN ORDERED_END POST AWAIT RELEASE ACQUIRE FULFIL RESUME "
+    "LAST_BEGIN LAST_END LANES_BEGIN LANE LANES_END CHAIN")
 NOTES = ("", "reductions", "detach clauses", "priority clauses", "cancellations", "tasks too deep to follow",
          "calls that ask for the thread's number", "teams of one thread by the program", "runs without OMPT",
          "pieces without room", "processes that were forked", "words that regions have one thread from there on",
-         "words that regions have more threads from there on")
+         "words that regions have more threads from there on", "leagues of one team by the program")
 ATOMIC, FREED, LIBRARY, FRAME, OUTERMOST, STACK, ROW_SHIFT, LARGE, SET = numbers(
     "ATOMIC FREED LIBRARY FRAME OUTERMOST STACK ROW_SHIFT LARGE SET")
 MARKS = (1 << ROW_SHIFT) - 1
@@ -66,7 +67,7 @@ def takes_number(event: Event) -> bool:
     """Whether the event raises the one counter (event.h); the others have the number that it had."""
     if event.kind == WRITE:
         return event.mark & (FREED | FRAME) == FREED
-    return event.kind not in (READ, CHAIN, MEMORY, ITEM, WAIT_ITEM, ITERATION, COPY, NOTE)
+    return event.kind not in (READ, CHAIN, MEMORY, ITEM, WAIT_ITEM, ITERATION, LANE, COPY, NOTE)
 
 
 class BadTrace(Exception):

@@ -9,8 +9,8 @@ import support
 # What the judge says of all schedules of the threads; a session says what the threads of this run did.
 OF_THREADS = ("loop_", "team_", "masked", "barrier_", "single_nowait", "thread_", "last_private", "copy_private",
               "ordered", "doacross", "phases")
-# Of the teams of a league a session says nothing.
-OF_LEAGUES = ("teams",)
+# Of the teams of a league a session says nothing; the iterations of a `simd` loop it has in their order.
+OF_LEAGUES = ("teams", "simd")
 # Ordered by atomic operations, which a session has no word for.
 BY_ATOMICS = ("static_guard",)
 

@@ -48,7 +48,7 @@ class Rules(unittest.TestCase):
     def test_numbers_are_those_of_the_header(self):
         text = "/* one, = 9 */ enum kind { FIRST = 3, SECOND, /* , */ THIRD = 0x10 };\nenum { LAST };"
         self.assertEqual(trace.numbers_of(text), {"FIRST": 3, "SECOND": 4, "THIRD": 16, "LAST": 0})
-        self.assertEqual((trace.CREATE, trace.CHAIN, trace.SET, trace.MARKS), (1, 39, 0xfffe, 31))
+        self.assertEqual((trace.CREATE, trace.CHAIN, trace.SET, trace.MARKS), (1, 44, 0xfffe, 31))
 
 
 if __name__ == "__main__":

@@ -1,0 +1,18 @@
+/* Iterations that are four apart come one after the other.
+   expect: none */
+#include <stdio.h>
+
+static int x[40];
+
+int main(void) {
+#pragma omp parallel
+#pragma omp single
+#pragma omp task
+    {
+#pragma omp simd safelen(4)
+        for (int i = 4; i < 40; i++)
+            x[i] = x[i - 4] + 1;
+    }
+    printf("%d\n", x[39]);
+    return 0;
+}
