@@ -8,9 +8,9 @@ ghost use Rattle.tb_model.specs.Needs.{step_of};
 ghost use Rattle.tb_plan.specs.Plans.{names_allowed};
 ghost use Rattle.tb_verdict.specs.Refusals.{is_due, refusal_of};
 
-/// Behind a legal history an event isn't refused exactly where the history with it is legal, and
-/// its step's number, where one is given, is its task's next. What an event names is in range by
-/// `in_range` of `tb_runs`, where a line was read.
+/// After a legal history nothing refuses an event exactly where the history with it is legal, and
+/// its step's number, where one is given, is the next of its task. What the event names is in range
+/// where it was read (`in_range` of `tb_runs`).
 pub fn refused_exactly()
     ensures unrefused { (first : Cells) (H : History) (k : Option ℕ) (v : Event) → Legal first H →
         IsTrue (names_allowed (length first) v.action) → refusal_of first H k v ≡ None →
