@@ -28,7 +28,7 @@ use Rattle.tb_verdict.specs.Refusals.{refusal_of, kept_by, out_of_turn, started_
 use Rattle.tb_verdict.specs.declared.refusal.Refusal.{Refusal}
 use Rattle.tb_verdict.specs.declared.refusal.Refusal.TheVariants.{NoSuchTask, Ended, NotStarted, Started, Reads, Child, NoGroup, Step}
 
-some_none : {A : Type 0} (x : A) → ◌≡◌ {A = Option A} (Some x) None → ⊥
+pub some_none : {A : Type 0} (x : A) → ◌≡◌ {A = Option A} (Some x) None → ⊥
 some_none x e = cc
 
 -- ---- a task in its turn
@@ -185,12 +185,12 @@ counted o b n e there = rw (e, there) refl
 
 -- ---- nothing refuses the event
 
-record Cleared (s e : Bool) (o : Option Refusal) (h : Option Hindrance) (u : Option Refusal) : Type 0 where
-  spawned : s ≡ true
-  going : e ≡ false
-  turn : o ≡ None
-  way : h ≡ None
-  fit : u ≡ None
+pub record Cleared (s e : Bool) (o : Option Refusal) (h : Option Hindrance) (u : Option Refusal) : Type 0 where
+  pub spawned : s ≡ true
+  pub going : e ≡ false
+  pub turn : o ≡ None
+  pub way : h ≡ None
+  pub fit : u ≡ None
 
 cleared_by : (s e : Bool) (turn : Option Refusal) (way : Option Hindrance) (fit : Option Refusal) →
     cond (not s) (Some NoSuchTask) (cond e (Some Ended) (option_or turn (option_or (option_map kept_by way) fit))) ≡ None → Cleared s e turn way fit
@@ -200,10 +200,15 @@ cleared_by true false (Some r) way fit h = absurd (some_none r h)
 cleared_by true false None (Some x) fit h = absurd (some_none (kept_by x) h)
 cleared_by true false None None fit h = record { spawned = refl; going = refl; turn = refl; way = refl; fit = h }
 
+pub cleared : (first : Cells) (H : History) (k : Option ℕ) (v : Event) → refusal_of first H k v ≡ None →
+    Cleared (is_spawned H v.task) (list_any (ends v.task) H) (out_of_turn k (length (own v.task H)) v.action) (in_the_way H v.task v.action) (unfit first H v.task v.action)
+cleared first H k v none =
+    cleared_by (is_spawned H v.task) (list_any (ends v.task) H) (out_of_turn k (length (own v.task H)) v.action) (in_the_way H v.task v.action) (unfit first H v.task v.action) none
+
 pub may_follow_unrefused : (first : Cells) (H : History) (k : Option ℕ) (v : Event) → names_allowed (length first) v.action ≡ true → refusal_of first H k v ≡ None → MayFollow first H v
 may_follow_unrefused first H k v p none =
-    let cleared = cleared_by (is_spawned H v.task) (list_any (ends v.task) H) (out_of_turn k (length (own v.task H)) v.action) (in_the_way H v.task v.action) (unfit first H v.task v.action) none in
-    may_follow first H v.task k v.action p cleared.spawned cleared.going cleared.turn cleared.way cleared.fit
+    let c = cleared first H k v none in
+    may_follow first H v.task k v.action p c.spawned c.going c.turn c.way c.fit
 
 pub follows : (first : Cells) (root_line : ℕ) (D : List Departure) (s : Seen) (k : Option ℕ) (v : Event) → IsRun first root_line D s →
     names_allowed (length s.store.cells) v.action ≡ true → refusal_of first (events_of D) k v ≡ None → Follows first root_line D v s

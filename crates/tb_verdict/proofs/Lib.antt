@@ -1,4 +1,5 @@
 mod NumberedLemmas
 mod RefusalLemmas
 mod FollowLemmas
+mod UnrefusedLemmas
 mod HeldLemmas

@@ -4,6 +4,7 @@
 mod ending;
 mod firsts;
 mod judge;
+pub mod laws;
 mod named;
 mod refusal;
 mod taking;
