@@ -21,6 +21,7 @@ pub tied_none : (o : Order) (entries : List Entry) (ends : Ends) → ends.places
 tied_none o entries ends a b = record {
   listed = ap length b ∙ sym (ap length a);
   low = λ i l. absurd (omega (arith, l, ap length a));
+  ordered = λ i j l. absurd (omega (arith, l, ap length a));
   skipped = λ i j l. absurd (omega (arith, l, ap length a));
 }
 
@@ -88,11 +89,17 @@ module _ (n : ℕ) (old : Ends) (listed : length old.skips.items ≡ length old.
       skips = low_more;
     }
 
-    module _ (o : Order) (entries : List Entry) (tied : AreTied o entries old) (reached : (j : ℕ) → from ≤ j → j < length old.places.items → reaches o entries n (end_at old j) ≡ true) where
+    ordered_more : ((i j : ℕ) → i < count → j < i → end_at old j ≤ end_at old i) → ((i : ℕ) → i < count → end_at old i ≤ n) → (i j : ℕ) → i < length new.places.items → j < i → end_at new j ≤ end_at new i
+    ordered_more ordered newest i j l m = each_end (λ i. (j : ℕ) → j < i → end_at new j ≤ end_at new i)
+        (λ i l j m. omega (arith, kept i l, kept j (omega (arith, m, l)), ordered i j l m))
+        (λ j m. omega (arith, last, kept j m, newest j m)) i l j m
+
+    module _ (newest : (i : ℕ) → i < length old.places.items → end_at old i ≤ n) (o : Order) (entries : List Entry) (tied : AreTied o entries old) (reached : (j : ℕ) → from ≤ j → j < length old.places.items → reaches o entries n (end_at old j) ≡ true) where
       pub tied_more : AreTied o entries new
       tied_more = record {
         listed = listed_more;
         low = low_more;
+        ordered = ordered_more tied.ordered newest;
         skipped = λ i j l. each_end (λ i. (j : ℕ) → skip_at new i ≤ j → j < i → reaches o entries (end_at new i) (end_at new j) ≡ true)
             (λ i l j m k. ap₂ (reaches o entries) (kept i l) (kept j (omega (arith, k, l))) ∙ tied.skipped i j l (omega (arith, m, skip_kept i l)) k)
             (λ j m k. ap₂ (reaches o entries) last (kept j k) ∙ reached j (omega (arith, m, skip_last)) k) i l j;

@@ -20,3 +20,4 @@ pub mod EdgeLemmas
 pub mod JoinedLemmas
 pub mod AskedLemmas
 pub mod RowLemmas
+pub mod GroupLemmas

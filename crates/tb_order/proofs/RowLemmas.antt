@@ -42,7 +42,7 @@ module _ (o : Order) (entries : List Entry) where
 
   module _ (tasks : Tasks) (are : AreTasks entries tasks) (clocks : Clocks) (p : ℕ) (told : AreClocks o entries tasks (p + 1) clocks) where
     grown : (P : ℕ → Type 0) (old new : Ends) → AreRow o entries P old → AddsEnd tasks clocks p old new → AreRow o entries (λ x. P x ⊎ (x ≡ p)) new
-    grown P old new row adds = row_more p old row.tied.listed row.tied.low adds.from new adds.more adds.few o entries row.tied (adds.reached o entries are told row.tied) P row
+    grown P old new row adds = row_more p old row.tied.listed row.tied.low adds.from new adds.more adds.few adds.newest o entries row.tied (adds.reached o entries are told row.tied) P row
 
     row_grown : (P : ℕ → Type 0) (old new : Option Ends) → IsRowOf o entries P old → IsGrown tasks clocks p old new → IsRowOf o entries (λ x. P x ⊎ (x ≡ p)) new
     row_grown P None None row g = absurd g

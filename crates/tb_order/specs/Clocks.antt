@@ -178,10 +178,11 @@ skip_at ends i = slice_index_or ends.skips.items i 0
 abbrev pub IsEnd : List Entry → ℕ → ℕ → Type 0
 IsEnd entries n x = (x < n) × IsTrue (is_end_at entries x)
 
--- the ends stand with what is skipped from each
+-- the ends stand with what is skipped from each, the oldest first
 pub record AreTied (o : Order) (entries : List Entry) (ends : Ends) : Type 0 where
   pub listed : length ends.skips.items ≡ length ends.places.items
   pub low : (i : ℕ) → i < length ends.places.items → skip_at ends i ≤ i
+  pub ordered : (i j : ℕ) → i < length ends.places.items → j < i → end_at ends j ≤ end_at ends i
   pub skipped : (i j : ℕ) → i < length ends.places.items → skip_at ends i ≤ j → j < i → IsTrue (reaches o entries (end_at ends i) (end_at ends j))
 
 -- these are the ends that are meant, the oldest first; each comes after those in front of it from the one on that is told
@@ -203,6 +204,7 @@ pub record AddsEnd (tasks : Tasks) (clocks : Clocks) (p : ℕ) (old new : Ends) 
   pub from : ℕ
   pub more : IsEndMore old p from new
   pub few : from ≤ length old.places.items
+  pub newest : (i : ℕ) → i < length old.places.items → end_at old i ≤ p
   pub reached : (o : Order) (entries : List Entry) → AreTasks entries tasks → AreClocks o entries tasks (p + 1) clocks → AreTied o entries old → (j : ℕ) → from ≤ j → j < length old.places.items → IsTrue (reaches o entries p (end_at old j))
 
 -- what the row tells of comes before the step at p, and so does what is in front of that

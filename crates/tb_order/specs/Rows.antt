@@ -136,6 +136,7 @@ pub record IsWaiting (entries : List Entry) (tasks : Tasks) (past : Past) (w : W
   pub front : IsPast entries tasks past w.at
   pub whose : IsFor entries tasks w
   pub lane : IsLane entries past.clocks w.lane w.at
+  pub from : (x : ℕ) → IsEnd entries w.at x → IsTrue (links_at (order_of past.exclusion) entries w.at x) → w.from ≤ x
 
 -- what was joined is in front of the step, and so is what is in front of that
 pub record AreJoined (entries : List Entry) (tasks : Tasks) (past : Past) (k p : ℕ) (j : Joined) : Type 0 where

@@ -7,6 +7,7 @@ mod clocks;
 mod edge;
 mod ends;
 mod exclusion;
+mod grouping;
 mod immediate;
 mod immediate_all;
 mod joined;

@@ -12,6 +12,7 @@ ghost use Rattle.tb_order.specs.Linking.{order_of};
 use crate::asked::merge_all;
 use crate::clocks::{Clocks, bound, reaches, row};
 use crate::ends::{Ends, no_ends, note_end};
+use crate::grouping::first_asked;
 use crate::joined::Joined;
 use crate::noting::note_rows;
 use crate::past::Past;
@@ -131,6 +132,7 @@ fn finish(
         at: step.at,
         lane: step.lane,
         parent: whose_children(entries, tasks, step.at),
+        from: first_asked(entries, tasks, step.at),
     };
     merge_all(&mut joined, &waiter, entries, tasks, past)?;
     match joined.end {
@@ -205,6 +207,7 @@ fn stay(tasks: &Tasks, clocks: &Clocks, ends: &Ends, free: usize, step: Step) ->
         at: step.at,
         lane: step.lane,
         parent: 0,
+        from: 0,
     };
     if !is_merged(tasks, clocks, row(&clocks.rows, step.row), &waiter, end) {
         return step;
@@ -272,6 +275,9 @@ pub fn merge(
     'back: while left > 0 {
         left -= 1;
         let end = ends.places[left];
+        if end < waiter.from {
+            return Ok(());
+        }
         if is_merged(tasks, &past.clocks, &joined.next, waiter, end) {
             left = ends.skips[left];
         } else if waits(past.exclusion, entries, tasks, waiter.at, end) {

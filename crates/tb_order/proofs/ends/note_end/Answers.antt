@@ -16,5 +16,6 @@ returns-clause-more c = record {
     skips = c.in_ok-push-2.ensures.items;
   };
   few = c.first_skipped-from.ensures.within;
+  newest = c.requires.low;
   reached = c.first_skipped-from.ensures.reached;
 }

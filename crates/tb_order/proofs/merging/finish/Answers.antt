@@ -64,6 +64,7 @@ merge_all-requires-clause-waiting c = record {
     other = c.whose_children.ensures.other;
   };
   lane = c.requires.lane;
+  from = c.first_asked.ensures c.args.past.now.exclusion;
 }
 
 pub merge_all-requires-clause-joined : goal.merge_all-requires-clause-joined

@@ -1,5 +1,5 @@
 use Rattle.std.proofs.Common.{◌≡◌, ◌-◌, ◌<◌, true, false, refl, sym, ap, ◌∙◌, subst, arith, ⊎_elim, length}
-use Rattle.std.proofs.lemmas.Bool.{cases_eq, both_ways}
+use Rattle.std.proofs.lemmas.Bool.{cases_eq, cases_lt, both_ways}
 use Rattle.tb_order.specs.Clocks.{end_at, is_end_at, is_told, links_at, skip_at}
 use Rattle.tb_order.specs.Linking.{order_of}
 use Rattle.tb_order.proofs.ClockLemmas.{within_any}
@@ -93,3 +93,20 @@ back-preserved c =
           (λ d. l.invariant.seen j (omega (arith, m, d)) h q)
           (cases_eq j i);
     }
+
+-- those further back stand in front of where the walk begins
+pub returns-then-end-waiter-clause-told : goal.returns-then-end-waiter-clause-told
+returns-then-end-waiter-clause-told c j m q =
+    let ends = c.args.ends.now in
+    let l = c.back in
+    let i = l.left - 1 in
+    let inside : i < length ends.places.items = omega (arith, c.back-test.true, l.invariant.within) in
+    let e : c.index-end.result.now ≡ end_at ends i = within_any ends.places.items i 0 c.index-end.result.now inside c.index-end.ensures in
+    let from = c.requires.waiting.from (end_at ends j) (c.requires.row.each j m) q in
+    ⊎_elim
+    (λ a. ⊎_elim
+    (λ g. absurd (omega (arith, from, c.if-end-waiter.true, e, ap (end_at ends) g)))
+    (λ d. absurd (omega (arith, from, c.if-end-waiter.true, e, c.requires.row.tied.ordered i j inside (omega (arith, a, d)))))
+    (cases_eq j i))
+    (λ a. l.invariant.seen j a m q)
+    (cases_lt j l.left)
