@@ -21,7 +21,7 @@ use Rattle.tb_runs.specs.declared.said.Said.{Said}
 use Rattle.tb_runs.specs.declared.said.Said.TheVariants as says
 use Rattle.tb_runs.specs.declared.said.Stage.{Stage}
 use Rattle.tb_runs.specs.declared.said.Stage.TheVariants as stage
-use Rattle.tb_verdict.specs.Texts.{Sofar, Heading, Running, with_firsts, first_numbers, line_behind, said_by}
+use Rattle.tb_verdict.specs.Texts.{Sofar, Heading, Running, with_firsts, first_numbers, line_behind, said_by, heading_events, events_in}
 use Rattle.tb_verdict.specs.declared.ending.Ending.{Ending}
 use Rattle.tb_verdict.specs.declared.ending.Ending.TheVariants.{Faulty, Refused}
 use Rattle.tb_verdict.specs.declared.refusal.Refusal.{Refusal}
@@ -148,3 +148,13 @@ pub ends_at : (at stage : Stage) (firsts numbers : Firsts) (line : List ℕ) (en
 ends_at at stage firsts numbers line ending h (Heading st ns) b =
     subst (λ (f : Firsts). line_behind (Heading st f) line ≡ Err ending) b.1 (subst (λ (a : Stage). line_behind (Heading a firsts) line ≡ Err ending) b.0 h)
 ends_at at stage firsts numbers line ending h (Running first H) b = absurd b
+
+-- ---- how many events came
+
+pub heading_count : (at : Stage) (firsts : Firsts) (s : Sofar) → IsHead at firsts s → heading_events at ≡ events_in s
+heading_count at firsts (Heading stage numbers) h = ap heading_events h.0
+heading_count at firsts (Running first H) h = absurd h
+
+pub running_count : (cells count : ℕ) (tables : Seen) (s : Sofar) → IsRunning cells count tables s → Some count ≡ events_in s
+running_count cells count tables (Heading stage numbers) h = absurd h
+running_count cells count tables (Running first H) h = ap Some h.1.counted

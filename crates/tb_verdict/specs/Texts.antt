@@ -36,6 +36,17 @@ pub data Sofar : Type 0 where
 abbrev pub start : Sofar
 start = Heading stage.Begin []
 
+-- none in front of the first event; the first line that has words gives the number of cells
+abbrev pub heading_events : Stage → Option ℕ
+heading_events stage.Begin = None
+heading_events (stage.Cells count) = Some 0
+heading_events (stage.Events count) = Some 0
+
+-- how many events, and None where no line had words
+abbrev pub events_in : Sofar → Option ℕ
+events_in (Heading at firsts) = heading_events at
+events_in (Running first H) = Some (length H)
+
 -- what a line says there
 abbrev pub says_at : Sofar → List ℕ → Result (Option Said) Fault
 says_at (Heading at firsts) line = line_said firsts at line

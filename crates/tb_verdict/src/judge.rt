@@ -1,19 +1,23 @@
 //! Judges a run text line by line.
 
-ghost use Rattle.std.specs.Prelude.{◌≡◌, ◌<◌, ℕ, [], IfOk, IsTrue, OnErr, List, Option, length};
+ghost use Rattle.std.specs.Prelude.{◌≡◌, ◌<◌, ℕ, [], IfOk, IsTrue, OnErr, List, Option, None, length};
+ghost use Rattle.std.specs.Option.{option_copied};
 ghost use Rattle.tb_model.specs.Facts.{History};
+ghost use Rattle.tb_model.specs.LeastNames.{IsLeastName};
 ghost use Rattle.tb_model.specs.Legal.{Cells};
 ghost use Rattle.tb_plan.specs.Plans.{names_allowed};
-ghost use Rattle.tb_runs.specs.Lines.{cells_at};
+ghost use Rattle.tb_runs.specs.Lines.{Firsts, cells_at};
+ghost use Rattle.tb_runs.specs.declared.said.Stage.{Stage};
+ghost use Rattle.tb_undo.specs.Readings.{IsUnendedBehind};
 ghost use Rattle.tb_verdict.specs.Held.{Begins, Counts, HeadsBy, HeadsOn, Holds, IsAllowed, IsBehind, Judges, Runs};
-ghost use Rattle.tb_verdict.specs.Texts.{Sofar, first_numbers, start};
+ghost use Rattle.tb_verdict.specs.Texts.{Sofar, Heading, Running, events_in, first_numbers, heading_events, start};
 
 use crate::ending::Ending;
 use crate::firsts::first_numbers;
 use crate::taking::take;
 use indexmap::IndexMap;
 use std::alloc::{AllocError, Global};
-use tb_model::Event;
+use tb_model::{Event, TaskName};
 use tb_runs::{Said, Stage, Unread, read_event, read_line};
 use tb_undo::Tables;
 
@@ -107,6 +111,16 @@ fn cells_at(stage: Stage) -> u32
     match stage {
         Stage::Begin => 0,
         Stage::Cells { count } | Stage::Events { count } => count,
+    }
+}
+
+/// How many events there are in front of the first: none, or no number where no line had words.
+fn heading_events(stage: Stage) -> Option<u32>
+    ensures { result ≡ heading_events stage }
+{
+    match stage {
+        Stage::Begin => None,
+        Stage::Cells { .. } | Stage::Events { .. } => Some(0),
     }
 }
 
@@ -235,6 +249,31 @@ impl Judge {
                     Ok(None)
                 }
             },
+        }
+    }
+
+    /// How many events were taken, or None where no line had words.
+    pub fn events(&self) -> Option<u32>
+        ensures { (s : Sofar) → IsBehind self.now s → result ≡ events_in s }
+    {
+        match self {
+            Judge::Heading { stage, .. } => heading_events(*stage),
+            Judge::Running { count, .. } => Some(*count),
+        }
+    }
+
+    /// The least unended task after this one by the order of names, or the least of all where none
+    /// is given. In front of the first event and of `hist` it returns None: there the root alone is
+    /// unended.
+    pub fn next_unended(&self, after: Option<&TaskName>) -> Option<&TaskName>
+        ensures run { (first : Cells) (H : History) → IsBehind self.now (Running first H) →
+            IsLeastName (IsUnendedBehind H (option_copied after.entry)) (option_copied result) }
+        ensures heading { (at : Stage) (firsts : Firsts) → IsBehind self.now (Heading at firsts) →
+            option_copied result ≡ None }
+    {
+        match self {
+            Judge::Running { tables, .. } => tables.next_unended(after),
+            Judge::Heading { .. } => None,
         }
     }
 }

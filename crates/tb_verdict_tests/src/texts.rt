@@ -23,6 +23,28 @@ fn ending_of(rt: &HostRuntime, lines: &[&[u8]]) -> Option<(usize, u8)> {
     found
 }
 
+/// How many events these lines have, and the ordinal of the least task that hasn't ended after them.
+fn left_of(rt: &HostRuntime, lines: &[&[u8]]) -> (Option<u32>, Option<u32>) {
+    let mut judge = Judge::new(rt.alloc());
+    'lines: for at in 0..lines.len() {
+        match judge.take_line(rt.alloc(), lines[at]) {
+            Ok(None) => {}
+            Ok(Some(ending)) => {
+                forget(ending);
+                break 'lines;
+            }
+            Err(_) => break 'lines,
+        }
+    }
+    let events = judge.events();
+    let least = match judge.next_unended(None) {
+        Some(name) => name.ordinal(),
+        None => None,
+    };
+    forget(judge);
+    (events, least)
+}
+
 fn number_of(ending: &Ending) -> u8 {
     match ending {
         Ending::Faulty { .. } => 0,
@@ -62,4 +84,19 @@ fn a_start_waits_for_what_it_depends_on(rt: HostRuntime) {
         b"0.2 start",
     ];
     assert!(rt; ending_of(&rt, &text) == Some((8, 3)));
+}
+
+#[test]
+fn a_text_ends_with_events_and_unended_tasks(rt: HostRuntime) {
+    let text: [&[u8]; 5] = [
+        b"# sum.c",
+        b"cells 1",
+        b"0 start",
+        b"0 spawn 0.1 t",
+        b"0 end",
+    ];
+    assert!(rt; left_of(&rt, &[b"", b"# sum.c"]) == (None, None));
+    assert!(rt; left_of(&rt, &[b"cells 1"]) == (Some(0), None));
+    assert!(rt; left_of(&rt, &[b"cells 1", b"hist 0"]) == (Some(0), None));
+    assert!(rt; left_of(&rt, &text) == (Some(3), Some(1)));
 }
