@@ -44,7 +44,7 @@ pub fn merge_all(
     Ok(())
 }
 
-/// Those for which its action waits.
+/// Adds the ends for which the step's action waits.
 fn merge_waited(
     joined: &mut Joined,
     waiter: &Waiter,
@@ -78,7 +78,7 @@ fn merge_waited(
     }
 }
 
-/// Those of children.
+/// Adds the ends of the children for which the step may wait.
 fn merge_children(
     joined: &mut Joined,
     waiter: &Waiter,
@@ -97,7 +97,7 @@ fn merge_children(
     merge_key(joined, waiter, entries, tasks, past, (waiter.parent, 0, 0))
 }
 
-/// Those of children with an item that one of these may meet.
+/// Adds the ends of children with an item that one of these items may meet.
 fn merge_items(
     joined: &mut Joined,
     waiter: &Waiter,
@@ -121,7 +121,7 @@ fn merge_items(
     Ok(())
 }
 
-/// Those of children with an item that this one may meet.
+/// Adds the ends of children with an item that this item may meet.
 fn merge_item(
     joined: &mut Joined,
     waiter: &Waiter,
@@ -168,7 +168,8 @@ fn kind_asked(exclusion: bool, new: Kind, old: Kind) -> Option<Kind>
     if asked { Some(old) } else { None }
 }
 
-/// Those of children with an item of this kind at this cell or at all memory, if there is a kind.
+/// Adds the ends of children with an item of this kind at this cell or at all memory, if there is a
+/// kind.
 fn merge_kind(
     joined: &mut Joined,
     waiter: &Waiter,
@@ -196,7 +197,7 @@ fn merge_kind(
     merge_key(joined, waiter, entries, tasks, past, key)
 }
 
-/// Those of the row of this key.
+/// Adds the ends of the row of this key to which the step is linked.
 fn merge_key(
     joined: &mut Joined,
     waiter: &Waiter,

@@ -163,7 +163,7 @@ fn whose_children(entries: &History<'_>, tasks: &Tasks, at: usize) -> usize
     }
 }
 
-/// The number of the first end, this one or one behind it, in whose lane no step went on.
+/// The number of the first end, this one or one after it, in whose lane no step went on.
 fn first_free(clocks: &Clocks, ends: &Ends, from: usize) -> usize
     requires ends { (i : ℕ) → i < length ends.now.places.items
         → end_at ends.now i < length clocks.now.lanes.items }
@@ -219,7 +219,7 @@ fn stay(tasks: &Tasks, clocks: &Clocks, ends: &Ends, free: usize, step: Step) ->
     }
 }
 
-/// The lane of a step that comes behind this end: a step that opens a lane goes on in that of the
+/// The lane of a step that comes after this end: a step that opens a lane goes on in that of the
 /// end where nothing else does.
 fn lane_behind(clocks: &Clocks, lane: usize, end: usize) -> usize
     requires end { end < length clocks.now.lanes.items }

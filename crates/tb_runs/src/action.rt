@@ -107,7 +107,7 @@ fn take_spawn(alloc: Global, words: &mut Words<'_>, cells: u32) -> Result<Action
     Ok(Action::Spawn(Spawned::new(alloc, spawn)?))
 }
 
-/// What the words behind the verb say.
+/// What the words after the verb say.
 fn take_behind(
     alloc: Global,
     words: &mut Words<'_>,

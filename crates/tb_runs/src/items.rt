@@ -34,7 +34,7 @@ fn take_place(words: &mut Words<'_>, cells: u32, kind: Kind) -> Result<Place, Fa
     }
 }
 
-/// What comes behind `depend`.
+/// What comes after `depend`.
 fn take_item(words: &mut Words<'_>, on_wait: bool, cells: u32) -> Result<Item, Fault>
     ensures ok { IfOk result (λ item. item_in on_wait cells words.old ≡ Ok (item, words.new)) }
     ensures err { IfErr result (λ fault. item_in on_wait cells words.old ≡ Err fault) }

@@ -62,7 +62,7 @@ fn take_fresh(words: &mut Words<'_>, firsts: &IndexMap<u32, i64>, cells: u32) ->
     Ok(cell)
 }
 
-/// What comes behind `cell`.
+/// What comes after `cell`.
 fn take_first(words: &mut Words<'_>, firsts: &IndexMap<u32, i64>, cells: u32) -> Result<Said, Fault>
     ensures ok { IfOk result (λ said. cell_said firsts.now.entries cells words.old ≡ Ok (said, words.new)) }
     ensures err { IfErr result (λ fault. cell_said firsts.now.entries cells words.old ≡ Err fault) }
@@ -72,7 +72,7 @@ fn take_first(words: &mut Words<'_>, firsts: &IndexMap<u32, i64>, cells: u32) ->
     Ok(Said::Cell { cell, value })
 }
 
-/// What comes behind `hist`.
+/// What comes after `hist`.
 fn take_hist(words: &mut Words<'_>) -> Result<Said, Fault>
     ensures ok { IfOk result (λ said. hist_said words.old ≡ Ok (said, words.new)) }
     ensures err { IfErr result (λ fault. hist_said words.old ≡ Err fault) }
@@ -192,7 +192,7 @@ pub fn read_line(
     Ok(Some(take_all(alloc, &mut words, firsts, stage)?))
 }
 
-/// What a line says behind the first event, where there are so many cells. It needs no first
+/// What a line says after the first event, where there are so many cells. It needs no first
 /// numbers.
 pub fn read_event(alloc: Global, cells: u32, line: &[u8]) -> Result<Option<Said>, Unread>
     ensures ok { IfOk result (λ said. line_said [] (Events cells) line.now ≡ Ok said) }

@@ -47,7 +47,7 @@ fn begins_comment(bytes: &[u8]) -> bool
     }
 }
 
-/// The bytes behind a place.
+/// The bytes after a place.
 pub fn behind(bytes: &[u8], at: usize) -> &[u8]
     ensures { result.now ≡ drop (suc at) bytes.now }
 {
@@ -67,7 +67,7 @@ pub fn from(bytes: &[u8], at: usize) -> &[u8]
 }
 
 impl<'a> Words<'a> {
-    /// Those of a line.
+    /// The words of a line, all of them left.
     pub fn of(line: &'a [u8]) -> Words<'a>
         ensures { result ≡ line_words line.now }
     {

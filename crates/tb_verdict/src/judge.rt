@@ -66,7 +66,7 @@ fn count_event(
     }
 }
 
-/// Judges a line behind the first event.
+/// Judges a line after the first event.
 fn run_line(
     alloc: Global,
     cells: u32,
@@ -210,7 +210,7 @@ fn head_line(
 }
 
 impl Judge {
-    /// Behind no line.
+    /// A judge of a text of which no line was read.
     pub fn new(alloc: Global) -> Judge
         ensures { IsBehind result start }
     {

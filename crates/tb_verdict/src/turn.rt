@@ -18,7 +18,7 @@ fn is_due(step: Option<u64>, due: u64) -> bool
     }
 }
 
-/// Whether the action may be a task's next behind so many steps: its start comes first, and once.
+/// Whether the action may be a task's next after so many steps: its start comes first, and once.
 #[inline(always)]
 fn started_by(steps: u32, is_start: bool) -> Option<Refusal>
     ensures { result ≡ started_by steps is_start }
@@ -31,7 +31,7 @@ fn started_by(steps: u32, is_start: bool) -> Option<Refusal>
     }
 }
 
-/// Why it isn't the step's turn, behind so many steps of its task.
+/// Why it isn't the step's turn, after so many steps of its task.
 #[inline(always)]
 pub fn out_of_turn(step: Option<u64>, steps: u32, action: &Action) -> Option<Refusal>
     ensures { result ≡ out_of_turn step steps action.now }

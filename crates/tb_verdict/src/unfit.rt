@@ -24,7 +24,7 @@ fn misread(value: i64, number: i64) -> Option<Refusal>
     }
 }
 
-/// Whether the name is that of the task's next child, behind so many.
+/// Whether the name is that of the task's next child, after so many.
 fn is_next_child(task: &TaskName, name: &TaskName, children: u32) -> bool
     ensures { result ≡ same_name name.now (child task.now (suc children)) }
 {
@@ -34,7 +34,7 @@ fn is_next_child(task: &TaskName, name: &TaskName, children: u32) -> bool
     }
 }
 
-/// Why a child may not have this name, behind so many of the task's.
+/// Why a child may not have this name, after so many of the task's.
 fn misnamed(task: &TaskName, name: &TaskName, children: u32) -> Result<Option<Refusal>, AllocError>
     requires { children < 4294967295 }
     ensures { IfOk result (λ r. r ≡ misnamed name.now (child task.now (suc children))) }
