@@ -300,7 +300,8 @@ either_starts = (
 no_needs : (needs (by one Start ∷ ready held) (by two Start) (by one Start) ≡ false) × (needs (by two Start ∷ ready held) (by one Start) (by two Start) ≡ false)
 no_needs = (refl, refl)
 
--- and yet the second can't start behind the first: so the two must not count as independent
+-- the second can't start behind the first, though neither needs the other: so the two must not
+-- count as independent
 excluded : Enabled exclusive (target (ready held) first) second → ⊥
 excluded h = false≢true (h.1.may.timely.alone one refl refl)
 

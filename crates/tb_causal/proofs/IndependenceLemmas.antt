@@ -23,7 +23,7 @@ use Rattle.tb_causal.proofs.StandingLemmas.{unneeded_stands, not_newest, needs_i
 use Rattle.tb_causal.proofs.BesideLemmas.{not_excluded}
 use Rattle.tb_causal.proofs.TransitionLemmas.{kept, congruent, loop, exclude_sym, step_beside_undo, undone_needs_not}
 
--- the same transitions from equivalent runs are
+-- independent transitions are independent from an equivalent run too
 pub same_independent : (P : Program) (G H : History) (l m : Label) → LegalFor P G → Equivalent G H → Independent G l m → Independent H l m
 same_independent P G H l m s q n = at l m n
   where

@@ -19,7 +19,7 @@ end_of_steps P [] = refl
 end_of_steps P (v ∷ H) =
     end_joined (runs P) (axioms P) [] (steps_of H) (Step (step_of H v) v.action ∷ []) ∙ ap (λ K. v ∷ K) (end_of_steps P H)
 
--- and is a path
+-- the steps of a history are a path
 pub steps_path : (P : Program) (H : History) → LegalFor P H → IsPath (runs P) [] (steps_of H)
 steps_path P [] l = tt
 steps_path P (v ∷ H) l =

@@ -118,7 +118,7 @@ all_reversed P [] h = h
 all_reversed P (x ∷ xs) h =
     subst (All P) (sym (reverse-append (x ∷ []) xs)) (All-push P (reverse xs) x (all_reversed P xs (λ i d l. h (suc i) d (omega (arith, l)))) (h 0 x (omega arith)))
 
--- and tells them in the order of the history
+-- the pass tells the causes in the order of the history
 pub causes_told : (entries : List Entry) (at left : ℕ) (places places' : List ℕ) → left ≡ 0 → at < length entries → IsFound entries at left places → All (λ p. p < length entries) places
     → places' ≡ reverse places → AreCausesAt entries at places'
 causes_told entries at left places places' none within found inside turned = record {

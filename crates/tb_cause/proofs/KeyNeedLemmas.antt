@@ -124,7 +124,7 @@ waits_by_items H t Start u = before H u t || apart H u t
 waits_by_items H t (Wait items) u = not (has_no_items items) && covers H t items u
 waits_by_items H t _ u = false
 
--- the same, by what the items are
+-- t waits for the end of u by items, as the items say alone
 abbrev pub behind_items : (Name → List AnItem) → Name → Action → Name → Bool
 behind_items I (n ∷ p) Start u = is_child p u && some_behind true (I (n ∷ p)) (I u)
 behind_items I t (Wait items) u = is_child t u && some_behind false items (I u)

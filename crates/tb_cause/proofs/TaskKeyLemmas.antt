@@ -51,7 +51,7 @@ of_given entries p I f f' keys e is =
     let k = Task e.event.task in
     sym (keys k e is ∙ or_left (gives I e.event k) (f k) (or_left (own_key e.event.task k) _ (same_refl e.event.task)))
 
--- and one that asks for its keys asks for that one
+-- an entry that asks for its keys asks for that of its task
 pub of_asked : (entries : List Entry) (p : ℕ) (I : Name → List AnItem) (H : History) (f f' : Key → Bool) → ((k : Key) (e : Entry) → e ≡ get_or entries p e → f' k ≡ (asks I H e.event k || f k)) → IsOfTask entries p f' true
 of_asked entries p I H f f' keys e is =
     let k = Task e.event.task in

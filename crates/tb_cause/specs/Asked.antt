@@ -1,4 +1,5 @@
--- The same needs asked from the later event: it asks for keys, and needs an earlier one that gives one of them.
+-- Needs between events, asked from the later one: it asks for keys, and needs an earlier event that
+-- gives one of them.
 use Rattle.std.specs.Prelude.{◌≡◌, ◌<◌, ℕ, ◌+◌, List, [], ◌∷◌, map, reverse, Some, Bool, true, false, ◌&&◌, ◌||◌, nat_eq, length}
 use Rattle.std.specs.List.{All, list_any}
 use Rattle.tb_model.specs.declared.action.Action.{Action}

@@ -34,7 +34,8 @@ pub record AreAllFound (e : StepId) (entries : List Entry) (found : List ℕ) : 
   pub places : found ≡ reverse (removed_places e (history_of entries))
   pub names : map (step_at entries) found ≡ map (λ (s : StepId). Some s) (reverse (removed_steps e (history_of entries)))
 
--- the same, where e stands at this place
+-- these are the places of e, which stands at this place, and of all that need it: all within the
+-- entries, and none in front of e
 pub record AreAllBehind (e : StepId) (entries : List Entry) (at : ℕ) (places : List ℕ) : Type 0 where
   pub found : AreAllFound e entries places
   pub inside : All (λ p. p < length entries) places
@@ -49,7 +50,7 @@ events_at entries (p ∷ places) = map (λ (x : Entry). x.event) (option_to_list
 abbrev pub AreGivenAt : List Entry → List ℕ → (Key → Bool) → Type 0
 AreGivenAt entries places f = (k : Key) → f k ≡ list_any (λ u. gives (items_told entries) u k) (events_at entries places)
 
--- the same events, each with what stands in front of it
+-- the events of the entries at these places, each with what stands in front of it
 abbrev pub placed_at : List Entry → List ℕ → List Placed
 placed_at entries [] = []
 placed_at entries (p ∷ places) =

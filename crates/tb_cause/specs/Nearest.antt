@@ -68,11 +68,13 @@ action_answered f t (Print x) = f Printed
 action_answered f t (Wait items) = has_no_items items && f (Parent t)
 action_answered f t _ = true
 
--- the same of the end of the undeferred child at which a task stands: it is a step of the child
+-- whatever gives the key that the end of the undeferred child takes gives one that passes: the end
+-- is a step of the child
 abbrev pub held_answered : (Key → Bool) → Option Name → Bool
 held_answered f None = true
 held_answered f (Some c) = f (Task c)
 
--- the same of all that v takes, which stands at an undeferred child if one is named
+-- whatever gives a key that v takes gives one that passes; v's task stands at an undeferred child
+-- if one is named
 abbrev pub answered : (Key → Bool) → Option Name → Event → Bool
 answered f held v = held_answered f held && (f (Task v.task) && action_answered f v.task v.action)

@@ -24,13 +24,15 @@ pub record ArePassed (test : Name → Bool) (entries : List Entry) (from end nex
   pub high : next ≤ end
   pub none : (t : Name) → IsTrue (test t) → IsNoneBetween (is_of t) entries from next
 
--- the same of the parents of these tasks
+-- the next of the entries is not in front of this place, and no later than the end: none in between
+-- is of a parent of one of these tasks
 pub record AreParentsPassed (test : Name → Bool) (entries : List Entry) (from end next : ℕ) : Type 0 where
   pub low : from ≤ next
   pub high : next ≤ end
   pub none : (p u : Name) → IsTrue (test u) → IsTrue (is_child p u) → IsNoneBetween (is_of p) entries from next
 
--- the same of what touches one of these cells
+-- the next of the entries is not in front of this place, and no later than the end: none in between
+-- touches one of these cells
 pub record AreTouchesPassed (test : ℕ → Bool) (entries : List Entry) (from end next : ℕ) : Type 0 where
   pub low : from ≤ next
   pub high : next ≤ end

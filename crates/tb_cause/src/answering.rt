@@ -27,7 +27,8 @@ pub(crate) fn is_answered_at(keys: &Keys, indexed: &Indexed<'_>, at: usize) -> b
     )
 }
 
-/// The same of the task's action, which stands at an undeferred child if one is named.
+/// Whether each entry that gives a key which the task's action takes gives one of these keys.
+/// `held` is the undeferred child at which the task stands, whose end is taken too.
 fn is_answered(keys: &Keys, held: Option<&TaskName>, task: &TaskName, action: &Action) -> bool
     ensures { result ≡ answered (has keys.now) (option_copied held.entry)
         (record { task = task.now; action = action.now }) }
@@ -37,7 +38,8 @@ fn is_answered(keys: &Keys, held: Option<&TaskName>, task: &TaskName, action: &A
         && is_action_answered(keys, task, action)
 }
 
-/// The same of the child's end, which is a step of the child.
+/// Whether each entry that gives what is taken of the child's end gives one of these keys: the end
+/// is a step of the child. True where no child is named.
 fn is_held_answered(keys: &Keys, held: Option<&TaskName>) -> bool
     ensures { result ≡ held_answered (has keys.now) (option_copied held.entry) }
 {
@@ -47,7 +49,8 @@ fn is_held_answered(keys: &Keys, held: Option<&TaskName>) -> bool
     }
 }
 
-/// The same of what the action takes by itself, or as a wait for all children.
+/// Whether each entry that gives a key which the action takes by itself, or as a wait for all
+/// children, gives one of these keys. Of a start and a group's end it isn't said.
 fn is_action_answered(keys: &Keys, task: &TaskName, action: &Action) -> bool
     ensures { result ≡ action_answered (has keys.now) task.now action.now }
 {

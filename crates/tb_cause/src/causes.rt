@@ -34,7 +34,8 @@ pub(crate) fn causes_of(
     Ok(steps)
 }
 
-/// The same, where nothing that stands behind the step need be there.
+/// The steps that the one at this place needs, directly or through others. `causes_of` leaves out
+/// the entries after the step, none of which it can need.
 fn causes_among(alloc: Global, entries: &History<'_>, at: usize) -> Result<Vec<StepId>, AllocError>
     requires legal { AreLegal entries.now }
     requires bound { length entries.now ≤ 1000000 }

@@ -5,8 +5,8 @@ use tb_model::StepId;
 /// A step and all that need it, directly or through others, in the order of the history.
 #[derive(Drop)]
 pub struct Cone {
-    /// Where they stand among the entries.
+    /// The places of the step and of all that need it among the entries.
     pub places: Vec<u32>,
-    /// Their names.
+    /// The names of the steps at these places, in this order.
     pub steps: Vec<StepId>,
 }

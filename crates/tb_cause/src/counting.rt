@@ -31,9 +31,9 @@ pub(crate) fn count_step(
     count_behind(counts, near, task)
 }
 
-/// The same of a task that doesn't stand at the place: the next place is tried, which is the right
-/// one where tasks take their steps in turn. It stands apart, so that most steps don't pay for its
-/// room.
+/// Counts one step more of a task whose count isn't at `near`, and returns how many that are. The
+/// next place is tried first, which is the right one where tasks take their steps in turn.
+// out of line: most steps don't pay for its stack frame
 #[inline(never)]
 fn count_behind(
     counts: &mut IndexMap<TaskName, u32>,
@@ -66,7 +66,8 @@ fn stands_at(counts: &IndexMap<TaskName, u32>, at: usize, task: &TaskName) -> bo
     }
 }
 
-/// The same where it is anywhere.
+/// Counts one step more of a task, which is looked up by the hash of its name, and returns how many
+/// that are.
 fn count_by_hash(counts: &mut IndexMap<TaskName, u32>, task: &TaskName) -> Result<u32, AllocError>
     requires few { count_in (get same_name counts.old) task.now < 1000000 }
     ensures number { IfOk result (λ k. k ≡ count_in (get same_name counts.old) task.now + 1) }

@@ -40,7 +40,8 @@ pub fn cone_of(
     Ok(Cone { places, steps })
 }
 
-/// The same of the core's entries, whose places tell the numbers of few steps.
+/// The step at this place with all that need it, for the core's own entries: where these are few,
+/// they are named without a pass over all entries.
 pub fn cone_in(
     alloc: Global,
     core: &Core,
@@ -81,7 +82,8 @@ fn places_behind(
     places_indexed(alloc, &indexed, at, step)
 }
 
-/// The same of the newest step: nothing can need it, so nothing is looked up.
+/// The place of the newest step alone: nothing can need it, so nothing is looked up.
+// for the proof: `_step`, which clauses name
 fn place_alone(
     alloc: Global,
     entries: &History<'_>,
@@ -132,6 +134,7 @@ fn enter_and_pass(
 }
 
 /// Goes through the entries behind the one at this place, which is found.
+// for the proof: `_step`, which clauses name
 fn pass(
     keys: &mut Keys,
     places: &mut Vec<u32>,

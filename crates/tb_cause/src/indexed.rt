@@ -111,8 +111,8 @@ impl<'a> Indexed<'a> {
         has_task(&keys.tasks, self.task_at(at))
     }
 
-    /// The same, where it is known of the entry in front of this place, which mostly is of the same
-    /// task: then no hash is taken.
+    /// Whether there is a key of the task of the entry at this place. `of_last` says it of the
+    /// entry in front, which mostly is of the same task: then no hash is taken.
     #[inline(always)]
     pub fn is_of_next(&self, keys: &Keys, at: usize, of_last: bool) -> bool
         requires within { at < length self.now }
@@ -126,7 +126,8 @@ impl<'a> Indexed<'a> {
         self.is_of_task(keys, at)
     }
 
-    /// The same, where it is known of the entry behind this place.
+    /// Whether there is a key of the task of the entry at this place. `of_last` says it of the
+    /// entry after it, which mostly is of the same task: then no hash is taken.
     #[inline(always)]
     pub fn is_of_earlier(&self, keys: &Keys, at: usize, of_last: bool) -> bool
         requires within { at + 1 < length self.now }

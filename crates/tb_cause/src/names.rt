@@ -34,8 +34,8 @@ pub(crate) fn names_at(
     names_by(alloc, entries, places, &numbers)
 }
 
-/// The same of the core's entries: where the places are few, the number of each step is found among
-/// the places of its task's steps.
+/// The names of the steps at these places of the core's entries. Where they are few, the number of
+/// each step is found among the core's places of its task's steps.
 pub(crate) fn names_in(
     alloc: Global,
     core: &Core,
@@ -106,6 +106,7 @@ fn stands_next(own: &[u32], at: usize, near: usize) -> bool
 }
 
 /// The name of the step at this place, which is the kth of those of its task.
+// for the proof: `_own`, which clauses name
 fn name_numbered(
     _own: &[u32],
     entries: &History<'_>,
@@ -140,7 +141,8 @@ fn few_names(
     Ok(steps)
 }
 
-/// The same, where these are the numbers of all steps.
+/// The names of the steps at these places, where `numbers` has the number of every step by its
+/// place.
 fn names_by(
     alloc: Global,
     entries: &History<'_>,

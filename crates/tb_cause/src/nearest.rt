@@ -32,7 +32,8 @@ pub fn nearest_places(
     Ok(places)
 }
 
-/// The same, where nothing that stands behind the step need be there.
+/// The places of the steps that the one at this place needs immediately. `nearest_places` leaves
+/// out the entries after the step, none of which it can need.
 fn nearest_among(alloc: Global, entries: &History<'_>, at: usize) -> Result<Vec<u32>, AllocError>
     requires legal { AreLegal entries.now }
     requires bound { length entries.now ≤ 1000000 }
@@ -97,7 +98,8 @@ fn pass(
     Ok(turned(places))
 }
 
-/// Where those that are needed directly stand: from the first place on, in front of the second.
+/// The bounds of the places at which a step can be needed directly: from the first on, in front of
+/// the second.
 fn reach_of(indexed: &Indexed<'_>, at: usize) -> (usize, usize)
     requires within { at < length indexed.now }
     ensures top { result.1 ≤ at }
@@ -130,7 +132,7 @@ fn lone_spawn(indexed: &Indexed<'_>, at: usize) -> Option<usize>
     }
 }
 
-/// The same places, from the last one on.
+/// The places in the opposite order.
 fn turned(places: Vec<u32>) -> Vec<u32>
     ensures { result.items ≡ reverse places.items }
 {

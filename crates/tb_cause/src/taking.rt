@@ -134,7 +134,8 @@ fn takes_by_items(
     }
 }
 
-/// The same of a start, whose task has these items.
+/// Whether the start of the task, which has these items, takes one of the keys through them: the
+/// ends of siblings that they meet. The root's start takes none.
 fn takes_at_start(keys: &Keys, task: &TaskName, items: &[Item]) -> Result<bool, AllocError>
     ensures { IfOk result (λ b. (I : Name → List AnItem) → I task.now ≡ items.now →
         b ≡ items_any (has keys.now) I task.now Start) }

@@ -8,9 +8,9 @@ ghost use Rattle.tb_control.specs.Numbers.{break_number};
 pub enum BreakRefusal {
     /// A growth was refused.
     Memory,
-    /// As many stand as may, or all numbers were given.
+    /// As many breakpoints are set as may be, or all numbers were given.
     TooMany,
-    /// No breakpoint with this number stands.
+    /// No breakpoint with this number is set.
     NoSuchBreak,
     /// The line names no body.
     NoSuchBody,

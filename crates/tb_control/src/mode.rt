@@ -9,7 +9,7 @@ use crate::paused_by::PausedBy;
 #[derive(Clone, Copy, Debug, Drop, PartialEq, Eq)]
 pub enum Mode {
     Resumed,
-    /// So many more steps, and then none.
+    /// So many steps more are taken, and then none.
     Counting { left: u32 },
     Paused { by: PausedBy },
 }

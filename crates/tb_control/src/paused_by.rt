@@ -7,6 +7,6 @@ pub enum PausedBy {
     Break { number: u32 },
     /// The steps that were asked for have been taken.
     Count,
-    /// It was asked for.
+    /// A pause was asked for.
     Pause,
 }

@@ -36,7 +36,7 @@ use Rattle.tb_core.proofs.TakenLemmas.{sound_same, index_same, index_added, appe
 pub as_many : (names : List Name) (ss : List Stored) (es : List Entry) → AllZip (IsStored names) ss es → length (map departure (reverse es)) ≡ length ss
 as_many names ss es z = length-map (reverse es) departure ∙ length-reverse es ∙ AllZip-long (IsStored names) ss es z
 
--- and few
+-- few entries are stored
 pub few_stored : (first : Cells) (root_line limit : ℕ) (ss : List Stored) (es : List Entry) (tables : Tables) → AllZip (IsStored (names_in tables)) ss es → IsSound first root_line limit (reverse es) tables → length ss ≤ 1000000
 few_stored first root_line limit ss es tables z sound = omega (arith, sound.within, sound.bound, length-reverse es, AllZip-long (IsStored (names_in tables)) ss es z)
 

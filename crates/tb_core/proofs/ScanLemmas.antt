@@ -93,7 +93,7 @@ numbered i (v ∷ H) h = ⊎_elim here (λ l. let rest = numbered i H l in (rest
         let more : length (own i.task (v ∷ H)) ≡ suc (length (own i.task H)) = ap length (own_mine i.task v H o.0) in
         (omega (arith, number), omega (arith, number, more))
 
--- and each of those numbers is that of one
+-- each number up to how many steps a task has is that of one of them
 pub has_numbered : (i : StepId) (H : History) → 1 ≤ i.k → i.k ≤ length (own i.task H) → stands i H ≡ true
 has_numbered i [] some most = absurd (omega (arith, some, most))
 has_numbered i (v ∷ H) some most = by_task (λ m. has_numbered i H some m) (is_of i.task v) refl

@@ -73,7 +73,7 @@ module _ (s : Seen) (t : Name) (o : Option Standing) (told : o ≡ option_map st
   pub none_told : o ≡ None → ◌≡◌ {A = Option Config} None (cond (is_spawned (history s) t) (Some (config_of s t)) None)
   none_told n = sym (ap (λ b. cond b (Some (config_of s t)) None) (not_there n))
 
--- the same of the call's answer
+-- where the task stands, as the call's answer tells it
 pub some_stands : (s : Seen) (t : Name) (o : Option Standing) → o ≡ option_map standing_of (task_of s.root_line s.steps t) → IfSome o (λ k. (is_spawned (history s) t ≡ true) × (config_of s t ≡ config_with t k))
 some_stands s t None told = tt
 some_stands s t (Some k) told = (is_there s t (Some k) told k refl, stands_as s t (Some k) told k refl)
@@ -178,7 +178,7 @@ open_takes s p fits o =
       room = o.room;
     }
 
--- and where it's taken, so is the plan's step
+-- where the plan's action is taken, its step is
 pub takes_steps : (s : Seen) (p : Plan) (to : ℕ) (new : Seen) (v : Event) (i : StepId) → IsCurrent s p → length s.steps < s.limit → Takes s p.config.task p.action to new v → line_behind p.instr p.config p.action ≡ to → i.task ≡ p.config.task → i.k ≡ p.config.steps + 1 → Steps s p new i
 takes_steps s p to new v i current room k line task number =
     let counted : p.config.steps + 1 ≡ suc (length (own p.config.task (history s))) = omega (arith, ap (λ c. c.steps) current.here) in
@@ -255,7 +255,7 @@ told_closed s p (Some TheTaskIsOver) k o = false≢true (sym o.current.going ∙
 told_closed s p (Some (By h)) k o = hindered_closed s p h k o
 told_closed s p None k o = absurd k
 
--- and only where the step isn't open
+-- a step that is refused isn't open
 pub kept_closed : (s : Seen) (p : Plan) (r : StepRefusal) → IsKept s p r → IsOpen s p → ⊥
 kept_closed s p Memory (inl k) o = stale_closed s p k.0 k.1 o
 kept_closed s p Memory (inr k) o = hindered_closed s p k.0 k.1 o

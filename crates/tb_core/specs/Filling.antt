@@ -34,7 +34,7 @@ pub record IsRunOf (s : Tables) (t : Name) : Type 0 where
 abbrev pub IsNextSpawn : Tables → Name → TheSpawn → TheSpawn → Type 0
 IsNextSpawn s t a b = (first : Cells) (root_line : ℕ) (D : List Departure) → IsState first root_line D s → IsSpawned (events_of D) t → b ≡ record a { child = child t (suc (spawn_count (own t (events_of D)))) }
 
--- and this the event of the action
+-- whatever run the tables are of, the event is the task's action with what it reads there filled in
 abbrev pub Fills : Tables → Name → Action → Event → Type 0
 Fills s t a v =
     (first : Cells) (root_line : ℕ) (D : List Departure) → IsState first root_line D s → IsSpawned (events_of D) t → v ≡ record { task = t; action = completed first (events_of D) t a }

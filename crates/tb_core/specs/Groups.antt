@@ -11,7 +11,7 @@ abbrev pub is_among : List Action → Name → Option ℕ → Name → Bool
 is_among acts t None u = is_child t u
 is_among acts t (Some k) u = is_member_of k acts u
 
--- and hasn't ended
+-- u is a child of t, or a member of its open group of the kth step, and hasn't ended
 abbrev pub is_unended_among : History → Name → Option ℕ → Name → Bool
 is_unended_among H t group u = is_among (own t H) t group u && is_unended H u
 

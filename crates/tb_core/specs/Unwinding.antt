@@ -20,7 +20,7 @@ abbrev pub kept_entries : StepId → List Entry → List Entry → List Entry
 kept_entries e [] front = []
 kept_entries e (w ∷ later) front = prepend_if (not (is_removed e (events (later ++ front)) w.event)) w (kept_entries e later front)
 
--- and those that go
+-- of the entries behind these in front, those that go
 abbrev pub gone_entries : StepId → List Entry → List Entry → List Removed
 gone_entries e [] front = []
 gone_entries e (w ∷ later) front =

@@ -11,7 +11,7 @@ use tb_model::TaskName;
 use tb_plan::Config;
 use tb_undo::{Obstacle, Standing};
 
-/// A task that stands so.
+/// The configuration of a task by its standing.
 pub fn config(task: TaskName, standing: &Standing<'_>) -> Config
     ensures { result ≡ config_with task standing.now }
 {
@@ -24,7 +24,7 @@ pub fn config(task: TaskName, standing: &Standing<'_>) -> Config
     }
 }
 
-/// Whether the task of the configuration stands so.
+/// Whether the configuration is that of its task with this standing.
 pub fn stands_so(config: &Config, standing: &Standing<'_>) -> bool
     ensures { IsTrue result ↔ (config.now ≡ config_with config.now.task standing.now) }
 {
@@ -39,7 +39,8 @@ fn are_same(a: &[i64; 16], b: &[i64; 16]) -> bool
     a == b
 }
 
-/// The task stands so now.
+/// The refusal of a plan that isn't for this standing, in which the task is now. For want of memory
+/// that is refused instead.
 pub fn stale(alloc: Global, task: &TaskName, standing: &Standing<'_>) -> StepRefusal
     ensures { IsStaleAnswer (config_with task.now standing.now) result }
 {
@@ -49,7 +50,7 @@ pub fn stale(alloc: Global, task: &TaskName, standing: &Standing<'_>) -> StepRef
     }
 }
 
-/// A task that stands so, on the heap.
+/// Where a task stands, on the heap.
 fn elsewhere(
     alloc: Global,
     task: &TaskName,

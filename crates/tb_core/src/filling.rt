@@ -30,7 +30,8 @@ pub fn forget(place: &mut Option<Event>)
     }
 }
 
-/// The same where one is, apart, so that a step without it doesn't pay for its room.
+/// Drops the event, and leaves none.
+// out of line: a step that finds no event there doesn't pay for its stack frame
 #[inline(never)]
 fn drop_event(place: &mut Option<Event>)
     ensures { place.new ≡ None }
@@ -81,8 +82,9 @@ pub fn copy_event(event: &Event) -> Result<Event, AllocError>
     Ok(Event { task, action })
 }
 
-/// The event of an action that was planned for the task. It stands apart, so that a step of which nothing
-/// is filled in doesn't pay for its room.
+/// The event of an action that was planned for the task: a load gets its cell's value, and a spawn
+/// the name of the task's next child.
+// out of line: a step of which nothing is filled in doesn't pay for its stack frame
 #[inline(never)]
 pub fn fill_in(tables: &Tables, task: TaskName, action: Action) -> Result<Event, AllocError>
     requires allowed { IsTrue (names_allowed (length tables.now.store.cells) action) }

@@ -65,10 +65,11 @@ impl<'a> History<'a> {
     pub fn is_legal(&self)
         ensures { AreLegal self.now }
     {
+        // for the proof: what the type keeps is known where a field is read
         let _count = self.count;
     }
 
-    /// The same steps once more.
+    /// A second loan of these steps. No step is copied.
     pub fn again(&self) -> History<'a>
         ensures { result ≡ self.now }
     {

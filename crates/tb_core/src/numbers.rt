@@ -13,7 +13,7 @@ pub fn number_in(tables: &Tables, task: &TaskName) -> u32
     ensures { place tables.now.waits.tasks task.now ≡ Some result }
 {
     let at = tables.place(task).unwrap();
-    // a place fits
+    // for the proof: a place fits in 32 bits
     let _ = tables.name(at);
     at as u32
 }

@@ -29,7 +29,7 @@ pub fn renumber(places: &mut Places, tables: &Tables, entries: &[Entry], going: 
         places.close_gaps(going);
         return;
     }
-    // each name is there once
+    // for the proof: each name is there once
     let _ = tables.name(0);
     cut(places, tables, entries, first);
     refill(places, tables, entries, first, going);
@@ -47,6 +47,7 @@ pub fn first_of(going: &[u32], end: usize) -> usize
 }
 
 /// Takes the entries from this place on off the indexes.
+// for the proof: `_tables`, which clauses name
 fn cut(places: &mut Places, _tables: &Tables, entries: &[Entry], first: usize)
     requires index { IsIndexOf (names_in _tables.now) (events_in (entries_in _tables.now entries.now)) places.old }
     requires stored { AllZip (IsStored (names_in _tables.now)) entries.now (entries_in _tables.now entries.now) }
@@ -63,7 +64,8 @@ fn cut(places: &mut Places, _tables: &Tables, entries: &[Entry], first: usize)
     }
 }
 
-/// Puts those that stay back, each with its new place.
+/// Puts the entries from the first place on that stay back, each with its new place.
+// for the proof: `_tables`, which clauses name
 fn refill(places: &mut Places, _tables: &Tables, entries: &[Entry], first: usize, going: &[u32])
     requires index { IsIndexOf (names_in _tables.now) (take first (events_in (entries_in _tables.now entries.now))) places.old }
     requires room { HasRoomForAll (names_in _tables.now) (events_in (entries_in _tables.now entries.now)) places.old }

@@ -13,7 +13,7 @@ pub struct Rollback {
     pub step: StepId,
     /// The places of the steps that go, rising.
     pub places: Vec<u32>,
-    /// Their names, in the same order.
+    /// The names of the steps at these places, in this order.
     pub steps: Vec<StepId>,
     /// How many events their history has.
     pub count: u32,

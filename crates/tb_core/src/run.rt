@@ -98,6 +98,7 @@ impl Core {
         ensures within { length self.now.run.steps ≤ self.now.run.limit }
         ensures bound { self.now.run.limit ≤ 1000000 }
     {
+        // for the proof: what the type keeps is known where a field is read
         let _limit = self.limit;
     }
 
@@ -124,7 +125,7 @@ impl Core {
         self.tables.has_ended(task)
     }
 
-    /// The same of a task of which it was asked where it stands, so that it isn't looked for again.
+    /// Whether the task has ended or faulted. Its standing says where it is looked for first.
     #[inline(always)]
     pub fn has_ended_at(&self, standing: &Standing<'_>, task: &TaskName) -> bool
         ensures { result ≡ has_ended self.now.run task.now }
@@ -151,7 +152,8 @@ impl Core {
         self.tables.standing(task)
     }
 
-    /// The same in a walk over tasks, which hands on where the last one was found, at first none.
+    /// Where a task stands that is there, in a walk over tasks: `near` hands on where the last one
+    /// was found, at first none.
     pub fn walk_standing(&self, near: &mut Option<usize>, task: &TaskName) -> Option<Standing<'_>>
         ensures some { IfSome result (λ k. IsTrue (is_spawned (history self.now.run) task.now) × (config_of self.now.run task.now ≡ config_with task.now k)) }
         ensures none { IfNone result (IsFalse (is_spawned (history self.now.run) task.now)) }
@@ -200,7 +202,8 @@ impl Core {
         self.tables.is_clear(task, action)
     }
 
-    /// The same of a task of which it was asked where it stands, so that it isn't looked for again.
+    /// Whether nothing keeps a task that goes on from the action. Its standing says where it is
+    /// looked for first. It takes no memory.
     #[inline(always)]
     pub fn is_clear_at(&self, standing: &Standing<'_>, task: &TaskName, action: &Action) -> bool
         requires there { IsTrue (is_spawned (history self.now.run) task.now) }

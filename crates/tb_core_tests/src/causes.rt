@@ -38,7 +38,8 @@ fn needs_marked(entries: &History<'_>, marks: &Marks, later: usize) -> bool
     false
 }
 
-/// These are exactly the marked steps but that at the place, in the order of the history.
+/// Asserts that the found steps are exactly the marked ones but that at the place, in the order of
+/// the history.
 fn compare(
     rt: &(impl Abort + AllocGlobal),
     entries: &History<'_>,

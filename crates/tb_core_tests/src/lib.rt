@@ -1,5 +1,5 @@
 //! Tests of the history, of needs and of rollbacks, by the calls that their crates export.
-//! They stand apart from these, so that no crate's proofs are checked once more with its tests.
+//! They are a crate of their own, so that no crate's proofs are checked once more with its tests.
 #![tactic(auto)]
 
 #[cfg(test)]

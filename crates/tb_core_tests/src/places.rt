@@ -51,7 +51,7 @@ fn passes(task: &TaskName, action: &Action, wanted: &Wanted) -> bool {
     }
 }
 
-/// These are the places of exactly the steps that are wanted.
+/// Asserts that the found places are those of exactly the steps that are wanted.
 fn compare(rt: &impl Abort, found: &[u32], entries: &History<'_>, wanted: &Wanted) {
     let mut next = 0;
     for at in 0..entries.len() {

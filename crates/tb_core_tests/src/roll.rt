@@ -13,7 +13,7 @@ use tb_roll::{finish, ready, roll, same_run};
 /// Two tasks that store one number to one cell.
 const TWICE: &[u8] = b"cells 1\nbody main 0\ntask s\ntask s\nend\nbody s 0\nstore 0 1\nend\n";
 
-/// The same with another number.
+/// Two tasks that store one number to one cell, another number than those of `TWICE`.
 const OTHER: &[u8] = b"cells 1\nbody main 0\ntask s\ntask s\nend\nbody s 0\nstore 0 2\nend\n";
 
 const FIRST_THEN_SECOND: [&str; 9] = ["0", "0", "0", "0.1", "0.1", "0.1", "0.2", "0.2", "0.2"];

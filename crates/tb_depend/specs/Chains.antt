@@ -29,7 +29,7 @@ AreSameHeads old new = (p : Place) → head new p ≡ head old p
 abbrev pub KeepsHeads : Heads → Heads → Type 0
 KeepsHeads old new = (p : Place) → has_head old p ≡ true → has_head new p ≡ true
 
--- the same, by the cells alone
+-- no place loses its room, by the cells' names alone
 abbrev pub KeepsNames : List (ℕ × ℕ) → List (ℕ × ℕ) → Type 0
 KeepsNames old new = (p : Place) → is_named old p ≡ true → is_named new p ≡ true
 

@@ -34,7 +34,7 @@ abbrev pub child_at : List ℕ → ℕ → ℕ
 child_at [] k = 1
 child_at (e ∷ ends) k = if nat_lt k e then 1 else suc (child_at ends k)
 
--- the same of items, by the test of their places
+-- an item that comes before one that is over is over, by the test of the items' places
 abbrev pub AreItemsClosed : List Item → (ℕ → Bool) → Type 0
 AreItemsClosed items over =
     (p k : ℕ) (new old : Item) → k < p → slice_get items p ≡ Some new → slice_get items k ≡ Some old → IsTrue (meets is_before new old) → IsTrue (over p) → IsTrue (over k)

@@ -44,7 +44,8 @@ pub fn children_of_task()
         is_covered (spawned_items acts) items n ≡ child_covered acts items n }
 {}
 
-/// The lists of such children have exactly the numbers that these actions relate.
+/// The lists of children that a task's own actions generated have exactly the numbers that these
+/// actions relate.
 #[tactic(auto, using(crate::proofs::RelationsLemmas::preds_spawned, crate::proofs::RelationsLemmas::apart_spawned))]
 pub fn lists_of_task()
     ensures preds { (acts : List Action) (m n : ℕ) →

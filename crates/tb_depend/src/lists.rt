@@ -40,7 +40,7 @@ impl Model for Lists {
 }
 
 impl Lists {
-    /// So many children without items, and room for so many in all.
+    /// Lists of `count` children without items, with room for `room` children in all.
     #[tactic(auto, using(crate::proofs::BareLemmas::ends_bare, crate::proofs::BareLemmas::rows_bare))]
     pub(crate) fn bare(alloc: Global, count: u32, room: u32) -> Result<Lists, AllocError>
         requires { count ≤ room }

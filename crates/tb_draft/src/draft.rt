@@ -16,7 +16,7 @@ use std::mem::replace;
 use tb_lines::{Failed, Sink, write_whole};
 use tb_model::{TaskName, append_number, append_signed};
 
-/// So many long names wait at most: as text they have at least as many bytes.
+/// The most long names that wait: as text they have at least as many bytes.
 const NAMES: usize = 256;
 
 /// A text that is still to be written. A name of more than 128 levels stands in it as what names share, and is spelled as
@@ -45,7 +45,7 @@ impl Draft {
         Draft::of(alloc, String::new(alloc))
     }
 
-    /// This text. Takes no memory.
+    /// A draft of this text. Takes no memory.
     pub fn of(alloc: Global, text: String) -> Draft
         ensures { result ≡ string_bytes text }
     {

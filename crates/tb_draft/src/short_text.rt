@@ -9,7 +9,7 @@ use crate::digits::{put_digit_level, put_digits, put_long};
 use std::marker::Model;
 use tb_model::TaskName;
 
-/// So many bytes a short text has at most.
+/// The most bytes that a short text has.
 pub(crate) const ROOM: usize = 96;
 
 /// A name of more levels is spelled faster from its front.
@@ -133,8 +133,9 @@ impl ShortText {
         Some(())
     }
 
-    /// The same of levels that take a byte each. It stands apart, so that a line with a shorter name doesn't pay for its
-    /// room.
+    /// Puts levels that take a byte each in front, the last of these first. Some of them may stand
+    /// where there is no room.
+    // out of line: a line with a shorter name doesn't pay for its stack frame
     #[inline(never)]
     fn prepend_small_levels(&mut self, numbers: &[u8]) -> Option<()>
         ensures { IfSome result (λ _. self.new ≡ levels_text numbers.now ++ self.old) }
@@ -149,7 +150,8 @@ impl ShortText {
         Some(())
     }
 
-    /// The same where they have one digit each, and are not too few.
+    /// Puts levels of one digit each in front, all of them or none, and returns which: none where
+    /// one has more digits, where they are too few, and where there is no room.
     #[inline(always)]
     fn prepend_digits(&mut self, numbers: &[u8]) -> bool
         ensures { self.new ≡ (if result then levels_text numbers.now ++ self.old else self.old) }

@@ -6,7 +6,7 @@ ghost use Rattle.tb_draft.specs.Written.{Told, WroteFront};
 use arrayvec::ArrayVec;
 use tb_lines::{Failed, Sink, write_whole};
 
-/// So many bytes wait at most, so a text of up to as many is one write.
+/// The most bytes that wait, so a text of up to as many is one write.
 pub(crate) const ROOM: usize = 65536;
 
 /// Puts the bytes after those that wait, which are written first where there is no room for more.

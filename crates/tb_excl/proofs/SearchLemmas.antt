@@ -42,7 +42,7 @@ lesser_least P Q (Some m) (Some n) x y = pick (nat_lt n m) refl
           (λ q. let l = y.least k q in let s : n ≡ l.0 = cc in (m, refl, grind (arith, nat_tests, l.2))) h;
     }
 
--- the same property in other words
+-- the least number with a property is the least with an equal property
 pub least_by : (P Q : ℕ → Type 0) (o : Option ℕ) → ((n : ℕ) → P n → Q n) → ((n : ℕ) → Q n → P n) → IsLeastNumber P o → IsLeastNumber Q o
 least_by P Q o to from x = record { found = λ n e. to n (x.found n e); least = λ n q. x.least n (from n q) }
 

@@ -68,7 +68,7 @@ IsSame old new = (p : Place) → holder new p ≡ holder old p
 abbrev pub Excludes : Holders → List Item → ℕ → Type 0
 Excludes holders items n = (p : Place) × (excludes items p ≡ true) × (holder holders p ≡ Some n)
 
--- the same of a child by its name
+-- the task is a child that holds a place, and a task with the items would exclude it
 abbrev pub ExcludesTask : Holders → List Item → Name → Type 0
 ExcludesTask holders items t = (n : ℕ) × (t ≡ child holders.parent n) × Excludes holders items n
 

@@ -26,14 +26,14 @@ impl Model for Cells {
 }
 
 impl Cells {
-    /// No cell.
+    /// A map of no cells. Takes no memory.
     pub(crate) fn new(alloc: Global) -> Cells
         ensures { result ≡ [] }
     {
         Cells { alloc, map: None }
     }
 
-    /// How many there are.
+    /// How many cells were ever taken.
     pub(crate) fn len(&self) -> usize
         ensures { result ≡ length self.now }
     {
@@ -56,7 +56,7 @@ impl Cells {
         }
     }
 
-    /// The cell's holder.
+    /// The child that holds the cell, if one does.
     pub(crate) fn holder(&self, cell: u32) -> Option<u32>
         ensures { result ≡ unwrap_or (lookup (nat_eq cell) self.now) None }
     {

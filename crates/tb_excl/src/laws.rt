@@ -62,7 +62,7 @@ pub fn start()
         KeepsRoom old new → AreHolders (v ∷ H) p new }
 {}
 
-/// Where the start is taken back, these places are free.
+/// Where a start is taken back, the places that the child's items take are free.
 pub fn start_back()
     ensures { (cells : Cells) (H : History) (v : Event) (p : Name) (n : ℕ) (old new : Holders) →
         Legal cells (v ∷ H) → IsTrue (starts (n ∷ p) v) → AreHolders (v ∷ H) p old →
@@ -76,7 +76,7 @@ pub fn end()
         IsSet old (items_of (n ∷ p) H) None new → KeepsRoom old new → AreHolders (v ∷ H) p new }
 {}
 
-/// Where the end is taken back, the child holds these places again, and there is room.
+/// Where an end is taken back, the child holds again what its items take, and there is room for it.
 #[tactic(auto, using(crate::proofs::HistoriesLemmas::end_room))]
 pub fn end_back()
     ensures room { (cells : Cells) (H : History) (v : Event) (p : Name) (n : ℕ) (old : Holders) →

@@ -1,4 +1,5 @@
--- What an entry in few bytes stands for, when one more stands apart, and whoever its task is.
+-- What an entry in few bytes stands for, when one more is stored out of line, and whoever its task
+-- is.
 use Rattle.std.proofs.Common.{◌≡◌, ◌≤◌, ℕ, arith, List, [], ◌∷◌, ◌++◌, length, refl}
 use Rattle.tb_model.specs.Names.{Name}
 use Rattle.std.specs.List.{AllByRecursion}
@@ -10,7 +11,7 @@ use Rattle.tb_journal.specs.declared.compact.Compact.TheVariants.{Apart, Started
 use Rattle.tb_journal.specs.Compact.{entry_of, IsThere}
 use Rattle.tb_journal.specs.Journals.{is_step, seat_of}
 
--- one more stands apart
+-- an entry in few bytes stands for the same when one more is stored out of line
 pub one_kept : (apart : List Entry) (e : Entry) (t : Name) (k : Compact) → IsThere (length apart) k → entry_of (apart ++ e ∷ []) t k ≡ entry_of apart t k
 one_kept apart e t (Apart i) there = get_or_append_left apart (e ∷ []) Opened i there
 one_kept apart e t (Started seat) there = refl
@@ -50,7 +51,7 @@ same_beside apart t u (Ended seat) = record { seat = refl; step = refl }
 same_beside apart t u (Faulted seat) = record { seat = refl; step = refl }
 same_beside apart t u (RolledBack seat k) = record { seat = refl; step = refl }
 
--- what is there stays there when more stand apart
+-- what is there stays there when more is stored out of line
 pub there_grows : (m n : ℕ) → m ≤ n → (k : Compact) → IsThere m k → IsThere n k
 there_grows m n more (Apart i) there = omega (arith, more, there)
 there_grows m n more (Started seat) there = there

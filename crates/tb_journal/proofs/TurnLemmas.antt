@@ -122,7 +122,7 @@ entry_pushed apart old new ks t k b =
     entries_push apart new 0 ks k
     ∙ ap₂ (λ es u. es ++ entry_of apart u k ∷ []) (entries_kept apart old new 0 ks (λ i h. b.others i (omega (arith, h)))) (ap (task_at [] new) (omega arith) ∙ b.own)
 
--- one more stands apart
+-- the entries stay the same when one more is stored out of line
 apart_kept : (apart : List Entry) (e : Entry) (ts : List Turn) (at : ℕ) (ks : List Compact) → AllByRecursion (IsThere (length apart)) ks
     → entries (apart ++ e ∷ []) ts at ks ≡ entries apart ts at ks
 apart_kept apart e ts at [] there = refl

@@ -11,7 +11,7 @@ use Rattle.tb_journal.specs.declared.compact.Compact.TheVariants.{Apart, Started
 abbrev pub step : ℕ → Name → Action → Entry
 step seat t a = Stepped seat (record { task = t; action = a })
 
--- the task's entry, for which these stand apart
+-- the task's entry, where these are stored out of line
 abbrev pub entry_of : List Entry → Name → Compact → Entry
 entry_of apart t (Apart n) = slice_index_or apart n Opened
 entry_of apart t (Started seat) = step seat t Start
@@ -42,12 +42,12 @@ abbrev pub IsThere : ℕ → Compact → Type 0
 IsThere count (Apart n) = n < count
 IsThere count _ = ⊤
 
--- it stands for the entry, which is the task's, whatever stands apart
+-- it stands for the entry, which is the task's, whatever is stored out of line
 pub record StandsFor (e : Entry) (t : Name) (k : Compact) : Type 0 where
   pub is : (apart : List Entry) → entry_of apart t k ≡ e
   pub there : IsThere 0 k
 
--- the entry in few bytes, with its task, or that which stands apart
+-- the entry that stands in few bytes with its task, or that which is stored out of line
 abbrev pub entry_in : Result (Name × Compact) Entry → Entry
 entry_in (Ok r) = entry_of [] r.0 r.1
 entry_in (Err e) = e

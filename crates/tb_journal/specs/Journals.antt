@@ -39,6 +39,6 @@ is_long (Wait items) = true
 is_long _ = false
 
 -- a step of the seat with this action has to be handed over whole: its entry shares the
--- action's memory, or stands apart
+-- action's memory, or is stored out of line
 abbrev pub stands_apart : ℕ → Action → Bool
 stands_apart seat a = nat_le 256 seat || is_long a

@@ -11,8 +11,8 @@ use std::alloc::{AllocError, Global};
 use std::mem::size_of;
 use tb_model::{Action, Entry, Event, Items, Spawned, StepId, TaskName, WaitItems};
 
-/// An entry stands in the value itself, by what was done; whose it is the journal keeps beside it. Only
-/// the opening and the entries of a seat above 255, which no run has, stand apart, each with a number.
+/// An entry in few bytes, by what was done; whose it is the journal says. Only the opening and the
+/// entries of a seat above 255, which no run has, are stored out of line: `Apart` has their index.
 #[derive(Drop)]
 pub(crate) enum Compact {
     Apart(usize),
@@ -56,7 +56,7 @@ pub(crate) enum Compact {
     Entered {
         seat: u8,
     },
-    /// Its end was passed.
+    /// The end of a `taskgroup` was passed.
     Left {
         seat: u8,
     },
@@ -79,7 +79,7 @@ pub(crate) enum Compact {
 const _: () = prove!(size_of::<Compact>() == 16);
 
 impl Compact {
-    /// The task's entry, for which these stand apart.
+    /// The task's entry. `apart` has the entries that are stored out of line.
     pub fn entry(
         &self,
         alloc: Global,

@@ -184,7 +184,7 @@ impl Journal {
     }
 }
 
-/// Those from the place on.
+/// The entries from the place on.
 fn later(compact: &[Compact], from: usize) -> &[Compact]
     requires { from ≤ length compact.now }
     ensures { result.now ≡ drop from compact.now }

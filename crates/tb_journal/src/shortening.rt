@@ -9,10 +9,10 @@ ghost use Rattle.tb_journal.specs.Journals.{is_long, stands_apart};
 use crate::compact::Compact;
 use tb_model::{Action, Entry, Event, StepId, TaskName};
 
-/// Whether a step of the seat with this action has to be handed over whole, and so is copied before it
-/// is taken: the entry of a spawn and of a `taskwait` with items shares the action's memory, and that of a
-/// seat above 255, which no run has, stands apart. `push_short` reads the others off the action where it
-/// stands.
+/// Whether a step of the seat with this action has to be handed over whole, and so is copied before
+/// it is taken: the entry of a spawn and of a `taskwait` with items shares the action's memory, and
+/// that of a seat above 255, which no run has, is stored out of line. `push_short` reads the others
+/// off the action where it is.
 #[inline(always)]
 pub fn stands_apart(seat: u32, action: &Action) -> bool
     ensures { result ≡ stands_apart seat action.now }
@@ -32,7 +32,8 @@ fn is_long(action: &Action) -> bool
     }
 }
 
-/// The entry in few bytes, with its task; itself, where it stands apart. Nothing is copied.
+/// The entry in few bytes, with its task; itself, where it is stored out of line. Nothing is
+/// copied.
 pub(crate) fn short(entry: Entry) -> Result<(TaskName, Compact), Entry>
     ensures ok { IfOk result (λ r. StandsFor entry r.0 r.1) }
     ensures is { entry_in result ≡ entry }
@@ -50,7 +51,8 @@ pub(crate) fn short(entry: Entry) -> Result<(TaskName, Compact), Entry>
     }
 }
 
-/// The same of a step.
+/// The entry of a step in few bytes, with its task; itself for a seat above 255, where it is stored
+/// out of line. Nothing is copied.
 pub(crate) fn short_step(seat: u32, event: Event) -> Result<(TaskName, Compact), Entry>
     ensures ok { IfOk result (λ r. StandsFor (Stepped seat event) r.0 r.1) }
     ensures is { entry_in result ≡ Stepped seat event }
@@ -68,7 +70,8 @@ pub(crate) fn short_step(seat: u32, event: Event) -> Result<(TaskName, Compact),
     }
 }
 
-/// The same of a step whose action has no name or list of its own.
+/// The entry of a step in few bytes, with its task. Its action has no name or list of its own, so
+/// it is read where it stands.
 fn short_for(seat: u8, task: TaskName, action: &Action) -> (TaskName, Compact)
     requires { IsFalse (is_long action.now) }
     ensures { StandsFor (step seat task action.now) result.0 result.1 }
@@ -77,7 +80,7 @@ fn short_for(seat: u8, task: TaskName, action: &Action) -> (TaskName, Compact)
     (task, compact)
 }
 
-/// What the entry of such a step has beside its task.
+/// What the entry of a step has beside its task. The action has no name or list of its own.
 #[inline(always)]
 pub(crate) fn short_action(seat: u8, action: &Action) -> Compact
     requires { IsFalse (is_long action.now) }

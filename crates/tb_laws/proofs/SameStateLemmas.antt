@@ -53,7 +53,7 @@ replaced_alike cells t (Let r x) a = ap Some (register_alike t r a)
 replaced_alike cells t (Load r c x) a = ap Some (register_alike t r a)
 replaced_alike cells t _ a = refl
 
--- and so is what may follow
+-- alike histories go on alike
 pub go_on_alike : (G H : History) → Alike G H → GoOnAlike G H
 go_on_alike G H a = record {
   may = λ cells v. (follows_alike cells a v, follows_alike cells (alike_sym a) v);

@@ -20,7 +20,8 @@ pub fn neighbours()
         IsReordering cells (later ++ f ∷ e ∷ front) (later ++ e ∷ f ∷ front) }
 {}
 
-/// The same in a program's run.
+/// In a program's run, two neighbours of which the later doesn't directly need the earlier may
+/// change places.
 pub fn neighbours_for()
     ensures { (P : Program) (later front : History) (e f : Event) →
         LegalFor P (later ++ f ∷ e ∷ front) → IsFalse (needs (e ∷ front) f e) →

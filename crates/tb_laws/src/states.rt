@@ -122,7 +122,8 @@ pub fn same_state()
         Legal cells G → Legal cells H → Alike G H → SameState G H }
 {}
 
-/// They go on alike: by the same events, with the same needs and the same records.
+/// Histories that are alike go on alike: by the same events, with the same needs and the same
+/// records.
 #[tactic(auto, using(crate::proofs::SameStateLemmas::go_on_alike))]
 pub fn go_on_alike()
     ensures { (G H : History) → Alike G H → GoOnAlike G H }

@@ -28,7 +28,7 @@ floor_after limit seat P run new t p entries pushed before after (Ok i) f plan e
 floor_after limit seat P run new t p entries pushed before after (Err r) f plan e old now carried stays floor =
     floor_readied P run new old now e.0 stays floor
 
--- the same for a plan of the program
+-- the floor after a step of a plan of the program
 pub floor_committed : (limit seat : ℕ) (P : Program) (run new : Seen) (p : Plan) (entries pushed : List Entry) (before after : Control) (result : Result StepId StepRefusal) → Fits P run → IsNative P run p
     → Enters limit seat run p new entries pushed before after result → (old now : Option Name) → OnOk result (IsCarried (core.history new) old now) → OnErr result (now ≡ old) → IsFloor P (core.history run) old → IsFloor P (core.history new) now
 floor_committed limit seat P run new p entries pushed before after (Ok i) f native e old now carried stays floor =

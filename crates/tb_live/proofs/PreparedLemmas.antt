@@ -97,7 +97,7 @@ room_more limit P c entries spare more (Some (Roll seat i r)) h room = record {
   free = omega (arith, h, room.free);
 }
 
--- and what is as it was
+-- what is prepared serves still where nothing changed but for more room
 pub room_stays : (limit : ℕ) (P : Program) (old new : Held) (entries pushed : List Entry) (spare more : ℕ) (o now : Option Prepared) → new ≡ old → pushed ≡ entries → spare ≤ more → now ≡ o
     → HasRoom limit P old entries spare o → HasRoom limit P new pushed more now
 room_stays limit P old new entries pushed spare more o now same kept grows left room =

@@ -84,7 +84,8 @@ pub record IsCommittedOn (seat : ℕ) (s : Session) (p : Plan) (new : Session) (
   pub committed : IsCommitted seat s p ended at
   pub claims : new ≡ with_seat ended seat (Some p.config.task)
 
--- the same by the answer
+-- a commit after which the seat claims the task still, by its answer, the place of its entry; a
+-- refusal changes nothing
 abbrev pub CommitsMore : ℕ → Session → Plan → Session → Result ℕ CommitRefusal → Type 0
 CommitsMore seat s p new (Ok place) = IsCommittedOn seat s p new place
 CommitsMore seat s p new (Err e) = (new ≡ s) × RefusesCommit s seat p e

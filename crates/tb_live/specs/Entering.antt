@@ -42,7 +42,7 @@ Enters limit seat run p new old entries before after (Ok i) =
     IsEntered seat run p new old entries i × IsFalse (has_no_place limit old) × (after ≡ behind_step p.config.at (event_of run p) before)
 Enters limit seat run p new old entries before after (Err e) = (new ≡ run) × (entries ≡ old) × (after ≡ before) × IsKeptFrom run p (has_no_place limit old) e
 
--- the same for a seat that claims the task still
+-- a planned step by its answer, for a seat that claims the task still
 abbrev pub EntersOn : ℕ → ℕ → Seen → Plan → Seen → List Entry → List Entry → Control → Control → Result StepId StepRefusal → Type 0
 EntersOn limit seat run p new old entries before after (Ok i) =
     IsEntered seat run p new old entries i × IsFalse (has_no_place limit old)

@@ -74,7 +74,8 @@ abbrev pub StepsBy : Session → Name → Session → Result StepId StepRefusal 
 StepsBy s t new (Ok i) = Steps s t new i
 StepsBy s t new (Err e) = (new ≡ s) × Refuses s t e
 
--- the same for the least task that can step, taken for this seat; None where all tasks have ended
+-- a step of the least task that can step, taken for this seat, by its answer: None where all tasks
+-- have ended, else the first refusal that holds
 abbrev pub LeastStepsFor : ℕ → Session → Session → Result (Option StepId) StepRefusal → Type 0
 LeastStepsFor seat s new (Ok None) = (new ≡ s) × (least_task s ≡ None)
 LeastStepsFor seat s new (Ok (Some i)) = (t : Name) × (least_task s ≡ Some t) × StepsFor seat s t new i

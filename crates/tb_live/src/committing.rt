@@ -95,7 +95,8 @@ pub fn enter_plan(
     }
 }
 
-/// The same for a seat that goes on with the task: it claims the task still.
+/// Takes the step of a plan of the program, and enters it for a seat that goes on with the task:
+/// the seat claims the task still. A refusal keeps what is prepared.
 pub fn enter_on(
     program: &Program,
     core: &mut Core,

@@ -185,8 +185,8 @@ impl Live {
         self.step_least_for(0)
     }
 
-    /// The same for any seat, whatever the claims and the mode. The mode counts the step, and pauses
-    /// at a breakpoint that it meets.
+    /// Takes the next step of the least task that can step, for any seat, whatever the claims; None
+    /// where all have ended. The mode counts it, and pauses at a breakpoint.
     pub fn step_least_for(&mut self, seat: u32) -> Result<Option<StepId>, StepRefusal>
         ensures stepped { LeastStepsFor seat self.old.session self.new.session result }
         ensures kept { OnErr result (self.new ≡ self.old) }
@@ -241,7 +241,8 @@ impl Live {
         self.walk_refusal(&mut near, task)
     }
 
-    /// The same in a walk over tasks, which hands on where the last one was found, at first none.
+    /// Why the task's next step would be refused now, a full journal aside, in a walk over tasks:
+    /// `near` hands on where the last one was found, at first none.
     pub fn walk_refusal(
         &self,
         near: &mut Option<usize>,

@@ -108,7 +108,8 @@ pub fn forget(place: &mut Option<Prepared>)
     }
 }
 
-/// The same where something is, apart, so that a step without it doesn't pay for its room.
+/// Drops what is prepared, and leaves nothing.
+// out of line: a step for which nothing is prepared doesn't pay for its stack frame
 #[inline(never)]
 fn drop_prepared(place: &mut Option<Prepared>)
     ensures { place.new ≡ None }
@@ -116,7 +117,7 @@ fn drop_prepared(place: &mut Option<Prepared>)
     *place = None;
 }
 
-/// One of the two.
+/// The first of two events; the other one is dropped.
 pub fn first_of(events: (Event, Event)) -> Event
     ensures { result ≡ events.0 }
 {

@@ -141,7 +141,9 @@ pub fn enter_clear(
     }
 }
 
-/// The same of the floor's task with what it does next. It stands apart, so that a task's step after its own doesn't pay for its room.
+/// Turns to the floor's task, which was found after a search, takes what it does next, and enters
+/// it for the seat.
+// out of line: a task's step after its own doesn't pay for its stack frame
 #[inline(never)]
 pub fn enter_apart(
     core: &mut Core,
@@ -193,9 +195,9 @@ fn follow(control: &mut Control, core: &Core, line: u32)
     }
 }
 
-/// Takes an action from which nothing keeps the task, and enters it for the seat. Most entries are read
-/// off the history's newest event; one that shares memory with its event, or stands apart, is copied
-/// before the step.
+/// Takes an action from which nothing keeps the task, and enters it for the seat. Most entries are
+/// read off the history's newest event; one that shares memory with its event, or is stored out of
+/// line, is copied before the step.
 #[inline(always)]
 fn take(
     core: &mut Core,

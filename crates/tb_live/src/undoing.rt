@@ -54,8 +54,8 @@ fn fresh_names(journal: &mut Journal, step: &StepId) -> Result<(StepId, StepId),
     Ok((id, name))
 }
 
-/// The same by the names that are prepared. They serve no longer once they are taken, so it is asked
-/// first whether the step stays.
+/// Takes back the step by the two names that are prepared, and enters that. They serve no longer
+/// once they are taken, so it is asked first whether the step stays.
 fn enter_prepared(
     core: &mut Core,
     journal: &mut Journal,
@@ -83,7 +83,8 @@ fn enter_prepared(
     }
 }
 
-/// The same by two names of the step, one for its undo and one for its entry.
+/// Takes back the step by two names of it, one for its undo and one for its entry, and enters that.
+/// What is prepared is given up, but at no refusal.
 fn enter_named(
     core: &mut Core,
     journal: &mut Journal,

@@ -1,4 +1,4 @@
-//! That calls succeed, and what they tell.
+//! That calls succeed, and what they return.
 
 ghost use Rattle.std.specs.Prelude.{◌≤◌};
 
@@ -352,7 +352,7 @@ fn step_again(rt: &(impl Abort + AllocGlobal), live: &mut Live, k: u32) {
     }
 }
 
-/// The same of an undo.
+/// An undo that was refused for memory changes nothing, and made again it is done.
 fn undo_again(rt: &(impl Abort + AllocGlobal), live: &mut Live, k: u32) {
     let number = number_kept(live, rt.alloc(), k);
     if number != 100 {
@@ -373,7 +373,7 @@ fn gone(live: &mut Live, id: &StepId) -> Result<usize, u8> {
     }
 }
 
-/// The same of a rollback of all steps.
+/// A rollback of all steps that was refused for memory changes nothing, and made again it is done.
 fn roll_again(rt: &(impl Abort + AllocGlobal), live: &mut Live) {
     let first = StepId {
         task: TaskName::root(rt.alloc()),

@@ -30,7 +30,7 @@ alike_trans a b = record {
   spawn = λ t. a.spawn t ∙ b.spawn t;
 }
 
--- the same event behind alike histories leaves them alike
+-- alike histories stay alike behind one event
 pub alike_cons : (v : Event) {G H : History} → Alike G H → Alike (v ∷ G) (v ∷ H)
 alike_cons v {G} {H} a = record {
   acts = λ t. ap (prepend_if (is_of t v) v.action) (a.acts t);
@@ -59,18 +59,18 @@ before_alike u t a = ap (λ b. is_elder u t && b) (meet_alike is_before t u a)
 pub apart_alike : (u t : Name) {G H : History} → Alike G H → apart G u t ≡ apart H u t
 apart_alike u t a = ap₂ (λ b c. (is_elder u t && b) || (is_elder t u && c)) (meet_alike is_apart t u a) (meet_alike is_apart u t a)
 
--- the same tasks
+-- alike histories have the same tasks
 pub spawned_alike : (t : Name) {G H : History} → Alike G H → is_spawned G t ≡ is_spawned H t
 spawned_alike [] a = refl
 spawned_alike (n ∷ t) a = a.any (spawns (n ∷ t))
 
--- the same children that a `taskwait` covers
+-- alike histories have the same children that a `taskwait` covers
 pub covers_alike : (t : Name) (items : List Item) (u : Name) {G H : History} → Alike G H → covers G t items u ≡ covers H t items u
 covers_alike t items u {G} {H} a =
     ap (λ b. is_child t u && (has_no_items items || b))
     (any_same (λ i. list_any (meets is_before i) (items_of u G)) (λ i. list_any (meets is_before i) (items_of u H)) (λ i. a.items u (meets is_before i)) items)
 
--- and the same may follow
+-- after alike histories the same may follow
 pub timely_alike : (cells : Cells) {G H : History} → Alike G H → (t : Name) (x : Action) → IsTimely cells G t x → IsTimely cells H t x
 timely_alike cells a t Start m = record {
   spawned = sym (spawned_alike t a) ∙ m.spawned;

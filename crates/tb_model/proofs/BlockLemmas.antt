@@ -80,7 +80,7 @@ same_block (x ∷ left) (y ∷ right) d e some long full its same =
     same_first x y left right (omega (arith, long)) full.1 its.1 ∙ and_true (same_name (far_numbers left) (far_numbers right)) _ same
     ∙ ap₂ (λ l r. same_name (far_numbers l) (far_numbers r)) (sym (take_rest (x ∷ left) 1)) (sym (take_rest (y ∷ right) 1))
 
--- and one in which they differ tells that they do
+-- a first block in which two names differ decides that they do
 pub other_block : (left right : List (List ℕ)) (d e : List ℕ) → 0 < length left → length left ≡ length right → AreFull left → AreFull right
     → same_name (slice_index_or left 0 d) (slice_index_or right 0 e) ≡ false
     → same_name (far_numbers left) (far_numbers right) ≡ false

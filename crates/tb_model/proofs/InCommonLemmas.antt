@@ -44,7 +44,7 @@ by_number a b m n of_a of_b bytes others = decided (m == n) refl
 front_and_rest : (a : Name) (i m : ℕ) → i ≤ m → take m a ≡ take i a ++ take (m - i) (drop i a)
 front_and_rest a i m le = ap (λ k. take k a) (omega arith) ∙ take-add i (m - i) a
 
--- the same numbers are taken off both
+-- numbers that two names share, taken off both, don't change their order
 pub name_cmp_without : (a b : Name) (i m j n : ℕ) → i ≤ m → j ≤ n → same_name (take (m - i) (drop i a)) (take (n - j) (drop j b)) ≡ true → name_cmp (take i a) (take j b) ≡ name_cmp (take m a) (take n b)
 name_cmp_without a b i m j n le le' h =
     sym (name_cmp-append (take i a) (take j b) (take (n - j) (drop j b)))

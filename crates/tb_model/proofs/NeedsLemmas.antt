@@ -60,7 +60,7 @@ pub step_needs_alike : {G H : History} → Alike G H → (v : Event) (j : StepId
 step_needs_alike {G} {H} a v j =
     by_acts G v j G ∙ kth_alike a v j (own j.task G) ∙ ap (needs_kth H v j) (a.acts j.task) ∙ sym (by_acts H v j H)
 
--- and the same next numbers of steps
+-- alike histories have the same next numbers of steps
 pub step_alike : {G H : History} → Alike G H → (i : StepId) (v : Event) → is_step i G v ≡ is_step i H v
 step_alike a i v = ap (λ acts. is_of i.task v && (i.k == suc (length acts))) (a.acts i.task)
 
@@ -361,7 +361,7 @@ need_first i j (v ∷ H) h =
     (λ a. or_right (is_step i H v && stands j H) _ (need_first i j H a))
     (or_cases (is_step i H v && needs_step H v j H) _ h)
 
--- and the two are equivalent
+-- a legal history and one to which exchanges of its events lead are equivalent
 pub run_equivalent : (cells : Cells) {G H : History} → Legal cells G → Run G H → Equivalent G H
 run_equivalent cells {G} {H} l r =
     let s = run_same cells l r in
@@ -382,7 +382,7 @@ turned q = record { acts = λ t. sym (q.acts t); there = q.back; back = q.there 
 pub equivalent_state : (cells : Cells) (G H : History) → Legal cells G → Equivalent G H → Alike G H × ((i j : StepId) → needs_in i j G ≡ needs_in i j H)
 equivalent_state cells G H l q = let s = equivalent cells G H l (turned q) in (s.alike, s.needs)
 
--- and what is left without a step is equivalent
+-- what is left of equivalent histories without a step is equivalent
 pub equivalent_without : (cells : Cells) (d : StepId) (G H : History) → Legal cells G → Equivalent G H → Equivalent (without d G) (without d H)
 equivalent_without cells d G H l q =
     let r = equivalent_run cells H G l (turned q) in

@@ -118,7 +118,7 @@ apart_same H u t = or_comm (is_elder u t && some_meet is_apart (items_of t H) (i
     or_comm false true = refl
     or_comm false false = refl
 
--- the same as a fact
+-- exclusion holds both ways, as a fact
 pub apart_sym : (H : History) (u t : Name) → apart H u t ≡ true → apart H t u ≡ true
 apart_sym H u t h = sym (apart_same H u t) ∙ h
 

@@ -23,7 +23,7 @@ reordered_for P l r =
 pub neighbours : (cells : Cells) (later front : History) (e f : Event) → Legal cells (later ++ f ∷ e ∷ front) → needs (e ∷ front) f e ≡ false → IsReordering cells (later ++ f ∷ e ∷ front) (later ++ e ∷ f ∷ front)
 neighbours cells later front e f l n = reordered cells l (swap_behind later e f front n)
 
--- and in a program's run
+-- two neighbours change places in a program's run
 pub neighbours_for : (P : Program) (later front : History) (e f : Event) → LegalFor P (later ++ f ∷ e ∷ front) → needs (e ∷ front) f e ≡ false → IsReorderingFor P (later ++ f ∷ e ∷ front) (later ++ e ∷ f ∷ front)
 neighbours_for P later front e f l n = reordered_for P l (swap_behind later e f front n)
 

@@ -28,7 +28,7 @@ record Within (H : History) (x : Event) (front : History) : Type 0 where
   mid : History
   split : H ≡ mid ++ x ∷ front
 
--- the same place, or one stands in front of the other
+-- two places of one list are one, or one stands in front of the other
 places : (a b : History) (x y : Event) (f g : History) → a ++ x ∷ f ≡ b ++ y ∷ g → ((x ≡ y) × (f ≡ g)) ⊎ (Within f y g ⊎ Within g x f)
 places [] [] x y f g e = inl (cc, cc)
 places [] (z ∷ b) x y f g e = inr (inl (record { mid = b; split = cc }))
@@ -188,6 +188,6 @@ module _ (cells : Cells) (H : History) (r : Rules cells H) where
         record { own = r.own_order v.task v.action front s; resumed = λ u h. r.resumed v.task u v.action front s h; timely = timely_by v.task v.action front s },
   )
 
--- and what meets the rules is legal
+-- a history that meets the rules is legal
 pub from_rules : (cells : Cells) (H : History) → Rules cells H → Legal cells H
 from_rules cells H r = legal_by cells H r [] H refl

@@ -47,7 +47,7 @@ items_settled cells (f ∷ b) front u l s =
     let H = b ++ front in
     items_stay cells H l.0 f l.1 u (not_again cells H l.0 f l.1 u (spawned_later u b front s)) ∙ items_settled cells b front u l.0 s
 
--- and so is what a `taskwait` covers
+-- what a `taskwait` covers is settled once the child was spawned
 pub covers_settled : (cells : Cells) (b front : History) (t : Name) (items : List Item) (u : Name) → Legal cells (b ++ front) → IsSpawned front u → covers (b ++ front) t items u ≡ true → covers front t items u ≡ true
 covers_settled cells b front t items u l s h =
     sym (ap (λ i. is_child t u && (has_no_items items || some_meet is_before items i)) (items_settled cells b front u l s)) ∙ h

@@ -11,7 +11,7 @@ any_weaker p q f [] h = h
 any_weaker p q f (x ∷ xs) h =
     ⊎_elim (λ a. or_left (q x) (list_any q xs) (f x a)) (λ b. or_right (q x) (list_any q xs) (any_weaker p q f xs b)) (or_cases (p x) (list_any p xs) h)
 
--- and where it fails, the stronger one does
+-- where a weaker test fails, the stronger one does
 pub none_weaker : {A : Type 0} (p q : A → Bool) → ((x : A) → p x ≡ true → q x ≡ true) → (xs : List A) → list_any q xs ≡ false → list_any p xs ≡ false
 none_weaker p q f xs h =
     false_from_ne_true (list_any p xs) (λ e. both_ways (list_any q xs) h (any_weaker p q f xs e))

@@ -7,7 +7,8 @@ use Rattle.tb_model.specs.Names.{Name}
 use Rattle.tb_model.specs.Facts.{History, own, last, items_of}
 use Rattle.tb_model.specs.State.{printed, spawn_of}
 
--- the same actions of each task, numbers of cells, events and items by any test, output and spawns; the order may differ
+-- each task has the same actions, each cell the same number, and events and items by any test,
+-- output and spawns are the same; the order may differ
 pub record Alike (G H : History) : Type 0 where
   pub acts : (t : Name) → own t G ≡ own t H
   pub number : (first : ℤ) (c : ℕ) → last first c G ≡ last first c H

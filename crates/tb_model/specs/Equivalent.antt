@@ -26,7 +26,8 @@ abbrev pub needs_in : StepId → StepId → History → Bool
 needs_in i j [] = false
 needs_in i j (v ∷ H) = (is_step i H v && needs_step H v j H) || needs_in i j H
 
--- the same steps with the same actions, and each two of which one directly needs the other in one order
+-- both have the same steps with the same actions, and any two of which one directly needs the other
+-- in one order
 pub record Equivalent (G H : History) : Type 0 where
   pub acts : (t : Name) → own t G ≡ own t H
   pub there : (i j : StepId) → IsTrue (needs_in i j G) → IsTrue (comes_first j i H)

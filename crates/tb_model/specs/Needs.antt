@@ -22,7 +22,8 @@ waits_for H t (Wait items) u = covers H t items u
 waits_for H t Close u = is_member (own t H) u
 waits_for H t _ u = false
 
--- the same, with the undeferred child at which t stood
+-- the action, of t and behind H, needs the end of u: it waits for it, or u is the undeferred child
+-- at which t stood
 abbrev pub needs_end_of : History → Name → Action → Name → Bool
 needs_end_of H t a u = holds (own t H) u || waits_for H t a u
 

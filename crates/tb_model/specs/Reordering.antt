@@ -14,7 +14,7 @@ pub record IsReordering (cells : Cells) (G H : History) : Type 0 where
   pub alike : Alike G H
   pub equivalent : Equivalent G H
 
--- the same for a program
+-- H is G in another order: a legal run of the program, with the same state, and equivalent
 pub record IsReorderingFor (P : Program) (G H : History) : Type 0 where
   pub legal : LegalFor P H
   pub alike : Alike G H

@@ -34,7 +34,7 @@ pub record SameState (G H : History) : Type 0 where
   pub members : (t : Name) (k : ℕ) (m : Name) → is_unended_member_of G t k m ≡ is_unended_member_of H t k m
   pub undeferred : (t u : Name) → is_unended_undeferred G t u ≡ is_unended_undeferred H t u
 
--- the same events may follow, with the same needs and the same records
+-- after both histories the same events may follow, with the same needs and the same records
 pub record GoOnAlike (G H : History) : Type 0 where
   pub may : (cells : Cells) (v : Event) → MayFollow cells G v ↔ MayFollow cells H v
   pub next : (P : Program) (v : Event) → IsNext P G v ↔ IsNext P H v

@@ -9,7 +9,7 @@ use std::alloc::{AllocError, Global};
 use std::marker::Model;
 use std::sync::Arc;
 
-/// So many numbers stand in a block.
+/// How many numbers a block has.
 pub(crate) const BLOCK: usize = 128;
 
 /// 128 numbers of a deep name. They stand on the heap once, for all names that have them.
@@ -62,7 +62,7 @@ impl Block {
         self.levels.text()
     }
 
-    /// The same block, with one owner more. It is refused where it has nine quintillion.
+    /// Gives the block one owner more, without a copy. It is refused where it has nine quintillion.
     pub fn share(&self) -> Result<Block, AllocError>
         ensures { IfOk result (λ b. b ≡ self.now) }
     {

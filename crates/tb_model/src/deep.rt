@@ -6,8 +6,8 @@ use smallvec::SmallVec;
 /// More numbers than a block has.
 #[derive(Drop)]
 pub(crate) struct Deep {
-    /// Those nearest to the task, 1 to 128.
+    /// The numbers nearest to the task, 1 to 128.
     pub near: SmallVec<u32, 8>,
-    /// The others, the block at the root first.
+    /// The numbers further from the task, the block at the root first.
     pub far: Vec<Block>,
 }

@@ -8,14 +8,14 @@ use crate::spread::Spread;
 use std::cmp::Ordering;
 use std::marker::Model;
 
-/// So many numbers stand in a name itself where each takes a byte.
+/// The most numbers that stand in a name itself where each takes a byte.
 pub(crate) const FEW: usize = 14;
 
 /// Four to fourteen numbers below 256, a byte each.
 #[derive(Drop)]
 pub(crate) struct Few {
     count: u8,
-    /// Those that stand there, then zeros, so that all are compared at once.
+    /// The numbers, then zeros, so that all are compared at once.
     bytes: [u8; FEW],
 }
 
@@ -52,7 +52,7 @@ impl Few {
         })
     }
 
-    /// The same numbers.
+    /// A copy of the numbers.
     #[inline(always)]
     pub fn copy(&self) -> Few
         ensures { result ≡ self.now }

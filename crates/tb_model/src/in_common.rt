@@ -3,10 +3,10 @@
 ghost use Rattle.std.specs.Prelude.{◌≡◌, length};
 ghost use Rattle.tb_model.specs.Names.{same_name, name_cmp};
 
-// So many numbers are looked for at once.
+// How many numbers are compared at once.
 const AT_ONCE: usize = 16;
 
-// And so many, of those that are left then.
+// How many are compared at once of those that are left, fewer than `AT_ONCE`.
 const FEW: usize = 4;
 
 /// Whether the numbers are the same. Sixteen are compared at once, then four.
@@ -44,7 +44,7 @@ pub(crate) fn are_same(a: &[u32], b: &[u32]) -> bool
     true
 }
 
-/// The same of so many numbers, without a branch after each.
+/// Whether two lists of so many numbers are the same, without a branch after each number.
 #[inline(always)]
 fn are_so_many_same(a: &[u32], b: &[u32], count: usize) -> bool
     requires { (length a.now ≡ count) × (length b.now ≡ count) }
@@ -57,7 +57,7 @@ fn are_so_many_same(a: &[u32], b: &[u32], count: usize) -> bool
     same
 }
 
-/// The same of numbers below 256, all of them at once.
+/// Whether two lists of numbers below 256 are the same, without a branch after each number.
 #[inline(always)]
 pub(crate) fn are_bytes_same<const N: usize>(a: &[u8; N], b: &[u8; N]) -> bool
     ensures { result ≡ same_name a.now b.now }
@@ -88,7 +88,8 @@ pub(crate) fn without_common<'a>(a: &'a [u32], b: &'a [u32]) -> (&'a [u32], &'a 
     (&a[..m], &b[..n])
 }
 
-/// The same of numbers below 256, without most of those that both have: four are compared at once.
+/// Numbers below 256 without most of the last ones that both have, which don't decide the order:
+/// four are compared at once.
 #[inline(always)]
 pub(crate) fn without_common_bytes<'a>(a: &'a [u8], b: &'a [u8]) -> (&'a [u8], &'a [u8])
     ensures { name_cmp result.0.now result.1.now ≡ name_cmp a.now b.now }

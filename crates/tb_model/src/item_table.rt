@@ -48,7 +48,7 @@ fn excludes_some(new: Item, earlier: &[Item]) -> bool
 }
 
 /// Whether a task with the new items depends on an earlier sibling with the earlier ones: whether
-/// some pair of them stands so in the table.
+/// the table says so of some pair of them.
 pub fn some_before(new: &[Item], earlier: &[Item]) -> bool
     ensures { result ≡ some_meet is_before new.now earlier.now }
 {

@@ -7,7 +7,7 @@ use crate::block::BLOCK;
 use crate::name_text::{digit_levels, digits_at};
 use arrayvec::ArrayVec;
 
-/// So many bytes a block of levels of one digit each has as text.
+/// How many bytes a block of levels of one digit each has as text.
 pub(crate) const TEXT: usize = 2 * BLOCK;
 
 /// The levels of a block as text, if each has one digit; else nothing.

@@ -15,9 +15,9 @@ use std::marker::Model;
 #[derive(Drop)]
 pub(crate) struct Levels {
     numbers: [u32; BLOCK],
-    /// The same, where each is below 256.
+    /// The numbers as bytes, where each is below 256.
     bytes: Option<[u8; BLOCK]>,
-    /// How they are written, where each has one digit; else nothing.
+    /// How the numbers are written, where each has one digit; else nothing.
     text: ArrayVec<u8, TEXT>,
 }
 
@@ -33,7 +33,7 @@ impl Model for Levels {
 }
 
 impl Levels {
-    /// These numbers.
+    /// The levels of these numbers, in each form that they have.
     pub fn new(numbers: [u32; BLOCK]) -> Levels
         ensures { result ≡ numbers }
     {

@@ -145,7 +145,8 @@ impl TaskName {
         }
     }
 
-    /// The same of names of any length. It stands apart, so that a short name doesn't pay for its room.
+    /// The parent's name, which the root alone hasn't, for a name of any length.
+    // out of line: a short name doesn't pay for its stack frame
     #[inline(never)]
     fn parent_in_general(&self) -> Result<Option<TaskName>, AllocError>
         ensures parent { IfOk result (λ p. p ≡ parent self.now) }
@@ -220,7 +221,7 @@ impl TaskName {
         self.numbers.short()
     }
 
-    /// The numbers, a byte each, where they stand so: four to fourteen, each below 256.
+    /// The numbers, a byte each, where they are stored so: four to fourteen, each below 256.
     #[inline(always)]
     pub fn few(&self) -> Option<&[u8]>
         ensures { IfSome result (λ n. n.now ≡ self.now) }
@@ -256,7 +257,8 @@ impl TaskName {
         }
     }
 
-    /// The same of names of any length.
+    /// Whether the other is a child of this, for names of any length.
+    // out of line: short names don't pay for its stack frame
     #[inline(never)]
     fn is_parent_in_general(&self, other: &TaskName) -> bool
         ensures { result ≡ is_child self.now other.now }

@@ -21,7 +21,8 @@ pub(crate) fn compared(a: &Numbers, b: &Numbers) -> Ordering
     in_general(a, b)
 }
 
-/// The same of names of any length. It stands apart, so that a comparison of short names doesn't pay for its room.
+/// The order of two names of any length.
+// out of line: a comparison of short names doesn't pay for its stack frame
 #[inline(never)]
 fn in_general(a: &Numbers, b: &Numbers) -> Ordering
     ensures { result ≡ name_cmp a.now b.now }
@@ -29,8 +30,8 @@ fn in_general(a: &Numbers, b: &Numbers) -> Ordering
     by_parts(&a.parts(), &b.parts())
 }
 
-/// The same by parts. Deep names of one program mostly begin alike at the root, so the blocks that both have there
-/// are passed over.
+/// The order of two names, by their parts. Deep names of one program mostly begin alike at the
+/// root, so the blocks that both have there are passed over.
 fn by_parts(a: &Parts<'_>, b: &Parts<'_>) -> Ordering
     ensures { result ≡ name_cmp a.now b.now }
 {

@@ -10,7 +10,7 @@ use crate::ordinal::ordinal;
 use crate::parts::Parts;
 use std::alloc::AllocError;
 
-/// So many levels of one digit each are appended at once.
+/// How many levels of one digit each are appended at once.
 const LEVELS: usize = 16;
 
 /// Appends the name with these numbers, the task's own first. Some of it may stand where memory

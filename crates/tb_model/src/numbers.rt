@@ -48,7 +48,7 @@ impl Numbers {
         }
     }
 
-    /// These numbers. Takes memory only for more than three.
+    /// A list of these numbers. Takes memory only for more than three.
     pub fn from_slice(alloc: Global, numbers: &[u32]) -> Result<Numbers, AllocError>
         ensures ok { IfOk result (λ n. n ≡ numbers.now) }
         ensures short { length numbers.now ≤ 3 → IsOk result }
@@ -75,7 +75,7 @@ impl Numbers {
         Ok(Numbers { alloc, stored })
     }
 
-    /// This number, and those of the parts after it. Takes memory only for more than three.
+    /// A number, and those of the parts after it. Takes memory only for more than three.
     pub fn with_first(alloc: Global, first: u32, rest: &Parts<'_>) -> Result<Numbers, AllocError>
         ensures ok { IfOk result (λ n. n ≡ first ∷ rest.now) }
         ensures short { length rest.now < 3 → IsOk result }
@@ -89,7 +89,7 @@ impl Numbers {
         Ok(Numbers { alloc, stored })
     }
 
-    /// This number, and these after it. Takes memory only where these are three or more.
+    /// A number, and these after it. Takes memory only where these are three or more.
     #[inline(always)]
     pub fn child(&self, first: u32) -> Result<Numbers, AllocError>
         ensures ok { IfOk result (λ n. n ≡ first ∷ self.now) }
@@ -104,7 +104,8 @@ impl Numbers {
         }
     }
 
-    /// The same where they don't stand in the value. It stands apart, so that a short list doesn't pay for its room.
+    /// A number, and these after it, where they don't fit in the value together.
+    // out of line: a short list doesn't pay for its stack frame
     #[inline(never)]
     fn child_in_general(&self, first: u32) -> Result<Numbers, AllocError>
         ensures ok { IfOk result (λ n. n ≡ first ∷ self.now) }
@@ -113,7 +114,8 @@ impl Numbers {
         Numbers::with_first(self.alloc, first, &self.parts())
     }
 
-    /// These but the first, where both stand in the value; of four small numbers it isn't told.
+    /// These numbers but the first, where these and the others stand in the value; of four small
+    /// numbers it isn't said.
     #[inline(always)]
     pub fn rest_in_place(&self) -> Option<Numbers>
         ensures { IfSome result (λ n. Some n ≡ parent self.now) }
@@ -228,8 +230,8 @@ impl Numbers {
         }
     }
 
-    /// The same of names of any length. It stands apart, so that a comparison of two short names of one
-    /// length doesn't pay for its room.
+    /// Whether the numbers are the same, for lists of any length.
+    // out of line: a comparison of two short names of one length doesn't pay for its stack frame
     #[inline(never)]
     fn is_same_in_general(&self, other: &Numbers) -> bool
         ensures { result ≡ same_name self.now other.now }
@@ -243,7 +245,8 @@ impl Numbers {
         }
     }
 
-    /// The same where the numbers don't stand alike: of short names their count decides.
+    /// Whether the numbers are the same, where they are stored in two ways: of short lists the
+    /// count decides.
     fn is_same_elsewhere(&self, other: &Numbers) -> bool
         ensures { result ≡ same_name self.now other.now }
     {
@@ -288,7 +291,8 @@ fn with_first_in_place(stored: &Stored, first: u32) -> Option<Stored>
     }
 }
 
-/// These but the first, where both stand in the value; of four small numbers it isn't told.
+/// The numbers but the first, where these and the others stand in the value; of four small numbers
+/// it isn't said.
 #[inline(always)]
 fn rest_in_place(stored: &Stored) -> Option<Stored>
     ensures { IfSome result (λ s. (Some (numbers_in s) ≡ parent (numbers_in stored.now)) × IsShortest s) }

@@ -32,7 +32,7 @@ impl<'a> Run<'a> {
         }
     }
 
-    /// These numbers.
+    /// A run of these numbers, which are lent.
     #[inline(always)]
     pub(crate) fn of_slice(numbers: &'a [u32]) -> Run<'a>
         ensures { result ≡ numbers.now }
@@ -42,7 +42,7 @@ impl<'a> Run<'a> {
         }
     }
 
-    /// The same of numbers that stand in a name itself.
+    /// A run of numbers that stand in a name itself.
     #[inline(always)]
     pub(crate) fn of_spread(numbers: Spread) -> Run<'a>
         ensures { result ≡ numbers }
@@ -63,7 +63,7 @@ impl<'a> Run<'a> {
         }
     }
 
-    /// Those after the first.
+    /// The run without its first number.
     #[inline(always)]
     pub(crate) fn without_first(&self) -> Run<'a>
         requires { 0 < length self.now }

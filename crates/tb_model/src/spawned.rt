@@ -44,7 +44,8 @@ impl Spawned {
         &*self.spawn
     }
 
-    /// The same with this child.
+    /// The spawn with this child, which it had another one in place of. It is copied where it has
+    /// other owners.
     pub fn with_child(self, child: TaskName) -> Result<Spawned, AllocError>
         ensures { IfOk result (λ s. s ≡ record self { child = child }) }
     {

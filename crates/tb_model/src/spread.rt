@@ -24,7 +24,7 @@ impl Model for Spread {
 }
 
 impl Spread {
-    /// The first so many of these.
+    /// The first so many of the numbers.
     #[inline(always)]
     pub fn new(numbers: [u32; FEW], count: usize) -> Spread
         requires { count ≤ 14 }
@@ -45,7 +45,7 @@ impl Spread {
         &self.numbers[self.from..self.to]
     }
 
-    /// Those after the first.
+    /// The numbers after the first.
     #[inline(always)]
     pub fn without_first(&self) -> Spread
         requires { 0 < length self.now }

@@ -74,7 +74,7 @@ pub least_named : {E : Type 0} (P : Program) (run : Seen) (t : Name) (m : Coming
 least_named P run t m (Ok o) k l e = subst (IsLeastComing P run) (sym e) (k, l)
 least_named P run t m (Err x) k l e = tt
 
--- and its plan
+-- the plan of the least task that can step
 pub least_plan : (P : Program) (run : Seen) (t : Name) (m : Coming) (k : IsComing P run t m) → least_ready P (history run) ≡ Some t → IsReadyPlan P run k.plan
 least_plan P run t m k l = plan_ready P run t k.plan k.of_task l
 

@@ -297,7 +297,7 @@ refusal_planned P run p f i n there going =
     known_refusal (is_spawned H t) (list_any (ends t) H) (in_the_way H t (planned P H t zero_ℤ)) there going
     ∙ ap (option_map By) (sym (planned_alike (in_the_way H t) P run p f i n (λ k m body args items deferred. refl)))
 
--- the same for the plan of a task that goes on
+-- what refuses the plan of a task that goes on is its hindrance
 pub refusal_of_plan : (P : Program) (run : Seen) (t : Name) (p : Plan) → Fits P run → IsPlanOf P run t p → refusal_of P (history run) t ≡ option_map By (hindrance_of run p)
 refusal_of_plan P run t p f plan =
     ap (refusal_of P (history run)) (sym plan.of_task)

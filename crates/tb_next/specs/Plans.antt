@@ -79,7 +79,7 @@ pub record IsNext (run : Seen) (t : Name) (m : Coming) : Type 0 where
   pub fits : Fits run plan
   pub current : IsCurrent run plan
 
--- and nothing keeps the task from it
+-- it is what a plan for the task's situation says, and nothing keeps the task from it
 pub record IsClear (run : Seen) (t : Name) (m : Coming) : Type 0 where
   pub next : IsNext run t m
   pub clear : in_the_way (history run) t m.action ≡ None

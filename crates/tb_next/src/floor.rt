@@ -52,7 +52,7 @@ impl Floor {
         }
     }
 
-    /// Where the look for the task found it, to be looked for there first.
+    /// Where the search for the task found it, to be looked for there first.
     #[inline]
     pub fn near(&self) -> Option<usize> {
         self.near
@@ -103,7 +103,9 @@ impl Floor {
         }
     }
 
-    /// The same for an end. It stands apart, so that other steps don't pay for its room.
+    /// Takes the memory that the task's end wants here: its parent's name. Where it is refused, no
+    /// task is known after the step.
+    // out of line: other steps don't pay for its stack frame
     #[inline(never)]
     fn ready_end(&mut self, task: &TaskName)
         ensures { self.new ≡ self.old }

@@ -125,6 +125,7 @@ pub fn strip_at(program: &Program, at: u32) -> Strip
     requires { IsPosition program.now at }
     ensures { IsStripOf program.now at result }
 {
+    // for the proof: what the program keeps of its lines
     let _lines = program.line_count();
     strip_around(program, at)
 }

@@ -46,7 +46,8 @@ fn clear_coming(
     clear_at(alloc, program, core, task, &standing)
 }
 
-/// The same of a task that stands so and isn't over.
+/// What a task that goes on does next, where it can. Its standing is given, so that it isn't looked
+/// for.
 #[inline(always)]
 fn clear_at(
     alloc: Global,
@@ -70,8 +71,8 @@ fn clear_at(
     }
 }
 
-/// The same of a task that was generated and isn't over, in a walk over such tasks, which hands on where the last one was
-/// found.
+/// What an unended task does next, where it can, in a walk over such tasks: `near` hands on where
+/// the last one was found.
 #[inline(always)]
 fn unended_coming(
     alloc: Global,
@@ -170,8 +171,9 @@ pub fn least_coming(
     }
 }
 
-/// The same where the floor's task, if there is one, can't step. It stands apart, so that a task's step
-/// after its own doesn't pay for its room.
+/// The least task that can step, with what it does, where the floor's task, if there is one, can't;
+/// it becomes the floor.
+// out of line: a task's step after its own doesn't pay for its stack frame
 #[inline(never)]
 pub fn least_behind(
     alloc: Global,
@@ -202,7 +204,8 @@ fn named(task: &TaskName, coming: Coming) -> Result<Option<(TaskName, Coming)>, 
     Ok(Some((name, coming)))
 }
 
-/// The same where none can step but those that come after this one. It says too where the task was found.
+/// The least task that can step, with what it does, where none can but those that come after this
+/// one. `near` becomes where it was found.
 fn coming_behind(
     alloc: Global,
     program: &Program,

@@ -83,7 +83,7 @@ fn can_step(program: &Program, core: &Core, task: &TaskName) -> bool
     kept_from(program, core, task, &standing).is_none()
 }
 
-/// What keeps a task that stands so and isn't over from its step, by name.
+/// What keeps a task with this standing, which isn't over, from its step, by name.
 fn kept_from(
     program: &Program,
     core: &Core,
@@ -103,7 +103,7 @@ fn kept_from(
     }
 }
 
-/// What keeps a task that stands so at this statement from it, by name.
+/// What keeps a task with this standing from this statement, at which it stands, by name.
 fn kept_by(
     program: &Program,
     core: &Core,

@@ -57,7 +57,7 @@ blind_given f blind g (inr o) a b p q =
     let m : Load o.0 o.1 (loaded b) ≡ b = some_one (sym (o.2 (loaded b)) ∙ q) in
     ap f (sym l) ∙ blind o.0 o.1 (loaded a) (loaded b) ∙ ap f m
 
--- and are one where both read one number
+-- two actions that are given so are one where both read one number
 pub one_given : (g : ℤ → Option Action) → OnlyReads g → (a b : Action) → g (loaded a) ≡ Some a → g (loaded b) ≡ Some b
     → ((r c : ℕ) (x y : ℤ) → a ≡ Load r c x → b ≡ Load r c y → x ≡ y) → a ≡ b
 one_given g (inl o) a b p q same = some_one (sym p ∙ o.2 (loaded a) ∙ sym (o.2 (loaded b)) ∙ q)

@@ -82,7 +82,7 @@ stored = stores ∷ by (1 ∷ []) Start ∷ generated
 abbrev loaded : History
 loaded = read ∷ by (2 ∷ []) Start ∷ stored
 
--- and stores what it read; c stores to the same cell, which is a race too
+-- b stores what it read; c stores to the same cell, which is a race too
 abbrev earlier : Event
 earlier = by (2 ∷ []) (Store 1 (ℤ.pos 1))
 
@@ -106,7 +106,7 @@ second_race =
     unordered WithExclusion later earlier (by (3 ∷ []) Start ∷ []) loaded (Cell 1) refl (λ a.
     both_ways false refl ((found_by_pass WithExclusion (by (3 ∷ []) Start ∷ []) later earlier loaded).1 a))
 
--- and so do the load and the store in front of them
+-- the load and the store in front of these two race too
 load_race : IsRace WithExclusion loaded stored
 load_race =
     unordered WithExclusion read stores (by (2 ∷ []) Start ∷ []) (by (1 ∷ []) Start ∷ generated) (Cell 0) refl (λ a.

@@ -117,7 +117,7 @@ module _ (o : Order) (e : Event) (a E b : History) (x : Event) (X : History) (sa
       shorter : (m : History) → X ≡ m ++ E → ⊥
       shorter m q = omega (arith, reached o E e x X h, ap (λ G. length (own x.task G)) q, own_longer x.task m E)
 
--- and back
+-- an event that comes after another has it in front
 pub after_front : (o : Order) (e : Event) (E : History) (x : Event) (X : History) → ComesAfter o (e ∷ E) (x ∷ X) → is_in_front o (e ∷ E) (x ∷ X) ≡ true
 after_front o e E x X c = let s = proper c in at s.0 s.1 s.2
   where

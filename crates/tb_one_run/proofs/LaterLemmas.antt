@@ -123,7 +123,7 @@ under_way cells t acts (Test y) b r s h = cc
 under_way cells t acts End b r s h = cc
 under_way cells t acts Fault b r s h = cc
 
--- and may go on where nothing keeps its task
+-- a task under way may go on with what shares a cell or the output, where nothing keeps it
 may_go_on : (cells : Cells) (G : History) (t : Name) (a b : Action) (r : Conflict) → shared a b ≡ Some r → Continues cells t (own t G) a → MayFollow cells G (quiet t) → MayFollow cells G (record { task = t; action = with_number (number_read cells G a) a })
 may_go_on cells G t (Store c x) b r s h m = record { own = h; resumed = m.resumed; timely = tt }
 may_go_on cells G t (Load k c x) b r s h m = record { own = h; resumed = m.resumed; timely = refl }

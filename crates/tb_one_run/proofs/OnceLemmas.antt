@@ -55,12 +55,12 @@ only_stays K p (x ∷ b) u F n m h =
     let o = or_parts (p x) (list_any p b) n in
     ⊎_elim (λ a. absurd (both_ways (p x) o.0 a.1)) (λ a. only_stays K p b u F o.1 m a) (any_put p (has K (x ∷ (b ++ u ∷ F))) x (part K (b ++ u ∷ F)) h)
 
--- so the end stays
+-- the end of a task stays
 pub end_stays : (cells : Cells) (K : History) (t : Name) (b : History) (u : Event) (F : History) → Legal cells (b ++ u ∷ F) → ends t u ≡ true → HasEnded (part K (b ++ u ∷ F)) t → has K (u ∷ F) ≡ true
 end_stays cells K t b u F l e h =
     only_stays K (ends t) b u F (no_end_after cells t u F b l e) (no_end_before cells t u F (legal_below cells b (u ∷ F) l) e) h
 
--- and the spawn
+-- the spawn of a task stays
 pub spawn_stays : (cells : Cells) (K : History) (t : Name) (b : History) (u : Event) (F : History) → Legal cells (b ++ u ∷ F) → spawns t u ≡ true → list_any (spawns t) (part K (b ++ u ∷ F)) ≡ true → has K (u ∷ F) ≡ true
 spawn_stays cells K t b u F l e h =
     only_stays K (spawns t) b u F (no_spawn_after cells t u F b l e) (no_spawn_before cells t u F (legal_below cells b (u ∷ F) l) e) h

@@ -20,7 +20,7 @@ abbrev pub failing : (History → Bool) → History → History
 failing p [] = []
 failing p (v ∷ H) = prepend_if (not (p (v ∷ H))) v (failing p H)
 
--- the same of the later part of a history
+-- those of the later part of a history that pass
 abbrev pub late_passing : (History → Bool) → History → History → History
 late_passing p [] front = []
 late_passing p (v ∷ b) front = prepend_if (p (v ∷ (b ++ front))) v (late_passing p b front)

@@ -129,7 +129,7 @@ row H v r e = at (newest_race WithExclusion H v H) refl
         let made : newest_race Synchronised H v H ≡ Some r = sym (ap (λ d. option_or d (newest_race Synchronised H v H)) q) ∙ e in
         row_of Synchronised H v r refl made (λ z G i. none_races i q)
 
--- and where nothing is, the event has no race
+-- an event has no race where none is found
 pub no_row : (H : History) (v : Event) → (race_of H v ≡ None) ↔ ((G : History) → IsRace Synchronised (v ∷ H) G → ⊥)
 no_row H v = (
   λ e G i.

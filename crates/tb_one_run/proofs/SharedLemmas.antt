@@ -31,7 +31,7 @@ abbrev pub gone : History → History → History
 gone K [] = []
 gone K (v ∷ F) = prepend_if (not (has K (v ∷ F))) v (gone K F)
 
--- the same of the later part of a history
+-- those of the later part of a history that the other history has
 abbrev pub late : History → History → History → History
 late K [] front = []
 late K (v ∷ b) front = prepend_if (has K (v ∷ (b ++ front))) v (late K b front)
@@ -87,7 +87,8 @@ pub own_longer : (t : Name) (b F : History) → length (own t F) ≤ length (own
 own_longer t [] F = omega arith
 own_longer t (v ∷ b) F = omega (arith, own_longer t b F, own_grows t v (b ++ F))
 
--- and what stands further back goes
+-- where the other history has no more of a task than a front has, none of the later part's events
+-- of the task is shared
 pub own_back : (K : History) (t : Name) (b F : History) → length (own t K) ≤ length (own t F) → own t (part K (b ++ F)) ≡ own t (part K F)
 own_back K t [] F h = refl
 own_back K t (v ∷ b) F h = at (is_of t v) refl (own_back K t b F h)

@@ -101,7 +101,7 @@ conflict_parts v u r h = at (is_of v.task u) refl
 
 -- ---- two places of one list
 
--- the same place, or one stands in front of the other
+-- two places of one list are one, or one stands in front of the other
 pub places : (a b : History) (x y : Event) (F G : History) → a ++ x ∷ F ≡ b ++ y ∷ G → (x ≡ y) ⊎ (((m : History) × (F ≡ m ++ y ∷ G)) ⊎ ((m : History) × (G ≡ m ++ x ∷ F)))
 places [] [] x y F G e = inl (cc)
 places [] (z ∷ b) x y F G e = inr (inl (b, cc))

@@ -1,5 +1,5 @@
 //! Tests of the options as they are typed, by the calls of `tb_options`.
-//! They stand apart from it, so that its proofs are not checked once more with them.
+//! They are a crate of their own, so that its proofs aren't checked once more with them.
 #![tactic(auto)]
 
 #[cfg(test)]

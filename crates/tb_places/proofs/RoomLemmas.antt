@@ -82,7 +82,7 @@ room_next names xs ys e p index room = record {
   mark = row_next event_mark xs ys e p.marks index.marks room.marks;
 }
 
--- and without one of them
+-- room for all of the events is room for all but one
 pub room_without : (names : List Name) (xs ys : List Event) (e : Event) (p : Places) → HasRoomForAll names (xs ++ e ∷ ys) p → HasRoomForAll names (xs ++ ys) p
 room_without names xs ys e p room = record {
   named =

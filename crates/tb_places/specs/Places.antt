@@ -40,7 +40,7 @@ pub record HasRoomAs (p : Places) (number : Option ℕ) (a : Action) : Type 0 wh
   pub own : HasRoomAt p.own number
   pub mark : HasRoomAt p.marks (mark_of a)
 
--- the same, by its task's name
+-- the places of an event take no memory, where its task's number is that of its name among these
 abbrev pub HasRoomFor : List Name → Places → Event → Type 0
 HasRoomFor names p e = HasRoomAs p (event_number names e) e.action
 

@@ -17,7 +17,7 @@ room_of r n = option_map_or (λ row. vec_capacity row) (slice_get r.rows.items n
 abbrev pub HasRoom : Rows → ℕ → Type 0
 HasRoom r n = length (row_of r n) < room_of r n
 
--- the same, where there is a row
+-- the row with this number, where there is a number, takes one more place and no memory
 abbrev pub HasRoomAt : Rows → Option ℕ → Type 0
 HasRoomAt r None = ⊤
 HasRoomAt r (Some n) = HasRoom r n

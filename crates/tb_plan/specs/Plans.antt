@@ -23,7 +23,7 @@ situation c = record { line = c.at; regs = c.regs }
 abbrev pub IsActionOf : Instr → Name → List ℤ → Action → Type 0
 IsActionOf i t regs a = (cells : List ℤ) → length cells ≡ i.cells → a ≡ action_of cells t 1 regs zero_ℤ i.statement
 
--- the same for the task of a situation
+-- the action of the statement for the task of a situation, at any cells of that number
 abbrev pub IsEvaluation : Instr → Config → Action → Type 0
 IsEvaluation i c a = IsActionOf i c.task c.regs a
 

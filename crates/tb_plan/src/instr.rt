@@ -16,7 +16,7 @@ pub struct Instr {
     pub next: u32,
     pub otherwise: u32,
     pub cells: u32,
-    /// Its registers are 0 to 15, and it has at most 16 arguments.
+    /// The statement's registers are 0 to 15, and it has at most 16 arguments.
     pub ghost sound: { IsTrue (is_sound statement) },
 }
 

@@ -12,6 +12,6 @@ pub struct PrivateLine {
     pub statement: Private,
     pub next: u32,
     pub otherwise: u32,
-    /// Its registers are 0 to 15.
+    /// The statement's registers are 0 to 15.
     pub ghost sound: { IsTrue (is_sound (statement_of statement)) },
 }

@@ -29,7 +29,8 @@ wait_kind H t (Wait items) u = some_if (covers H t items u) Waits
 wait_kind H t Close u = some_if (is_member (own t H) u) Group
 wait_kind H t _ u = None
 
--- the same, with the undeferred child at which t stood
+-- why the action, of t and behind H, needs the end of u: why it waits for it, or that u is the
+-- undeferred child at which t stood
 abbrev pub end_kind : History → Name → Action → Name → Option NeedKind
 end_kind H t a u = option_or (wait_kind H t a u) (some_if (holds (own t H) u) Undeferred)
 

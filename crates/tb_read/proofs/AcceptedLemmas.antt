@@ -50,7 +50,7 @@ module _ (texts : List (List ℕ)) (given : Context) (all : List Line) (instrs :
   pub program_kept : length cells ≤ 65536 → length all ≤ 65537 → ArePlaced (length cells) instrs → IsKept P instrs
   program_kept few few_lines placed = record { few_cells = few; few_lines = omega (arith, has.count, few_lines); placed = placed; sound = program_sound }
 
--- the same from what the calls answer; the texts are lent
+-- what an accepted text has, from what the calls answer; the texts are lent
 pub has_of : (lent : List (Bor (List ℕ))) (given : Context) (all : List Line) (instrs : List (Option Instr)) (cells : List ℤ) (bodies : List Named) (main : ℕ) →
     IsAccepted (map (λ line. line.now) lent) → given ≡ context_at (map (λ line. line.now) lent) (length lent) → map shown_line all ≡ lines_in (map (λ line. line.now) lent) →
     cells ≡ map first_number given.cells → bodies ≡ given.bodies → main ≡ line_of (heading_of (headings_from 0 (map (λ line. line.now) lent)) (codes "main")) →

@@ -26,7 +26,7 @@ lookup_append test (e ∷ a) b = ap (cond (test e.0) (Some e.1)) (lookup_append 
     by_test true = refl
     by_test false = refl
 
--- the same, of what the entries show
+-- the heading of a word among entries is that among what the entries show
 pub lookup_seen : (entries : List (Bor (List ℕ) × Heading)) (seen : List (List ℕ × Heading)) → map (λ e. (e.0.now, e.1)) entries ≡ seen →
     (word : List ℕ) → lookup (λ k. same_word word k.now) entries ≡ heading_of seen word
 lookup_seen entries seen same word = sym (lookup_named (same_word word) entries) ∙ ap (lookup (same_word word)) same
@@ -84,7 +84,7 @@ heading_next seen more line text rest all added before name =
     ∙ ap (lookup (same_word name)) (append_assoc seen (option_to_list (heading_in line (line_words text))) (headings_from (suc line) rest))
     ∙ before name
 
--- the same, by places
+-- the headings so far and those from the next line on are all, by the line's place
 pub heading_step : (lines : List (Bor (List ℕ))) (seen more : List (List ℕ × Heading)) (line : ℕ) (d : Bor (List ℕ)) (all : List ℕ → Option Heading) → line < length lines →
     ((name : List ℕ) → heading_of more name ≡ heading_of (seen ++ option_to_list (heading_in line (line_words (get_or lines line d).now))) name) →
     ((name : List ℕ) → heading_of (seen ++ headings_from line (map (λ line. line.now) (drop line lines))) name ≡ all name) →

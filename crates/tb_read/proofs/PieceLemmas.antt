@@ -7,7 +7,7 @@ use Rattle.tb_read.specs.Text.{pieces, onto_first, is_word, is_blank, uncommente
 one_more : (n : ℕ) → 1 + n ≡ suc n
 one_more n = omega arith
 
--- the same, where the first byte isn't an end, from the pieces of the bytes behind it
+-- the pieces from a byte on that isn't an end, from the pieces of the bytes behind it
 pieces_on : (ends : ℕ → Bool) (b c : ℕ) (bytes : List ℕ) →
     pieces ends (c ∷ bytes) ≡ take (position_or_len ends (c ∷ bytes)) (c ∷ bytes) ∷ pieces ends (drop (suc (position_or_len ends (c ∷ bytes))) (c ∷ bytes)) →
     onto_first b (pieces ends (c ∷ bytes)) ≡ take (1 + position_or_len ends (c ∷ bytes)) (b ∷ c ∷ bytes) ∷ pieces ends (drop (suc (1 + position_or_len ends (c ∷ bytes))) (b ∷ c ∷ bytes))
@@ -26,7 +26,7 @@ pub pieces_front : (ends : ℕ → Bool) (b : ℕ) (bytes : List ℕ) →
 pieces_front ends b [] = pieces_by ends b [] refl
 pieces_front ends b (c ∷ bytes) = pieces_by ends b (c ∷ bytes) (pieces_on ends b c bytes (pieces_front ends c bytes))
 
--- the same, behind the pieces that were found before
+-- the pieces that were found before, the next one and those behind it are all pieces
 pub piece_found : (ends : ℕ → Bool) (before : List (List ℕ)) (rest : List ℕ) (all : List (List ℕ)) (at : ℕ) → (rest ≡ [] → ⊥) →
     at ≡ position_or_len ends rest → before ++ pieces ends rest ≡ all →
     (before ++ take at rest ∷ []) ++ pieces ends (drop (suc at) rest) ≡ all

@@ -56,7 +56,7 @@ text_more all text piece words word e before here = e ∙ ap (λ t. t && piece) 
 pub words_text : (line : List ℕ) → list_all is_text (line_words line) ≡ is_text (before_comment line)
 words_text line = filter_text (pieces is_blank (before_comment line)) ∙ pieces_text (before_comment line)
 
--- the same, once no words are left
+-- a line is text just where the words that were found are, once no words are left
 pub all_found : (text : Bool) (words : List (List ℕ)) (rest line : List ℕ) → text ≡ list_all is_text words → words ++ line_words rest ≡ line_words line →
     line_words rest ≡ [] → text ≡ is_text (before_comment line)
 all_found text words rest line e found none =

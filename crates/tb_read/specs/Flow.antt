@@ -44,7 +44,7 @@ abbrev pub levels : ℕ → List Line → List Level
 levels n [] = []
 levels n (line ∷ lines) = levels_over n line (levels (suc n) lines)
 
--- the same behind line n of a text
+-- the blocks that are open behind line n of a text, the innermost first
 abbrev pub levels_behind : List Line → ℕ → List Level
 levels_behind lines n = levels (suc n) (drop (suc n) lines)
 

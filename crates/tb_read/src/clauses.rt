@@ -80,7 +80,8 @@ fn add_three(found: &mut Misfits, on_wait: bool, kind: &[u8], three: &[&[u8]])
     found.add_all(&places, three);
 }
 
-/// The same for what is left behind the last whole three.
+/// Adds the faults of the words after the last whole three at their places: those of a test, or of
+/// a three that lacks some.
 fn add_rest(found: &mut Misfits, on_wait: bool, words: &[&[u8]])
     ensures { Finds found.old found.new (λ fault. is_misplaced_in_rest fault on_wait (map (λ word. word.now) words.now)) }
 {

@@ -163,7 +163,8 @@ fn is_turning(block: Option<Block>) -> bool
     }
 }
 
-/// So many cells, none of which was given a number.
+/// As many cells as were found, up to 65536, none of which was given a number; none where no count
+/// was found.
 fn blank_cells(alloc: Global, found: Option<i64>) -> Result<Vec<Option<i64>>, AllocError>
     ensures cells { IfOk result (λ cells. cells.items ≡ blank_cells found) }
     ensures few { IfOk result (λ cells. length cells.items ≤ 65536) }

@@ -26,7 +26,7 @@ fn behind(bytes: &[u8], at: usize) -> &[u8]
     }
 }
 
-/// So many bytes, as far as they are there, and those behind them.
+/// The first `at` bytes, as far as they are there, and those after them.
 fn divided(bytes: &[u8], at: usize) -> (&[u8], &[u8])
     ensures { length result.1.now ≤ length bytes.now }
 {

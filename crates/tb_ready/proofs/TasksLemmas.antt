@@ -31,7 +31,7 @@ mark_of_at (t ∷ ts) (suc i) u h =
     ap (λ b. cond b (Some t.1) (mark_of ts (name_at ts i))) (unique_head t ts i u (omega arith))
     ∙ mark_of_at ts i (unique_tail t ts u) (omega arith)
 
--- the same of a name that was found
+-- the mark of a name that was found at a place is the one there
 pub mark_of_named : (ts : Table) (name : Name) (i : ℕ) → AreUnique ts → StandsAt ts name i → mark_of ts name ≡ Some (mark_at ts i)
 mark_of_named ts name i u s = subst (λ n. mark_of ts n ≡ Some (mark_at ts i)) s.is (mark_of_at ts i u s.within)
 

@@ -22,7 +22,8 @@ MarkedBy t End old new = new ≡ with_mark old t false
 MarkedBy t Fault old new = new ≡ with_mark old t false
 MarkedBy t _ old new = new ≡ old
 
--- and those that take the action back
+-- what the calls that take this action of the task back change: a generated task is removed, and
+-- one that had ended marked
 abbrev pub MarkedBackBy : Name → Action → List (Name × Bool) → List (Name × Bool) → Type 0
 MarkedBackBy t (Spawn s) old new = new ≡ without_name old s.child
 MarkedBackBy t End old new = new ≡ with_mark old t true

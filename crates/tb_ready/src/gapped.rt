@@ -52,7 +52,7 @@ impl Gapped {
         self.ring.len()
     }
 
-    /// The kth, from 0.
+    /// The kth place, from 0.
     #[inline(always)]
     pub(crate) fn at(&self, k: usize) -> usize
         requires { k < length self.now.items }

@@ -65,7 +65,8 @@ pub fn step()
         AreMarks (v ∷ H) new }
 {}
 
-/// And those that take it back lead back.
+/// The calls that take an action back lead from the marks of the history with it to those without
+/// it.
 #[tactic(auto, using(crate::proofs::HistoryLemmas::taken_back))]
 pub fn back()
     ensures { (cells : Cells) (H : History) (v : Event) (old new : List (Name × Bool)) →

@@ -102,15 +102,16 @@ impl Ready {
         self.walk_marked(&mut walk, after)
     }
 
-    /// The same in a walk over the marked names, which hands on the place where it is, at first any: so each is found right
-    /// after the one before it.
+    /// The least marked name behind this one, or the least of all, in a walk over the marked names:
+    /// `walk` is handed on, at first any, so each is found right after the one before it.
     pub fn walk_marked(&self, walk: &mut usize, after: Option<&TaskName>) -> Option<&TaskName>
         ensures { IsLeastName (IsMarkedBehind self.now.tasks (option_copied after.entry)) (option_copied result) }
     {
         next_marked(&self.names, &self.order, walk, self.near, after)
     }
 
-    /// Where the name stands that such a walk found last, in the order of spawning.
+    /// The index, in the order of spawning, of the name that a walk over the marked names found
+    /// last.
     pub fn index_in(&self, walk: usize) -> Option<usize>
         ensures { IfSome result (λ i. i < length self.now.tasks) }
     {
@@ -145,7 +146,7 @@ impl Ready {
         Ok(())
     }
 
-    /// The same in the room that is there, for a name that isn't there.
+    /// Adds a name that isn't there behind the others, unmarked, in the room that there is.
     #[inline(always)]
     pub fn add_reserved(&mut self, name: TaskName)
         requires absent { mark_of self.old.tasks name ≡ None }
@@ -176,7 +177,8 @@ impl Ready {
         self.mark_near(near, name, marked);
     }
 
-    /// The same of a name that is looked for at this index first, which may be any.
+    /// Sets the mark of a name, which is looked for at this index first, which may be any. Where it
+    /// isn't there, nothing changes.
     pub fn mark_near(&mut self, near: usize, name: &TaskName, marked: bool)
         ensures tasks { self.new.tasks ≡ with_mark self.old.tasks name.now marked }
         ensures room { self.old.room ≤ self.new.room }

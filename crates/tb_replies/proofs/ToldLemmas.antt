@@ -107,7 +107,7 @@ pub course_told : (all : Course) (told : List ℕ) (taken : Taken) (new : Sessio
     → RunReply all (told ++ last_line taken.count taken.stop) new
 course_told all told taken new is = (sym (ap course_text is), sym (ap (λ (c : Course). c.session) is))
 
--- the same of a `run`, which begins with no text
+-- the course of a `run`, which begins with no text
 module _ (s r : Session) (most : ℕ) (old : List ℕ) (resumes : r ≡ resumed s) (none : old ≡ []) where
   same : behind old 0 (course most r) ≡ course most (resumed s)
   same = ap₂ (λ l z. behind l 0 (course most z)) none resumes ∙ behind_nothing (course most (resumed s))

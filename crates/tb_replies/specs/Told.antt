@@ -48,7 +48,8 @@ TellsSteps (Run most) = ⊤
 TellsSteps (Show Hist) = ⊤
 TellsSteps _ = ⊥
 
--- and those of `go` where one worker takes them
+-- what is asked for is told in pieces: the steps of `run`, those that stand, and those of `go`
+-- where one worker takes them
 abbrev pub AreTold : Asked → Type 0
 AreTold (Asks command) = TellsSteps command
 AreTold (Go workers most) = workers ≡ 1
@@ -65,6 +66,6 @@ Fails AreSteps HasSeveral IsReply before after Memory = Appends before after [] 
 Fails AreSteps HasSeveral IsReply before after Write = Begins IsReply before after
 Fails AreSteps HasSeveral IsReply before after Journal = HasSeveral × Appends before after []
 
--- the same of a line, where `go` may name so many workers
+-- what was written without a whole reply to a line, where `go` may name so many workers
 abbrev pub FailsAt : ℕ → Session → List ℕ → Option (List ℕ) → Option (List ℕ) → Unanswered → Type 0
 FailsAt limit s line before after why = Fails (AsksSteps limit line) (AsksSeveral limit line) (Answers limit s line) before after why

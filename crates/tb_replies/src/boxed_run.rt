@@ -34,7 +34,8 @@ impl BoxedRun {
         }
     }
 
-    /// Ends the run, and gives back its memory. It stands apart, so that a line that is answered doesn't pay for its room.
+    /// Ends the run, and gives back its memory.
+    // out of line: a line that is answered doesn't pay for its stack frame
     #[inline(never)]
     pub(crate) fn end(self) {
         end(self.into_inner());

@@ -53,7 +53,9 @@ fn reply_off_heap<R: Threads + Wait + Sync>(
     }
 }
 
-/// The same of a run on the heap, which the workers take off it. It stands apart, so that no other line pays for its room.
+/// Lets several workers go on for up to so many steps, and reports these. They take the run off the
+/// heap, and stop at a breakpoint.
+// out of line: no other line pays for its stack frame
 #[inline(never)]
 pub fn team_reply<R: Threads + Wait + Sync>(
     rt: &R,

@@ -122,7 +122,7 @@ more_by start now new text text' line Feed g t d e i = record {
   is_text = e ∙ (ap (λ l. l ++ spelled (line ∷ [])) g.is_text ∙ sym (spelled_append g.lines (line ∷ [])));
 }
 
--- the same, for the line as the code sees it again
+-- a divider ends the text, for the line as the code sees it again
 pub gather_divided : (start now new : Option (List ℕ)) (text text' line seen : List ℕ) (end : LineEnd) → Gathering start now text → GaveLine now new line (Ok end) → seen ≡ line
     → is_divider seen ≡ true → text' ≡ text → Gathered start new text' (Ok end)
 gather_divided start now new text text' line seen end g t same d e = divided_by start now new text text' line end g t (sym (ap is_divider same) ∙ d) e

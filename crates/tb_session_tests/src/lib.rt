@@ -1,6 +1,6 @@
 //! Tests of a session over readers and writers that fail, and of several workers, by the calls of
 //! `tb_session`.
-//! They stand apart from it, so that its proofs are not checked once more with them.
+//! They are a crate of their own, so that its proofs aren't checked once more with them.
 #![tactic(auto)]
 
 #[cfg(test)]

@@ -1,5 +1,5 @@
 //! Tests of the tables, by the calls that their crates export.
-//! They stand apart from these, so that no crate's proofs are checked once more with its tests. A
+//! They are a crate of their own, so that no crate's proofs are checked once more with its tests. A
 //! test forgets what it owns at its end, or owns little: to prove that a table is taken apart costs
 //! minutes for each owner of one.
 #![tactic(auto)]

@@ -97,7 +97,8 @@ fn unless_refused(live: Live, worked: Result<(), Lost>) -> Result<Live, Lost>
     }
 }
 
-/// The same under the team's name.
+/// Lends the run to the workers of a team of this name, for up to so many steps, and returns it
+/// after them.
 fn lend_as<N: Team + Send + Sync, R: Threads + Wait + Sync>(
     rt: &R,
     alloc: Global,

@@ -25,6 +25,7 @@ fn look(live: Live, workers: u32, most: u32, from: usize) -> Result<Gone, Lost>
 {
     let mut live = live;
     live.journal_is_sound();
+    // for the proof: what the core keeps of the history
     let _core = live.core();
     if !is_course(&live, workers, from) {
         return Err(lose(live, Lost::Course));

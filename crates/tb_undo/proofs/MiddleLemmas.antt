@@ -104,7 +104,7 @@ pub lines_kept : (later front : List Departure) (d : Departure) → IsUnneeded (
     → without_lines (step_of (events_of front) d.event) (later ++ d ∷ front) ≡ later ++ front
 lines_kept later front d u = lines_left d front later (free_of d front later u)
 
--- and what each later event replaced
+-- without the step each later event replaced what it did with it
 pub records_kept : (first : Cells) (root_line : ℕ) (later front : List Departure) (d e : Departure) → IsUnneeded (step_of (events_of front) d.event) (events_of (e ∷ (later ++ d ∷ front)))
     → replaced_for first root_line (later ++ d ∷ front) e.event ≡ replaced_for first root_line (later ++ front) e.event
 records_kept first root_line later front d e u = record_left d front first root_line later e.event (free_of d front (e ∷ later) u)

@@ -29,7 +29,7 @@ stands (Some q ∷ rows) t r e = at (stands rows t r) (same_name t q.holders.par
         (0, ap Some same, same_true t q.holders.parent h ∙ ap (λ (x : Row). x.holders.parent) same)
     at rest false h = let s = rest (sym (ap (λ b. cond b (Some q) (row (rows_in rows) t)) h) ∙ e) in (suc s.0, s.1, s.2)
 
--- and one that stands at a place is found, or another of the same name
+-- a row that stands at a place is found by its name, or another of the same name
 is_found : (rows : List (Option Row)) (i : ℕ) (r : Row) → row_at rows i ≡ Some r → (q : Row) × (row (rows_in rows) r.holders.parent ≡ Some q)
 is_found [] i r e = absurd (cc)
 is_found (None ∷ rows) zero r e = absurd (cc)

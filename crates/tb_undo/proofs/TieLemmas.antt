@@ -246,7 +246,7 @@ can_change first root_line D v s f =
         let same : known_task root_line D v.task ≡ x = ap (λ o. unwrap_or o x) (known ∙ sym (f.state.tasks v.task) ∙ e) in
         omega (arith, ap (λ (y : Task). y.steps) same, own_within v.task (events_of D), length-map D (λ (d : Departure). d.event), f.few)
 
--- and where it is taken back as the newest
+-- what the tables ask for where the newest event is taken back
 pub can_change_back : (first : Cells) (root_line : ℕ) (D : List Departure) (d : Departure) (s : Seen) → Legal first (d.event ∷ events_of D) → IsState first root_line (d ∷ D) s → CanChangeBack s d.event
 can_change_back first root_line D d s l k =
     let H = events_of D in

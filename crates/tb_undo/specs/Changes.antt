@@ -116,7 +116,7 @@ pub record Changed (v : Event) (to : ℕ) (old new : Seen) : Type 0 where
   pub tasks : (u : Name) → task new.rows u ≡ task_by v to (task old.rows) u
   pub holders : HoldersFor v.task v.action old.rows new.rows
 
--- the same but for the cells, the output and the task's own step
+-- the tables behind the event but for the cells, the output and the task's own step
 pub record Acted (v : Event) (old new : Seen) : Type 0 where
   pub store : new.store ≡ old.store
   pub waits : ChangesBy v.task v.action old.waits.tasks new.waits.tasks
@@ -135,7 +135,7 @@ pub record ChangedBack (v : Event) (replaced : Replaced) (old new : Seen) : Type
   pub tasks : (u : Name) → task new.rows u ≡ task_back v replaced (task old.rows) u
   pub holders : HoldersBack v.task v.action old.rows new.rows
 
--- the same but for the cells, the output and the task's own step
+-- the tables once the event is taken back, but for the cells, the output and the task's own step
 pub record ActedBack (v : Event) (old new : Seen) : Type 0 where
   pub store : new.store ≡ old.store
   pub waits : ChangesBackBy v.task v.action old.waits.tasks new.waits.tasks
@@ -220,7 +220,7 @@ HasEndRoom s t End = HasSetRoom s.rows t
 HasEndRoom s t Fault = HasSetRoom s.rows t
 HasEndRoom s t _ = ⊤
 
--- and where it is taken back
+-- what the tables ask for where the event is taken back
 pub record CanChangeBack (s : Seen) (v : Event) : Type 0 where
   pub register : IsRegister v.action
   pub cell : IsCell (length s.store.cells) v.action

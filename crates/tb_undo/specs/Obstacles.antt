@@ -16,7 +16,7 @@ pub use Rattle.tb_undo.specs.Undeferred.{is_first}
 abbrev pub sibling : Name → ℕ → Name
 sibling t m = child (drop 1 t) m
 
--- the same by names
+-- the obstacle of t as a hindrance, with names in place of numbers
 abbrev pub hindrance_by : Name → Obstacle → Hindrance
 hindrance_by t (obstacle.Undeferred n) = hindrance.Undeferred (child t n)
 hindrance_by t (obstacle.Waiting m) = hindrance.Waiting (sibling t m)

@@ -45,7 +45,7 @@ pub record Holds (old : Rows) (t : Name) (to : Option ℕ) (new : Rows) : Type 0
   pub parent : (p : Name) (h : Holders) → is_child p t ≡ true → holders_of new p ≡ Some h
       → Become (holders_of old p) (λ g. IsSet g (items_in old t) to h × KeepsRoom g h)
 
--- and nothing else changes
+-- what the items of t take has this holder now, no room is lost, and nothing else changes
 pub record Sets (old : Rows) (t : Name) (to : Option ℕ) (new : Rows) : Type 0 where
   pub tasks : (u : Name) → task new u ≡ task old u
   pub holds : Holds old t to new

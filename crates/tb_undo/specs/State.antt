@@ -79,6 +79,6 @@ ForState s P = (first : Cells) (root_line : ℕ) (D : List Departure) → IsStat
 abbrev pub ForHistory : Seen → (History → Type 0) → Type 0
 ForHistory s P = (first : Cells) (root_line : ℕ) (D : List Departure) → Legal first (events_of D) → IsState first root_line D s → P (events_of D)
 
--- and where t was generated and hasn't ended
+-- this holds of its events, where it is legal, and t was generated and hasn't ended
 abbrev pub ForUnended : Seen → Name → (History → Type 0) → Type 0
 ForUnended s t P = ForHistory s (λ H. IsTrue (is_unended H t) → P H)

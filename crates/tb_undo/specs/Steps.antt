@@ -44,7 +44,7 @@ IsBehind old v to new =
     (first : Cells) (root_line : ℕ) (D : List Departure) → Follows first root_line D v old
     → IsState first root_line (record { event = v; to = to } ∷ D) new
 
--- and this is what the event replaced
+-- whatever history that is, this is what the event replaced
 abbrev pub IsRecord : Seen → Event → Replaced → Type 0
 IsRecord old v r = (first : Cells) (root_line : ℕ) (D : List Departure) → Follows first root_line D v old → r ≡ replaced_for first root_line D v
 

@@ -35,7 +35,7 @@ row rows t = lookup (same_name t) rows
 abbrev pub seen_row : Row → Task
 seen_row r = record { parent = r.parent; body = r.body; at = r.at; steps = r.steps; regs = r.regs; undeferred = r.undeferred.steps; children = r.children.siblings }
 
--- the same as a task, and None where t wasn't generated
+-- what the row of t says of it, and None where t wasn't generated
 abbrev pub task : Rows → Name → Option Task
 task rows t = option_map seen_row (row rows t)
 
@@ -124,7 +124,7 @@ pub record HasChildRoom (r : Row) (items : List Item) (deferred : Bool) : Type 0
 abbrev pub KeepsRowRoom : Row → Row → Type 0
 KeepsRowRoom old new = (items : List Item) (deferred : Bool) → HasChildRoom old items deferred → HasChildRoom new items deferred
 
--- and for this step of its task
+-- the row has the room for this step of its task
 abbrev pub HasRowRoom : Row → Action → Type 0
 HasRowRoom r (Spawn s) = HasChildRoom r s.items s.deferred
 HasRowRoom r _ = ⊤

@@ -36,7 +36,8 @@ impl Tables {
         self.in_the_way_near(standing.row_place(), name, action)
     }
 
-    /// The same of a task whose row is looked for at the place `near` first.
+    /// What keeps the task from the action: the undeferred child at which it stands, else what the
+    /// action waits for. Its row is looked for at the place `near` first.
     #[inline(always)]
     fn in_the_way_near(&self, near: usize, name: &TaskName, action: &Action) -> Option<Obstacle<'_>>
         ensures { ForUnended self.now name.now (λ H. in_the_way H name.now action.now ≡ option_map (hindrance_by name.now) result) }
@@ -67,7 +68,8 @@ impl Tables {
         self.is_clear_near(self.near, name, action)
     }
 
-    /// The same of a task of which it was asked where it stands, so that its row isn't looked for again.
+    /// Whether nothing keeps the task from the action. Its standing says where its row is looked
+    /// for first.
     #[inline(always)]
     pub fn is_clear_at(&self, standing: &Standing<'_>, name: &TaskName, action: &Action) -> bool
         ensures { ForUnended self.now name.now (λ H. IsTrue result ↔ (in_the_way H name.now action.now ≡ None)) }

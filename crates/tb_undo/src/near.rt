@@ -26,8 +26,9 @@ pub fn find(rows: &Vec<Option<Row>>, waits: &Wait, near: usize, name: &TaskName)
     find_elsewhere(rows, waits, near, name)
 }
 
-/// The same where it isn't at the place `near`: mostly it was generated right after the task there, or it is its parent, its
-/// child or its sibling. It stands apart, so that most calls don't pay for its room.
+/// The place of a task's name that isn't at the place `near`: mostly the task was generated right
+/// after the one there, or is its parent, its child or its sibling.
+// out of line: most calls don't pay for its stack frame
 #[inline(never)]
 fn find_elsewhere(
     rows: &Vec<Option<Row>>,
@@ -68,7 +69,7 @@ pub fn row_at(rows: &Vec<Option<Row>>, at: usize) -> Option<&Row>
     }
 }
 
-/// The task's row, which is looked for so.
+/// The task's row, which is looked for at the place `near` first.
 #[inline(always)]
 pub fn get<'a>(
     rows: &'a Vec<Option<Row>>,
@@ -83,7 +84,7 @@ pub fn get<'a>(
     row_at(rows, at)
 }
 
-/// Where the task stands, by its row, which is looked for so.
+/// Where the task stands, by its row, which is looked for at the place `near` first.
 #[inline(always)]
 pub fn standing<'a>(
     rows: &'a Vec<Option<Row>>,

@@ -28,7 +28,8 @@ impl Over for ChildrenOver<'_> {
 }
 
 impl ChildrenOver<'_> {
-    /// The same of any number, by a search among those that are unended.
+    /// Whether the child with any number is over, or there is none, by a search among those that
+    /// are unended.
     fn is_over_by_search(&self, child: usize) -> bool
         ensures { result ≡ is_child_over self.now.waits.now.tasks self.now.parent.now child }
     {

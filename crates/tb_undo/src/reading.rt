@@ -56,7 +56,8 @@ impl Tables {
         self.waits.is_over(name).unwrap_or(false)
     }
 
-    /// The same of a task of which it was asked where it stands: mostly its name has the same place in both tables.
+    /// Whether the task is over. Its standing says where it is looked for first: mostly its name
+    /// has the same place in both tables.
     #[inline(always)]
     pub fn has_ended_at(&self, standing: &Standing<'_>, name: &TaskName) -> bool
         ensures { ForHistory self.now (λ H. result ≡ list_any (ends name.now) H) }
@@ -75,8 +76,8 @@ impl Tables {
         self.marks.next_marked(after)
     }
 
-    /// The same in a walk over the unended tasks, which hands on the place where it is, at first any, and where the row of the
-    /// one that was found is looked for first.
+    /// The least unended task behind this one, or of all, in a walk over them: `walk` is handed on,
+    /// at first any, and `near` becomes where its row is looked for first.
     pub fn walk_unended(
         &self,
         walk: &mut usize,
@@ -100,7 +101,8 @@ impl Tables {
         standing(&self.rows, &self.waits, self.near, name)
     }
 
-    /// The same in a walk over tasks, which hands on where the last one's row is, at first none.
+    /// Where the task stands, in a walk over tasks: `near` hands on where the last one's row is, at
+    /// first none.
     pub fn walk_standing(&self, near: &mut Option<usize>, name: &TaskName) -> Option<Standing<'_>>
         ensures { ForState self.now (λ first root_line D. result ≡ option_map standing_of (task_of root_line D name.now)) }
     {

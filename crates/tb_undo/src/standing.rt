@@ -39,7 +39,7 @@ impl<'a> Standing<'a> {
         self.place
     }
 
-    /// Its line.
+    /// The line at which the task stands.
     #[inline(always)]
     pub fn at(&self) -> u32
         ensures { result ≡ self.now.at }
@@ -47,7 +47,7 @@ impl<'a> Standing<'a> {
         self.row.at
     }
 
-    /// How many steps it has taken.
+    /// How many steps the task has taken.
     #[inline(always)]
     pub fn steps(&self) -> u32
         ensures { result ≡ self.now.steps }
@@ -55,7 +55,7 @@ impl<'a> Standing<'a> {
         self.row.steps
     }
 
-    /// Its registers.
+    /// The task's registers.
     #[inline(always)]
     pub fn regs(&self) -> &'a [i64; 16]
         ensures { result.now ≡ self.now.regs }

@@ -123,7 +123,8 @@ impl Tables {
         self.turn_near(self.near, name);
     }
 
-    /// The same of a task whose row is looked for at this place first, which may be any.
+    /// Turns to the task, which takes a step. Its row is looked for at this place first, which may
+    /// be any.
     #[inline(always)]
     pub fn turn_near(&mut self, near: usize, name: &TaskName)
         ensures { self.new ≡ self.old }
@@ -133,7 +134,7 @@ impl Tables {
         }
     }
 
-    /// The same, where the place of its row is known.
+    /// Turns to the task, which takes a step, where the place of its row is known.
     #[inline(always)]
     fn turn_to_place(&mut self, at: usize, name: &TaskName)
         ensures { self.new ≡ self.old }

@@ -22,14 +22,14 @@ impl Model for Undeferred {
 }
 
 impl Undeferred {
-    /// None yet. Takes no memory.
+    /// A list of no steps. Takes no memory.
     pub fn new(alloc: Global) -> Undeferred
         ensures { result.steps ≡ [] }
     {
         Undeferred { alloc, steps: None }
     }
 
-    /// Whether the newest is this step.
+    /// Whether the newest step noted is this one.
     #[inline(always)]
     pub fn is_newest(&self, step: u32) -> bool
         ensures { result ≡ is_first step self.now.steps }
@@ -40,7 +40,7 @@ impl Undeferred {
         }
     }
 
-    /// Makes the room for one more.
+    /// Makes the room for one step more.
     pub fn reserve(&mut self) -> Result<(), AllocError>
         ensures steps { self.new.steps ≡ self.old.steps }
         ensures ok { OnOk result (0 < self.new.room) }
@@ -68,7 +68,7 @@ impl Undeferred {
         }
     }
 
-    /// Forgets the newest.
+    /// Forgets the newest step.
     pub fn pop(&mut self)
         ensures { self.new.steps ≡ drop 1 self.old.steps }
     {

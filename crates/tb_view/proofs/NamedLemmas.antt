@@ -102,7 +102,7 @@ next_is ys y zs h =
 pub passed : (from to : List Named) (t : Named) → from ++ reverse (to ++ t ∷ []) ≡ (from ++ t ∷ []) ++ reverse to
 passed from to t = ap (λ r. from ++ r) (reverse-append to (t ∷ [])) ∙ sym (append_assoc from (t ∷ []) (reverse to))
 
--- the same from the other side
+-- two pairs of lists that join to one list do so from the other side
 pub turned : (a b c d : List Named) → a ++ reverse b ≡ c ++ reverse d → b ++ reverse a ≡ d ++ reverse c
 turned a b c d h = sym (other b a) ∙ ap reverse h ∙ other d c
   where

@@ -41,7 +41,7 @@ line_found P entries at x i within here is =
     ∙ line_here P x.event (history_of (drop (suc at) entries)) F
     ∙ ap (λ j. event_line P j x.event) same
 
--- the same by the task and the action that are read there
+-- the line of the step at a place, by the task and the action that are read there
 pub line_read : (P : Program) (entries : List Entry) (at : ℕ) (i : StepId) (t : Name) (a : Action) → at < length entries → step_at entries at ≡ Some i
     → ((x : Entry) → x ≡ get_or entries at x → t ≡ x.event.task) → ((x : Entry) → x ≡ get_or entries at x → a ≡ x.event.action)
     → event_line P (record { task = t; k = i.k }) (record { task = t; action = a }) ≡ line_of P i (history_of entries)

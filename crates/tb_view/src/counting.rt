@@ -41,7 +41,9 @@ fn stands_at(counts: &IndexMap<TaskName, u32>, at: usize, task: &TaskName) -> bo
     }
 }
 
-/// The same where it is anywhere. It stands apart, so that most steps don't pay for its room.
+/// Counts one step more of a task, which is looked up by the hash of its name, and returns how many
+/// that are.
+// out of line: most steps don't pay for its stack frame
 #[inline(never)]
 fn count_by_hash(counts: &mut IndexMap<TaskName, u32>, task: &TaskName) -> Result<u32, AllocError>
     requires few { count_of counts.old.entries task.now < 4294967295 }

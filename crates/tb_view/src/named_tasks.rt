@@ -13,7 +13,7 @@ use std::marker::Model;
 use std::mem::replace;
 use tb_model::TaskName;
 
-/// So many tasks may pass the gap for each that is added, on the average.
+/// How many tasks may pass the gap for each that is added, on the average.
 const MOVES: usize = 8;
 
 /// Tasks by their names, each with the line that begins its body. They stand in a row with a gap where the next one goes:
@@ -78,7 +78,7 @@ impl NamedTasks {
         Ok(())
     }
 
-    /// All of them.
+    /// All tasks in the order of their names, each with the line that begins its body.
     pub(crate) fn into_vec(self) -> Result<Vec<(TaskName, u32)>, AllocError>
         ensures { IfOk result (λ tasks. tasks.items ≡ self) }
     {

@@ -30,7 +30,7 @@ impl Model for StepCounts {
 }
 
 impl StepCounts {
-    /// None has taken a step. Takes no memory.
+    /// The counts where no task has taken a step. Takes no memory.
     pub fn none(alloc: Global) -> StepCounts
         ensures { result ≡ [] }
     {

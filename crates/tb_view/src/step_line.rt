@@ -53,7 +53,9 @@ pub fn append_line(
     }
 }
 
-/// Appends the same line, however long it is. It stands apart, so that a short line doesn't pay for it.
+/// Appends the line of the kth step of a task, however long it is. Where memory runs out a part of
+/// it may stand.
+// out of line: a short line doesn't pay for its stack frame
 #[inline(never)]
 fn append_long(
     text: &mut Draft,

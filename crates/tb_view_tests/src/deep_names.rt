@@ -27,7 +27,7 @@ fn compare_parent(rt: &impl Abort, parent: &TaskName, child: &TaskName) {
     mem::forget(above);
 }
 
-/// The same name, put together from its text, is the same in all.
+/// Asserts that a name put together from its text is the same by equality, order and hash.
 fn compare_text(rt: &(impl Abort + AllocGlobal), name: &TaskName) {
     let mut text = String::new(rt.alloc());
     name.print(&mut text).expect(rt, "memory is there");

@@ -59,7 +59,7 @@ fn draft_of(rt: &(impl Abort + AllocGlobal), name: &TaskName) -> Draft {
     draft
 }
 
-/// The same text, spelled at once.
+/// The text of `draft_of`, spelled at once.
 fn text_of(rt: &(impl Abort + AllocGlobal), name: &TaskName) -> String {
     let mut text = String::from_str(rt.alloc(), "head ").expect(rt, "memory is there");
     name.print(&mut text).expect(rt, "memory is there");

@@ -1,6 +1,7 @@
 //! Tests of the texts of steps and views, by the calls of `tb_view`.
-//! They stand apart from it, so that its proofs are not checked once more with them. A test forgets
-//! its run at its end: to prove that a run is taken apart costs minutes for each owner of one.
+//! They are a crate of their own, so that its proofs aren't checked once more with them. A test
+//! forgets its run at its end: to prove that a run is taken apart costs minutes for each owner of
+//! one.
 #![tactic(auto)]
 
 #[cfg(test)]

@@ -56,7 +56,7 @@ distinct_push t (x ∷ names) d h =
     let other : same_name x t ≡ false = false_from_ne_true (same_name x t) (λ s. false≢true (sym o.0 ∙ subst (λ y. same_name t y ≡ true) (sym (same_true x t s)) (same_refl t))) in
     (all_push x t names d.0 other, distinct_push t names d.1 o.1)
 
--- and one alone is
+-- one name alone is distinct
 pub distinct_one : (names : List Name) (t : Name) → names ≡ t ∷ [] → IsDistinct same_name names
 unfolding IsDistinct
 distinct_one names t e = subst (IsDistinct same_name) (sym e) (tt, tt)
@@ -85,7 +85,7 @@ none_position t names h =
 pub here_found : (t : Name) (names : List Name) (i : ℕ) → IsDistinct same_name names → slice_get names i ≡ Some t → IsFirstPlace names t (Some i)
 here_found t names i d e = record { index = sym (position_at t names i d e); found = sym (any_at t names i e); within = slice_get_within names i t e }
 
--- and so is one whose place the tree tells
+-- a name whose place the tree tells is found there
 pub place_found : (t : Name) (names : List Name) (o : Option ℕ) → IsDistinct same_name names → IsPlaceOf names t o → IsFirstPlace names t o
 place_found t names None d p =
     let absent = none_at t names (λ i. p.absent refl i []) in

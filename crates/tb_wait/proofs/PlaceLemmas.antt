@@ -73,7 +73,7 @@ unknown_place es t h = at (place es t) refl
         let f = position-Some (same_name t) (keys_of es) i [] e in
         absurd (false≢true (sym h ∙ is_there es t i (omega (arith, f.0, length-map es (λ e. e.0))) f.1))
 
--- and one that is known has a place
+-- a known name has a place
 pub known_place : (es : Tasks) (t : Name) → is_known es t ≡ true → is_some (place es t) ≡ true
 known_place es t h = at (place es t) refl
   where

@@ -37,7 +37,7 @@ ChangesBy t End old new = Changes old t (with_over true) new
 ChangesBy t Fault old new = Changes old t (with_over true) new
 ChangesBy t _ old new = IsSame old new
 
--- and those that take the action back
+-- what the calls that take this action of the task back change
 abbrev pub ChangesBackBy : Name → Action → Tasks → Tasks → Type 0
 ChangesBackBy t (Spawn s) old new = Drops old t s.child new
 ChangesBackBy t Open old new = Changes old t unopened_kin new

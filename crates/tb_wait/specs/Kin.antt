@@ -143,7 +143,7 @@ pub record KeepsRoom (old new : Table) : Type 0 where
 abbrev pub HasGroupRoom : Tasks → Name → Type 0
 HasGroupRoom tasks t = (s : Slot) → slot tasks t ≡ Some s → 0 < s.group_room
 
--- the same for one more child
+-- t, where it was ever generated, has room for one more child
 abbrev pub HasChildRoom : Tasks → Name → Type 0
 HasChildRoom tasks t = (s : Slot) → slot tasks t ≡ Some s → 0 < s.child_room
 

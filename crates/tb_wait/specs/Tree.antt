@@ -68,7 +68,8 @@ pub record AreChildren (nodes : Nodes) : Type 0 where
 abbrev pub KnowsUnendedBut : Nodes → ℕ → Type 0
 KnowsUnendedBut nodes x = (j k i : ℕ) → IsPlace nodes j k i → i ≢ x → has (node nodes j).unended (suc k) ≡ (node nodes i).pending
 
--- and whether some task within it hasn't ended
+-- each parent knows of the child, but perhaps of the one at x, whether some task within it hasn't
+-- ended
 abbrev pub KnowsLiveBut : Nodes → ℕ → Type 0
 KnowsLiveBut nodes x = (j k i : ℕ) → IsPlace nodes j k i → i ≢ x → has (node nodes j).live (suc k) ≡ is_live (node nodes i)
 
@@ -84,7 +85,7 @@ pub record Tree : Type 0 where
   pub nodes : Nodes
   pub room : ℕ
 
--- the same tasks with the same children
+-- both have the same tasks with the same children
 pub record SameLinks (old new : Nodes) : Type 0 where
   pub len : length new ≡ length old
   pub owner : (i : ℕ) → (node new i).owner ≡ (node old i).owner
@@ -103,12 +104,12 @@ pub record SetsPending (old : Nodes) (x : ℕ) (pending : Bool) (new : Nodes) : 
   pub set : (node new x).pending ≡ pending
   pub others : (i : ℕ) → i ≢ x → (node new i).pending ≡ (node old i).pending
 
--- and who is known to have not ended
+-- nothing but who is known to have not ended has changed
 pub record SameButUnended (old new : Nodes) : Type 0 where
   pub len : length new ≡ length old
   pub same : (i : ℕ) → node new i ≡ record (node old i) { unended = (node new i).unended }
 
--- and who stands and hasn't ended
+-- nothing but who stands and hasn't ended has changed
 pub record SameButPending (old new : Nodes) : Type 0 where
   pub len : length new ≡ length old
   pub same : (i : ℕ) → node new i ≡ record (node old i) { pending = (node new i).pending }

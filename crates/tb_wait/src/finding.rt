@@ -28,7 +28,7 @@ impl Tree {
         Some(at)
     }
 
-    /// The same from a task on, by the numbers below it.
+    /// The place of the task to which these numbers lead down from the task at the place `start`.
     fn place_below(&self, start: usize, numbers: &[u32]) -> Option<usize>
         ensures { (names : List Name) (slots : List Slot) → Fits names slots self.now.nodes → start < length names → IsPlaceOf names (numbers.now ++ key names start) result }
     {

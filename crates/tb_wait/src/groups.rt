@@ -136,7 +136,7 @@ impl Groups {
     }
 }
 
-/// On the heap, with this group open.
+/// Stacks on the heap, with this group open.
 fn with_open(alloc: Global, group: u32) -> Result<Box<Stacks>, AllocError>
     ensures { IfOk result (λ stacks. box_value stacks ≡ record { groups = group ∷ []; shut = []; room = 3 }) }
 {
@@ -145,7 +145,7 @@ fn with_open(alloc: Global, group: u32) -> Result<Box<Stacks>, AllocError>
     Ok(Box::new(alloc, stacks)?)
 }
 
-/// The same with this group closed.
+/// Stacks on the heap, with this group closed.
 fn with_shut(alloc: Global, group: u32) -> Result<Box<Stacks>, AllocError>
     ensures { IfOk result (λ stacks. box_value stacks ≡ record { groups = []; shut = group ∷ []; room = 3 }) }
 {

@@ -28,7 +28,8 @@ pub fn step()
         AreKin H old → ChangesBy v.task v.action old new → AreKin (v ∷ H) new }
 {}
 
-/// And those that take it back lead back.
+/// The calls that take an action back lead from the table of the history with it to that without
+/// it.
 #[tactic(auto, using(crate::proofs::HistoryLemmas::taken_back))]
 pub fn back()
     ensures { (cells : Cells) (H : History) (v : Event) (old new : Tasks) → Legal cells (v ∷ H) →

@@ -29,7 +29,7 @@ impl Model for Names {
 }
 
 impl Names {
-    /// The root's alone.
+    /// The root's name alone.
     pub fn root(alloc: Global) -> Result<Names, AllocError>
         ensures { IfOk result (λ n. n.keys ≡ [] ∷ []) }
     {

@@ -32,8 +32,8 @@ impl Near {
         self.find_elsewhere(names, tree, name)
     }
 
-    /// The same where it isn't the task's own place. It stands apart, so that most calls don't pay for
-    /// its room.
+    /// The place of a name that isn't at the task's own place.
+    // out of line: most calls don't pay for its stack frame
     #[inline(never)]
     fn find_elsewhere(&self, names: &Names, tree: &Tree, name: &TaskName) -> Option<usize>
         requires { AreNamed names.now.keys tree.now.nodes }
@@ -63,7 +63,8 @@ impl Near {
         self.find(names, tree, name)
     }
 
-    /// The same, and else mostly that of a child of the task, or of its parent: its ordinal leads there.
+    /// The place of a name, mostly this one, else mostly that of the task, of its parent, or of a
+    /// child of one of them: the name's ordinal leads there.
     pub fn find_below(
         &self,
         names: &Names,

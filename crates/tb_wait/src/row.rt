@@ -36,7 +36,7 @@ impl Model for Row {
 }
 
 impl Row {
-    /// A task that doesn't stand.
+    /// The row of a task that doesn't stand. Takes no memory.
     pub fn new(alloc: Global) -> Row
         ensures { result ≡ blank }
     {
@@ -49,7 +49,7 @@ impl Row {
         }
     }
 
-    /// Whether it stands.
+    /// Whether the task stands: it was generated, and that isn't taken back.
     pub fn stands(&self) -> bool
         ensures { result ≡ is_some self.now.kin }
     {
@@ -167,7 +167,7 @@ impl Row {
         }
     }
 
-    /// The same, and makes the room for it where there is none.
+    /// Opens a group, and makes the room for it where there is none.
     pub fn open_reserving(&mut self) -> Result<(), AllocError>
         ensures ok { OnOk result (self.new.kin ≡ option_map opened_kin self.old.kin) }
         ensures err { OnErr result (self.new.kin ≡ self.old.kin) }

@@ -95,6 +95,7 @@ impl Stacks {
         ensures keeps { self.old.room ≤ self.new.room }
         ensures room { self.old.groups ≢ [] → self.new.room ≡ self.old.room + 1 }
     {
+        // for the proof: a bound of the capacity
         let _places = self.groups.capacity();
         if self.groups.pop().is_some() {
             self.room += 1;

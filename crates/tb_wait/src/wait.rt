@@ -51,7 +51,7 @@ impl Model for Wait {
 }
 
 impl Wait {
-    /// The root alone.
+    /// The table of a history without events, in which the root alone stands.
     pub fn open(alloc: Global) -> Result<Wait, AllocError>
         ensures kin { IfOk result (λ w. (t : List ℕ) → kin w.tasks t ≡ (if same_name [] t then Some fresh else None)) }
         ensures names { IfOk result (λ w. keys_of w.tasks ≡ [] ∷ []) }
@@ -142,7 +142,7 @@ impl Wait {
         Ok(())
     }
 
-    /// The same in the room that is there.
+    /// The parent generated its next child, which is entered in the room that is there.
     pub fn spawned_reserved(&mut self, parent: &TaskName, child: TaskName)
         requires next { IsNext self.old.tasks parent.now child }
         requires room { HasRoomFor self.old parent.now child }
@@ -205,7 +205,8 @@ impl Wait {
         }
     }
 
-    /// Undoes that, for the last child of the parent, of which nothing is kept yet. Its room stays.
+    /// The spawn of the parent's last child is taken back; nothing is kept of the child yet. Its
+    /// room stays.
     pub fn unspawned(&mut self, parent: &TaskName, child: &TaskName)
         requires { IsLast self.old.tasks parent.now child.now }
         ensures tasks { Drops self.old.tasks parent.now child.now self.new.tasks }
@@ -224,7 +225,7 @@ impl Wait {
         self.set_over(task, true)
     }
 
-    /// Undoes that.
+    /// The end of the task is taken back: it isn't over.
     pub fn unended(&mut self, task: &TaskName)
         ensures tasks { Changes self.old.tasks task.now (with_over false) self.new.tasks }
         ensures room { KeepsRoom self.old self.new }
@@ -259,7 +260,7 @@ impl Wait {
         }
     }
 
-    /// Undoes that. The room for the group stays.
+    /// The opening of the task's innermost group is taken back. The room for the group stays.
     pub fn unopened(&mut self, task: &TaskName)
         ensures tasks { Changes self.old.tasks task.now unopened_kin self.new.tasks }
         ensures room { KeepsRoom self.old self.new }
@@ -280,7 +281,7 @@ impl Wait {
         }
     }
 
-    /// Undoes that. The room for the group was kept.
+    /// The closing of the task's last closed group is taken back. The room for the group was kept.
     pub fn unclosed(&mut self, task: &TaskName)
         ensures tasks { Changes self.old.tasks task.now unclosed_kin self.new.tasks }
         ensures room { KeepsRoom self.old self.new }
@@ -354,7 +355,8 @@ impl Wait {
         rows::is_over(&self.rows, at)
     }
 
-    /// The same of a task that is looked for at this place first, which may be any.
+    /// What is kept of the task: whether it is over. It is looked for at this place first, which
+    /// may be any.
     #[inline(always)]
     pub fn is_over_near(&self, near: usize, task: &TaskName) -> Option<bool>
         ensures { result ≡ option_map (λ (k : Kin). k.over) (kin self.now.tasks task.now) }

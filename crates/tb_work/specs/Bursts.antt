@@ -43,7 +43,8 @@ pub record TakesBurst (seat : ℕ) (plans : List Plan) (b : Burst) (old new : Se
   pub each : TakesEach seat b.taken plans b.refusal old last
   pub ended : new ≡ with_seat last seat None
 
--- and the seat's newest receipts are theirs, from the place on that the journal had next
+-- so many plans are taken, then the claim ends, and the seat's newest receipts are of their
+-- entries, from the journal's next place on
 pub record BurstsBy (P : Program) (old seat : Seated) (plans : List Plan) (b : Burst) (s new : Session) : Type 0 where
   pub takes : TakesBurst old.number plans b s new
   pub each : CommitsEach P b.taken (length s.journal) plans old seat

@@ -136,7 +136,8 @@ fn tell_all<N: Team>(
     Ok(told)
 }
 
-/// The same over the run and all its seats.
+/// Writes all entries of the run to their places' cells, and gives the seats their receipts.
+// for the proof: the clauses of `tell_all`, in words of the run
 fn tell_run<N: Team>(
     alloc: Global,
     live: &Live,

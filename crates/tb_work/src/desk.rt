@@ -254,6 +254,7 @@ impl<N: Team> Desk<N> {
             spare: _,
             room: _,
         } = self;
+        // for the proof: the limit bounds the journal
         let _limit = live.limit();
         let entry = match live.prepare_roll(seat.number(), id) {
             Ok(entry) => entry,
@@ -314,6 +315,7 @@ impl<N: Team> Desk<N> {
             spare: _,
             room: _,
         } = self;
+        // for the proof: the limit bounds the journal
         let _limit = live.limit();
         let entry = match ready_undo(live, seat.number(), id) {
             Ok(entry) => entry,

@@ -18,7 +18,8 @@ use std::sync::ledger::Book;
 use tb_journal::copy_of;
 use tb_model::Entry;
 
-/// Lets an entry go. It stands apart, since whoever lets one go has to show it for each kind of entry.
+/// Lets an entry go.
+// for the proof: whoever lets one go has to show it for each kind of entry, here once
 fn lose(_entry: Entry) {}
 
 /// Writes an entry to its place's cell, and notes that. What can fail comes before the cell is written.
@@ -51,7 +52,8 @@ pub fn write(
     Ok(note)
 }
 
-/// The same of a copy.
+/// Writes a copy of an entry to its place's cell, and notes that. What can fail comes before the
+/// cell is written.
 fn tell(
     alloc: Global,
     places: &Places,

@@ -9,5 +9,6 @@ pub fn run_is_sound(live: &Live)
     ensures { IsRun live.now.session }
 {
     live.journal_is_sound();
+    // for the proof: what the run keeps of its claims
     let _claim = live.claim_of(0);
 }

@@ -75,6 +75,7 @@ impl<N: Team> Seat<N> {
     pub fn len(&self) -> u32
         ensures { result ≡ length self.now.receipts }
     {
+        // for the proof: what the type keeps is known where a field is read
         let _last = self.last;
         self.kept.as_slice().len() as u32
     }

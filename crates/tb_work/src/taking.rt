@@ -32,7 +32,8 @@ pub fn take_step(live: &mut Live, seat: u32, plan: Plan) -> u32
 }
 
 #[tactic(auto, using(crate::proofs::Bursting::taken_on))]
-/// The same for a seat that goes on with the task: it claims the task still.
+/// Takes the step that is prepared, for a seat that goes on with the task and claims it still, and
+/// returns its entry's place.
 pub fn take_more(live: &mut Live, seat: u32, plan: Plan) -> u32
     requires may { MayCommit live.old.session seat plan }
     requires prepared { live.old.prepared ≡ Some (entry_to_come seat live.old.session plan) }

@@ -10,11 +10,11 @@ use tb_live::{CommitRefusal, StepRefusal};
 /// How a worker goes on.
 #[derive(Clone, Copy, Drop, PartialEq, Eq)]
 pub enum Turn {
-    /// It claims again.
+    /// The worker claims again.
     On,
-    /// It lets others go first, and claims again.
+    /// The worker lets others go first, and claims again.
     Later,
-    /// It ends.
+    /// The worker ends.
     Over { ended: Ended },
 }
 

@@ -1,6 +1,6 @@
 //! Tests of a run that threads share, by the calls of `tb_work`.
-//! They stand apart from it, so that its proofs are not checked once more with them. One function owns
-//! the team of each test: to prove that a team is taken apart is dear.
+//! They are a crate of their own, so that its proofs aren't checked once more with them. One
+//! function owns the team of each test: to prove that a team is taken apart is dear.
 #![tactic(auto)]
 
 #[cfg(test)]

@@ -33,7 +33,7 @@ pub fn opened(alloc: Global, text: &[u8], limit: u32, seats: u32) -> Option<Live
     }
 }
 
-/// The same with a breakpoint at a cell.
+/// A run of the program with a breakpoint at a cell, where it has memory and is accepted.
 pub fn opened_to_stop(alloc: Global, text: &[u8], cell: u32, seats: u32) -> Option<Live> {
     let mut live = opened(alloc, text, 100, seats)?;
     match live.add_break(Break::Cell(cell)) {
@@ -151,7 +151,8 @@ fn attempt<R: Threads + Wait + Abort + AllocGlobal + Sync>(
     play_named::<Brand, R>(rt, live, places, blank, scenario, left)
 }
 
-/// The same, where memory is refused once at most.
+/// Shares the run among its seats, plays the scenario and closes the team, where memory is refused
+/// once at most.
 pub fn play<R: Threads + Wait + Abort + AllocGlobal + Sync>(
     rt: &R,
     live: Live,

@@ -29,7 +29,8 @@ impl Core {
         }
     }
 
-    /// The same for an action of which nothing is filled in.
+    /// Takes an action of which nothing is filled in, of a task from which nothing keeps it: the
+    /// action is the event's as it is.
     #[inline(always)]
     fn step_whole(&mut self, task: TaskName, action: Action, to: u32) -> Result<(), AllocError>
         requires whole { IsWhole action }
@@ -38,12 +39,15 @@ impl Core {
             (event_for self.old.run task action)) }
         ensures err { OnErr result (self.new ≡ self.old) }
     {
+        // for the proof: what the tables keep
         let _ = &self.tables;
         self.append(Event { task, action }, to)?;
         Ok(())
     }
 
-    /// The same for any action. It stands apart, so that a step of which nothing is filled in doesn't pay for its room.
+    /// Takes an action of a task from which nothing keeps it, and fills in what the tables say: the
+    /// value of a load, or the name of a child.
+    // out of line: a step of which nothing is filled in doesn't pay for its stack frame
     #[inline(never)]
     fn step_filled(&mut self, task: TaskName, action: Action, to: u32) -> Result<(), AllocError>
         requires { MayTake self.old.run task action }
@@ -56,7 +60,8 @@ impl Core {
         Ok(())
     }
 
-    /// The same with a copy of the event, for which memory is taken before the step.
+    /// Takes an action of a task from which nothing keeps it, and returns a copy of its event. The
+    /// memory for the copy is taken before the step.
     pub fn step_copied(
         &mut self,
         task: &TaskName,

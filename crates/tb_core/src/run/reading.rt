@@ -40,8 +40,8 @@ impl Core {
         self.tables.next_unended(after)
     }
 
-    /// The same in a walk over the unended tasks, which hands on the place where it is, at first any: so each is found right
-    /// after the one before it. It says too where `walk_standing` looks for the one that was found first.
+    /// The least unended task after this one by the order of names, or of all, in a walk: `walk` is
+    /// handed on, at first any, and `near` becomes where `walk_standing` looks for it first.
     pub fn walk_unended(
         &self,
         walk: &mut usize,

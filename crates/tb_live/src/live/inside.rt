@@ -36,6 +36,7 @@ impl Live {
         ensures within { length self.now.session.journal ≤ self.now.session.limit }
         ensures bound { self.now.session.limit ≤ 1000000 }
     {
+        // for the proof: what the type keeps is known where a field is read
         let _limit = self.limit;
     }
 

@@ -74,7 +74,7 @@ impl Live {
     }
 }
 
-/// What the program lacks for such a breakpoint.
+/// What the program lacks for the breakpoint, if anything: its line's body, or its cell.
 fn misplaced(program: &Program, at: &Break) -> Option<BreakRefusal>
     ensures { result ≡ misplaced program.now at.now }
 {

@@ -26,7 +26,8 @@ impl Wait {
         self.turn_elsewhere(near, task)
     }
 
-    /// The same where it was turned to another. It stands apart, so that most calls don't pay for its room.
+    /// Turns to the task where the table was turned to another, and returns the task's place.
+    // out of line: most calls don't pay for its stack frame
     #[inline(never)]
     fn turn_elsewhere(&mut self, near: usize, task: &TaskName) -> Option<usize>
         ensures same { self.new ≡ self.old }
@@ -47,7 +48,8 @@ impl Wait {
         self.near.find_near(&self.names, &self.tree, near, task)
     }
 
-    /// The same in a walk over tasks, which hands on the place of the last one: mostly the task is the last one again.
+    /// The task's place, in a walk over tasks: `near` hands on the place of the last one, which
+    /// mostly is this one again.
     #[inline(always)]
     pub fn walk_place(&self, near: &mut usize, task: &TaskName) -> Option<usize>
         ensures { result ≡ place self.now.tasks task.now }
@@ -58,8 +60,9 @@ impl Wait {
         self.walk_elsewhere(near, task)
     }
 
-    /// The same where it isn't: then it is mostly beside the last one, or its parent, its child or its sibling. It stands
-    /// apart, so that most calls don't pay for its room.
+    /// The place of a task that isn't the last one of the walk: mostly it stands beside that, or is
+    /// its parent, its child or its sibling.
+    // out of line: most calls don't pay for its stack frame
     #[inline(never)]
     fn walk_elsewhere(&self, near: &mut usize, task: &TaskName) -> Option<usize>
         ensures { result ≡ place self.now.tasks task.now }
