@@ -6,7 +6,7 @@
 Each row is a word of the list below: how often it is in text (documents and comments), how many identifiers have it and how
 often these occur, and its meanings, as far as a script can tell them: by the crates in which an identifier with it is. What
 the notation, a reply, a refusal or a public type fixes isn't counted. `--where WORD` lists the identifiers with their files.
-The status is always 0: it is a count, not yet a test.
+The status is always 0: `tools/check_words.py` is the test.
 """
 import collections
 import glob

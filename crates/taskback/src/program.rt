@@ -87,7 +87,7 @@ fn unwritten<R: Eprint>(rt: &R, is_unread: bool) -> u8 {
     }
 }
 
-/// Tells on standard error why there is no more, and gives the exit status.
+/// Says on standard error why there is no more, and gives the exit status.
 fn told<R: Eprint>(rt: &R, halt: Halt) -> u8 {
     // There is nowhere else to tell it.
     let _ = eprintln!(rt; "taskback: {halt}");

@@ -10,7 +10,7 @@ pub record Back (S : System) (x : S.State) : Type 0 where
   pub backward : IsTrue (S.is_backward label)
 
 pub record Axioms (S : System) : Type 0 where
-  -- Same is an equivalence, and a transition from one of two such states is one from the other, to such states
+  -- `Same` is an equivalence, and a transition from one of two such states is one from the other, to such states
   pub refl : (x : S.State) → S.IsState x → S.Same x x
   pub sym : (x y : S.State) → S.Same x y → S.Same y x
   pub trans : (x y z : S.State) → S.IsState x → S.IsState y → S.Same x y → S.Same y z → S.Same x z

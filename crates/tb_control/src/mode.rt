@@ -9,7 +9,7 @@ use crate::paused_by::PausedBy;
 #[derive(Clone, Copy, Debug, Drop, PartialEq, Eq)]
 pub enum Mode {
     Resumed,
-    /// So many steps more are taken, and then none.
+    /// As many steps more are taken as are left, and then none.
     Counting { left: u32 },
     Paused { by: PausedBy },
 }
@@ -21,7 +21,7 @@ impl Mode {
         matches!(self, Mode::Paused { .. })
     }
 
-    /// For so many steps more.
+    /// The mode in which so many steps more are taken.
     pub fn counting(steps: u32) -> Mode
         ensures { result ≡ modes.counting steps }
     {
@@ -34,7 +34,7 @@ impl Mode {
         }
     }
 
-    /// Behind a call of `pause`.
+    /// The mode after a call of `pause`. A paused run keeps what paused it.
     pub fn paused(self) -> Mode
         ensures { result ≡ modes.paused self }
     {
@@ -46,7 +46,7 @@ impl Mode {
         }
     }
 
-    /// Behind a step that met the breakpoint with this number, or none.
+    /// The mode after a step that met the breakpoint with this number, or none.
     pub fn behind(self, met: Option<u32>) -> Mode
         ensures { result ≡ modes.behind met self }
     {

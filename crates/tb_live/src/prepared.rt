@@ -91,7 +91,7 @@ fn is_same_step(a: &StepId, b: &StepId) -> bool
     a.k == b.k && a.task == b.task
 }
 
-/// Keeps what is prepared in place of what was.
+/// Retains what is prepared in place of what was.
 pub fn keep(place: &mut Option<Prepared>, prepared: Prepared)
     ensures { place.new ≡ Some prepared }
 {

@@ -163,8 +163,8 @@ fn is_turning(block: Option<Block>) -> bool
     }
 }
 
-/// As many cells as were found, up to 65536, none of which was given a number; none where no count
-/// was found.
+/// As many cells as the `cells` line says, up to 65536, none of which was given a number; no cells
+/// where it says no number, or one below 0.
 fn blank_cells(alloc: Global, found: Option<i64>) -> Result<Vec<Option<i64>>, AllocError>
     ensures cells { IfOk result (λ cells. cells.items ≡ blank_cells found) }
     ensures few { IfOk result (λ cells. length cells.items ≤ 65536) }

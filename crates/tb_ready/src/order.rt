@@ -170,7 +170,7 @@ fn close_gap(names: &Names, order: &mut Gapped, gone: usize)
     ensures order { IsOrder (remove names.now.tasks gone) order.new.items }
     ensures capacity { order.old.capacity ≤ order.new.capacity }
 {
-    // behind the last name no place moves
+    // after the last name no place moves
     if gone == names.len() - 1 {
         return;
     }

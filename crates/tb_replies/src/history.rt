@@ -1,4 +1,4 @@
-//! Tells the steps that stand.
+//! The reply to `hist`, which goes out in pieces.
 
 ghost use Rattle.std.specs.Prelude.{◌≡◌, ◌≤◌, ◌+◌, ◌++◌, ◌-◌, ◌<◌, ◌^◌, IfErr, IfOk, OnErr, OnOk, length};
 ghost use Rattle.tb_core.specs.Scans.{history_of};
@@ -18,7 +18,7 @@ use tb_live::Live;
 use tb_read::Program;
 use tb_view::{StepCounts, history_head};
 
-/// Tells each step by its line, and writes what waits where it is much.
+/// Appends each step's line, and writes what waits where it is much.
 fn tell_steps<K: Sink>(
     alloc: Global,
     sink: &mut K,

@@ -157,7 +157,7 @@ fn command_told<K: Sink>(
     }
 }
 
-/// Tells why a line is no command.
+/// Replies why a line is no command.
 fn fault_told(
     alloc: Global,
     live: BoxedRun,

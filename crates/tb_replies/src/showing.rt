@@ -1,4 +1,4 @@
-//! Tells a view, or why it isn't shown.
+//! The reply to a view: the view, or why it isn't shown.
 
 ghost use Rattle.std.specs.Prelude.{◌≡◌, IfOk};
 ghost use Rattle.tb_replies.specs.Replies.{shown};

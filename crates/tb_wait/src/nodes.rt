@@ -7,7 +7,7 @@ ghost use Rattle.tb_wait.specs.Numbers.{IsPut};
 use crate::node::Node;
 use std::alloc::{AllocError, Global};
 
-/// Tells the owner whether the node stands and hasn't ended.
+/// Notes at the owner whether the node stands and hasn't ended.
 pub fn tell_unended(nodes: &mut Vec<Node>, at: usize)
     requires linked { IsLinked nodes.old.items }
     requires children { AreChildren nodes.old.items }
@@ -29,7 +29,7 @@ pub fn tell_unended(nodes: &mut Vec<Node>, at: usize)
     set_unended(nodes, owner, number, pending);
 }
 
-/// Tells the owners upwards whether the node at the place is live.
+/// Notes at the owners upwards whether the node at the place is live.
 pub fn refresh(nodes: &mut Vec<Node>, start: usize)
     requires linked { IsLinked nodes.old.items }
     requires children { AreChildren nodes.old.items }
@@ -51,7 +51,8 @@ pub fn refresh(nodes: &mut Vec<Node>, start: usize)
     }
 }
 
-// Tells the owner whether the node is live, and answers whether the owner took it otherwise.
+// Notes at the owner whether the node is live, and returns whether the owner may be live otherwise
+// by that.
 fn tell_live(nodes: &mut Vec<Node>, at: usize) -> bool
     requires linked { IsLinked nodes.old.items }
     requires children { AreChildren nodes.old.items }

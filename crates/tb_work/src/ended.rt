@@ -3,7 +3,7 @@
 /// What ended a worker of a seat's last `go`, where it is a refusal that the `go` answers.
 #[derive(Clone, Copy, Drop, PartialEq, Eq)]
 pub enum Ended {
-    /// It ended well, by no refusal.
+    /// The worker ended well, by no refusal.
     Well,
     /// A place's cell was taken.
     CellTaken,

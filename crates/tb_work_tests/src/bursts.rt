@@ -14,7 +14,7 @@ use std::sync::Wait;
 use std::thread::Threads;
 use tb_work::{Seat, Shared, Team, Why};
 
-/// Behind the start 202 private statements, a print and the end.
+/// After the start 202 private statements, a print and the end.
 const COUNTED: &[u8] = b"cells 0\nbody main 0\n  let r0 100\n  while 0 < r0\n    let r0 r0 - 1\n\
     end\n  print r0\nend\n";
 

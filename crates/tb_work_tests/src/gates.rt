@@ -11,7 +11,7 @@ pub const TURNS: u32 = 10_000_000;
 /// How many calls of each of two seats are kept.
 const KEPT: u64 = 5;
 
-/// Keeps nobody.
+/// Blocks nobody.
 #[derive(Drop)]
 pub struct Open;
 
@@ -19,7 +19,7 @@ impl Gate for Open {
     fn between(&self, _seat: u32, _nth: u64) {}
 }
 
-/// Keeps each seat's nth call until the other seat's nth has come.
+/// Blocks each seat's nth call until the other seat's nth has come.
 #[derive(Drop)]
 pub struct Meeting {
     zero: AtomicU64,
@@ -72,7 +72,7 @@ pub fn comes(count: &AtomicU64, many: u64) -> bool {
     false
 }
 
-/// Tells that some worker has come.
+/// Says that some worker has come.
 #[derive(Drop)]
 pub struct Signal {
     pub called: AtomicU64,
