@@ -8,9 +8,8 @@ use Rattle.tb_model.specs.Facts.{is_end}
 use Rattle.tb_core.specs.Entries.{Entry}
 use Rattle.tb_races.specs.Orders.{Order}
 use Rattle.tb_order.specs.declared.tasks.Tasks.{Tasks}
-use Rattle.tb_order.specs.declared.clocks.Clocks.{Clocks}
 use Rattle.tb_order.specs.declared.ends.Ends.{Ends}
-use Rattle.tb_order.specs.Clocks.{AreRow, AreTied, IsEnd, IsEndMore, IsSound, end_at, ends_so, is_after, is_end_at, is_told, reaches, skip_at}
+use Rattle.tb_order.specs.Clocks.{AreRow, AreTied, IsEnd, IsEndMore, IsSound, Lanes, end_at, ends_so, is_after, is_end_at, is_told, reaches, skip_at}
 use Rattle.tb_order.specs.Rows.{IsFit, IsRow}
 use Rattle.tb_order.proofs.AfterLemmas.{reached, reaches_so, reach_on}
 
@@ -136,7 +135,7 @@ pub end_here : (entries : List Entry) (n : ℕ) (x : Entry) → n < length entri
 end_here entries n x w here b h = ap ends_so (slice_get_read entries (length entries) n x refl w here) ∙ sym h
 
 -- of whatever an end comes after, of which a row tells, the row tells too
-module _ (o : Order) (entries : List Entry) (tasks : Tasks) (clocks : Clocks) (row : List ℕ) (k p : ℕ) (so : IsSound o entries tasks clocks row k p) (ends : Ends) (are : IsRow o entries p ends) where
+module _ (o : Order) (entries : List Entry) (tasks : Tasks) (clocks : Lanes) (row : ℕ → ℕ) (k p : ℕ) (so : IsSound o entries tasks clocks row k p) (ends : Ends) (are : IsRow o entries p ends) where
   abbrev Told : ℕ → Type 0
   Told q = is_told o entries tasks clocks row k p q ≡ true
 

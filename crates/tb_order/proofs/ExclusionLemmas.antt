@@ -27,7 +27,7 @@ use Rattle.tb_core.specs.Scans.{history_of, step_at}
 use Rattle.tb_core.proofs.ScanLemmas.{history_more}
 use Rattle.tb_order.specs.declared.tasks.Tasks.{Tasks}
 use Rattle.tb_order.specs.declared.clocks.Clocks.{Clocks}
-use Rattle.tb_order.specs.Clocks.{after_so, is_after, lane, row_at, origin, origin_reaches, says, AreTasks, AreClocks}
+use Rattle.tb_order.specs.Clocks.{after_so, is_after, lane, lanes_of, Lanes, row_at, origin, origin_reaches, says, AreTasks, AreClocks}
 use Rattle.tb_order.specs.Exclusion.{is_exclusive, has_exclusive, excludes_some}
 
 -- ---- items
@@ -156,16 +156,22 @@ clocks_same entries tasks clocks none t c =
       listed = c.listed;
       laned = c.laned;
       within = c.within;
-      low = c.low;
-      told = λ p l q m.
-          ap (λ b. p == q || b) (sym (after_same entries p q (none p l)))
-          ∙ c.told p l q m
-          ∙ ap (λ b. (lane clocks p == lane clocks q && nat_lt q p) || (says (row_at clocks p) (lane clocks q) q || b)) (from (origin tasks p) q (omega (arith, l, t.shaped.low p (omega (arith, l, t.numbers_listed)))));
-      own = c.own;
-      going = c.going;
-      few = c.few;
-      newest = c.newest;
+      rising = c.rising;
+      lanes = record {
+        low = c.lanes.low;
+        told = λ p l q m.
+            ap (λ b. p == q || b) (sym (after_same entries p q (none p l)))
+            ∙ c.lanes.told p l q m
+            ∙ ap (λ b. (lane v p == lane v q && nat_lt q p) || (says (row_at v p) (lane v q) q || b)) (from (origin tasks p) q (omega (arith, l, t.shaped.low p (omega (arith, l, t.numbers_listed)))));
+        own = c.lanes.own;
+        going = c.lanes.going;
+        few = c.lanes.few;
+        newest = c.lanes.newest;
+      };
     }
   where
+    v : Lanes
+    v = lanes_of clocks
+
     from : (n q : ℕ) → n - 1 < length entries → origin_reaches Synchronised entries n q ≡ origin_reaches WithExclusion entries n q
     from n q l = ap (λ b. cond (n == 0) false ((n - 1) == q || b)) (after_same entries (n - 1) q (none (n - 1) l))

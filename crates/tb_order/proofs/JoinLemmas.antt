@@ -1,11 +1,10 @@
 -- What a step reaches, by its clock and by what generates its task.
-use Rattle.std.proofs.Common.{◌≡◌, ◌==◌, ◌<◌, ◌≤◌, ◌-◌, ◌≢◌, ℕ, List, Bool, true, false, ◌||◌, ◌&&◌, cond, length, refl, sym, ap, ap₂, ◌∙◌, arith, ◌⊎◌, inl, inr, ⊎_elim, eq-eqb, nat_le, lt-ltb, le-leb, leb-true}
-use Rattle.std.proofs.lemmas.Bool.{or_left, or_cases, and_from, and_parts, false_from_ne_true, cases_order}
+use Rattle.std.proofs.Common.{◌≡◌, ◌==◌, ◌<◌, ◌≤◌, ◌-◌, ◌≢◌, ℕ, List, Bool, true, false, ◌||◌, ◌&&◌, cond, length, refl, sym, ap, ap₂, ◌∙◌, subst, arith, nat_lt, eqb-true, ◌⊎◌, inl, inr, ⊎_elim, eq-eqb, nat_le, lt-ltb, le-leb, leb-true}
+use Rattle.std.proofs.lemmas.Bool.{or_left, or_right, or_cases, and_from, and_parts, false_from_ne_true, cases_order}
 use Rattle.tb_core.specs.Entries.{Entry}
 use Rattle.tb_races.specs.Orders.{Order}
 use Rattle.tb_order.specs.declared.tasks.Tasks.{Tasks}
-use Rattle.tb_order.specs.declared.clocks.Clocks.{Clocks}
-use Rattle.tb_order.specs.Clocks.{AreTasks, AreClocks, IsLow, adds, is_below, lane, origin, origin_reaches, reaches, row_at, says}
+use Rattle.tb_order.specs.Clocks.{AreLanes, AreTasks, IsLow, IsSound, Lanes, Adds, is_told, adds, is_below, lane, origin, is_after, origin_reaches, reaches, row_at, says}
 use Rattle.tb_order.proofs.AfterLemmas.{reached}
 use Rattle.tb_order.proofs.ClockLemmas.{or_if, zero_eqb}
 use Rattle.tb_order.proofs.SoundLemmas.{origin_low, origin_none, reached_low}
@@ -34,7 +33,7 @@ pub from_origin : (o : Order) (entries : List Entry) (n m q : ℕ) → n ≡ m �
 from_origin o entries n m q e some =
     ap (λ b. cond b false (reaches o entries (n - 1) q)) (zero_eqb n some) ∙ ap (λ k. reaches o entries (k - 1) q) e
 
-module _ (o : Order) (entries : List Entry) (tasks : Tasks) (n : ℕ) (clocks : Clocks) (are : AreTasks entries tasks) (told : AreClocks o entries tasks n clocks) (long : n ≤ length entries) (p : ℕ) (inside : p < n) where
+module _ (o : Order) (entries : List Entry) (tasks : Tasks) (n : ℕ) (clocks : Lanes) (are : AreTasks entries tasks) (told : AreLanes o entries tasks n clocks) (long : n ≤ length entries) (p : ℕ) (inside : p < n) where
   abbrev below : ℕ → Bool
   below q = is_below clocks (row_at clocks p) (lane clocks p) p q
 
@@ -79,26 +78,70 @@ module _ (o : Order) (entries : List Entry) (tasks : Tasks) (n : ℕ) (clocks : 
     pub reached_not : below q ≡ false → origin tasks p ≡ 0 → reaches o entries p q ≡ false
     reached_not h none = told_all q early ∙ or_if (below q) _ h ∙ origin_none o entries (origin tasks p) q none
 
-  -- ---- what it reaches, joined to a row
+  -- ---- what it reaches, joined to bounds
 
-  pub joined : (q : ℕ) → q < n → (old next : List ℕ) → says next (lane clocks q) q ≡ (says old (lane clocks q) q || adds clocks p (lane clocks q) q)
-      → (says next (lane clocks q) q || origin_reaches o entries (origin tasks p) q) ≡ (says old (lane clocks q) q || reaches o entries p q)
-  joined q m old next h =
-      ap (λ b. b || origin_reaches o entries (origin tasks p) q) h
-      ∙ or_assoc (says old (lane clocks q) q) (below q) (origin_reaches o entries (origin tasks p) q)
-      ∙ ap (λ b. says old (lane clocks q) q || b) (sym (told_all q m))
+  pub joined : (q : ℕ) → q < n → (b : Bool) (next : ℕ → ℕ) → says next (lane clocks q) q ≡ (b || adds clocks p (lane clocks q) q)
+      → (says next (lane clocks q) q || origin_reaches o entries (origin tasks p) q) ≡ (b || reaches o entries p q)
+  joined q m b next h =
+      ap (λ a. a || origin_reaches o entries (origin tasks p) q) h
+      ∙ or_assoc b (below q) (origin_reaches o entries (origin tasks p) q)
+      ∙ ap (λ a. b || a) (sym (told_all q m))
 
   -- what is added isn't behind it
-  pub joined_low : (m : ℕ) → p < m → (old next : List ℕ) → ((k q : ℕ) → says next k q ≡ (says old k q || adds clocks p k q)) → IsLow old m → IsLow next m
-  joined_low m l old next h small k q s =
-      ⊎_elim (λ a. small k q a)
-      (λ a.
+  pub adds_low : (m : ℕ) → p < m → (k q : ℕ) → adds clocks p k q ≡ true → q < m
+  adds_low m l k q s =
       ⊎_elim (λ b. omega (arith, leb-true q p (and_parts (lane clocks p == k) (nat_le q p) b).1, l)) (λ b. omega (arith, told.low p inside k q b, l))
-      (or_cases (lane clocks p == k && nat_le q p) (says (row_at clocks p) k q) a))
-      (or_cases (says old k q) (adds clocks p k q) (sym (h k q) ∙ s))
+      (or_cases (lane clocks p == k && nat_le q p) (says (row_at clocks p) k q) s)
+
+  pub low_more : (m : ℕ) → p < m → (old next : ℕ → ℕ) → ((k q : ℕ) → says next k q ≡ (says old k q || adds clocks p k q)) → IsLow old m → IsLow next m
+  low_more m l old next h small k q s = ⊎_elim (λ a. small k q a) (λ a. adds_low m l k q a) (or_cases (says old k q) (adds clocks p k q) (sym (h k q) ∙ s))
 
 pub joined_up : (o : Order) (entries : List Entry) (n m q : ℕ) (b : Bool) → n ≡ m → n ≢ 0 → (b || reaches o entries (m - 1) q) ≡ (b || origin_reaches o entries n q)
 joined_up o entries n m q b e some = ap (λ r. b || r) (sym (from_origin o entries n m q e some))
 
 pub joined_end : (o : Order) (entries : List Entry) (n q : ℕ) (b : Bool) → n ≡ 0 → b ≡ (b || origin_reaches o entries n q)
 joined_end o entries n q b none = sym (ap (λ r. b || r) (origin_none o entries n q none) ∙ or_none b)
+
+-- ---- all that is added
+
+module _ (o : Order) (entries : List Entry) (tasks : Tasks) (p : ℕ) (w : p < length entries) (clocks : Lanes) (k s : ℕ) (row more next : ℕ → ℕ) (small : IsLow row p) (more_small : IsLow more p)
+    (both : (j q : ℕ) → says next j q ≡ (says row j q || says more j q)) where
+  abbrev Told : (ℕ → ℕ) → ℕ → Type 0
+  Told r q = is_told o entries tasks clocks r k p q ≡ true
+
+  -- what was told stays so
+  kept_told : (q : ℕ) → Told row q → Told next q
+  kept_told q h =
+      ⊎_elim (λ a. or_left (k == lane clocks q && nat_lt q p) _ a)
+      (λ a.
+      or_right (k == lane clocks q && nat_lt q p) _
+      (⊎_elim (λ b. or_left (says next (lane clocks q) q) _ (both (lane clocks q) q ∙ or_left (says row (lane clocks q) q) _ b)) (λ b. or_right (says next (lane clocks q) q) _ b)
+      (or_cases (says row (lane clocks q) q) (origin_reaches o entries (origin tasks p) q) a)))
+      (or_cases (k == lane clocks q && nat_lt q p) _ h)
+
+  low_both : IsLow next p
+  low_both j q h = ⊎_elim (λ a. small j q a) (λ a. more_small j q a) (or_cases (says row j q) (says more j q) (sym (both j q) ∙ h))
+
+  -- what is left to the place `at` is told already, or nothing is left
+  pub adds_up : (at : ℕ) → ((q : ℕ) → q < p → (says more (lane clocks q) q || reaches o entries at q) ≡ reaches o entries s q) → at < p → IsSound o entries tasks clocks row k p → Told row at → Adds o entries tasks clocks k p s row next
+  adds_up at same l so told = record {
+    kept = λ j q h. both j q ∙ or_left (says row j q) _ h;
+    reached = λ q m h.
+        ⊎_elim (λ a. or_right (k == lane clocks q && nat_lt q p) _ (or_left (says next (lane clocks q) q) _ (both (lane clocks q) q ∙ or_right (says row (lane clocks q) q) _ a)))
+        (λ a. kept_told q (on q m (or_cases (at == q) (is_after o entries at q) a)))
+        (or_cases (says more (lane clocks q) q) (reaches o entries at q) (same q m ∙ h));
+    sound = λ q m h. ⊎_elim (λ a. inl a) (λ a. inr (sym (same q m) ∙ or_left (says more (lane clocks q) q) _ a)) (or_cases (says row (lane clocks q) q) (says more (lane clocks q) q) (sym (both (lane clocks q) q) ∙ h));
+    low = low_both;
+  }
+    where
+      on : (q : ℕ) → q < p → ((at == q) ≡ true) ⊎ (is_after o entries at q ≡ true) → Told row q
+      on q m (inl e) = subst (Told row) (eqb-true at q e) told
+      on q m (inr a) = so.closed at q l m told a
+
+  pub adds_all : ((q : ℕ) → q < p → says more (lane clocks q) q ≡ reaches o entries s q) → Adds o entries tasks clocks k p s row next
+  adds_all same = record {
+    kept = λ j q h. both j q ∙ or_left (says row j q) _ h;
+    reached = λ q m h. or_right (k == lane clocks q && nat_lt q p) _ (or_left (says next (lane clocks q) q) _ (both (lane clocks q) q ∙ or_right (says row (lane clocks q) q) _ (same q m ∙ h)));
+    sound = λ q m h. ⊎_elim (λ a. inl a) (λ a. inr (sym (same q m) ∙ a)) (or_cases (says row (lane clocks q) q) (says more (lane clocks q) q) (sym (both (lane clocks q) q) ∙ h));
+    low = low_both;
+  }

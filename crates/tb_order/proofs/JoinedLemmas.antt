@@ -4,7 +4,8 @@ use Rattle.tb_core.specs.Entries.{Entry}
 use Rattle.tb_order.specs.declared.tasks.Tasks.{Tasks}
 use Rattle.tb_order.specs.declared.past.Past.{Past}
 use Rattle.tb_order.specs.declared.joined.Joined.{Joined}
-use Rattle.tb_order.specs.Clocks.{IsJoined, IsSound}
+use Rattle.tb_order.specs.Clocks.{IsJoined, IsSound, lanes_of}
+use Rattle.tb_order.specs.Bounds.{AreRising, bound_among}
 use Rattle.tb_order.specs.Linking.{order_of}
 use Rattle.tb_order.specs.Rows.{AreJoined, IsTold, JoinsMore}
 
@@ -24,12 +25,13 @@ module _ (entries : List Entry) (tasks : Tasks) (past : Past) (k p : ℕ) where
   }
 
   -- one end more
-  pub joins_one : (a b c : Joined) (s : ℕ) → JoinsMore entries tasks past k p a b → IsSound (order_of past.exclusion) entries tasks past.clocks c.next.items k p → ((q : ℕ) → q < p → IsTold entries tasks past k p b q → IsTold entries tasks past k p c q)
-      → IsJoined (order_of past.exclusion) entries tasks past.clocks c.next.items k p s → (y : ℕ) → (y ≡ s) ⊎ (b.end ≡ Some y) → c.end ≡ Some y → JoinsMore entries tasks past k p a c
-  joins_one a b c s f sound stays here y found is = record {
+  pub joins_one : (a b c : Joined) (s : ℕ) → JoinsMore entries tasks past k p a b → AreRising c.rows.items → IsSound (order_of past.exclusion) entries tasks (lanes_of past.clocks) (bound_among c.rows.items) k p → ((q : ℕ) → q < p → IsTold entries tasks past k p b q → IsTold entries tasks past k p c q)
+      → IsJoined (order_of past.exclusion) entries tasks (lanes_of past.clocks) (bound_among c.rows.items) k p s → (y : ℕ) → (y ≡ s) ⊎ (b.end ≡ Some y) → c.end ≡ Some y → JoinsMore entries tasks past k p a c
+  joins_one a b c s f rising sound stays here y found is = record {
     are = record {
+      rising = rising;
       sound = sound;
-      end = λ x e. subst (IsJoined (order_of past.exclusion) entries tasks past.clocks c.next.items k p) (the_some y x (sym_some is e)) (one y found);
+      end = λ x e. subst (IsJoined (order_of past.exclusion) entries tasks (lanes_of past.clocks) (bound_among c.rows.items) k p) (the_some y x (sym_some is e)) (one y found);
     };
     kept = λ q l t. stays q l (f.kept q l t);
     same = λ e. absurd (no_some y (sym_some is e));
@@ -44,6 +46,6 @@ module _ (entries : List Entry) (tasks : Tasks) (past : Past) (k p : ℕ) where
       the_some : (x y : ℕ) → ◌≡◌ {A = Option ℕ} (Some x) (Some y) → x ≡ y
       the_some x y e = cc
 
-      one : (y : ℕ) → (y ≡ s) ⊎ (b.end ≡ Some y) → IsJoined (order_of past.exclusion) entries tasks past.clocks c.next.items k p y
-      one y (inl e) = subst (IsJoined (order_of past.exclusion) entries tasks past.clocks c.next.items k p) (sym e) here
+      one : (y : ℕ) → (y ≡ s) ⊎ (b.end ≡ Some y) → IsJoined (order_of past.exclusion) entries tasks (lanes_of past.clocks) (bound_among c.rows.items) k p y
+      one y (inl e) = subst (IsJoined (order_of past.exclusion) entries tasks (lanes_of past.clocks) (bound_among c.rows.items) k p) (sym e) here
       one y (inr e) = let j = f.are.end y e in (j.0, j.1, stays y j.0 j.2)

@@ -15,9 +15,9 @@ use Rattle.tb_order.proofs.SharingLemmas.{shared_told, shared_none, in_slot, in_
 
 -- ---- tables of rows
 
-pub kept_read : (rows : List (Vec ℕ Global)) (i : ℕ) (v : Vec ℕ Global) → i < length rows → v ≡ get_or rows i v → v.items ≡ kept_in rows i
-kept_read rows i v low is =
-    let items = λ (x : Vec ℕ Global). x.items in
+pub kept_read : {A : Type 0} (rows : List (Vec A Global)) (i : ℕ) (v : Vec A Global) → i < length rows → v ≡ get_or rows i v → v.items ≡ kept_in rows i
+kept_read {A} rows i v low is =
+    let items = λ (x : Vec A Global). x.items in
     ap items is ∙ sym (get_or-map items rows i v [] low)
 
 pub kept_here : (rows : List (Vec ℕ Global)) (i : ℕ) (v : Vec ℕ Global) → i < length rows → kept_in (set rows i v) i ≡ v.items

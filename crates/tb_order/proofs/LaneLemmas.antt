@@ -1,6 +1,5 @@
 -- In which lane a step may stand.
 use Rattle.std.proofs.Common.{◌≡◌, ◌≢◌, ◌<◌, ◌≤◌, ℕ, suc, List, [], ◌∷◌, true, not, length, sym, ap, ◌∙◌, subst, arith, ◌⊎◌, inl, inr, ⊎_elim, eq-eqb, eqb-true}
-use Rattle.std.specs.Prelude.{slice_index_or}
 use Rattle.std.proofs.lemmas.Bool.{both_ways, cases_eq, cases_order}
 use Rattle.tb_model.specs.declared.action.Action.{Action}
 use Rattle.tb_model.specs.declared.action.Action.TheVariants.{Start}
@@ -12,8 +11,7 @@ use Rattle.tb_core.specs.Entries.{Entry}
 use Rattle.tb_core.specs.Scans.{AreLegal}
 use Rattle.tb_races.specs.Orders.{Order, Synchronised}
 use Rattle.tb_order.specs.declared.tasks.Tasks.{Tasks}
-use Rattle.tb_order.specs.declared.clocks.Clocks.{Clocks}
-use Rattle.tb_order.specs.Clocks.{AreClocks, AreTasks, Behind, alone, generated, going_on, GoesOn, IsClock, IsLane, IsLastOf, IsSound, TellsEnds, both_at, is_end_at, lane, number, of_one, origin, previous, row_at, touches}
+use Rattle.tb_order.specs.Clocks.{AreLanes, AreTasks, Behind, alone, generated, going_on, GoesOn, IsClock, IsLane, IsLastOf, IsSound, Lanes, TellsEnds, both_at, is_end_at, lane, number, of_one, origin, previous, row_at, touches}
 use Rattle.tb_order.proofs.LinkLemmas.{end_is}
 use Rattle.tb_order.proofs.OwnLemmas.{H, ev, head_here, legal_here}
 use Rattle.tb_order.proofs.SoundLemmas.{clock_told, ends_moved, own_touches, sound_going, sound_moved}
@@ -29,7 +27,7 @@ no_more cells t last acts a h e = by (begun cells t (last ∷ acts) a h)
         none q = cc
     by (inr r) = both_ways (not (is_end last)) (ap not e) r
 
-module _ (o : Order) (entries : List Entry) (tasks : Tasks) (are : AreTasks entries tasks) (p : ℕ) (w : p < length entries) (clocks : Clocks) (told : AreClocks o entries tasks p clocks) where
+module _ (o : Order) (entries : List Entry) (tasks : Tasks) (are : AreTasks entries tasks) (p : ℕ) (w : p < length entries) (clocks : Lanes) (told : AreLanes o entries tasks p clocks) where
   -- the step of its task in front
   module _ (legal : AreLegal entries) (b : ℕ) (prev : previous tasks p ≡ suc b) (same : number tasks b ≡ number tasks p) where
     record Goes : Type 0 where
@@ -111,7 +109,7 @@ module _ (o : Order) (entries : List Entry) (tasks : Tasks) (are : AreTasks entr
   -- with none in front, a new lane
 
   abbrev fresh : ℕ
-  fresh = length clocks.lasts.items
+  fresh = clocks.count
 
   pub fresh_new : (q : ℕ) → q < p → lane clocks q ≢ fresh
   fresh_new q l e = omega (arith, told.few q l, e)
@@ -132,9 +130,9 @@ module _ (o : Order) (entries : List Entry) (tasks : Tasks) (are : AreTasks entr
           (λ d. let e : d.0 ≡ b = omega (arith, d.1, is) in d.2 (ap (number tasks) e ∙ sym (eqb-true (number tasks p) (number tasks b) (are.same p b w (omega (arith, m, w)) ∙ mine)))) c
 
   -- or that of an end of which the row tells, where it is the newest there
-  module _ (k x : ℕ) (is : IsLane entries clocks k p) (new : k ≡ fresh) (l : x < p) (over : is_end_at entries x ≡ true) (last : slice_index_or clocks.lasts.items (lane clocks x) 0 ≡ x) where
+  module _ (k x : ℕ) (is : IsLane entries clocks k p) (new : k ≡ fresh) (l : x < p) (over : is_end_at entries x ≡ true) (last : clocks.last (lane clocks x) ≡ x) where
     pub last_in : (q : ℕ) → q < p → lane clocks q ≡ lane clocks x → q ≤ x
-    last_in q m e = omega (arith, told.newest q m, ap (λ j. slice_index_or clocks.lasts.items j 0) e, last)
+    last_in q m e = omega (arith, told.newest q m, ap clocks.last e, last)
 
     pub lane_after : IsLane entries clocks (lane clocks x) p
     lane_after = record {
@@ -148,7 +146,7 @@ module _ (o : Order) (entries : List Entry) (tasks : Tasks) (are : AreTasks entr
         by b m e only (inr d) = absurd (only x (omega (arith, d, last_in b m e)) l (sym e))
 
   -- with what its row tells, it stands in either
-  pub stands_in : (row : List ℕ) (k j : ℕ) → IsLane entries clocks k p → IsSound o entries tasks clocks row k p → TellsEnds o entries tasks clocks row k p → GoesOn o entries tasks clocks row k p j
+  pub stands_in : (row : ℕ → ℕ) (k j : ℕ) → IsLane entries clocks k p → IsSound o entries tasks clocks row k p → TellsEnds o entries tasks clocks row k p → GoesOn o entries tasks clocks row k p j
       → IsClock o entries tasks clocks row j p × IsLane entries clocks j p
   stands_in row k j is so ends (inl e) =
       subst (λ m. IsClock o entries tasks clocks row m p × IsLane entries clocks m p) (sym e) (clock_told o entries tasks are p w clocks told k is.own row so ends, is)

@@ -7,6 +7,7 @@ pub mod LaneLemmas
 pub mod EndLemmas
 pub mod RaceLemmas
 pub mod AfterLemmas
+pub mod BoundLemmas
 pub mod ClockLemmas
 pub mod LinkLemmas
 pub mod StartLemmas

@@ -1,5 +1,5 @@
 -- The clock of a step is that of the step of its task in front of it, with what is in front of the ends to which it is linked.
-use Rattle.std.proofs.Common.{◌≡◌, ◌==◌, ◌<◌, ◌≤◌, ◌-◌, ℕ, suc, List, [], Bool, true, false, ◌||◌, ◌&&◌, length, refl, sym, ap, ◌∙◌, subst, arith, ◌⊎◌, inl, inr, ⊎_elim, eqb-true, eq-eqb, nat_lt, ltb-true, lt-ltb, ◌≢◌, ne_eqb, cond}
+use Rattle.std.proofs.Common.{◌≡◌, ◌==◌, ◌<◌, ◌≤◌, ◌-◌, ℕ, suc, List, Bool, true, false, ◌||◌, ◌&&◌, length, refl, sym, ap, ◌∙◌, subst, arith, ◌⊎◌, inl, inr, ⊎_elim, eqb-true, eq-eqb, nat_lt, ltb-true, lt-ltb, ◌≢◌, ne_eqb, cond}
 use Rattle.std.proofs.lemmas.Bool.{or_cases, or_left, or_right, both_ways, and_parts, and_from, cases_eq, cases_lt}
 use Rattle.tb_model.specs.Names.{same_name}
 use Rattle.tb_model.specs.Facts.{spawns}
@@ -7,8 +7,7 @@ use Rattle.tb_model.proofs.TestLemmas.{same_true}
 use Rattle.tb_core.specs.Entries.{Entry}
 use Rattle.tb_races.specs.Orders.{Order}
 use Rattle.tb_order.specs.declared.tasks.Tasks.{Tasks}
-use Rattle.tb_order.specs.declared.clocks.Clocks.{Clocks}
-use Rattle.tb_order.specs.Clocks.{AreTasks, AreClocks, IsClock, IsSound, TellsEnds, Behind, alone, generated, going_on, reaches, is_after, is_told, links_at, is_end_at, both_at, of_one, generates, touches, origin, origin_reaches, row_at, number, previous, says, lane, IsLow, IsLastOf}
+use Rattle.tb_order.specs.Clocks.{Adds, AreLanes, AreTasks, IsClock, IsSound, TellsEnds, Behind, alone, generated, going_on, reaches, is_after, is_told, links_at, is_end_at, both_at, of_one, generates, touches, origin, origin_reaches, row_at, number, previous, says, lane, IsLow, IsLastOf, Lanes}
 use Rattle.tb_order.proofs.AfterLemmas.{at, low, Reached, reached, reaches_so, reach_on, first_link, linked_on, after_links, links_after}
 use Rattle.tb_order.proofs.LinkLemmas.{both_is, touch_links_at, link_cases_at}
 
@@ -44,7 +43,7 @@ module _ (o : Order) (entries : List Entry) where
           let e : n ≡ suc (n - 1) = omega (arith, d) in
           omega (arith, l, d, reached_low (n - 1) q (reached o entries (n - 1) q (omega (arith, l, m, d)) i (sym (origin_suc o entries (n - 1) n q e) ∙ h)))
 
-module _ (o : Order) (entries : List Entry) (tasks : Tasks) (are : AreTasks entries tasks) (p : ℕ) (w : p < length entries) (clocks : Clocks) (told : AreClocks o entries tasks p clocks) where
+module _ (o : Order) (entries : List Entry) (tasks : Tasks) (are : AreTasks entries tasks) (p : ℕ) (w : p < length entries) (clocks : Lanes) (told : AreLanes o entries tasks p clocks) where
   -- by a link to x everything that x reaches comes before
   behind_link : (x q : ℕ) → x < p → q < length entries → both_at touches entries p x ≡ true → Reached o entries x q → is_after o entries p q ≡ true
   behind_link x q l i h r = links_after (linked_on o entries p x q l w (touch_links_at o entries p x w (omega (arith, l, w)) h) r)
@@ -53,27 +52,27 @@ module _ (o : Order) (entries : List Entry) (tasks : Tasks) (are : AreTasks entr
   own_touches q i h = both_is o entries p q w i touches ∙ or_left _ _ (sym (both_is o entries p q w i of_one) ∙ h)
 
   module _ (k : ℕ) where
-    abbrev Told : List ℕ → ℕ → Type 0
+    abbrev Told : (ℕ → ℕ) → ℕ → Type 0
     Told row q = is_told o entries tasks clocks row k p q ≡ true
 
     -- the three ways to be told of
-    abbrev Ways : List ℕ → ℕ → Type 0
+    abbrev Ways : (ℕ → ℕ) → ℕ → Type 0
     Ways row q = ((k ≡ lane clocks q) × (q < p)) ⊎ ((says row (lane clocks q) q ≡ true) ⊎ (origin_reaches o entries (origin tasks p) q ≡ true))
 
-    ways : (row : List ℕ) (q : ℕ) → Told row q → Ways row q
+    ways : (row : ℕ → ℕ) (q : ℕ) → Told row q → Ways row q
     ways row q h =
         ⊎_elim
         (λ a. let b = and_parts (k == lane clocks q) (nat_lt q p) a in inl (eqb-true k (lane clocks q) b.0, ltb-true q p b.1))
         (λ a. inr (or_cases (says row (lane clocks q) q) (origin_reaches o entries (origin tasks p) q) a))
         (or_cases (k == lane clocks q && nat_lt q p) _ h)
 
-    told_lane : (row : List ℕ) (q : ℕ) → k ≡ lane clocks q → q < p → Told row q
+    told_lane : (row : ℕ → ℕ) (q : ℕ) → k ≡ lane clocks q → q < p → Told row q
     told_lane row q h l = or_left (k == lane clocks q && nat_lt q p) _ (and_from (k == lane clocks q) (nat_lt q p) (eq-eqb k (lane clocks q) h) (lt-ltb q p l))
 
-    told_says : (row : List ℕ) (q : ℕ) → says row (lane clocks q) q ≡ true → Told row q
+    told_says : (row : ℕ → ℕ) (q : ℕ) → says row (lane clocks q) q ≡ true → Told row q
     told_says row q h = or_right (k == lane clocks q && nat_lt q p) _ (or_left (says row (lane clocks q) q) _ h)
 
-    told_origin : (row : List ℕ) (q : ℕ) → origin_reaches o entries (origin tasks p) q ≡ true → Told row q
+    told_origin : (row : ℕ → ℕ) (q : ℕ) → origin_reaches o entries (origin tasks p) q ≡ true → Told row q
     told_origin row q h = or_right (k == lane clocks q && nat_lt q p) _ (or_right (says row (lane clocks q) q) _ h)
 
   -- ---- as the step of its task in front
@@ -85,7 +84,7 @@ module _ (o : Order) (entries : List Entry) (tasks : Tasks) (are : AreTasks entr
     abbrev k : ℕ
     k = lane clocks b
 
-    abbrev row : List ℕ
+    abbrev row : ℕ → ℕ
     row = row_at clocks b
 
     -- the clock of b
@@ -133,43 +132,47 @@ module _ (o : Order) (entries : List Entry) (tasks : Tasks) (are : AreTasks entr
   -- ---- with no step of its task in front
 
   module _ (k : ℕ) (new : (q : ℕ) → q < p → lane clocks q ≢ k) where
+    -- no bounds
+    abbrev none : ℕ → ℕ
+    none j = 0
+
     -- nothing is told of but by the origin
-    no_row : (q : ℕ) → Told k [] q → origin_reaches o entries (origin tasks p) q ≡ true
-    no_row q h = by (ways k [] q h)
+    no_row : (q : ℕ) → Told k none q → origin_reaches o entries (origin tasks p) q ≡ true
+    no_row q h = by (ways k none q h)
       where
-        by : Ways k [] q → origin_reaches o entries (origin tasks p) q ≡ true
+        by : Ways k none q → origin_reaches o entries (origin tasks p) q ≡ true
         by (inl a) = absurd (new q a.1 (sym a.0))
         by (inr (inl a)) = absurd (omega (arith, ltb-true q 0 a))
         by (inr (inr a)) = a
 
-    no_low : IsLow [] p
+    no_low : IsLow none p
     no_low i q h = absurd (omega (arith, ltb-true q 0 h))
 
-    sound_alone : origin tasks p ≡ 0 → IsSound o entries tasks clocks [] k p
+    sound_alone : origin tasks p ≡ 0 → IsSound o entries tasks clocks none k p
     sound_alone zero_is =
-        let nothing = λ (q : ℕ) (h : Told k [] q). both_ways (origin_reaches o entries (origin tasks p) q) (origin_none o entries (origin tasks p) q zero_is) (no_row q h) in record {
+        let nothing = λ (q : ℕ) (h : Told k none q). both_ways (origin_reaches o entries (origin tasks p) q) (origin_none o entries (origin tasks p) q zero_is) (no_row q h) in record {
           sound = λ q m h. absurd (nothing q h);
           closed = λ s q j m h a. absurd (nothing s h);
           low = no_low;
         }
 
-    sound_generated : (b : ℕ) → b < p → origin tasks p ≡ suc b → both_at generates entries p b ≡ true → IsSound o entries tasks clocks [] k p
+    sound_generated : (b : ℕ) → b < p → origin tasks p ≡ suc b → both_at generates entries p b ≡ true → IsSound o entries tasks clocks none k p
     sound_generated b l is made =
         let ib : b < length entries = omega (arith, l, w) in
         let touch : both_at touches entries p b ≡ true = both_is o entries p b w ib touches ∙ or_right _ _ (sym (both_is o entries p b w ib generates) ∙ made) in
-        let from = λ (q : ℕ) (i : q < length entries) (h : Told k [] q). reached o entries b q ib i (sym (origin_suc o entries b (origin tasks p) q is) ∙ no_row q h) in record {
+        let from = λ (q : ℕ) (i : q < length entries) (h : Told k none q). reached o entries b q ib i (sym (origin_suc o entries b (origin tasks p) q is) ∙ no_row q h) in record {
           sound = λ q m h. behind_link b q l (omega (arith, m, w)) touch (from q (omega (arith, m, w)) h);
           closed = λ s q j m h a.
-              told_origin k [] q
+              told_origin k none q
               (origin_suc o entries b (origin tasks p) q is
               ∙ reaches_so o entries b q (reach_on o entries b s q (from s (omega (arith, j, w)) h) (inr (after_links o entries s q (omega (arith, j, w)) (omega (arith, m, w)) a))));
           low = no_low;
         }
 
-    pub sound_none : (previous tasks p ≡ 0) ⊎ ((b : ℕ) × (previous tasks p ≡ suc b) × (number tasks b ≢ number tasks p)) → IsSound o entries tasks clocks [] k p
+    pub sound_none : (previous tasks p ≡ 0) ⊎ ((b : ℕ) × (previous tasks p ≡ suc b) × (number tasks b ≢ number tasks p)) → IsSound o entries tasks clocks none k p
     sound_none c = by (are.behind p w)
       where
-        by : Behind entries tasks p → IsSound o entries tasks clocks [] k p
+        by : Behind entries tasks p → IsSound o entries tasks clocks none k p
         by (alone _ _ _ none zero_is nothing) = sound_alone zero_is
         by (generated _ _ _ b l is from made other only) = sound_generated b l from made
         by (going_on _ _ _ b l is from mine newest) =
@@ -179,7 +182,7 @@ module _ (o : Order) (entries : List Entry) (tasks : Tasks) (are : AreTasks entr
 
   -- ---- one end more
 
-  module _ (k : ℕ) (row next : List ℕ) (s : ℕ) (l : s < p) (more : (q : ℕ) → q < p → says next (lane clocks q) q ≡ (says row (lane clocks q) q || reaches o entries s q)) where
+  module _ (k : ℕ) (row next : ℕ → ℕ) (s : ℕ) (l : s < p) (more : Adds o entries tasks clocks k p s row next) where
     abbrev is : s < length entries
     is = omega (arith, l, w)
 
@@ -190,9 +193,7 @@ module _ (o : Order) (entries : List Entry) (tasks : Tasks) (are : AreTasks entr
         by : Ways k next q → Told k row q ⊎ Reached o entries s q
         by (inl a) = inl (told_lane k row q a.0 a.1)
         by (inr (inr a)) = inl (told_origin k row q a)
-        by (inr (inl a)) =
-            ⊎_elim (λ c. inl (told_says k row q c)) (λ c. inr (reached o entries s q is (omega (arith, m, w)) c))
-            (or_cases (says row (lane clocks q) q) (reaches o entries s q) (sym (more q m) ∙ a))
+        by (inr (inl a)) = ⊎_elim (λ c. inl (told_says k row q c)) (λ c. inr (reached o entries s q is (omega (arith, m, w)) c)) (more.sound q m a)
 
     pub stays_told : (q : ℕ) → q < p → Told k row q → Told k next q
     stays_told q m h = by (ways k row q h)
@@ -200,27 +201,27 @@ module _ (o : Order) (entries : List Entry) (tasks : Tasks) (are : AreTasks entr
         by : Ways k row q → Told k next q
         by (inl a) = told_lane k next q a.0 a.1
         by (inr (inr a)) = told_origin k next q a
-        by (inr (inl a)) = told_says k next q (more q m ∙ or_left (says row (lane clocks q) q) _ a)
+        by (inr (inl a)) = told_says k next q (more.kept (lane clocks q) q a)
 
     now_told : (q : ℕ) → q < p → Reached o entries s q → Told k next q
-    now_told q m r = told_says k next q (more q m ∙ or_right (says row (lane clocks q) q) _ (reaches_so o entries s q r))
+    now_told q m r = more.reached q m (reaches_so o entries s q r)
 
     pub itself_told : Told k next s
     itself_told = now_told s l (inl refl)
 
-    pub sound_more : IsLow next p → IsSound o entries tasks clocks row k p → links_at o entries p s ≡ true → IsSound o entries tasks clocks next k p
-    sound_more small so link = record {
+    pub sound_more : IsSound o entries tasks clocks row k p → links_at o entries p s ≡ true → IsSound o entries tasks clocks next k p
+    sound_more so link = record {
       sound = λ q m h. ⊎_elim (λ a. so.sound q m a) (λ a. links_after (linked_on o entries p s q l w link a)) (added q m h);
       closed = λ x q j m h a.
           ⊎_elim (λ b. stays_told q m (so.closed x q j m b a))
           (λ b. now_told q m (reach_on o entries s x q b (inr (after_links o entries x q (omega (arith, j, w)) (omega (arith, m, w)) a)))) (added x j h);
-      low = small;
+      low = more.low;
     }
 
   -- ---- in another lane
 
   -- the row tells as much in the lane of an end of which it tells, where that is the newest there
-  module _ (k : ℕ) (row : List ℕ) (x : ℕ) (l : x < p) (new : (q : ℕ) → q < p → lane clocks q ≢ k) (last : (q : ℕ) → q < p → lane clocks q ≡ lane clocks x → q ≤ x) (so : IsSound o entries tasks clocks row k p) (tells : Told k row x) where
+  module _ (k : ℕ) (row : ℕ → ℕ) (x : ℕ) (l : x < p) (new : (q : ℕ) → q < p → lane clocks q ≢ k) (last : (q : ℕ) → q < p → lane clocks q ≡ lane clocks x → q ≤ x) (so : IsSound o entries tasks clocks row k p) (tells : Told k row x) where
     abbrev m : ℕ
     m = lane clocks x
 
@@ -264,10 +265,10 @@ module _ (o : Order) (entries : List Entry) (tasks : Tasks) (are : AreTasks entr
 
   -- with all ends to which it is linked, the row is the step's
   module _ (k : ℕ) (own : (q : ℕ) → q < p → both_at of_one entries p q ≡ true → k ≡ lane clocks q) where
-    pub told_own : (row : List ℕ) (q : ℕ) → q < p → both_at of_one entries p q ≡ true → Told k row q
+    pub told_own : (row : ℕ → ℕ) (q : ℕ) → q < p → both_at of_one entries p q ≡ true → Told k row q
     told_own row q l h = told_lane k row q (own q l h) l
 
-    pub clock_told : (row : List ℕ) → IsSound o entries tasks clocks row k p → TellsEnds o entries tasks clocks row k p → IsClock o entries tasks clocks row k p
+    pub clock_told : (row : ℕ → ℕ) → IsSound o entries tasks clocks row k p → TellsEnds o entries tasks clocks row k p → IsClock o entries tasks clocks row k p
     clock_told row so ends q m =
         same_tests (reaches o entries p q) (is_told o entries tasks clocks row k p q) (λ h. into (reached o entries p q w (omega (arith, m, w)) h)) (λ h. or_right (p == q) _ (so.sound q m h))
       where
@@ -319,5 +320,5 @@ module _ (o : Order) (entries : List Entry) (tasks : Tasks) (are : AreTasks entr
             on x l t (inr b) = so.closed x q l m t (links_after b)
 
     -- where it waits for none, its row is as it was
-    pub no_ends_told : (row : List ℕ) → ((x : ℕ) → x < p → is_end_at entries x ≡ true → links_at o entries p x ≡ true → both_at of_one entries p x ≡ true) → TellsEnds o entries tasks clocks row k p
+    pub no_ends_told : (row : ℕ → ℕ) → ((x : ℕ) → x < p → is_end_at entries x ≡ true → links_at o entries p x ≡ true → both_at of_one entries p x ≡ true) → TellsEnds o entries tasks clocks row k p
     no_ends_told row none x l e h = told_own row x l (none x l e h)

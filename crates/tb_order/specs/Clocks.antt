@@ -10,6 +10,8 @@ use Rattle.tb_races.specs.Orders.{Order, links, comes_after}
 use Rattle.tb_order.specs.declared.tasks.Tasks.{Tasks}
 use Rattle.tb_order.specs.declared.clocks.Clocks.{Clocks}
 use Rattle.tb_order.specs.declared.ends.Ends.{Ends}
+use Rattle.tb_order.specs.declared.lane_bound.LaneBound.{LaneBound}
+use Rattle.tb_order.specs.Bounds.{IsRising, bound_in}
 
 -- ---- steps by their places
 
@@ -103,29 +105,30 @@ pub record AreTasks (entries : List Entry) (tasks : Tasks) : Type 0 where
   pub behind : (p : ℕ) → p < length entries → Behind entries tasks p
   pub origins : (p : ℕ) → p < length entries → IsOrigin entries tasks p
 
--- ---- by clocks: a lane is a row of tasks, each of which starts behind the end of the one in front
+-- ---- by lanes: a lane is a row of tasks, each of which starts behind the end of the one in front
 
--- the row at this place, empty where there is none
-abbrev pub kept_in : List (Vec ℕ Global) → ℕ → List ℕ
-kept_in rows i = slice_index_or (map (λ v. v.items) rows) i []
+-- of each step its lane, and how far each lane is in front of it: all its steps up to a bound; of each lane its newest step, and
+-- how many lanes there are
+pub record Lanes : Type 0 where
+  pub lane : ℕ → ℕ
+  pub bound : ℕ → ℕ → ℕ
+  pub last : ℕ → ℕ
+  pub count : ℕ
 
-abbrev pub row_in : List (Vec ℕ Global) → ℕ → List ℕ
-row_in rows n = if n == 0 then [] else kept_in rows (n - 1)
-
--- the row of the step at p
-abbrev pub row_at : Clocks → ℕ → List ℕ
-row_at clocks p = row_in clocks.rows.items (slice_index_or clocks.of.items p 0)
-
--- the row says of the lane of this number that q is in front
-abbrev pub says : List ℕ → ℕ → ℕ → Bool
-says row k q = nat_lt q (slice_index_or row k 0)
+-- by these bounds q is in front, as a step of the lane of this number
+abbrev pub says : (ℕ → ℕ) → ℕ → ℕ → Bool
+says row k q = nat_lt q (row k)
 
 -- the lane of the step at p
-abbrev pub lane : Clocks → ℕ → ℕ
-lane clocks p = slice_index_or clocks.lanes.items p 0
+abbrev pub lane : Lanes → ℕ → ℕ
+lane clocks p = clocks.lane p
+
+-- the bounds of the step at p
+abbrev pub row_at : Lanes → ℕ → ℕ → ℕ
+row_at clocks p = clocks.bound p
 
 -- q is a step of the lane, not behind p, or the row says that it is in front
-abbrev pub is_below : Clocks → List ℕ → ℕ → ℕ → ℕ → Bool
+abbrev pub is_below : Lanes → (ℕ → ℕ) → ℕ → ℕ → ℕ → Bool
 is_below clocks row k p q = (k == lane clocks q && nat_le q p) || says row (lane clocks q) q
 
 -- what generates the task is q or comes after it
@@ -133,38 +136,35 @@ abbrev pub origin_reaches : Order → List Entry → ℕ → ℕ → Bool
 origin_reaches o entries n q = if n == 0 then false else reaches o entries (n - 1) q
 
 -- of what is in front of the step at p, which stands in this lane, what the row tells of
-abbrev pub is_told : Order → List Entry → Tasks → Clocks → List ℕ → ℕ → ℕ → ℕ → Bool
+abbrev pub is_told : Order → List Entry → Tasks → Lanes → (ℕ → ℕ) → ℕ → ℕ → ℕ → Bool
 is_told o entries tasks clocks row k p q =
     (k == lane clocks q && nat_lt q p) || (says row (lane clocks q) q || origin_reaches o entries (origin tasks p) q)
 
 -- the clock of the step at p, which stands in this lane, tells what is in front of it
-abbrev pub IsClock : Order → List Entry → Tasks → Clocks → List ℕ → ℕ → ℕ → Type 0
+abbrev pub IsClock : Order → List Entry → Tasks → Lanes → (ℕ → ℕ) → ℕ → ℕ → Type 0
 IsClock o entries tasks clocks row k p = (q : ℕ) → q < p → reaches o entries p q ≡ is_told o entries tasks clocks row k p q
 
 -- the row says nothing of what is behind the step at p
-abbrev pub IsLow : List ℕ → ℕ → Type 0
+abbrev pub IsLow : (ℕ → ℕ) → ℕ → Type 0
 IsLow row p = (k q : ℕ) → IsTrue (says row k q) → q < p
 
 -- no step among the first n comes behind that at b in its lane
-abbrev pub IsLastOf : Clocks → ℕ → ℕ → Type 0
+abbrev pub IsLastOf : Lanes → ℕ → ℕ → Type 0
 IsLastOf clocks n b = (q : ℕ) → b < q → q < n → lane clocks q ≢ lane clocks b
 
--- the clocks are those of the first n steps: each tells what is in front of its step; the steps of a task are of one lane, and
--- others follow in it only behind its end
-pub record AreClocks (o : Order) (entries : List Entry) (tasks : Tasks) (n : ℕ) (clocks : Clocks) : Type 0 where
-  pub listed : length clocks.of.items ≡ n
-  pub laned : length clocks.lanes.items ≡ n
-  pub within : (p : ℕ) → p < n → slice_index_or clocks.of.items p 0 ≤ length clocks.rows.items
+-- the lanes are those of the first n steps: each step's bounds tell what is in front of it; the steps of a task are of one lane,
+-- and others follow in it only behind its end
+pub record AreLanes (o : Order) (entries : List Entry) (tasks : Tasks) (n : ℕ) (clocks : Lanes) : Type 0 where
   pub low : (p : ℕ) → p < n → IsLow (row_at clocks p) p
   pub told : (p : ℕ) → p < n → IsClock o entries tasks clocks (row_at clocks p) (lane clocks p) p
   pub own : (p q : ℕ) → p < n → q < p → IsTrue (both_at of_one entries p q) → lane clocks p ≡ lane clocks q
   pub going : (b : ℕ) → b < n → IsLastOf clocks n b ⊎ (((c : ℕ) × (b < c) × (c < n) × IsTrue (both_at of_one entries c b)) ⊎ IsTrue (is_end_at entries b))
-  pub few : (q : ℕ) → q < n → lane clocks q < length clocks.lasts.items
-  pub newest : (q : ℕ) → q < n → q ≤ slice_index_or clocks.lasts.items (lane clocks q) 0
+  pub few : (q : ℕ) → q < n → lane clocks q < clocks.count
+  pub newest : (q : ℕ) → q < n → q ≤ clocks.last (lane clocks q)
 
 -- the step at p can stand in the lane of this number: its task's, else a new one or that of a task that has ended
-pub record IsLane (entries : List Entry) (clocks : Clocks) (k p : ℕ) : Type 0 where
-  pub few : k ≤ length clocks.lasts.items
+pub record IsLane (entries : List Entry) (clocks : Lanes) (k p : ℕ) : Type 0 where
+  pub few : k ≤ clocks.count
   pub own : (q : ℕ) → q < p → IsTrue (both_at of_one entries p q) → k ≡ lane clocks q
   pub follows : (b : ℕ) → b < p → lane clocks b ≡ k → IsLastOf clocks p b → IsTrue (both_at of_one entries p b) ⊎ IsTrue (is_end_at entries b)
 
@@ -199,6 +199,76 @@ pub record IsEndMore (old : Ends) (n from : ℕ) (new : Ends) : Type 0 where
   pub places : new.places.items ≡ old.places.items ++ n ∷ []
   pub skips : new.skips.items ≡ old.skips.items ++ from ∷ []
 
+-- what the row tells of comes before the step at p, and so does what is in front of that
+pub record IsSound (o : Order) (entries : List Entry) (tasks : Tasks) (clocks : Lanes) (row : ℕ → ℕ) (k p : ℕ) : Type 0 where
+  pub sound : (q : ℕ) → q < p → IsTrue (is_told o entries tasks clocks row k p q) → IsTrue (is_after o entries p q)
+  pub closed : (s q : ℕ) → s < p → q < p → IsTrue (is_told o entries tasks clocks row k p s) → IsTrue (is_after o entries s q) → IsTrue (is_told o entries tasks clocks row k p q)
+  pub low : IsLow row p
+
+-- the row tells of each end to which the step at p is linked
+abbrev pub TellsEnds : Order → List Entry → Tasks → Lanes → (ℕ → ℕ) → ℕ → ℕ → Type 0
+TellsEnds o entries tasks clocks row k p = (x : ℕ) → x < p → IsTrue (is_end_at entries x) → IsTrue (links_at o entries p x) → IsTrue (is_told o entries tasks clocks row k p x)
+
+-- the row tells of the end at x, which is in front of the step at p
+abbrev pub IsJoined : Order → List Entry → Tasks → Lanes → (ℕ → ℕ) → ℕ → ℕ → ℕ → Type 0
+IsJoined o entries tasks clocks row k p x = (x < p) × IsTrue (is_end_at entries x) × IsTrue (is_told o entries tasks clocks row k p x)
+
+-- the lane is the one of this number, k, or where that is a new one, the lane of an end of which the row tells and that is the
+-- newest there
+abbrev pub GoesOn : Order → List Entry → Tasks → Lanes → (ℕ → ℕ) → ℕ → ℕ → ℕ → Type 0
+GoesOn o entries tasks clocks row k p j =
+    (j ≡ k)
+    ⊎ ((x : ℕ) × IsJoined o entries tasks clocks row k p x × (k ≡ clocks.count) × (j ≡ lane clocks x) × (clocks.last (lane clocks x) ≡ x))
+
+-- what the step at p adds to the bounds: its lane up to it, and what its own bounds say
+abbrev pub adds : Lanes → ℕ → ℕ → ℕ → Bool
+adds clocks p k q = (lane clocks p == k && nat_le q p) || says (row_at clocks p) k q
+
+-- what is in front of the step at s is added to the bounds, as far as it isn't told
+pub record Adds (o : Order) (entries : List Entry) (tasks : Tasks) (clocks : Lanes) (k p s : ℕ) (old new : ℕ → ℕ) : Type 0 where
+  pub kept : (j q : ℕ) → IsTrue (says old j q) → IsTrue (says new j q)
+  pub reached : (q : ℕ) → q < p → IsTrue (reaches o entries s q) → IsTrue (is_told o entries tasks clocks new k p q)
+  pub sound : (q : ℕ) → q < p → IsTrue (says new (lane clocks q) q) → IsTrue (says old (lane clocks q) q) ⊎ IsTrue (reaches o entries s q)
+  pub low : IsLow new p
+
+-- ---- as they are stored
+
+-- the row of this number, empty where there is none
+abbrev pub kept_in : {A : Type 0} → List (Vec A Global) → ℕ → List A
+kept_in {A} rows i = slice_index_or (map (λ (v : Vec A Global). v.items) rows) i []
+
+abbrev pub row_in : List (Vec LaneBound Global) → ℕ → List LaneBound
+row_in rows n = if n == 0 then [] else kept_in rows (n - 1)
+
+-- the row of the step at p
+abbrev pub row_of_step : Clocks → ℕ → List LaneBound
+row_of_step clocks p = row_in clocks.rows.items (slice_index_or clocks.of.items p 0)
+
+-- the lanes that are stored
+abbrev pub lanes_of : Clocks → Lanes
+lanes_of clocks = record {
+  lane = λ p. slice_index_or clocks.lanes.items p 0;
+  bound = λ p. bound_in (row_of_step clocks p);
+  last = λ k. slice_index_or clocks.lasts.items k 0;
+  count = length clocks.lasts.items;
+}
+
+-- what is stored is the lanes of the first n steps
+pub record AreClocks (o : Order) (entries : List Entry) (tasks : Tasks) (n : ℕ) (clocks : Clocks) : Type 0 where
+  pub listed : length clocks.of.items ≡ n
+  pub laned : length clocks.lanes.items ≡ n
+  pub within : (p : ℕ) → p < n → slice_index_or clocks.of.items p 0 ≤ length clocks.rows.items
+  pub rising : (p : ℕ) → p < n → IsRising (row_of_step clocks p)
+  pub lanes : AreLanes o entries tasks n (lanes_of clocks)
+
+-- the step at p may stand there: its row is the one of this number, and its lane this one
+pub record IsStanding (o : Order) (entries : List Entry) (tasks : Tasks) (clocks : Clocks) (row k p : ℕ) : Type 0 where
+  pub within : row ≤ length clocks.rows.items
+  pub rising : IsRising (row_in clocks.rows.items row)
+  pub clock : IsClock o entries tasks (lanes_of clocks) (bound_in (row_in clocks.rows.items row)) k p
+  pub low : IsLow (bound_in (row_in clocks.rows.items row)) p
+  pub lane : IsLane entries (lanes_of clocks) k p
+
 -- the end at p was added
 pub record AddsEnd (tasks : Tasks) (clocks : Clocks) (p : ℕ) (old new : Ends) : Type 0 where
   pub from : ℕ
@@ -206,38 +276,6 @@ pub record AddsEnd (tasks : Tasks) (clocks : Clocks) (p : ℕ) (old new : Ends) 
   pub few : from ≤ length old.places.items
   pub newest : (i : ℕ) → i < length old.places.items → end_at old i ≤ p
   pub reached : (o : Order) (entries : List Entry) → AreTasks entries tasks → AreClocks o entries tasks (p + 1) clocks → AreTied o entries old → (j : ℕ) → from ≤ j → j < length old.places.items → IsTrue (reaches o entries p (end_at old j))
-
--- what the row tells of comes before the step at p, and so does what is in front of that
-pub record IsSound (o : Order) (entries : List Entry) (tasks : Tasks) (clocks : Clocks) (row : List ℕ) (k p : ℕ) : Type 0 where
-  pub sound : (q : ℕ) → q < p → IsTrue (is_told o entries tasks clocks row k p q) → IsTrue (is_after o entries p q)
-  pub closed : (s q : ℕ) → s < p → q < p → IsTrue (is_told o entries tasks clocks row k p s) → IsTrue (is_after o entries s q) → IsTrue (is_told o entries tasks clocks row k p q)
-  pub low : IsLow row p
-
--- the row tells of each end to which the step at p is linked
-abbrev pub TellsEnds : Order → List Entry → Tasks → Clocks → List ℕ → ℕ → ℕ → Type 0
-TellsEnds o entries tasks clocks row k p = (x : ℕ) → x < p → IsTrue (is_end_at entries x) → IsTrue (links_at o entries p x) → IsTrue (is_told o entries tasks clocks row k p x)
-
--- the step at p may stand there: its row is the one of this number, and its lane this one
-pub record IsStanding (o : Order) (entries : List Entry) (tasks : Tasks) (clocks : Clocks) (row k p : ℕ) : Type 0 where
-  pub within : row ≤ length clocks.rows.items
-  pub clock : IsClock o entries tasks clocks (row_in clocks.rows.items row) k p
-  pub low : IsLow (row_in clocks.rows.items row) p
-  pub lane : IsLane entries clocks k p
-
--- the row tells of the end at x, which is in front of the step at p
-abbrev pub IsJoined : Order → List Entry → Tasks → Clocks → List ℕ → ℕ → ℕ → ℕ → Type 0
-IsJoined o entries tasks clocks row k p x = (x < p) × IsTrue (is_end_at entries x) × IsTrue (is_told o entries tasks clocks row k p x)
-
--- the lane is the one of this number, k, or where that is a new one, the lane of an end of which the row tells and that is the
--- newest there
-abbrev pub GoesOn : Order → List Entry → Tasks → Clocks → List ℕ → ℕ → ℕ → ℕ → Type 0
-GoesOn o entries tasks clocks row k p j =
-    (j ≡ k)
-    ⊎ ((x : ℕ) × IsJoined o entries tasks clocks row k p x × (k ≡ length clocks.lasts.items) × (j ≡ lane clocks x) × (slice_index_or clocks.lasts.items (lane clocks x) 0 ≡ x))
-
--- what the step at p adds to a row: its lane up to it, and what its own row says
-abbrev pub adds : Clocks → ℕ → ℕ → ℕ → Bool
-adds clocks p k q = (lane clocks p == k && nat_le q p) || says (row_at clocks p) k q
 
 -- one step more, the one at n
 pub record IsOneMore (old : Clocks) (row k n : ℕ) (new : Clocks) : Type 0 where

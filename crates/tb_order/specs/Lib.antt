@@ -1,4 +1,5 @@
 pub mod Linking
+pub mod Bounds
 pub mod Clocks
 pub mod Kept
 pub mod Numbering

@@ -20,7 +20,8 @@ use Rattle.tb_order.specs.declared.past.Past.{Past}
 use Rattle.tb_order.specs.declared.joined.Joined.{Joined}
 use Rattle.tb_order.specs.declared.waiter.Waiter.{Waiter}
 use Rattle.tb_order.specs.Linking.{order_of}
-use Rattle.tb_order.specs.Clocks.{AddsEnd, AreClocks, AreEnds, AreRow, AreTasks, AreTied, IsEnd, IsJoined, IsLane, IsSound, end_at, is_told, links_at, number, origin, skip_at}
+use Rattle.tb_order.specs.Bounds.{AreRising, bound_among}
+use Rattle.tb_order.specs.Clocks.{AddsEnd, AreClocks, AreEnds, AreRow, AreTasks, AreTied, IsEnd, IsJoined, IsLane, IsSound, end_at, is_told, lanes_of, links_at, number, origin, skip_at}
 
 -- ---- keys
 
@@ -135,23 +136,24 @@ pub record IsWaiting (entries : List Entry) (tasks : Tasks) (past : Past) (w : W
   pub at : w.at < length entries
   pub front : IsPast entries tasks past w.at
   pub whose : IsFor entries tasks w
-  pub lane : IsLane entries past.clocks w.lane w.at
+  pub lane : IsLane entries (lanes_of past.clocks) w.lane w.at
   pub from : (x : ℕ) → IsEnd entries w.at x → IsTrue (links_at (order_of past.exclusion) entries w.at x) → w.from ≤ x
 
 -- what was joined is in front of the step, and so is what is in front of that
 pub record AreJoined (entries : List Entry) (tasks : Tasks) (past : Past) (k p : ℕ) (j : Joined) : Type 0 where
-  pub sound : IsSound (order_of past.exclusion) entries tasks past.clocks j.next.items k p
-  pub end : (x : ℕ) → j.end ≡ Some x → IsJoined (order_of past.exclusion) entries tasks past.clocks j.next.items k p x
+  pub rising : AreRising j.rows.items
+  pub sound : IsSound (order_of past.exclusion) entries tasks (lanes_of past.clocks) (bound_among j.rows.items) k p
+  pub end : (x : ℕ) → j.end ≡ Some x → IsJoined (order_of past.exclusion) entries tasks (lanes_of past.clocks) (bound_among j.rows.items) k p x
 
 -- the row so far tells of q as one in front of the step
 abbrev pub IsTold : List Entry → Tasks → Past → ℕ → ℕ → Joined → ℕ → Type 0
-IsTold entries tasks past k p j q = IsTrue (is_told (order_of past.exclusion) entries tasks past.clocks j.next.items k p q)
+IsTold entries tasks past k p j q = IsTrue (is_told (order_of past.exclusion) entries tasks (lanes_of past.clocks) (bound_among j.rows.items) k p q)
 
 -- more was joined, or nothing
 pub record JoinsMore (entries : List Entry) (tasks : Tasks) (past : Past) (k p : ℕ) (old new : Joined) : Type 0 where
   pub are : AreJoined entries tasks past k p new
   pub kept : (q : ℕ) → q < p → IsTold entries tasks past k p old q → IsTold entries tasks past k p new q
-  pub same : new.end ≡ None → (new.next.items ≡ old.next.items) × (old.end ≡ None)
+  pub same : new.end ≡ None → (new.rows.items ≡ old.rows.items) × (old.end ≡ None)
 
 -- ---- which ends a step is linked to
 

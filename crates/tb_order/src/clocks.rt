@@ -1,12 +1,14 @@
 //! What an order puts in front of each step of a history.
 
-ghost use Rattle.std.specs.Prelude.{◌≡◌, ◌<◌, ◌≤◌, ℕ, List, Vec, length, slice_index_or};
+ghost use Rattle.std.specs.Prelude.{◌≡◌, ◌<◌, ◌≤◌, ℕ, List, length};
 ghost use Rattle.tb_core.specs.Entries.{Entry};
 ghost use Rattle.tb_races.specs.Orders.{Order};
 ghost use Rattle.tb_order.specs.Clocks as is;
-ghost use Rattle.tb_order.specs.Clocks.{AreTasks, AreClocks, IsShaped, lane, row_at, row_in};
+ghost use Rattle.tb_order.specs.Clocks.{AreTasks, AreClocks, IsShaped, kept_in, lane, lanes_of, row_at, row_in, row_of_step};
+ghost use Rattle.tb_order.specs.Bounds.{IsRising};
 
-use crate::kept::places_in;
+use crate::bounds::bound;
+use crate::lane_bound::LaneBound;
 use crate::tasks::Tasks;
 
 /// What an order puts in front of each step of a history, by lanes: of each lane it is all up to
@@ -15,8 +17,8 @@ use crate::tasks::Tasks;
 pub struct Clocks {
     /// For each step the number of a row, one more, and 0 for one with nothing.
     pub of: Vec<usize>,
-    /// In each row, for each lane, one more than the place of its newest step that is in front.
-    pub rows: Vec<Vec<usize>>,
+    /// In each row how far the lanes are in front, the lanes rising.
+    pub rows: Vec<Vec<LaneBound>>,
     /// For each step its lane.
     pub lanes: Vec<usize>,
     /// For each lane its newest step.
@@ -53,7 +55,8 @@ fn is_below(clocks: &Clocks, at: usize, early: usize) -> bool
     requires laned { length clocks.now.lanes.items ≡ length clocks.now.of.items }
     requires at { at < length clocks.now.of.items }
     requires early { early < length clocks.now.of.items }
-    ensures { result ≡ is.is_below clocks.now (row_at clocks.now at) (lane clocks.now at) at early }
+    ensures { IsRising (row_of_step clocks.now at) → result ≡ is.is_below (lanes_of clocks.now)
+        (row_at (lanes_of clocks.now) at) (lane (lanes_of clocks.now) at) at early }
 {
     let lane = clocks.lanes[early];
     (clocks.lanes[at] == lane && early <= at)
@@ -61,19 +64,22 @@ fn is_below(clocks: &Clocks, at: usize, early: usize) -> bool
 }
 
 /// The row of this number.
-pub fn row(rows: &[Vec<usize>], number: usize) -> &[usize]
+pub fn row(rows: &[Vec<LaneBound>], number: usize) -> &[LaneBound]
     ensures { result.now ≡ row_in rows.now number }
 {
     if number == 0 {
         &[]
     } else {
-        places_in(rows, number - 1)
+        row_at(rows, number - 1)
     }
 }
 
-/// How far the row tells of the lane of this number.
-pub fn bound(row: &[usize], number: usize) -> usize
-    ensures { result ≡ slice_index_or row.now number 0 }
+fn row_at(rows: &[Vec<LaneBound>], i: usize) -> &[LaneBound]
+    ensures { result.now ≡ kept_in rows.now i }
 {
-    if number < row.len() { row[number] } else { 0 }
+    if i < rows.len() {
+        rows[i].as_slice()
+    } else {
+        &[]
+    }
 }

@@ -3,6 +3,7 @@
 
 mod asked;
 mod asking;
+mod bounds;
 mod clocks;
 mod edge;
 mod ends;
@@ -11,8 +12,10 @@ mod grouping;
 mod immediate;
 mod immediate_all;
 mod joined;
+mod joining;
 mod kept;
 mod kinds;
+mod lane_bound;
 mod merging;
 mod noting;
 mod numbering;

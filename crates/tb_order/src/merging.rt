@@ -5,15 +5,18 @@ ghost use Rattle.tb_core.specs.Entries.{Entry};
 ghost use Rattle.tb_core.specs.Scans.{AreLegal};
 ghost use Rattle.tb_races.specs.Orders.{Order};
 ghost use Rattle.tb_order.specs.Clocks as is;
-ghost use Rattle.tb_order.specs.Clocks.{AreClocks, AreEnds, AreTasks, GoesOn, IsLane, IsLow, IsOneMore, IsShaped, IsSound, IsStanding, adds, end_at, is_told, lane, links_at, number, row_in, says};
+ghost use Rattle.tb_order.specs.Clocks.{AreClocks, AreEnds, AreTasks, GoesOn, IsLane, IsLow, IsOneMore, IsShaped, IsSound, IsStanding, adds, end_at, lane, lanes_of, links_at, number, row_in};
+ghost use Rattle.tb_order.specs.Bounds.{IsRising, bound_in};
 ghost use Rattle.tb_order.specs.Rows.{AreJoined, IsPast, IsRow, IsTold, IsWaiting, JoinsMore, parent, starts_at};
 ghost use Rattle.tb_order.specs.Linking.{order_of};
 
 use crate::asked::merge_all;
-use crate::clocks::{Clocks, bound, reaches, row};
+use crate::bounds::{add_row, bound, bound_among, whole};
+use crate::clocks::{Clocks, row};
 use crate::ends::{Ends, no_ends, note_end};
 use crate::grouping::first_asked;
 use crate::joined::Joined;
+use crate::joining::{is_merged, join};
 use crate::noting::note_rows;
 use crate::past::Past;
 use crate::rows::parent_of;
@@ -50,6 +53,7 @@ pub fn clocks_of(
         lasts: Vec::new(alloc),
     };
     let mut past = Past {
+        alloc,
         exclusion,
         clocks,
         ends: no_ends(alloc),
@@ -78,13 +82,16 @@ fn begin(tasks: &Tasks, clocks: &Clocks, at: usize) -> Step
     ensures at { result.at ≡ at }
     ensures row { (o : Order) (entries : List Entry) → AreTasks entries tasks.now
         → AreClocks o entries tasks.now at clocks.now → result.row ≤ length clocks.now.rows.items }
+    ensures rising { (o : Order) (entries : List Entry) → AreTasks entries tasks.now
+        → AreClocks o entries tasks.now at clocks.now
+        → IsRising (row_in clocks.now.rows.items result.row) }
     ensures sound { (o : Order) (entries : List Entry) → AreLegal entries
         → AreTasks entries tasks.now → AreClocks o entries tasks.now at clocks.now
-        → IsSound o entries tasks.now clocks.now (row_in clocks.now.rows.items result.row)
-        result.lane at }
+        → IsSound o entries tasks.now (lanes_of clocks.now)
+        (bound_in (row_in clocks.now.rows.items result.row)) result.lane at }
     ensures lane { (o : Order) (entries : List Entry) → AreLegal entries
         → AreTasks entries tasks.now → AreClocks o entries tasks.now at clocks.now
-        → IsLane entries clocks.now result.lane at }
+        → IsLane entries (lanes_of clocks.now) result.lane at }
 {
     match step_before(tasks, at) {
         Some(before) => Step {
@@ -113,9 +120,11 @@ fn finish(
     requires at { step.at < length entries.now }
     requires past { IsPast entries.now tasks.now past.old step.at }
     requires row { step.row ≤ length past.old.clocks.rows.items }
-    requires sound { IsSound (order_of past.old.exclusion) entries.now tasks.now past.old.clocks
-        (row_in past.old.clocks.rows.items step.row) step.lane step.at }
-    requires lane { IsLane entries.now past.old.clocks step.lane step.at }
+    requires rising { IsRising (row_in past.old.clocks.rows.items step.row) }
+    requires sound { IsSound (order_of past.old.exclusion) entries.now tasks.now
+        (lanes_of past.old.clocks) (bound_in (row_in past.old.clocks.rows.items step.row))
+        step.lane step.at }
+    requires lane { IsLane entries.now (lanes_of past.old.clocks) step.lane step.at }
     ensures at { IfOk result (λ s. s.at ≡ step.at) }
     ensures past { OnOk result (IsPast entries.now tasks.now past.new step.at) }
     ensures same { past.new.exclusion ≡ past.old.exclusion }
@@ -126,8 +135,12 @@ fn finish(
     if !may_wait(entries, tasks, step.at) {
         return Ok(stay(tasks, &past.clocks, &past.ends, past.free, step));
     }
-    let next = Vec::from_slice(alloc, row(&past.clocks.rows, step.row))?;
-    let mut joined = Joined { next, end: None };
+    let mut joined = Joined {
+        rows: Vec::new(alloc),
+        end: None,
+    };
+    let own = Vec::from_slice(alloc, row(&past.clocks.rows, step.row))?;
+    add_row(alloc, &mut joined.rows, own)?;
     let waiter = Waiter {
         at: step.at,
         lane: step.lane,
@@ -138,7 +151,9 @@ fn finish(
     match joined.end {
         None => Ok(stay(tasks, &past.clocks, &past.ends, past.free, step)),
         Some(end) => {
-            past.clocks.rows.push(joined.next)?;
+            let merged = whole(alloc, joined.rows)?;
+            let row = Vec::from_slice(alloc, &merged)?;
+            past.clocks.rows.push(row)?;
             Ok(Step {
                 at: step.at,
                 row: past.clocks.rows.len(),
@@ -168,7 +183,7 @@ fn first_free(clocks: &Clocks, ends: &Ends, from: usize) -> usize
     requires ends { (i : ℕ) → i < length ends.now.places.items
         → end_at ends.now i < length clocks.now.lanes.items }
     requires few { (q : ℕ) → q < length clocks.now.lanes.items
-        → lane clocks.now q < length clocks.now.lasts.items }
+        → lane (lanes_of clocks.now) q < length clocks.now.lasts.items }
     ensures { from ≤ result }
 {
     let mut free = from;
@@ -190,14 +205,16 @@ fn stay(tasks: &Tasks, clocks: &Clocks, ends: &Ends, free: usize, step: Step) ->
     requires laned { step.at ≡ length clocks.now.lanes.items }
     requires at { step.at < length tasks.now.numbers.items }
     requires ends { (i : ℕ) → i < length ends.now.places.items → end_at ends.now i < step.at }
-    requires few { (q : ℕ) → q < step.at → lane clocks.now q < length clocks.now.lasts.items }
+    requires few { (q : ℕ) → q < step.at
+        → lane (lanes_of clocks.now) q < length clocks.now.lasts.items }
     requires lane { step.lane ≤ length clocks.now.lasts.items }
     ensures at { result.at ≡ step.at }
     ensures row { result.row ≡ step.row }
     ensures lane { (o : Order) (entries : List Entry) → AreTasks entries tasks.now
         → AreClocks o entries tasks.now step.at clocks.now → AreEnds o entries step.at ends.now
-        → GoesOn o entries tasks.now clocks.now (row_in clocks.now.rows.items step.row) step.lane
-        step.at result.lane }
+        → IsRising (row_in clocks.now.rows.items step.row)
+        → GoesOn o entries tasks.now (lanes_of clocks.now)
+        (bound_in (row_in clocks.now.rows.items step.row)) step.lane step.at result.lane }
 {
     if step.lane < clocks.lasts.len() || free >= ends.places.len() {
         return step;
@@ -209,7 +226,8 @@ fn stay(tasks: &Tasks, clocks: &Clocks, ends: &Ends, free: usize, step: Step) ->
         parent: 0,
         from: 0,
     };
-    if !is_merged(tasks, clocks, row(&clocks.rows, step.row), &waiter, end) {
+    let row = row(&clocks.rows, step.row);
+    if !is_merged(tasks, clocks, bound(row, clocks.lanes[end]), &waiter, end) {
         return step;
     }
     Step {
@@ -223,11 +241,11 @@ fn stay(tasks: &Tasks, clocks: &Clocks, ends: &Ends, free: usize, step: Step) ->
 /// end where nothing else does.
 fn lane_behind(clocks: &Clocks, lane: usize, end: usize) -> usize
     requires end { end < length clocks.now.lanes.items }
-    requires few { is.lane clocks.now end < length clocks.now.lasts.items }
+    requires few { is.lane (lanes_of clocks.now) end < length clocks.now.lasts.items }
     requires lane { lane ≤ length clocks.now.lasts.items }
     ensures { (result ≡ lane) ⊎ ((lane ≡ length clocks.now.lasts.items)
-        × (result ≡ is.lane clocks.now end)
-        × (slice_index_or clocks.now.lasts.items (is.lane clocks.now end) 0 ≡ end)) }
+        × (result ≡ is.lane (lanes_of clocks.now) end)
+        × (slice_index_or clocks.now.lasts.items (is.lane (lanes_of clocks.now) end) 0 ≡ end)) }
 {
     let behind = clocks.lanes[end];
     if lane == clocks.lasts.len() && clocks.lasts[behind] == end {
@@ -278,10 +296,18 @@ pub fn merge(
         if end < waiter.from {
             return Ok(());
         }
-        if is_merged(tasks, &past.clocks, &joined.next, waiter, end) {
+        let told = bound_among(&joined.rows, past.clocks.lanes[end]);
+        if is_merged(tasks, &past.clocks, told, waiter, end) {
             left = ends.skips[left];
         } else if waits(past.exclusion, entries, tasks, waiter.at, end) {
-            join(&mut joined.next, tasks, &past.clocks, end)?;
+            join(
+                past.alloc,
+                &mut joined.rows,
+                tasks,
+                &past.clocks,
+                waiter,
+                end,
+            )?;
             left = ends.skips[left];
             joined.end = Some(better(&past.clocks, joined.end, end));
         }
@@ -292,118 +318,11 @@ pub fn merge(
 /// Of an end that was found and a further one, the one in whose lane a step may go on.
 fn better(clocks: &Clocks, found: Option<usize>, end: usize) -> usize
     requires end { end < length clocks.now.lanes.items }
-    requires few { is.lane clocks.now end < length clocks.now.lasts.items }
+    requires few { is.lane (lanes_of clocks.now) end < length clocks.now.lasts.items }
     ensures { (result ≡ end) ⊎ (found ≡ Some result) }
 {
     match found {
         Some(other) if clocks.lasts[clocks.lanes[end]] != end => other,
         _ => end,
     }
-}
-
-/// Whether the row tells of the step at `early` as one in front of the step.
-fn is_merged(tasks: &Tasks, clocks: &Clocks, next: &[usize], waiter: &Waiter, early: usize) -> bool
-    requires shaped { IsShaped tasks.now }
-    requires listed { waiter.now.at ≡ length clocks.now.of.items }
-    requires laned { waiter.now.at ≡ length clocks.now.lanes.items }
-    requires at { waiter.now.at < length tasks.now.numbers.items }
-    requires early { early < waiter.now.at }
-    ensures { (o : Order) (entries : List Entry) → AreTasks entries tasks.now
-        → AreClocks o entries tasks.now waiter.now.at clocks.now → result
-        ≡ is_told o entries tasks.now clocks.now next.now waiter.now.lane waiter.now.at early }
-{
-    let lane = clocks.lanes[early];
-    (waiter.lane == lane && early < waiter.at)
-        || (early < bound(next, lane) || origin_reaches(tasks, clocks, waiter.at, early))
-}
-
-/// Whether what generates the task of the step at this place is the step at `early`, or comes after
-/// it.
-fn origin_reaches(tasks: &Tasks, clocks: &Clocks, at: usize, early: usize) -> bool
-    requires shaped { IsShaped tasks.now }
-    requires listed { at ≡ length clocks.now.of.items }
-    requires laned { at ≡ length clocks.now.lanes.items }
-    requires at { at < length tasks.now.numbers.items }
-    ensures { (o : Order) (entries : List Entry) → AreTasks entries tasks.now
-        → early < length entries → AreClocks o entries tasks.now at clocks.now
-        → result ≡ is.origin_reaches o entries (is.origin tasks.now at) early }
-{
-    let origin = tasks.origins[at];
-    if origin <= early {
-        return false;
-    }
-    reaches(tasks, clocks, origin - 1, early)
-}
-
-/// Adds the step at this place, with all that is in front of it.
-fn join(
-    next: &mut Vec<usize>,
-    tasks: &Tasks,
-    clocks: &Clocks,
-    place: usize,
-) -> Result<(), AllocError>
-    requires shaped { IsShaped tasks.now }
-    requires listed { length clocks.now.of.items ≤ length tasks.now.numbers.items }
-    requires laned { length clocks.now.lanes.items ≡ length clocks.now.of.items }
-    requires place { place < length clocks.now.of.items }
-    ensures more { OnOk result ((o : Order) (entries : List Entry) (n : ℕ)
-        → AreTasks entries tasks.now → AreClocks o entries tasks.now n clocks.now → place < n
-        → n ≤ length entries → (q : ℕ) → q < n → says next.new.items (lane clocks.now q) q
-        ≡ (says next.old.items (lane clocks.now q) q || is.reaches o entries place q)) }
-    ensures low { OnOk result ((o : Order) (entries : List Entry) (n : ℕ)
-        → AreTasks entries tasks.now → AreClocks o entries tasks.now n clocks.now → place < n
-        → n ≤ length entries → IsLow next.old.items n → IsLow next.new.items n) }
-{
-    let mut at = place;
-    join_one(next, clocks, at)?;
-    'up: while tasks.origins[at] > 0 {
-        at = tasks.origins[at] - 1;
-        join_one(next, clocks, at)?;
-    }
-    Ok(())
-}
-
-/// Adds the steps of one lane up to this place, and what its row tells of.
-fn join_one(next: &mut Vec<usize>, clocks: &Clocks, at: usize) -> Result<(), AllocError>
-    requires laned { length clocks.now.lanes.items ≡ length clocks.now.of.items }
-    requires at { at < length clocks.now.of.items }
-    ensures { OnOk result ((k q : ℕ) → says next.new.items k q
-        ≡ (says next.old.items k q || adds clocks.now at k q)) }
-{
-    raise(next, clocks.lanes[at], at + 1)?;
-    raise_all(next, row(&clocks.rows, clocks.of[at]))
-}
-
-/// Adds what the other row tells of.
-fn raise_all(next: &mut Vec<usize>, row: &[usize]) -> Result<(), AllocError>
-    ensures { OnOk result ((k q : ℕ) → says next.new.items k q
-        ≡ (says next.old.items k q || says row.now k q)) }
-{
-    for number in 0..row.len() {
-        raise(next, number, row[number])?;
-    }
-    Ok(())
-}
-
-/// Adds what stands in front of `to` in the lane of this number.
-fn raise(next: &mut Vec<usize>, number: usize, to: usize) -> Result<(), AllocError>
-    ensures { OnOk result ((k q : ℕ) → says next.new.items k q
-        ≡ (says next.old.items k q || (k == number && nat_lt q to))) }
-{
-    grow(next, number)?;
-    if next[number] < to {
-        next[number] = to;
-    }
-    Ok(())
-}
-
-/// Makes room for the number.
-fn grow(next: &mut Vec<usize>, number: usize) -> Result<(), AllocError>
-    ensures same { (k : ℕ) → slice_index_or next.new.items k 0 ≡ slice_index_or next.old.items k 0 }
-    ensures within { OnOk result (number < length next.new.items) }
-{
-    while next.len() <= number {
-        next.push(0)?;
-    }
-    Ok(())
 }

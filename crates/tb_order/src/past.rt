@@ -3,10 +3,12 @@
 use crate::clocks::Clocks;
 use crate::ends::Ends;
 use crate::rows::Rows;
+use std::alloc::Global;
 
 /// An order of the first steps of a history, with exclusion or without.
 #[derive(Drop)]
 pub struct Past {
+    pub alloc: Global,
     pub exclusion: bool,
     /// What it puts in front of each.
     pub clocks: Clocks,

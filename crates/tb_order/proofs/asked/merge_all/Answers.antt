@@ -3,6 +3,8 @@ use Rattle.std.proofs.lemmas.Bool.{both_ways}
 use Rattle.tb_races.specs.Orders.{Synchronised}
 use Rattle.tb_order.specs.Linking.{order_of}
 use Rattle.tb_order.specs.Rows.{IsAsked}
+use Rattle.tb_order.specs.Bounds.{bound_among}
+use Rattle.tb_order.specs.Clocks.{lanes_of}
 use Rattle.tb_order.proofs.AfterLemmas.{at_read}
 use Rattle.tb_order.proofs.AskedLemmas.{held_asked, held_goes_on, link_parts, not_starting}
 use Rattle.tb_order.proofs.JoinedLemmas.{joins_trans}
@@ -27,7 +29,7 @@ returns-in_ok-merge_children-clause-told c x end h =
     let i : x < length entries = omega (arith, end.0, w) in
     let more = c.in_ok-merge_children.ensures.more in
     ⊎_elim
-    (λ own. told_own o entries tasks are p w c.args.past.now.clocks c.requires.waiting.front.clocks c.args.waiter.now.lane c.requires.waiting.lane.own c.merge_children.new.joined.next.items x end.0 own)
+    (λ own. told_own o entries tasks are p w (lanes_of c.args.past.now.clocks) c.requires.waiting.front.clocks.lanes c.args.waiter.now.lane c.requires.waiting.lane.own (bound_among c.merge_children.new.joined.rows.items) x end.0 own)
     (λ rest.
     ⊎_elim (λ a. more.kept x end.0 (c.in_ok-merge_waited.ensures.told x end a))
     (λ a.
@@ -46,7 +48,7 @@ returns-else-is_held-clause-told c x end h =
     let w = c.requires.waiting.at in
     let i : x < length entries = omega (arith, end.0, w) in
     ⊎_elim
-    (λ own. told_own o entries tasks c.requires.waiting.by_task p w c.args.past.now.clocks c.requires.waiting.front.clocks c.args.waiter.now.lane c.requires.waiting.lane.own c.merge_waited.new.joined.next.items x end.0 own)
+    (λ own. told_own o entries tasks c.requires.waiting.by_task p w (lanes_of c.args.past.now.clocks) c.requires.waiting.front.clocks.lanes c.args.waiter.now.lane c.requires.waiting.lane.own (bound_among c.merge_waited.new.joined.rows.items) x end.0 own)
     (λ rest.
     ⊎_elim (λ a. c.in_ok-merge_waited.ensures.told x end a)
     (λ a. absurd (both_ways _ (c.is_held.ensures c.if-is_held.false _ (at_read Synchronised entries p w) (ev entries x i).task) a))

@@ -1,6 +1,6 @@
 use Rattle.std.proofs.Common.{◌≡◌, ◌≢◌, ◌-◌, sym, ap, ◌∙◌, arith}
 use Rattle.tb_order.specs.Clocks as is
-use Rattle.tb_order.specs.Clocks.{origin}
+use Rattle.tb_order.specs.Clocks.{lanes_of, origin}
 use Rattle.tb_order.proofs.ClockLemmas.{within_any}
 use Rattle.tb_order.proofs.JoinLemmas.{not_reached, reached_below, reached_above, reached_not}
 use Rattle.tb_order.proofs.clocks.reaches.Goals as goal
@@ -11,7 +11,7 @@ returns-then-is_below c o entries n are told late =
     let s = l.invariant.same o entries n are told late in
     sym
     (s.1
-    ∙ reached_below o entries c.args.tasks.now n c.args.clocks.now are told (omega (arith, told.listed, c.requires.listed, are.numbers_listed)) l.at s.0 c.args.early (omega (arith, c.requires.early, late)) (sym c.is_below.ensures ∙ c.if-is_below.true))
+    ∙ reached_below o entries c.args.tasks.now n (lanes_of c.args.clocks.now) are told.lanes (omega (arith, told.listed, c.requires.listed, are.numbers_listed)) l.at s.0 c.args.early (omega (arith, c.requires.early, late)) (sym (c.is_below.ensures (told.rising l.at s.0)) ∙ c.if-is_below.true))
 
 pub returns-then-index-eq0 : goal.returns-then-index-eq0
 returns-then-index-eq0 c o entries n are told late =
@@ -20,7 +20,7 @@ returns-then-index-eq0 c o entries n are told late =
     let none : origin c.args.tasks.now l.at ≡ 0 = sym (within_any c.args.tasks.now.origins.items l.at 0 c.index.result.now (omega (arith, l.invariant.listed, c.requires.listed, c.requires.shaped.origins_listed)) c.index.ensures) ∙ c.if-index-eq0.true in
     sym
     (s.1
-    ∙ reached_not o entries c.args.tasks.now n c.args.clocks.now are told (omega (arith, told.listed, c.requires.listed, are.numbers_listed)) l.at s.0 c.args.early (omega (arith, c.requires.early, late)) (sym c.is_below.ensures ∙ c.if-is_below.false) none)
+    ∙ reached_not o entries c.args.tasks.now n (lanes_of c.args.clocks.now) are told.lanes (omega (arith, told.listed, c.requires.listed, are.numbers_listed)) l.at s.0 c.args.early (omega (arith, c.requires.early, late)) (sym (c.is_below.ensures (told.rising l.at s.0)) ∙ c.if-is_below.false) none)
 
 pub up-preserved : goal.up-preserved
 up-preserved c =
@@ -33,7 +33,7 @@ up-preserved c =
           let s = l.invariant.same o entries n are told late in (
             omega (arith, e, low, s.0),
             s.1
-                ∙ reached_above o entries c.args.tasks.now n c.args.clocks.now are told (omega (arith, told.listed, c.requires.listed, are.numbers_listed)) l.at s.0 c.args.early (omega (arith, c.requires.early, late)) (sym c.is_below.ensures ∙ c.if-is_below.false) some
+                ∙ reached_above o entries c.args.tasks.now n (lanes_of c.args.clocks.now) are told.lanes (omega (arith, told.listed, c.requires.listed, are.numbers_listed)) l.at s.0 c.args.early (omega (arith, c.requires.early, late)) (sym (c.is_below.ensures (told.rising l.at s.0)) ∙ c.if-is_below.false) some
                 ∙ ap (λ m. is.reaches o entries (m - 1) c.args.early) (sym e),
           );
     }

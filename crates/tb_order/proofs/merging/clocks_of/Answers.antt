@@ -1,7 +1,8 @@
 use Rattle.std.proofs.Common.{◌≡◌, ◌+◌, ◌<◌, ◌≤◌, length, true, false, refl, sym, ap, ◌∙◌, subst, arith}
 use Rattle.tb_cause.proofs.ConeLemmas.{there}
 use Rattle.tb_model.specs.Facts.{is_end}
-use Rattle.tb_order.specs.Clocks.{AreClocks, IsEnd, IsLane, IsOneMore, IsSound, IsStanding, is_end_at, row_in}
+use Rattle.tb_order.specs.Clocks.{AreClocks, IsEnd, IsLane, IsOneMore, IsSound, IsStanding, is_end_at, lanes_of, row_in}
+use Rattle.tb_order.specs.Bounds.{bound_in}
 use Rattle.tb_order.specs.Linking.{order_of}
 use Rattle.tb_order.specs.Rows.{IsNoted, IsPast, Named, row_of}
 use Rattle.tb_order.proofs.TableLemmas.{clocks_more, clocks_none}
@@ -40,12 +41,12 @@ finish-requires-clause-sound c =
     let l = c.loop-at in
     let o = order_of l.past.exclusion in
     let first = c.begin-first.result in
-    subst (λ m. IsSound o c.args.entries.now c.args.tasks.now l.past.clocks (row_in l.past.clocks.rows.items first.row) first.lane m) (sym c.begin-first.ensures.at)
+    subst (λ m. IsSound o c.args.entries.now c.args.tasks.now (lanes_of l.past.clocks) (bound_in (row_in l.past.clocks.rows.items first.row)) first.lane m) (sym c.begin-first.ensures.at)
     (c.begin-first.ensures.sound o c.args.entries.now c.requires.legal c.requires.tasks l.invariant.past.clocks)
 
 pub finish-requires-clause-lane : goal.finish-requires-clause-lane
 finish-requires-clause-lane c =
-    subst (IsLane c.args.entries.now c.loop-at.past.clocks c.begin-first.result.lane) (sym c.begin-first.ensures.at)
+    subst (IsLane c.args.entries.now (lanes_of c.loop-at.past.clocks) c.begin-first.result.lane) (sym c.begin-first.ensures.at)
     (c.begin-first.ensures.lane (order_of c.loop-at.past.exclusion) c.args.entries.now c.requires.legal c.requires.tasks c.loop-at.invariant.past.clocks)
 
 pub loop-at-preserved : goal.loop-at-preserved
@@ -108,3 +109,6 @@ pub note_end-requires-clause-low : goal.note_end-requires-clause-low
 note_end-requires-clause-low c i h =
     let past : IsPast c.args.entries.now c.args.tasks.now c.finish.new.past c.loop-at.at = subst (IsPast c.args.entries.now c.args.tasks.now c.finish.new.past) c.begin-first.ensures.at c.in_ok-step.ensures.past in
     omega (arith, (past.ends.each i h).0)
+
+pub finish-requires-clause-rising : goal.finish-requires-clause-rising
+finish-requires-clause-rising c = c.begin-first.ensures.rising (order_of c.loop-at.past.exclusion) c.args.entries.now c.requires.tasks c.loop-at.invariant.past.clocks

@@ -1,9 +1,12 @@
 use Rattle.std.proofs.Common.{◌≡◌, ℕ, Option, Some, None, sym, ap, ◌∙◌, subst, arith, inl, inr, ⊎_elim}
-use Rattle.tb_order.specs.Clocks.{GoesOn, IsJoined, IsSound, IsStanding, TellsEnds, row_in}
+use Rattle.tb_order.specs.Clocks.{GoesOn, IsJoined, IsSound, IsStanding, TellsEnds, lanes_of, row_in}
+use Rattle.tb_order.specs.Bounds.{IsRising, bound_among, bound_in}
 use Rattle.tb_order.specs.Linking.{order_of}
 use Rattle.tb_order.proofs.LaneLemmas.{stands_in}
 use Rattle.tb_order.proofs.SoundLemmas.{no_ends_told}
-use Rattle.tb_order.proofs.TableLemmas.{clocks_kept, stands_by}
+use Rattle.tb_order.proofs.TableLemmas.{clocks_kept, sound_same, stands_by}
+use Rattle.tb_order.proofs.BoundLemmas.{first_bound, none_rising}
+use mathlib.Core.Path.{fun_ext}
 use Rattle.tb_order.proofs.merging.finish.Goals as goal
 
 pub returns-then-not-may_wait-clause-stands : goal.returns-then-not-may_wait-clause-stands
@@ -16,12 +19,13 @@ returns-then-not-may_wait-clause-stands c =
     let k = c.args.step.lane in
     let are = c.requires.tasks in
     let told = c.requires.past.clocks in
-    let row = row_in clocks.rows.items c.args.step.row in
-    let s = stands_in o entries tasks are at c.requires.at clocks told row k c.stay.result.lane c.requires.lane c.requires.sound
-    (no_ends_told o entries tasks are at c.requires.at clocks told k c.requires.lane.own row (λ x l e h. c.may_wait.ensures c.if-not-may_wait.true c.args.past.now.exclusion x l e h))
-    (c.stay.ensures.lane o entries are told c.requires.past.ends) in
+    let row = bound_in (row_in clocks.rows.items c.args.step.row) in
+    let s = stands_in o entries tasks are at c.requires.at (lanes_of clocks) told.lanes row k c.stay.result.lane c.requires.lane c.requires.sound
+    (no_ends_told o entries tasks are at c.requires.at (lanes_of clocks) told.lanes k c.requires.lane.own row (λ x l e h. c.may_wait.ensures c.if-not-may_wait.true c.args.past.now.exclusion x l e h))
+    (c.stay.ensures.lane o entries are told c.requires.past.ends c.requires.rising) in
     subst (λ n. IsStanding o entries tasks clocks n c.stay.result.lane at) (sym c.stay.ensures.row) (record {
       within = c.requires.row;
+      rising = c.requires.rising;
       clock = s.0;
       low = c.requires.sound.low;
       lane = s.1;
@@ -37,13 +41,15 @@ returns-in-None-clause-stands c =
     let k = c.args.step.lane in
     let are = c.requires.tasks in
     let told = c.requires.past.clocks in
-    let row = row_in clocks.rows.items c.args.step.row in
-    let same = (c.in_ok-merge_all.ensures.more.same c.in-None.is).0 ∙ c.in_ok-next.ensures.items ∙ c.row.ensures ∙ ap (λ rows. row_in rows c.args.step.row) c.deref.ensures.value in
-    let s = stands_in o entries tasks are at c.requires.at clocks told row k c.stay-in-None.result.lane c.requires.lane c.requires.sound
-    (subst (λ r. TellsEnds o entries tasks clocks r k at) same (λ x l e h. c.in_ok-merge_all.ensures.told x (l, e) h))
-    (c.stay-in-None.ensures.lane o entries are told c.requires.past.ends) in
+    let row = bound_in (row_in clocks.rows.items c.args.step.row) in
+    let own : c.in_ok-own.own.items ≡ row_in clocks.rows.items c.args.step.row = c.in_ok-own.ensures.items ∙ c.row.ensures ∙ ap (λ rows. row_in rows c.args.step.row) c.deref.ensures.value in
+    let same = ap bound_among (c.in_ok-merge_all.ensures.more.same c.in-None.is).0 ∙ fun_ext (λ j. first_bound c.new.result.items c.new.ensures.items j (bound_among c.add_row.new.rows.items j) (bound_in c.in_ok-own.own.items j) (c.in_ok-add_row.ensures.bounds j)) ∙ ap bound_in own in
+    let s = stands_in o entries tasks are at c.requires.at (lanes_of clocks) told.lanes row k c.stay-in-None.result.lane c.requires.lane c.requires.sound
+    (subst (λ r. TellsEnds o entries tasks (lanes_of clocks) r k at) same (λ x l e h. c.in_ok-merge_all.ensures.told x (l, e) h))
+    (c.stay-in-None.ensures.lane o entries are told c.requires.past.ends c.requires.rising) in
     subst (λ n. IsStanding o entries tasks clocks n c.stay-in-None.result.lane at) (sym c.stay-in-None.ensures.row) (record {
       within = c.requires.row;
+      rising = c.requires.rising;
       clock = s.0;
       low = c.requires.sound.low;
       lane = s.1;
@@ -69,17 +75,21 @@ merge_all-requires-clause-waiting c = record {
 
 pub merge_all-requires-clause-joined : goal.merge_all-requires-clause-joined
 merge_all-requires-clause-joined c = record {
-  sound = subst (λ r. IsSound (order_of c.args.past.now.exclusion) c.args.entries.now c.args.tasks.now c.args.past.now.clocks r c.args.step.lane c.args.step.at)
-      (sym (c.in_ok-next.ensures.items ∙ c.row.ensures ∙ ap (λ rows. row_in rows c.args.step.row) c.deref.ensures.value)) c.requires.sound;
+  rising = c.in_ok-add_row.ensures.rising (none_rising c.new.result.items c.new.ensures.items) (subst IsRising (sym own) c.requires.rising);
+  sound = sound_same (order_of c.args.past.now.exclusion) c.args.entries.now c.args.tasks.now (lanes_of c.args.past.now.clocks) (bound_in (row_in c.args.past.now.clocks.rows.items c.args.step.row)) (bound_among c.add_row.new.rows.items) c.args.step.lane c.args.step.at
+      (λ j. ap (λ r. bound_in r j) (sym own) ∙ sym (first_bound c.new.result.items c.new.ensures.items j (bound_among c.add_row.new.rows.items j) (bound_in c.in_ok-own.own.items j) (c.in_ok-add_row.ensures.bounds j))) c.requires.sound;
   end = λ x e. absurd (no_some x e);
 }
   where
+    own : c.in_ok-own.own.items ≡ row_in c.args.past.now.clocks.rows.items c.args.step.row
+    own = c.in_ok-own.ensures.items ∙ c.row.ensures ∙ ap (λ rows. row_in rows c.args.step.row) c.deref.ensures.value
+
     no_some : (x : ℕ) → ◌≡◌ {A = Option ℕ} None (Some x) → ⊥
     no_some x e = cc
 
 pub returns-in_ok-push-in-Some-clause-past : goal.returns-in_ok-push-in-Some-clause-past
 returns-in_ok-push-in-Some-clause-past c = record {
-  clocks = clocks_kept (order_of c.args.past.now.exclusion) c.args.entries.now c.args.tasks.now c.args.step.at c.args.past.now.clocks c.push.new.self c.merge_all.new.joined.next c.in_ok-push-in-Some.ensures.items c.requires.past.clocks;
+  clocks = clocks_kept (order_of c.args.past.now.exclusion) c.args.entries.now c.args.tasks.now c.args.step.at c.args.past.now.clocks c.push.new.self c.in_ok-row-in-Some.row c.in_ok-push-in-Some.ensures.items c.requires.past.clocks;
   ends = c.requires.past.ends;
   rows = c.requires.past.rows;
 }
@@ -94,12 +104,18 @@ returns-in_ok-push-in-Some-clause-stands c =
     let k = c.args.step.lane in
     let are = c.requires.tasks in
     let told = c.requires.past.clocks in
-    let row = c.merge_all.new.joined.next.items in
+    let rows = c.merge_all.new.joined.rows.items in
+    let whole = c.in_ok-row-in-Some.row.items in
+    let row = bound_in whole in
+    let exact = c.in_ok-row-in-Some.ensures.items ∙ c.deref-in-Some.ensures.value in
     let more = c.in_ok-merge_all.ensures.more.are in
-    let joined : IsJoined o entries tasks clocks row k at c.in-Some.end = more.end c.in-Some.end c.in-Some.is in
-    let goes : GoesOn o entries tasks clocks row k at c.lane_behind.result = ⊎_elim (λ e. inl e) (λ h. inr (c.in-Some.end, joined, h.0, h.1, h.2)) c.lane_behind.ensures in
-    let s = stands_in o entries tasks are at c.requires.at clocks told row k c.lane_behind.result c.requires.lane more.sound (λ x l e h. c.in_ok-merge_all.ensures.told x (l, e) h) goes in
-    stands_by o entries tasks at clocks c.push.new.self c.merge_all.new.joined.next c.in_ok-push-in-Some.ensures.items told c.len.result c.lane_behind.result (omega (arith, c.len.ensures, c.push.new.self.ok)) s.0 more.sound.low s.1
+    let same : bound_among rows ≡ row = fun_ext (λ j. sym (ap (λ r. bound_in r j) exact ∙ c.in_ok-merged-in-Some.ensures.bounds j)) in
+    let sound : IsSound o entries tasks (lanes_of clocks) row k at = subst (λ r. IsSound o entries tasks (lanes_of clocks) r k at) same more.sound in
+    let joined : IsJoined o entries tasks (lanes_of clocks) row k at c.in-Some.end = subst (λ r. IsJoined o entries tasks (lanes_of clocks) r k at c.in-Some.end) same (more.end c.in-Some.end c.in-Some.is) in
+    let goes : GoesOn o entries tasks (lanes_of clocks) row k at c.lane_behind.result = ⊎_elim (λ e. inl e) (λ h. inr (c.in-Some.end, joined, h.0, h.1, h.2)) c.lane_behind.ensures in
+    let ends : TellsEnds o entries tasks (lanes_of clocks) row k at = subst (λ r. TellsEnds o entries tasks (lanes_of clocks) r k at) same (λ x l e h. c.in_ok-merge_all.ensures.told x (l, e) h) in
+    let s = stands_in o entries tasks are at c.requires.at (lanes_of clocks) told.lanes row k c.lane_behind.result c.requires.lane sound ends goes in
+    stands_by o entries tasks at clocks c.push.new.self c.in_ok-row-in-Some.row c.in_ok-push-in-Some.ensures.items told c.len.result c.lane_behind.result (omega (arith, c.len.ensures, c.push.new.self.ok)) (subst IsRising (sym exact) (c.in_ok-merged-in-Some.ensures.rising more.rising)) s.0 sound.low s.1
 
 pub lane_behind-requires-clause-end : goal.lane_behind-requires-clause-end
 lane_behind-requires-clause-end c = omega (arith, (c.in_ok-merge_all.ensures.more.are.end c.in-Some.end c.in-Some.is).0, c.requires.past.clocks.laned)

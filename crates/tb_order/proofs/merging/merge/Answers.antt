@@ -1,7 +1,8 @@
-use Rattle.std.proofs.Common.{◌≡◌, ◌-◌, ◌<◌, true, false, refl, sym, ap, ◌∙◌, subst, arith, ⊎_elim, length}
+use Rattle.std.proofs.Common.{◌≡◌, ◌-◌, ◌<◌, true, false, refl, sym, ap, ap₂, ◌∙◌, subst, arith, ⊎_elim, length}
 use Rattle.std.proofs.lemmas.Bool.{cases_eq, cases_lt, both_ways}
-use Rattle.tb_order.specs.Clocks.{end_at, is_end_at, is_told, links_at, skip_at}
+use Rattle.tb_order.specs.Clocks.{end_at, is_end_at, is_told, lane, lanes_of, links_at, skip_at}
 use Rattle.tb_order.specs.Linking.{order_of}
+use Rattle.tb_order.specs.Bounds.{AreRising, bound_among}
 use Rattle.tb_order.proofs.ClockLemmas.{within_any}
 use Rattle.tb_order.proofs.EndLemmas.{seen_more}
 use Rattle.tb_order.proofs.JoinedLemmas.{joins_none, joins_one}
@@ -20,22 +21,25 @@ back-preserved-then-is_merged c =
     let o = order_of c.args.past.now.exclusion in
     let entries = c.args.entries.now in
     let tasks = c.args.tasks.now in
-    let clocks = c.args.past.now.clocks in
+    let clocks = lanes_of c.args.past.now.clocks in
     let ends = c.args.ends.now in
     let at = c.args.waiter.now.at in
     let k = c.args.waiter.now.lane in
     let l = c.back in
+    let row = bound_among l.joined.rows.items in
     let i = l.left - 1 in
     let inside : i < length ends.places.items = omega (arith, c.back-test.true, l.invariant.within) in
     let e : c.index-end.result.now ≡ end_at ends i = within_any ends.places.items i 0 c.index-end.result.now inside c.index-end.ensures in
     let low = c.requires.row.tied.low i inside in
     let skip : c.index-left.result.now ≡ skip_at ends i = within_any ends.skips.items i 0 c.index-left.result.now (omega (arith, inside, c.requires.row.tied.listed)) c.index-left.ensures in
-    let merged = c.is_merged.ensures o entries c.requires.waiting.by_task c.requires.waiting.front.clocks ∙ ap (λ row. is_told o entries tasks clocks row k at c.index-end.result.now) c.deref.ensures.value in
-    let told : is_told o entries tasks clocks l.joined.next.items k at (end_at ends i) ≡ true = subst (λ y. is_told o entries tasks clocks l.joined.next.items k at y ≡ true) e (sym merged ∙ c.if-is_merged.true) in record {
+    let lane_is : c.index.result.now ≡ lane clocks c.index-end.result.now = within_any c.args.past.now.clocks.lanes.items c.index-end.result.now 0 c.index.result.now (omega (arith, e, (c.requires.row.each i inside).0, c.requires.waiting.front.clocks.laned)) c.index.ensures in
+    let bound_is : c.bound_among-told.result ≡ row (lane clocks c.index-end.result.now) = c.bound_among-told.ensures (subst AreRising (sym c.deref.ensures.value) l.invariant.more.are.rising) ∙ ap₂ bound_among c.deref.ensures.value lane_is in
+    let merged = c.is_merged.ensures o entries row c.requires.waiting.by_task c.requires.waiting.front.clocks bound_is in
+    let told : is_told o entries tasks clocks row k at (end_at ends i) ≡ true = subst (λ y. is_told o entries tasks clocks row k at y ≡ true) e (sym merged ∙ c.if-is_merged.true) in record {
       within = omega (arith, skip, low, inside);
       more = l.invariant.more;
       seen = λ j m h q.
-          seen_more o entries tasks clocks l.joined.next.items k at l.invariant.more.are.sound ends c.requires.row i inside told (λ n. links_at o entries at (end_at ends n) ≡ true)
+          seen_more o entries tasks clocks row k at l.invariant.more.are.sound ends c.requires.row i inside told (λ n. links_at o entries at (end_at ends n) ≡ true)
           (λ n a b r. l.invariant.seen n (omega (arith, a)) b r) j (omega (arith, m, skip)) h q;
     }
 
@@ -44,30 +48,32 @@ back-preserved-then-waits c =
     let o = order_of c.args.past.now.exclusion in
     let entries = c.args.entries.now in
     let tasks = c.args.tasks.now in
-    let clocks = c.args.past.now.clocks in
+    let clocks = lanes_of c.args.past.now.clocks in
     let are = c.requires.waiting.by_task in
-    let told = c.requires.waiting.front.clocks in
+    let stored = c.requires.waiting.front.clocks in
+    let told = stored.lanes in
     let w = c.requires.waiting.at in
     let ends = c.args.ends.now in
     let at = c.args.waiter.now.at in
     let k = c.args.waiter.now.lane in
     let l = c.back in
+    let row = bound_among l.joined.rows.items in
     let i = l.left - 1 in
     let inside : i < length ends.places.items = omega (arith, c.back-test.true, l.invariant.within) in
     let e : c.index-end.result.now ≡ end_at ends i = within_any ends.places.items i 0 c.index-end.result.now inside c.index-end.ensures in
     let low = c.requires.row.tied.low i inside in
     let skip : c.index-left-then-waits.result.now ≡ skip_at ends i = within_any ends.skips.items i 0 c.index-left-then-waits.result.now (omega (arith, inside, c.requires.row.tied.listed)) c.index-left-then-waits.ensures in
     let s = c.index-end.result.now in
-    let next = c.join.new.next.items in
+    let next = bound_among c.join.new.rows.items in
     let each : (s < at) × (is_end_at entries s ≡ true) = subst (λ y. (y < at) × (is_end_at entries y ≡ true)) (sym e) (c.requires.row.each i inside) in
-    let more = c.in_ok-join.ensures.more o entries at are told each.0 (omega (arith, w)) in
-    let small = c.in_ok-join.ensures.low o entries at are told each.0 (omega (arith, w)) l.invariant.more.are.sound.low in
+    let up = l.invariant.more.are.rising in
+    let more = c.in_ok-join.ensures.more o entries are stored up l.invariant.more.are.sound in
     let link : links_at o entries at s ≡ true = sym (c.waits.ensures each.1) ∙ c.if-waits.true in
-    let itself = itself_told o entries tasks are at w clocks told k l.joined.next.items next s each.0 more in
-    let stays = stays_told o entries tasks are at w clocks told k l.joined.next.items next s each.0 more in
-    let sound = sound_more o entries tasks are at w clocks told k l.joined.next.items next s each.0 more small l.invariant.more.are.sound link in record {
+    let itself = itself_told o entries tasks are at w clocks told k row next s each.0 more in
+    let stays = stays_told o entries tasks are at w clocks told k row next s each.0 more in
+    let sound = sound_more o entries tasks are at w clocks told k row next s each.0 more l.invariant.more.are.sound link in record {
       within = omega (arith, skip, low, inside);
-      more = joins_one entries tasks c.args.past.now k at c.args.joined.now l.joined _ s l.invariant.more sound stays (each.0, each.1, itself) c.better.result c.better.ensures refl;
+      more = joins_one entries tasks c.args.past.now k at c.args.joined.now l.joined _ s l.invariant.more (c.in_ok-join.ensures.rising o entries are stored up) sound stays (each.0, each.1, itself) c.better.result c.better.ensures refl;
       seen = λ j m h q.
           seen_more o entries tasks clocks next k at sound ends c.requires.row i inside (subst (λ y. is_told o entries tasks clocks next k at y ≡ true) e itself) (λ n. links_at o entries at (end_at ends n) ≡ true)
           (λ n a b r. stays (end_at ends n) (c.requires.row.each n b).0 (l.invariant.seen n (omega (arith, a)) b r)) j (omega (arith, m, skip)) h q;

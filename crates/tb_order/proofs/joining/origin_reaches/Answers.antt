@@ -2,7 +2,7 @@ use Rattle.std.proofs.Common.{◌≡◌, sym, ◌∙◌, arith}
 use Rattle.tb_order.specs.Clocks.{origin}
 use Rattle.tb_order.proofs.ClockLemmas.{within_any}
 use Rattle.tb_order.proofs.JoinLemmas.{from_origin, not_from_origin}
-use Rattle.tb_order.proofs.merging.origin_reaches.Goals as goal
+use Rattle.tb_order.proofs.joining.origin_reaches.Goals as goal
 
 pub returns-then-origin-early : goal.returns-then-origin-early
 returns-then-origin-early c o entries are inside told =
