@@ -1,10 +1,12 @@
 -- The levels of a name, the first of them taken off.
-use Rattle.std.proofs.Common.{◌≡◌, ℕ, suc, ◌+◌, ◌<◌, ◌≤◌, ◌≢◌, nat_lt, length, get_or, Bool, true, false, List, [], ◌∷◌, take, drop, refl, ap, sym, ◌∙◌, not, cond, ◌==◌, Option, Some, None, arith}
+use Rattle.std.proofs.Common.{◌≡◌, ℕ, suc, count_by, ◌+◌, ◌<◌, ◌≤◌, ◌≢◌, nat_lt, length, get_or, Bool, true, false, List, [], ◌∷◌, take, drop, refl, ap, sym, ◌∙◌, not, cond, ◌==◌, Option, Some, None, arith}
 use Rattle.std.proofs.lemmas.Bool.Decides.{nat_tests}
+use Rattle.std.proofs.lemmas.List.Sums.{sum_by-cons, sum_by-take-le}
 use Rattle.std.specs.List.{position_or_len}
 use Rattle.std.specs.Option.{option_and_then}
 use Rattle.tb_model.specs.Names.{Name, child}
 use Rattle.tb_model.specs.Spelling.{parts, onto_first, is_dot, is_hash, before_hash, behind_hash}
+use Rattle.tb_runs.specs.Memory.{is_long}
 use Rattle.tb_runs.specs.Names.{ordinal_of, last_child, last_step, descendant, task_of, id_of, next_of, numbered_of}
 
 -- the parts behind the first, where this comes behind it
@@ -96,3 +98,50 @@ pub without_hash : (word : List ℕ) (at : ℕ) → at ≡ position_or_len is_ha
 without_hash word at e within =
     let no : nat_lt (position_or_len is_hash word) (length word) ≡ false = grind (arith, nat_tests) in
     rw no refl
+
+-- ---- dots
+
+abbrev tick : ℕ → ℕ
+tick b = cond (is_dot b) 1 0
+
+with_first : (b : ℕ) (bytes : List ℕ) → count_by is_dot (b ∷ bytes) ≡ tick b + count_by is_dot bytes
+with_first b bytes = sum_by-cons tick b bytes
+
+dots_by : (b : ℕ) (bytes : List ℕ) (dot : Bool) → is_dot b ≡ dot → count_by is_dot (drop (position_or_len is_dot bytes) bytes) ≡ count_by is_dot bytes →
+    count_by is_dot (drop (cond (not dot) (1 + position_or_len is_dot bytes) 0) (b ∷ bytes)) ≡ count_by is_dot (b ∷ bytes)
+dots_by b bytes true e h = refl
+dots_by b bytes false e h =
+    let none : tick b ≡ 0 = ap (λ t. cond t 1 0) e in
+    rw one_more (h ∙ omega (arith, none, with_first b bytes))
+
+-- no dot comes in front of the first
+dots_behind : (bytes : List ℕ) → count_by is_dot (drop (position_or_len is_dot bytes) bytes) ≡ count_by is_dot bytes
+dots_behind [] = refl
+dots_behind (b ∷ bytes) = dots_by b bytes (is_dot b) refl (dots_behind bytes)
+
+-- a level has one
+pub level_dots : (left digits : List ℕ) (at n all : ℕ) → 0 < length left → get_or left 0 0 ≡ 46 → digits ≡ drop 1 left → at ≡ position_or_len is_dot digits →
+    n + count_by is_dot left ≤ all → suc n + count_by is_dot (drop at digits) ≤ all
+level_dots [] digits at n all some dot d e h = absurd (omega (arith, some))
+level_dots (b ∷ bytes) digits at n all some dot d e h =
+    let one : tick b ≡ 1 = ap tick dot in
+    let same : count_by is_dot (drop at digits) ≡ count_by is_dot bytes = rw (e, d) (dots_behind bytes) in
+    omega (arith, h, one, same, with_first b bytes)
+
+one_dot : (left : List ℕ) → 0 < length left → get_or left 0 0 ≡ 46 → 0 < count_by is_dot left
+one_dot [] some dot = absurd (omega (arith, some))
+one_dot (b ∷ bytes) some dot =
+    let one : tick b ≡ 1 = ap tick dot in
+    omega (arith, one, with_first b bytes)
+
+-- three levels, and a dot behind them
+pub long_name : (n : ℕ) (left word : List ℕ) → 3 ≤ n → 0 < length left → get_or left 0 0 ≡ 46 → n + count_by is_dot left ≤ count_by is_dot word → is_long word ≡ true
+long_name n left word deep some dot h =
+    let more : 3 < count_by is_dot word = omega (arith, one_dot left some dot) in
+    grind (arith, nat_tests)
+
+-- a word is as long as its front
+pub long_front : (n : ℕ) (word : List ℕ) → is_long (take n word) ≡ true → is_long word ≡ true
+long_front n word h =
+    let fewer : count_by is_dot (take n word) ≤ count_by is_dot word = sum_by-take-le tick word n in
+    grind (arith, nat_tests)

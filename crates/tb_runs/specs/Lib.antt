@@ -2,3 +2,4 @@ pub mod Names
 pub mod Reading
 pub mod Actions
 pub mod Lines
+pub mod Memory

@@ -1,9 +1,10 @@
 //! What an event says that its task did.
 
-ghost use Rattle.std.specs.Prelude.{◌≡◌, IfErr, IfOk, Err, Ok};
+ghost use Rattle.std.specs.Prelude.{◌≡◌, IfErr, IfOk, IsTrue, Err, Ok};
 ghost use Rattle.tb_runs.specs.Actions.{action_by, action_in, let_in, load_in, print_in, spawn_in, store_in, test_in, verb_in, wait_in};
+ghost use Rattle.tb_runs.specs.Memory.{action_takes, has_items};
 ghost use Rattle.tb_runs.specs.declared.fault.Fault.{Fault as TheFault};
-ghost use Rattle.tb_runs.specs.declared.fault.Unread.TheVariants.{Faulty};
+ghost use Rattle.tb_runs.specs.declared.fault.Unread.TheVariants.{Faulty, Memory};
 
 use crate::fault::{Fault, Unread};
 use crate::items::{take_args, take_items};
@@ -116,6 +117,7 @@ fn take_behind(
 ) -> Result<Action, Unread>
     ensures ok { IfOk result (λ action. action_by cells verb words.old ≡ Ok (action, words.new)) }
     ensures err { (fault : TheFault) → result ≡ Err (Faulty fault) → action_by cells verb words.old ≡ Err fault }
+    ensures memory { result ≡ Err Memory → IsTrue (has_items verb) }
 {
     match verb {
         Verb::Start => Ok(Action::Start),
@@ -137,6 +139,7 @@ fn take_behind(
 pub fn take_action(alloc: Global, words: &mut Words<'_>, cells: u32) -> Result<Action, Unread>
     ensures ok { IfOk result (λ action. action_in cells words.old ≡ Ok (action, words.new)) }
     ensures err { (fault : TheFault) → result ≡ Err (Faulty fault) → action_in cells words.old ≡ Err fault }
+    ensures memory { result ≡ Err Memory → IsTrue (action_takes words.old) }
 {
     let verb = take_verb(words)?;
     take_behind(alloc, words, cells, verb)

@@ -1,11 +1,12 @@
 //! Reads a line of a run text.
 
-ghost use Rattle.std.specs.Prelude.{◌≡◌, [], Err, IfErr, IfOk, Ok, length, nat_lt};
+ghost use Rattle.std.specs.Prelude.{◌≡◌, [], Err, IfErr, IfOk, IsTrue, Ok, length, nat_lt};
+ghost use Rattle.tb_runs.specs.Memory.{event_takes, line_takes, words_take};
 ghost use Rattle.tb_runs.specs.Reading.{ended};
 ghost use Rattle.tb_runs.specs.Lines.{begun_in, cell_said, cells_said, count_in, event_said, fresh_in, headed_in, hist_said, line_said, longest, said_in};
 ghost use Rattle.tb_runs.specs.declared.fault.Fault.{Fault as TheFault};
-ghost use Rattle.tb_runs.specs.declared.fault.Unread.TheVariants.{Faulty};
-ghost use Rattle.tb_runs.specs.declared.said.Stage.TheVariants.{Events};
+ghost use Rattle.tb_runs.specs.declared.fault.Unread.TheVariants.{Faulty, Memory};
+ghost use Rattle.tb_runs.specs.declared.said.Stage.TheVariants.{Cells, Events};
 
 use crate::action::take_action;
 use crate::fault::{Fault, Unread};
@@ -88,6 +89,7 @@ fn take_hist(words: &mut Words<'_>) -> Result<Said, Fault>
 fn take_event(alloc: Global, words: &mut Words<'_>, cells: u32) -> Result<Said, Unread>
     ensures ok { IfOk result (λ said. event_said cells words.old ≡ Ok (said, words.new)) }
     ensures err { (fault : TheFault) → result ≡ Err (Faulty fault) → event_said cells words.old ≡ Err fault }
+    ensures memory { result ≡ Err Memory → IsTrue (event_takes words.old) }
 {
     let id = take_id(alloc, words)?;
     let action = take_action(alloc, words, cells)?;
@@ -109,6 +111,7 @@ fn take_headed(
 ) -> Result<Said, Unread>
     ensures ok { IfOk result (λ said. headed_in firsts.now.entries cells words.old ≡ Ok (said, words.new)) }
     ensures err { (fault : TheFault) → result ≡ Err (Faulty fault) → headed_in firsts.now.entries cells words.old ≡ Err fault }
+    ensures memory { result ≡ Err Memory → IsTrue (words_take (Cells cells) words.old) }
 {
     if take_if(words, b"cell") {
         return Ok(take_first(words, firsts, cells)?);
@@ -128,6 +131,7 @@ fn take_said(
 ) -> Result<Said, Unread>
     ensures ok { IfOk result (λ said. said_in firsts.now.entries stage words.old ≡ Ok (said, words.new)) }
     ensures err { (fault : TheFault) → result ≡ Err (Faulty fault) → said_in firsts.now.entries stage words.old ≡ Err fault }
+    ensures memory { result ≡ Err Memory → IsTrue (words_take stage words.old) }
 {
     match stage {
         Stage::Begin => Ok(take_begun(words)?),
@@ -145,6 +149,7 @@ fn take_all(
 ) -> Result<Said, Unread>
     ensures ok { IfOk result (λ said. ended (said_in firsts.now.entries stage words.old) ≡ Ok said) }
     ensures err { (fault : TheFault) → result ≡ Err (Faulty fault) → ended (said_in firsts.now.entries stage words.old) ≡ Err fault }
+    ensures memory { result ≡ Err Memory → IsTrue (words_take stage words.old) }
 {
     let said = take_said(alloc, words, firsts, stage)?;
     take_end(words)?;
@@ -155,6 +160,7 @@ fn take_all(
 fn take_whole_event(alloc: Global, words: &mut Words<'_>, cells: u32) -> Result<Said, Unread>
     ensures ok { IfOk result (λ said. ended (event_said cells words.old) ≡ Ok said) }
     ensures err { (fault : TheFault) → result ≡ Err (Faulty fault) → ended (event_said cells words.old) ≡ Err fault }
+    ensures memory { result ≡ Err Memory → IsTrue (event_takes words.old) }
 {
     let said = take_event(alloc, words, cells)?;
     take_end(words)?;
@@ -178,6 +184,7 @@ pub fn read_line(
 ) -> Result<Option<Said>, Unread>
     ensures ok { IfOk result (λ said. line_said firsts.now.entries stage line.now ≡ Ok said) }
     ensures err { (fault : TheFault) → result ≡ Err (Faulty fault) → line_said firsts.now.entries stage line.now ≡ Err fault }
+    ensures memory { result ≡ Err Memory → IsTrue (line_takes stage line.now) }
 {
     if is_long(line) {
         return Err(Unread::Faulty(Fault::TooLarge));
@@ -197,6 +204,7 @@ pub fn read_line(
 pub fn read_event(alloc: Global, cells: u32, line: &[u8]) -> Result<Option<Said>, Unread>
     ensures ok { IfOk result (λ said. line_said [] (Events cells) line.now ≡ Ok said) }
     ensures err { (fault : TheFault) → result ≡ Err (Faulty fault) → line_said [] (Events cells) line.now ≡ Err fault }
+    ensures memory { result ≡ Err Memory → IsTrue (line_takes (Events cells) line.now) }
 {
     if is_long(line) {
         return Err(Unread::Faulty(Fault::TooLarge));

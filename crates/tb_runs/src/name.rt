@@ -1,8 +1,9 @@
 //! Names of tasks and steps, as a run text spells them.
 
-ghost use Rattle.std.specs.Prelude.{◌≡◌, ◌≤◌, ◌<◌, ◌^◌, IfOk, IfSome, length};
+ghost use Rattle.std.specs.Prelude.{◌≡◌, ◌≤◌, ◌<◌, ◌^◌, IfOk, IfSome, IsTrue, OnErr, length};
 ghost use Rattle.std.specs.List.{position_or_len};
 ghost use Rattle.tb_model.specs.Spelling.{is_dot, is_hash, before_hash, behind_hash};
+ghost use Rattle.tb_runs.specs.Memory.{is_long};
 ghost use Rattle.tb_runs.specs.Names.{ordinal_of, last_child, last_step, task_of, id_of, next_of, numbered_of};
 
 use crate::word::magnitude;
@@ -58,10 +59,11 @@ fn level_len(bytes: &[u8]) -> usize
     bytes.iter().take_while(|b| **b != b'.').count()
 }
 
-/// The task that the word names.
+/// The task that the word names. Memory is wanted at most for a name of more than three numbers.
 #[tactic(auto, using(crate::proofs::NameLemmas::level_led, crate::proofs::NameLemmas::level_lost, crate::proofs::NameLemmas::undotted))]
 pub fn read_task(alloc: Global, word: &[u8]) -> Result<Option<TaskName>, AllocError>
-    ensures { IfOk result (λ task. task ≡ task_of word.now) }
+    ensures ok { IfOk result (λ task. task ≡ task_of word.now) }
+    ensures memory { OnErr result (IsTrue (is_long word.now)) }
 {
     let [b'0', levels @ ..] = word else {
         return Ok(None);
@@ -95,7 +97,8 @@ fn hash_at(word: &[u8]) -> usize
 fn numbered(alloc: Global, word: &[u8], at: usize) -> Result<Option<Id>, AllocError>
     requires at { at ≡ position_or_len is_hash word.now }
     requires within { at < length word.now }
-    ensures { IfOk result (λ id. id ≡ numbered_of word.now) }
+    ensures ok { IfOk result (λ id. id ≡ numbered_of word.now) }
+    ensures memory { OnErr result (IsTrue (is_long word.now)) }
 {
     let Some(task) = read_task(alloc, &word[..at])? else {
         return Ok(None);
@@ -111,7 +114,8 @@ fn numbered(alloc: Global, word: &[u8], at: usize) -> Result<Option<Id>, AllocEr
 
 /// The step that the word names: a task's next, or by its number.
 pub fn read_id(alloc: Global, word: &[u8]) -> Result<Option<Id>, AllocError>
-    ensures { IfOk result (λ id. id ≡ id_of word.now) }
+    ensures ok { IfOk result (λ id. id ≡ id_of word.now) }
+    ensures memory { OnErr result (IsTrue (is_long word.now)) }
 {
     let at = hash_at(word);
     if at < word.len() {

@@ -1,11 +1,12 @@
 //! Takes the words of a line from the left, each at its place.
 
-ghost use Rattle.std.specs.Prelude.{◌≡◌, ◌<◌, ◌∷◌, [], List, IfErr, IfOk, Err, Ok, drop, if◌then◌else◌};
+ghost use Rattle.std.specs.Prelude.{◌≡◌, ◌<◌, ◌∷◌, [], List, IfErr, IfOk, Err, IsTrue, Ok, drop, if◌then◌else◌};
 ghost use Rattle.tb_read.specs.Word.{Word};
+ghost use Rattle.tb_runs.specs.Memory.{id_takes};
 ghost use Rattle.tb_runs.specs.Reading.{begins, body_in, cell_in, id_in, kind_in, number_in, register_in, task_in, type_in, word_in};
 ghost use Rattle.tb_runs.specs.declared.fault.Fault.{Fault as TheFault};
 ghost use Rattle.tb_runs.specs.declared.fault.Fault.TheVariants.{Arity};
-ghost use Rattle.tb_runs.specs.declared.fault.Unread.TheVariants.{Faulty};
+ghost use Rattle.tb_runs.specs.declared.fault.Unread.TheVariants.{Faulty, Memory};
 
 use crate::fault::{Fault, Unread};
 use crate::name::{Id, read_id, read_task};
@@ -130,6 +131,7 @@ pub fn take_task(alloc: Global, words: &mut Words<'_>) -> Result<TaskName, Unrea
 pub fn take_id(alloc: Global, words: &mut Words<'_>) -> Result<Id, Unread>
     ensures ok { IfOk result (λ id. id_in words.old ≡ Ok (id, words.new)) }
     ensures err { (fault : TheFault) → result ≡ Err (Faulty fault) → id_in words.old ≡ Err fault }
+    ensures memory { result ≡ Err Memory → IsTrue (id_takes words.old) }
 {
     let word = take_word(words)?;
     match read_id(alloc, word)? {

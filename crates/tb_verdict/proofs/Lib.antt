@@ -3,3 +3,6 @@ mod RefusalLemmas
 mod FollowLemmas
 mod UnrefusedLemmas
 mod HeldLemmas
+mod WholeLemmas
+mod UnendedLemmas
+mod RecordedLemmas

@@ -1,5 +1,5 @@
 -- Which reason holds first.
-use Rattle.std.proofs.Common.{◌≡◌, ℕ, suc, List, [], ◌∷◌, Bool, true, false, not, ◌&&◌, cond, length, refl, sym, ap, ap₂, arith, Option, Some, None, option_map, IsTrue, ◌==◌, ◌+◌, slice_get, Result, Ok, Err, IfOk}
+use Rattle.std.proofs.Common.{◌≡◌, ℕ, suc, List, [], ◌∷◌, Bool, true, false, not, ◌&&◌, cond, length, refl, sym, ap, ap₂, arith, Option, Some, None, option_map, IsTrue, ◌==◌, ◌+◌, slice_get, Result, Ok, Err, IfOk, OnErr}
 use Rattle.std.specs.List.{list_any}
 use Rattle.std.proofs.lemmas.Bool.Decides.{nat_tests}
 use Rattle.tb_model.specs.declared.event.Event.{Event}
@@ -12,6 +12,7 @@ use Rattle.tb_model.specs.Lines.{Departure, events_of}
 use Rattle.tb_undo.specs.Tasks.{Task}
 use Rattle.tb_undo.specs.State.{task_of, known_task}
 use Rattle.tb_undo.specs.Standings.{Standing, standing_of}
+use Rattle.tb_verdict.specs.Memory.{IsLongRefusal, MayTake}
 use Rattle.tb_verdict.specs.Refusals.{refusal_of, out_of_turn, kept_by, unfit}
 use Rattle.tb_verdict.specs.declared.refusal.Refusal.{Refusal}
 use Rattle.tb_verdict.specs.declared.refusal.Refusal.TheVariants.{NoSuchTask, Ended}
@@ -89,3 +90,16 @@ other_child t (b ∷ u) d m k n e i j other =
 pub mapped : {A E : Type 0} {P Q : A → Type 0} (r : Result A E) → IfOk r P → ((x : A) → P x → Q x) → IfOk r Q
 mapped (Ok x) h f = f x h
 mapped (Err e) h f = tt
+
+-- what holds where there is an error
+pub on_err : {A E : Type 0} {P : Type 0} (r : Result A E) → P → OnErr r P
+on_err (Ok x) p = tt
+on_err (Err e) p = p
+
+pub on_err_then : {A E : Type 0} {P Q : Type 0} (r : Result A E) → OnErr r P → (P → Q) → OnErr r Q
+on_err_then (Ok x) h f = tt
+on_err_then (Err e) h f = f h
+
+pub may_if_long : (o : Option Refusal) → IsLongRefusal o → MayTake o
+may_if_long None h = absurd h
+may_if_long (Some r) h = h

@@ -3,11 +3,12 @@ use Rattle.std.specs.Prelude.{◌≡◌, ℕ, List, [], ◌∷◌, length, map, 
 use Rattle.tb_model.specs.declared.event.Event.{Event}
 use Rattle.tb_model.specs.Facts.{History}
 use Rattle.tb_model.specs.Legal.{Cells}
+use Rattle.tb_model.specs.Names.{Name}
 use Rattle.tb_model.specs.Lines.{Departure}
 use Rattle.tb_undo.specs.State.{Seen}
 use Rattle.tb_verdict.specs.Judged.{IsRun}
 use Rattle.tb_verdict.specs.Refusals.{refusal_of}
-use Rattle.tb_verdict.specs.Texts.{Sofar, Heading, Running, first_numbers, said_behind, line_behind}
+use Rattle.tb_verdict.specs.Texts.{Sofar, Heading, Running, first_numbers, history_in, with_event, said_behind, line_behind}
 use Rattle.tb_plan.specs.Plans.{names_allowed}
 use Rattle.tb_runs.specs.Lines.{Firsts, cells_at}
 use Rattle.tb_runs.specs.declared.said.Said.{Said}
@@ -18,6 +19,8 @@ use Rattle.tb_verdict.specs.declared.ending.Ending.TheVariants.{Faulty, Refused}
 use Rattle.tb_verdict.specs.declared.judge.Headed.{Headed}
 use Rattle.tb_verdict.specs.declared.judge.Headed.TheVariants as headed
 use Rattle.tb_verdict.specs.declared.judge.Judge.{Judge}
+use Rattle.tb_verdict.specs.declared.line_verdict.LineVerdict.{LineVerdict}
+use Rattle.tb_verdict.specs.declared.line_verdict.LineVerdict.TheVariants.{Taken, Ends}
 use Rattle.tb_verdict.specs.declared.judge.Judge.TheVariants as judge
 
 -- a run has no lines at which its tasks are: each step leaves its task at 0
@@ -29,10 +32,10 @@ pub record Holds (first : Cells) (H : History) (count : ℕ) (s : Seen) : Type 0
   pub counted : count ≡ length H
   pub run : IsRun first 0 (departures H) s
 
--- no event came yet
-abbrev pub IsHead : Stage → Firsts → Sofar → Type 0
-IsHead at firsts (Heading stage numbers) = (at ≡ stage) × (firsts ≡ numbers)
-IsHead at firsts (Running first H) = ⊥
+-- no event came yet, so the root alone is unended
+abbrev pub IsHead : Stage → Firsts → Name → Sofar → Type 0
+IsHead at firsts root (Heading stage numbers) = (at ≡ stage) × (firsts ≡ numbers) × (root ≡ [])
+IsHead at firsts root (Running first H) = ⊥
 
 -- these tables are those of the run
 abbrev pub IsRunning : ℕ → ℕ → Seen → Sofar → Type 0
@@ -41,39 +44,39 @@ IsRunning cells count s (Running first H) = (cells ≡ length first) × Holds fi
 
 -- the judge is behind these lines
 abbrev pub IsBehind : Judge → Sofar → Type 0
-IsBehind (judge.Heading at firsts) s = IsHead at firsts.entries s
+IsBehind (judge.Heading at firsts root) s = IsHead at firsts.entries root s
 IsBehind (judge.Running cells count tables) s = IsRunning cells count tables s
 
 -- ---- an event
 
 -- it is counted where it is taken; else nothing changes
-abbrev pub Counts : Cells → History → Option ℕ → Event → Option Ending → ℕ → Seen → Type 0
-Counts first H k v None count s = (refusal_of first H k v ≡ None) × Holds first (v ∷ H) count s
-Counts first H k v (Some (Refused r)) count s = (refusal_of first H k v ≡ Some r) × Holds first H count s
-Counts first H k v (Some (Faulty fault)) count s = ⊥
+abbrev pub Counts : Cells → History → Option ℕ → Event → LineVerdict → ℕ → Seen → Type 0
+Counts first H k v (Taken event) count s = (event ≡ Some v) × (refusal_of first H k v ≡ None) × Holds first (v ∷ H) count s
+Counts first H k v (Ends (Refused r)) count s = (refusal_of first H k v ≡ Some r) × Holds first H count s
+Counts first H k v (Ends (Faulty fault)) count s = ⊥
 
 -- ---- a line
 
 -- behind the first event: the run goes on, or the judgement ends there
-abbrev pub Runs : Cells → History → List ℕ → Option Ending → ℕ → Seen → Type 0
-Runs first H line None count s = (K : History) × (line_behind (Running first H) line ≡ Ok (Running first K)) × Holds first K count s
-Runs first H line (Some ending) count s = (line_behind (Running first H) line ≡ Err ending) × Holds first H count s
+abbrev pub Runs : Cells → History → List ℕ → LineVerdict → ℕ → Seen → Type 0
+Runs first H line (Taken event) count s = (line_behind (Running first H) line ≡ Ok (Running first (with_event event H))) × Holds first (with_event event H) count s
+Runs first H line (Ends ending) count s = (line_behind (Running first H) line ≡ Err ending) × Holds first H count s
 
--- of the lines with this one more that holds, or the judgement ends there
-abbrev pub Goes : Sofar → List ℕ → Option Ending → (Sofar → Type 0) → Type 0
-Goes s line None P = (t : Sofar) × (line_behind s line ≡ Ok t) × P t
-Goes s line (Some ending) P = line_behind s line ≡ Err ending
+-- of the lines with this one more that holds; or the judgement ends there, and it holds of those in front still
+abbrev pub Goes : Sofar → List ℕ → LineVerdict → (Sofar → Type 0) → Type 0
+Goes s line (Taken event) P = (t : Sofar) × (line_behind s line ≡ Ok t) × (history_in t ≡ with_event event (history_in s)) × P t
+Goes s line (Ends ending) P = (line_behind s line ≡ Err ending) × P s
 
--- the judge is behind one line more, or the judgement ends there
-abbrev pub Judges : Sofar → List ℕ → Judge → Option Ending → Type 0
-Judges s line new ending = Goes s line ending (IsBehind new)
+-- the judge is behind one line more; or the judgement ends there, and it is behind those in front still
+abbrev pub Judges : Sofar → List ℕ → Judge → LineVerdict → Type 0
+Judges s line new v = Goes s line v (IsBehind new)
 
 -- ---- the first event
 
 -- it begins the run, or the judgement ends there
 abbrev pub Begins : ℕ → Cells → Option ℕ → Event → Headed → Type 0
 Begins n first k v headed.Stays = ⊥
-Begins n first k v (headed.Runs cells count tables) = (refusal_of first [] k v ≡ None) × (cells ≡ n) × Holds first (v ∷ []) count tables
+Begins n first k v (headed.Runs cells count tables event) = (event ≡ Some v) × (refusal_of first [] k v ≡ None) × (cells ≡ n) × Holds first (v ∷ []) count tables
 Begins n first k v (headed.Ends (Refused r)) = refusal_of first [] k v ≡ Some r
 Begins n first k v (headed.Ends (Faulty fault)) = ⊥
 
@@ -82,17 +85,17 @@ Begins n first k v (headed.Ends (Faulty fault)) = ⊥
 -- by what it says: no event came yet, or the run begins, or the judgement ends there
 abbrev pub HeadsOn : Stage → Firsts → Said → Stage → Firsts → Headed → Type 0
 HeadsOn at firsts said stage numbers headed.Stays = said_behind (Heading at firsts) said ≡ Ok (Heading stage numbers)
-HeadsOn at firsts said stage numbers (headed.Runs cells count tables) =
-    (H : History) × (said_behind (Heading at firsts) said ≡ Ok (Running (first_numbers (cells_at at) firsts) H)) × (cells ≡ cells_at at)
-    × Holds (first_numbers (cells_at at) firsts) H count tables
-HeadsOn at firsts said stage numbers (headed.Ends ending) = said_behind (Heading at firsts) said ≡ Err ending
+HeadsOn at firsts said stage numbers (headed.Runs cells count tables event) =
+    (said_behind (Heading at firsts) said ≡ Ok (Running (first_numbers (cells_at at) firsts) (with_event event []))) × (cells ≡ cells_at at)
+    × Holds (first_numbers (cells_at at) firsts) (with_event event []) count tables
+HeadsOn at firsts said stage numbers (headed.Ends ending) = (said_behind (Heading at firsts) said ≡ Err ending) × (stage ≡ at) × (numbers ≡ firsts)
 
 abbrev pub HeadsBy : Stage → Firsts → List ℕ → Stage → Firsts → Headed → Type 0
 HeadsBy at firsts line stage numbers headed.Stays = line_behind (Heading at firsts) line ≡ Ok (Heading stage numbers)
-HeadsBy at firsts line stage numbers (headed.Runs cells count tables) =
-    (H : History) × (line_behind (Heading at firsts) line ≡ Ok (Running (first_numbers (cells_at at) firsts) H)) × (cells ≡ cells_at at)
-    × Holds (first_numbers (cells_at at) firsts) H count tables
-HeadsBy at firsts line stage numbers (headed.Ends ending) = line_behind (Heading at firsts) line ≡ Err ending
+HeadsBy at firsts line stage numbers (headed.Runs cells count tables event) =
+    (line_behind (Heading at firsts) line ≡ Ok (Running (first_numbers (cells_at at) firsts) (with_event event []))) × (cells ≡ cells_at at)
+    × Holds (first_numbers (cells_at at) firsts) (with_event event []) count tables
+HeadsBy at firsts line stage numbers (headed.Ends ending) = (line_behind (Heading at firsts) line ≡ Err ending) × (stage ≡ at) × (numbers ≡ firsts)
 
 -- what it says is in range
 abbrev pub IsAllowed : Stage → Said → Type 0

@@ -7,6 +7,7 @@ use Rattle.tb_model.specs.Legal.{Cells}
 use Rattle.tb_model.specs.Program.{zero_ℤ}
 use Rattle.tb_runs.specs.Lines.{Firsts, line_said, cells_at}
 use Rattle.tb_runs.specs.declared.fault.Fault.{Fault}
+use Rattle.tb_runs.specs.declared.fault.Fault.TheVariants.{NoCells}
 use Rattle.tb_runs.specs.declared.said.Said.{Said}
 use Rattle.tb_runs.specs.declared.said.Said.TheVariants as says
 use Rattle.tb_runs.specs.declared.said.Stage.{Stage}
@@ -46,6 +47,16 @@ heading_events (stage.Events count) = Some 0
 abbrev pub events_in : Sofar → Option ℕ
 events_in (Heading at firsts) = heading_events at
 events_in (Running first H) = Some (length H)
+
+-- the events, the newest first
+abbrev pub history_in : Sofar → History
+history_in (Heading at firsts) = []
+history_in (Running first H) = H
+
+-- the events with this one, if there is one
+abbrev pub with_event : Option Event → History → History
+with_event None H = H
+with_event (Some v) H = v ∷ H
 
 -- what a line says there
 abbrev pub says_at : Sofar → List ℕ → Result (Option Said) Fault
@@ -89,3 +100,18 @@ ended_at n (Ok s) more = more s
 abbrev pub lines_behind : ℕ → Sofar → List (List ℕ) → Result Sofar (ℕ × Ending)
 lines_behind n s [] = Ok s
 lines_behind n s (line ∷ lines) = ended_at n (line_behind s line) (λ s. lines_behind (suc n) s lines)
+
+-- the first numbers and the events of a text that ends there, and a fault where none of its lines has words
+abbrev pub ended_in : Sofar → Result (Cells × History) (ℕ × Ending)
+ended_in (Heading stage.Begin firsts) = Err (1, Faulty NoCells)
+ended_in (Heading (stage.Cells count) firsts) = Ok (first_numbers count firsts, [])
+ended_in (Heading (stage.Events count) firsts) = Ok (first_numbers count firsts, [])
+ended_in (Running first H) = Ok (first, H)
+
+abbrev pub ended_after : Result Sofar (ℕ × Ending) → Result (Cells × History) (ℕ × Ending)
+ended_after (Err ending) = Err ending
+ended_after (Ok s) = ended_in s
+
+-- what a text of these lines comes to: a run, or the line at which its judgement ends, and why
+abbrev pub text_judged : List (List ℕ) → Result (Cells × History) (ℕ × Ending)
+text_judged lines = ended_after (lines_behind 1 start lines)

@@ -1,7 +1,8 @@
 //! The names in a refusal.
 
-ghost use Rattle.std.specs.Prelude.{◌≡◌, ◌<◌, IfOk};
+ghost use Rattle.std.specs.Prelude.{◌≡◌, ◌<◌, IfOk, OnErr};
 ghost use Rattle.tb_undo.specs.Obstacles.{hindrance_by, sibling};
+ghost use Rattle.tb_verdict.specs.Memory.{IsLong, IsLongName};
 ghost use Rattle.tb_verdict.specs.Numbered.{IsNumbered};
 ghost use Rattle.tb_verdict.specs.Refusals.{kept_by};
 
@@ -10,10 +11,12 @@ use std::alloc::AllocError;
 use tb_model::TaskName;
 use tb_undo::Obstacle;
 
-/// What keeps the task from its action, by name.
+/// What keeps the task from its action, by name. Memory is wanted at most for a name of more than
+/// three numbers.
 pub fn named(task: &TaskName, obstacle: Obstacle<'_>) -> Result<Refusal, AllocError>
     requires { IsNumbered obstacle }
-    ensures { IfOk result (λ r. r ≡ kept_by (hindrance_by task.now obstacle.entry)) }
+    ensures ok { IfOk result (λ r. r ≡ kept_by (hindrance_by task.now obstacle.entry)) }
+    ensures memory { OnErr result (IsLong (kept_by (hindrance_by task.now obstacle.entry))) }
 {
     match obstacle {
         Obstacle::Undeferred { child } => Ok(Refusal::Undeferred {
@@ -37,7 +40,8 @@ pub fn named(task: &TaskName, obstacle: Obstacle<'_>) -> Result<Refusal, AllocEr
 /// The child of the task's parent with this number.
 fn sibling_of(task: &TaskName, number: u32) -> Result<TaskName, AllocError>
     requires { 0 < number }
-    ensures { IfOk result (λ name. name ≡ sibling task.now number) }
+    ensures ok { IfOk result (λ name. name ≡ sibling task.now number) }
+    ensures memory { OnErr result (IsLongName (sibling task.now number)) }
 {
     match task.parent()? {
         Some(parent) => parent.child(number),

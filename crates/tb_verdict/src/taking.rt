@@ -4,6 +4,7 @@ ghost use Rattle.std.specs.Prelude.{◌≡◌, IfOk, IsTrue, OnErr, length};
 ghost use Rattle.tb_plan.specs.Plans.{names_allowed};
 ghost use Rattle.tb_undo.specs.Changes.{AreSame};
 ghost use Rattle.tb_verdict.specs.Judged.{AreOfRun, ForRun, Takes};
+ghost use Rattle.tb_verdict.specs.Memory.{IsLongRefusal, MayTake};
 ghost use Rattle.tb_verdict.specs.Refusals.{refusal_of};
 
 use crate::named::named;
@@ -15,7 +16,8 @@ use tb_model::Event;
 use tb_undo::Tables;
 
 /// Why the event may not follow the run of which the tables are: the first reason that holds. The
-/// event is its task's next, or that with this number. Memory is wanted at most for a name.
+/// event is its task's next, or that with this number. Memory is wanted at most for a name of more
+/// than three numbers.
 pub fn refusal_for(
     tables: &Tables,
     step: Option<u64>,
@@ -23,7 +25,8 @@ pub fn refusal_for(
 ) -> Result<Option<Refusal>, AllocError>
     requires run { AreOfRun tables.now }
     requires allowed { IsTrue (names_allowed (length tables.now.store.cells) event.now.action) }
-    ensures { IfOk result (λ r. ForRun tables.now (λ first H. refusal_of first H step event.now ≡ r)) }
+    ensures ok { IfOk result (λ r. ForRun tables.now (λ first H. refusal_of first H step event.now ≡ r)) }
+    ensures memory { OnErr result (ForRun tables.now (λ first H. IsLongRefusal (refusal_of first H step event.now))) }
 {
     let task = &event.task;
     let Some(standing) = tables.standing(task) else {
@@ -51,6 +54,7 @@ pub fn take(
     requires allowed { IsTrue (names_allowed (length tables.old.store.cells) event.now.action) }
     ensures ok { IfOk result (Takes step event.now tables.old tables.new) }
     ensures err { OnErr result (AreSame tables.old tables.new) }
+    ensures memory { OnErr result (ForRun tables.old (λ first H. MayTake (refusal_of first H step event.now))) }
 {
     if let Some(refusal) = refusal_for(tables, step, event)? {
         return Ok(Some(refusal));

@@ -1,10 +1,11 @@
 //! What an action says that isn't so.
 
-ghost use Rattle.std.specs.Prelude.{◌≡◌, ◌<◌, IfOk, IsTrue, length, suc};
+ghost use Rattle.std.specs.Prelude.{◌≡◌, ◌<◌, IfOk, IsTrue, OnErr, length, suc};
 ghost use Rattle.tb_model.specs.Names.{child, same_name};
 ghost use Rattle.tb_model.specs.Facts.{is_spawned};
 ghost use Rattle.tb_plan.specs.Plans.{names_allowed};
 ghost use Rattle.tb_verdict.specs.Judged.{AreOfRun, ForRun};
+ghost use Rattle.tb_verdict.specs.Memory.{IsLongRefusal};
 ghost use Rattle.tb_verdict.specs.Refusals.{misnamed, misread, unfit, unopened};
 
 use crate::refusal::Refusal;
@@ -37,7 +38,8 @@ fn is_next_child(task: &TaskName, name: &TaskName, children: u32) -> bool
 /// Why a child may not have this name, after so many of the task's.
 fn misnamed(task: &TaskName, name: &TaskName, children: u32) -> Result<Option<Refusal>, AllocError>
     requires { children < 4294967295 }
-    ensures { IfOk result (λ r. r ≡ misnamed name.now (child task.now (suc children))) }
+    ensures ok { IfOk result (λ r. r ≡ misnamed name.now (child task.now (suc children))) }
+    ensures memory { OnErr result (IsLongRefusal (misnamed name.now (child task.now (suc children)))) }
 {
     if is_next_child(task, name, children) {
         return Ok(None);
@@ -67,7 +69,8 @@ pub fn unfit(
     requires run { AreOfRun tables.now }
     requires there { ForRun tables.now (λ first H. IsTrue (is_spawned H task.now)) }
     requires allowed { IsTrue (names_allowed (length tables.now.store.cells) action.now) }
-    ensures { IfOk result (λ r. ForRun tables.now (λ first H. r ≡ unfit first H task.now action.now)) }
+    ensures ok { IfOk result (λ r. ForRun tables.now (λ first H. r ≡ unfit first H task.now action.now)) }
+    ensures memory { OnErr result (ForRun tables.now (λ first H. IsLongRefusal (unfit first H task.now action.now))) }
 {
     match action {
         Action::Load { cell, value, .. } => Ok(misread(*value, tables.get(*cell))),

@@ -4,3 +4,5 @@
 
 #[cfg(test)]
 mod texts;
+#[cfg(test)]
+mod whole;

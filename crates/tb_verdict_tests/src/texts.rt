@@ -2,7 +2,7 @@
 
 use std::mem::forget;
 use std::process::Abort;
-use tb_verdict::{Ending, Judge};
+use tb_verdict::{Ending, Judge, LineVerdict};
 
 /// The line at which the judgement ends, with the number of the refusal, or 0 at a faulty line.
 fn ending_of(rt: &HostRuntime, lines: &[&[u8]]) -> Option<(usize, u8)> {
@@ -10,8 +10,8 @@ fn ending_of(rt: &HostRuntime, lines: &[&[u8]]) -> Option<(usize, u8)> {
     let mut found = None;
     'lines: for at in 0..lines.len() {
         match judge.take_line(rt.alloc(), lines[at]) {
-            Ok(None) => {}
-            Ok(Some(ending)) => {
+            Ok(LineVerdict::Taken { event }) => forget(event),
+            Ok(LineVerdict::Ends { ending }) => {
                 found = Some((at + 1, number_of(&ending)));
                 forget(ending);
                 break 'lines;
@@ -28,8 +28,8 @@ fn left_of(rt: &HostRuntime, lines: &[&[u8]]) -> (Option<u32>, Option<u32>) {
     let mut judge = Judge::new(rt.alloc());
     'lines: for at in 0..lines.len() {
         match judge.take_line(rt.alloc(), lines[at]) {
-            Ok(None) => {}
-            Ok(Some(ending)) => {
+            Ok(LineVerdict::Taken { event }) => forget(event),
+            Ok(LineVerdict::Ends { ending }) => {
                 forget(ending);
                 break 'lines;
             }

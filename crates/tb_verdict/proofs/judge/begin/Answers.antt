@@ -8,18 +8,18 @@ use Rattle.tb_verdict.proofs.judge.begin.Goals as goal
 
 pub count_event-requires-clause-allowed : goal.count_event-requires-clause-allowed
 count_event-requires-clause-allowed c =
-    ap (λ n. names_allowed n c.args.event.now.action) (c.in_ok-tables.ensures.run.state.cells.count ∙ firsts_count c.args.firsts.now.entries c.cells_at-cells.result ∙ c.cells_at-cells.ensures) ∙ c.requires
+    ap (λ n. names_allowed n c.args.event.action) (c.in_ok-tables.ensures.run.state.cells.count ∙ firsts_count c.args.firsts.now.entries c.cells_at-cells.result ∙ c.cells_at-cells.ensures) ∙ c.requires
 
-pub returns-in-None : goal.returns-in-None
-returns-in-None c =
+pub returns-in-Taken : goal.returns-in-Taken
+returns-in-Taken c =
     let first = first_numbers (cells_at c.args.stage) c.args.firsts.now.entries in
     let holds = subst (λ n. Holds (first_numbers n c.args.firsts.now.entries) [] 0 c.in_ok-tables.tables) c.cells_at-cells.ensures c.in_ok-tables.ensures in
-    let counts = subst (λ ending. Counts first [] c.args.step c.args.event.now ending c.count_event.new.count c.count_event.new.tables) c.in-None.is (c.in_ok-count_event.ensures.ok first [] holds) in
-    (counts.0, c.cells_at-cells.ensures, counts.1)
+    let counts = subst (λ o. Counts first [] c.args.step c.args.event o c.count_event.new.count c.count_event.new.tables) c.in-Taken.is (c.in_ok-event.ensures.ok first [] holds) in
+    (counts.0, counts.1, c.cells_at-cells.ensures, counts.2)
 
-pub returns-in-Some : goal.returns-in-Some
-returns-in-Some c =
+pub returns-in-Ends : goal.returns-in-Ends
+returns-in-Ends c =
     let first = first_numbers (cells_at c.args.stage) c.args.firsts.now.entries in
     let holds = subst (λ n. Holds (first_numbers n c.args.firsts.now.entries) [] 0 c.in_ok-tables.tables) c.cells_at-cells.ensures c.in_ok-tables.ensures in
-    let counts = subst (λ ending. Counts first [] c.args.step c.args.event.now ending c.count_event.new.count c.count_event.new.tables) c.in-Some.is (c.in_ok-count_event.ensures.ok first [] holds) in
-    begins_ending (cells_at c.args.stage) first c.args.step c.args.event.now c.count_event.new.count c.count_event.new.tables c.in-Some.ending counts
+    let counts = subst (λ o. Counts first [] c.args.step c.args.event o c.count_event.new.count c.count_event.new.tables) c.in-Ends.is (c.in_ok-event.ensures.ok first [] holds) in
+    begins_ending (cells_at c.args.stage) first c.args.step c.args.event c.count_event.new.count c.count_event.new.tables c.in-Ends.ending counts

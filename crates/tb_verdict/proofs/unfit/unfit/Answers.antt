@@ -1,12 +1,13 @@
-use Rattle.std.proofs.Common.{ap, ap₂, sym, ◌∙◌, suc, rules, arith, to_z-of_z, w64, SFits}
+use Rattle.std.proofs.Common.{subst, ap, ap₂, sym, ◌∙◌, suc, rules, arith, to_z-of_z, w64, SFits}
 use Rattle.std.proofs.lemmas.List.{length-map}
 use Rattle.tb_model.specs.Facts.{own, is_spawned}
 use Rattle.tb_model.specs.Legal.{spawn_count}
 use Rattle.tb_model.specs.Lines.{Departure, events_of}
 use Rattle.tb_model.specs.Names.{child}
+use Rattle.tb_verdict.specs.Memory.{IsLongRefusal}
 use Rattle.tb_verdict.specs.Refusals.{misread, misnamed, unopened, unfit}
 use Rattle.tb_verdict.proofs.FollowLemmas.{counted, few_children}
-use Rattle.tb_verdict.proofs.RefusalLemmas.{mapped}
+use Rattle.tb_verdict.proofs.RefusalLemmas.{mapped, on_err_then}
 use Rattle.tb_verdict.proofs.unfit.unfit.Goals as goal
 
 pub misnamed-requires : goal.misnamed-requires
@@ -19,20 +20,27 @@ misnamed-requires c =
     let few = few_children c.args.task.now (events_of D) 4294967295 (omega (arith, length-map D (λ (d : Departure). d.event), run.few)) in
     omega (arith, c.unwrap_or-children.ensures, count, few)
 
-pub returns-in-Load : goal.returns-in-Load
-returns-in-Load c first root_line D run =
+pub returns-in-Load-clause-ok : goal.returns-in-Load-clause-ok
+returns-in-Load-clause-ok c first root_line D run =
     let value : SFits w64 c.in-Load.value = search rules in
     let number : SFits w64 c.get.result = search rules in
     let read = c.get.ensures first root_line D run.state in
     c.misread.ensures ∙ ap₂ misread (to_z-of_z value) (to_z-of_z number ∙ read) ∙ sym (ap (unfit first (events_of D) c.args.task.now) c.in-Load.is)
 
-pub returns-in-Spawn : goal.returns-in-Spawn
-returns-in-Spawn c =
-    mapped c.misnamed.result c.misnamed.ensures (λ r is first root_line D run.
+pub returns-in-Spawn-clause-ok : goal.returns-in-Spawn-clause-ok
+returns-in-Spawn-clause-ok c =
+    mapped c.misnamed.result c.misnamed.ensures.ok (λ r is first root_line D run.
     let count = counted c.children.result (is_spawned (events_of D) c.args.task.now) (spawn_count (own c.args.task.now (events_of D))) (c.children.ensures first root_line D run.state) (c.requires.there first root_line D run) in
     is ∙ ap₂ (λ name n. misnamed name (child c.args.task.now (suc n))) (ap (λ s. s.child) c.get-in-Spawn.ensures) (c.unwrap_or-children.ensures ∙ count)
     ∙ sym (ap (unfit first (events_of D) c.args.task.now) c.in-Spawn.is))
 
-pub returns-in-Close : goal.returns-in-Close
-returns-in-Close c first root_line D run =
+pub returns-in-Close-clause-ok : goal.returns-in-Close-clause-ok
+returns-in-Close-clause-ok c first root_line D run =
     c.unopened.ensures ∙ ap unopened (c.groups.ensures first root_line D run.legal run.state) ∙ sym (ap (unfit first (events_of D) c.args.task.now) c.in-Close.is)
+
+pub returns-in-Spawn-clause-memory : goal.returns-in-Spawn-clause-memory
+returns-in-Spawn-clause-memory c =
+    on_err_then c.misnamed.result c.misnamed.ensures.memory (λ long first root_line D run.
+    let count = counted c.children.result (is_spawned (events_of D) c.args.task.now) (spawn_count (own c.args.task.now (events_of D))) (c.children.ensures first root_line D run.state) (c.requires.there first root_line D run) in
+    subst IsLongRefusal (ap₂ (λ name n. misnamed name (child c.args.task.now (suc n))) (ap (λ s. s.child) c.get-in-Spawn.ensures) (c.unwrap_or-children.ensures ∙ count)
+    ∙ sym (ap (unfit first (events_of D) c.args.task.now) c.in-Spawn.is)) long)

@@ -1,21 +1,20 @@
-use Rattle.std.proofs.Common.{subst}
+use Rattle.std.proofs.Common.{Some, None, subst}
 use Rattle.std.specs.Option.{option_copied}
-use Rattle.tb_model.specs.Facts.{History}
-use Rattle.tb_model.specs.LeastNames.{IsLeastName}
-use Rattle.tb_undo.specs.Readings.{IsUnendedBehind}
-use Rattle.tb_verdict.specs.Held.{IsBehind, departures}
-use Rattle.tb_verdict.specs.Texts.{Heading, Running}
-use Rattle.tb_verdict.proofs.HeldLemmas.{its_events}
+use Rattle.tb_verdict.specs.Held.{IsBehind}
+use Rattle.tb_verdict.proofs.UnendedLemmas.{first_of_all, none_behind, unended_running, unended_heading}
 use Rattle.tb_verdict.proofs.judge.Judge.next_unended.Goals as goal
 
-pub returns-in-Running-clause-run : goal.returns-in-Running-clause-run
-returns-in-Running-clause-run c first H behind =
-    let b = subst (λ j. IsBehind j (Running first H)) c.in-Running.is behind in
-    subst (λ (K : History). IsLeastName (IsUnendedBehind K (option_copied c.args.after)) (option_copied c.next_unended.result)) (its_events H)
-    (c.next_unended.ensures first 0 (departures H) b.1.run.state)
+pub returns-in-Running-default : goal.returns-in-Running-default
+returns-in-Running-default c s behind =
+    unended_running c.in-Running-default.cells-0 c.in-Running-default.count-0 c.in-Running-default.tables (option_copied c.args.after) (option_copied c.next_unended.result) c.next_unended.ensures s
+    (subst (λ j. IsBehind j s) c.in-Running-default.is-0 behind)
 
-pub returns-in-Running-clause-heading : goal.returns-in-Running-clause-heading
-returns-in-Running-clause-heading c at firsts behind = absurd (subst (λ j. IsBehind j (Heading at firsts)) c.in-Running.is behind)
+pub returns-in-Heading-None : goal.returns-in-Heading-None
+returns-in-Heading-None c s behind =
+    unended_heading c.in-Heading-None.stage-0 c.in-Heading-None.firsts-0.entries c.in-Heading-None.root (option_copied c.args.after) (Some c.in-Heading-None.root)
+    (λ is. rw (c.in-Heading-None.is-1, is) first_of_all) s (subst (λ j. IsBehind j s) c.in-Heading-None.is-0 behind)
 
-pub returns-in-Heading-clause-run : goal.returns-in-Heading-clause-run
-returns-in-Heading-clause-run c first H behind = absurd (subst (λ j. IsBehind j (Running first H)) c.in-Heading.is behind)
+pub returns-in-Heading-Some : goal.returns-in-Heading-Some
+returns-in-Heading-Some c s behind =
+    unended_heading c.in-Heading-Some.stage-0 c.in-Heading-Some.firsts-0.entries c.in-Heading-Some.root-0 (option_copied c.args.after) None
+    (λ is. rw c.in-Heading-Some.is-1 (none_behind c.in-Heading-Some.field-0-1.now)) s (subst (λ j. IsBehind j s) c.in-Heading-Some.is-0 behind)
