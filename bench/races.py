@@ -1,15 +1,15 @@
 #!/usr/bin/env python3
-"""Measures `races` on long runs, on the built program.
+"""Measures `races`, or another view of all steps, on long runs, on the built program.
 
-    bench/races.py [--program P] [--seconds S] [--tasks N] [--same] [WORD]
+    bench/races.py [--program P] [--view V] [--seconds S] [--most STEPS] [--tasks N] [--same] [WORD]
 
-Each row is a kind of program whose run is done first: what is timed is the command `races` itself,
-from its line to its reply. The run has 1,000 steps at first, and then ten times as many each time,
-until `races` takes more than S seconds (2) or the run is at its longest: 100,000 steps by N tasks
-(1,000), for one task alone 1,000,000. A tenth of the steps are done by a tenth of the tasks, or,
-with --same, by as many (N is 10 then). Printed are the time, the most memory that the program had,
-the races, and the growth: how much longer ten times the steps took. With a word, only the rows in
-whose name it is.
+Each row is a kind of program whose run is done first: what is timed is the command itself, from its
+line to the last of its reply. The run has about 1,000 steps at first, and then ten times as many each
+time, until the view takes more than S seconds (2) or the run is at its longest: about STEPS (100,000)
+by N tasks (1,000), for one task alone 1,000,000. A tenth of the steps are done by a tenth of the
+tasks, or, with --same, by as many (N is 10 then). Printed are the time, the most memory that the
+program had, the lines of the reply, and the growth: how much longer ten times the steps took. With a
+word, only the rows in whose name it is. The view is `races`, or `edges`.
 """
 import argparse
 import os
@@ -41,7 +41,7 @@ def alone(steps: int, _: int) -> list[str]:
 def siblings(*spawn: str, body: Sequence[str] = ('store 0 1',), after: Sequence[str] = ()) -> OfSizes:
     """A root that generates each task by these lines, and then does `after`; a task does the body in rounds."""
     def lines(steps: int, tasks: int) -> list[str]:
-        rounds = steps // tasks // (2 + len(body))
+        rounds = max(1, steps // tasks // (2 + len(body)))
         return program([*loop(tasks, *spawn), *after], loop(rounds, *body))
     return lines
 
@@ -121,8 +121,8 @@ def memory(child: subprocess.Popen[bytes]) -> float:
         return [int(line.split()[1]) / 1024 for line in status if line.startswith('VmHWM')][0]
 
 
-def measure(program: str, lines: Sequence[str], most: float) -> tuple[int, float | None, float, int]:
-    """Steps of the run, seconds of `races`, memory in MB, and races; no seconds where it takes more than the most."""
+def measure(program: str, lines: Sequence[str], view: str, most: float) -> tuple[int, float | None, float, int]:
+    """Steps of the run, seconds of the view, memory in MB, and lines of its reply; no seconds where it takes more than the most."""
     child = subprocess.Popen([program, '--limit', '1000000'], stdin=subprocess.PIPE, stdout=subprocess.PIPE)
     commands, told = child.stdin, child.stdout
     assert commands is not None and told is not None
@@ -136,7 +136,7 @@ def measure(program: str, lines: Sequence[str], most: float) -> tuple[int, float
             line = told.readline()
         steps = int(line.split()[1])
         given = time.perf_counter()
-        commands.write(b'races\n')
+        commands.write(view.encode() + b'\n')
         commands.flush()
         if not select.select([told], [], [], most)[0]:
             return steps, None, memory(child), 0
@@ -153,15 +153,15 @@ def row(given: argparse.Namespace, lines: OfSizes) -> Iterator[str]:
     """What is said of each size."""
     before: float | None = None
     for steps in (1000, 10000, 100000, 1000000):
-        if steps == 1000000 and lines is not alone:
+        if steps > (1000000 if lines is alone else given.most):
             return
-        tasks = given.tasks or 10 if given.same else max(1, steps * (given.tasks or 1000) // 100000)
-        done, taken, most, count = measure(os.path.abspath(given.program), lines(steps, tasks), 10 * given.seconds)
+        tasks = given.tasks or 10 if given.same else max(1, steps * (given.tasks or 1000) // given.most)
+        done, taken, most, count = measure(os.path.abspath(given.program), lines(steps, tasks), given.view, 10 * given.seconds)
         if taken is None:
             yield '%d steps: more than %g s' % (done, 10 * given.seconds)
             return
         growth = ', growth %.1f' % (taken / before) if before else ''
-        yield '%d steps: %.3f s %.0f MB, %d races%s' % (done, taken, most, count, growth)
+        yield '%d steps: %.3f s %.0f MB, %d lines%s' % (done, taken, most, count, growth)
         if taken > given.seconds:
             return
         before = taken
@@ -170,7 +170,9 @@ def row(given: argparse.Namespace, lines: OfSizes) -> Iterator[str]:
 def main() -> None:
     args = argparse.ArgumentParser(description=__doc__, formatter_class=argparse.RawDescriptionHelpFormatter)
     args.add_argument('--program', default=os.path.join(TOP, 'crates/taskback/out/taskback'))
+    args.add_argument('--view', choices=['races', 'edges'], default='races')
     args.add_argument('--seconds', type=float, default=2)
+    args.add_argument('--most', type=int, default=100000)
     args.add_argument('--tasks', type=int)
     args.add_argument('--same', action='store_true')
     args.add_argument('word', nargs='?', default='')
