@@ -1,11 +1,13 @@
 -- Texts as lines of bytes, and what a reader gave of them.
-use Rattle.std.specs.Prelude.{◌≡◌, ℕ, Bool, true, false, List, [], ◌∷◌, ◌++◌, Option, Result, Ok, Err}
+use Rattle.std.specs.Prelude.{◌≡◌, ◌<◌, ℕ, length, Bool, true, false, List, [], ◌∷◌, ◌++◌, Option, Result, Ok, Err}
 use Rattle.std.specs.List.{AllByRecursion}
 use Rattle.tb_read.specs.Text.{is_line_feed}
 use Rattle.std.specs.Io.KnownBytes.{Consumes, IsAtEnd}
 use Rattle.tb_lines.specs.declared.line_reader.LineEnd.{LineEnd}
 use Rattle.tb_lines.specs.declared.line_reader.LineEnd.TheVariants.{Feed, Input}
 use Rattle.tb_lines.specs.declared.line_reader.LineFault.{LineFault}
+use Rattle.tb_lines.specs.declared.line_stop.LineStop.{LineStop}
+use Rattle.tb_lines.specs.declared.line_stop.LineStop.TheVariants as stop
 
 -- no byte of these is a line feed
 abbrev pub IsUnbroken : List ℕ → Type 0
@@ -46,3 +48,10 @@ abbrev pub GaveLine : Option (List ℕ) → Option (List ℕ) → List ℕ → R
 GaveLine old new line (Ok Feed) = Consumes old new (line ++ 10 ∷ []) × IsUnbroken line
 GaveLine old new line (Ok Input) = Consumes old new line × IsUnbroken line × IsAtEnd new
 GaveLine old new line (Err e) = Consumes old new line × IsUnbroken line
+
+-- a line, with what ended it, or more than so many of its first bytes; at an error, a part of one was taken
+abbrev pub GaveFront : ℕ → Option (List ℕ) → Option (List ℕ) → List ℕ → Result LineStop LineFault → Type 0
+GaveFront most old new line (Ok stop.Feed) = Consumes old new (line ++ 10 ∷ []) × IsUnbroken line
+GaveFront most old new line (Ok stop.Input) = Consumes old new line × IsUnbroken line × IsAtEnd new
+GaveFront most old new line (Ok stop.Long) = Consumes old new line × IsUnbroken line × (most < length line)
+GaveFront most old new line (Err e) = Consumes old new line × IsUnbroken line

@@ -4,8 +4,9 @@ ghost use Rattle.std.specs.Prelude.{ℕ, List, [], ◌∷◌, ◌++◌, ◌≡�
 ghost use Rattle.std.specs.Io.KnownBytes.{Keeps, IsAtEnd, prepend_known};
 ghost use Rattle.std.specs.List.{position_or_len};
 ghost use Rattle.tb_read.specs.Text.{is_line_feed};
-ghost use Rattle.tb_lines.specs.Lines.{IsUnbroken, GaveLine, TakesPiece, most_ahead};
+ghost use Rattle.tb_lines.specs.Lines.{IsUnbroken, GaveFront, GaveLine, TakesPiece, most_ahead};
 
+use crate::line_stop::LineStop;
 use crate::ports::{Failed, Source};
 use std::alloc::AllocError;
 use std::marker::Model;
@@ -139,6 +140,44 @@ impl LineReader {
                 Ok(true) => return Ok(LineEnd::Feed),
                 Ok(false) => {}
                 Err(_) => return Err(LineFault::Memory),
+            }
+        }
+        unreachable!()
+    }
+    /// Reads the next line into `line`, without its line feed, or the first of its bytes where more
+    /// than `most` of them have none. So memory goes by `most`, however long the line is.
+    pub fn next_line_within<R: Wait, S: Source>(
+        &mut self,
+        rt: &R,
+        source: &mut S,
+        line: &mut Vec<u8>,
+        most: usize,
+    ) -> Result<LineStop, LineFault>
+        requires { S.failures source.old < 2 ^ 64 - 1 }
+        ensures line { GaveFront most (prepend_known self.old (S.left source.old))
+            (prepend_known self.new (S.left source.new)) line.new.items result }
+        ensures few { length line.new.items ≤ most + most_ahead }
+        ensures ok { OnOk result (S.failures source.new ≡ S.failures source.old) }
+        ensures memory { IsErrOf result LineFault.Memory
+            → S.failures source.new ≡ S.failures source.old }
+        ensures read { IsErrOf result LineFault.Read
+            → (S.failures source.new ≡ S.failures source.old + 1) × (self.new ≡ []) }
+        ensures ahead { length self.new ≤ most_ahead }
+    {
+        line.clear();
+        'pieces: for _ in rt.forever() {
+            match self.fill(source) {
+                Ok(true) => {}
+                Ok(false) => return Ok(LineStop::Input),
+                Err(_) => return Err(LineFault::Read),
+            }
+            match self.take_piece(line) {
+                Ok(true) => return Ok(LineStop::Feed),
+                Ok(false) => {}
+                Err(_) => return Err(LineFault::Memory),
+            }
+            if line.len() > most {
+                return Ok(LineStop::Long);
             }
         }
         unreachable!()

@@ -1,5 +1,5 @@
 -- For what lines memory may be wanted: their event's task has a name of more than three numbers, or it spawns or waits.
-use Rattle.std.specs.Prelude.{◌≡◌, ℕ, Bool, true, false, not, ◌&&◌, ◌||◌, nat_lt, codes, count_by, List, [], ◌∷◌, length, Option, Some, None}
+use Rattle.std.specs.Prelude.{ℕ, Bool, true, false, not, ◌&&◌, ◌||◌, nat_lt, codes, count_by, List, [], ◌∷◌, length, Option, Some, None}
 use Rattle.tb_model.specs.Spelling.{is_dot}
 use Rattle.tb_read.specs.Text.{line_words, before_comment, is_text}
 use Rattle.tb_read.specs.Word.{Word}

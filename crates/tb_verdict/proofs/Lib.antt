@@ -3,6 +3,6 @@ mod RefusalLemmas
 mod FollowLemmas
 mod UnrefusedLemmas
 mod HeldLemmas
-mod WholeLemmas
+pub mod WholeLemmas
 mod UnendedLemmas
 mod RecordedLemmas

@@ -1,5 +1,5 @@
 -- What is judged of a text, and what the text records.
-use Rattle.std.proofs.Common.{◌≡◌, ℕ, suc, List, [], ◌∷◌, Bool, true, length, map, refl, sym, ap, ◌∙◌, subst, IsTrue, Option, Some, None, Result, Ok, Err}
+use Rattle.std.proofs.Common.{◌≡◌, ℕ, suc, List, [], ◌∷◌, true, length, refl, sym, ap, ◌∙◌, subst, IsTrue, Option, Some, None, Result, Ok, Err}
 use Rattle.tb_model.specs.declared.event.Event.{Event}
 use Rattle.tb_model.specs.Facts.{History}
 use Rattle.tb_model.specs.Legal.{Cells, Legal}
@@ -8,7 +8,6 @@ use Rattle.tb_runs.specs.Lines.{Firsts, cells_at, line_said}
 use Rattle.tb_runs.specs.declared.fault.Fault.{Fault}
 use Rattle.tb_runs.specs.declared.said.Said.{Said}
 use Rattle.tb_runs.specs.declared.said.Said.TheVariants as says
-use Rattle.tb_runs.specs.declared.said.Stage.{Stage}
 use Rattle.tb_runs.specs.declared.said.Stage.TheVariants as stage
 use Rattle.tb_runs.proofs.LineLemmas.{line_allowed}
 use Rattle.tb_verdict.specs.Recorded.{Step, Recorded, Front, Steps, says_in, with_said, with_line, faulty_at, recorded_behind, steps_in, steps_after, text_recorded, history_of, AreDue, RecordsLegal}

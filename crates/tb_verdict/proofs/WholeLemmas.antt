@@ -1,9 +1,8 @@
 -- A whole text, line after line.
-use Rattle.std.proofs.Common.{subst, ◌≡◌, ℕ, zero, suc, ◌+◌, List, [], ◌∷◌, ◌++◌, length, refl, sym, ap, ◌∙◌, arith, Option, Some, None, Result, Ok, Err}
+use Rattle.std.proofs.Common.{subst, ◌≡◌, ℕ, suc, ◌+◌, List, [], ◌∷◌, ◌++◌, length, refl, sym, ap, ◌∙◌, arith, Option, Some, None, Result, Ok, Err}
 use Rattle.std.proofs.lemmas.List.{length-append}
 use Rattle.tb_model.specs.declared.event.Event.{Event}
 use Rattle.tb_model.specs.Legal.{Cells}
-use Rattle.tb_model.specs.Facts.{History}
 use Rattle.tb_runs.specs.declared.fault.Fault.TheVariants.{NoCells}
 use Rattle.tb_runs.specs.declared.said.Stage.TheVariants as stage
 use Rattle.tb_verdict.specs.Held.{IsBehind, Judges}

@@ -14,7 +14,6 @@ use Rattle.tb_runs.specs.Lines.{Firsts, cells_at}
 use Rattle.tb_runs.specs.declared.said.Said.{Said}
 use Rattle.tb_runs.specs.declared.said.Said.TheVariants as says
 use Rattle.tb_runs.specs.declared.said.Stage.{Stage}
-use Rattle.tb_verdict.specs.declared.ending.Ending.{Ending}
 use Rattle.tb_verdict.specs.declared.ending.Ending.TheVariants.{Faulty, Refused}
 use Rattle.tb_verdict.specs.declared.judge.Headed.{Headed}
 use Rattle.tb_verdict.specs.declared.judge.Headed.TheVariants as headed

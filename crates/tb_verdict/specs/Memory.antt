@@ -1,7 +1,5 @@
 -- For which lines and refusals memory may be wanted.
 use Rattle.std.specs.Prelude.{◌≡◌, ◌<◌, ◌⊎◌, ℕ, List, length, Option, Some, None, Ok, IsTrue, ⊤}
-use Rattle.tb_model.specs.Facts.{History}
-use Rattle.tb_model.specs.Legal.{Cells}
 use Rattle.tb_model.specs.Names.{Name}
 use Rattle.tb_runs.specs.Memory.{line_takes}
 use Rattle.tb_runs.specs.declared.said.Said.{Said}

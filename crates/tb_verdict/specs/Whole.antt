@@ -1,7 +1,6 @@
 -- What a judge of a whole text holds of its lines.
 use Rattle.std.specs.Prelude.{◌≡◌, ℕ, Bool, true, false, List, length, Option, None, Result, Ok, Err}
 use Rattle.tb_model.specs.declared.event.Event.{Event}
-use Rattle.tb_model.specs.Facts.{History}
 use Rattle.tb_model.specs.Legal.{Cells}
 use Rattle.tb_verdict.specs.Held.{IsBehind}
 use Rattle.tb_verdict.specs.Texts.{Sofar, history_in, with_event, lines_behind, start, text_judged}

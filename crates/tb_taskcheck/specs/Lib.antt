@@ -1,0 +1,4 @@
+pub mod Unended
+pub mod Report
+pub mod Listing
+pub mod Told
