@@ -37,7 +37,7 @@ Matched [] (g ∷ gs) acts = ⊥
 Matched (k ∷ ks) [] acts = ⊥
 Matched (k ∷ ks) (g ∷ gs) acts = (k ≤ length acts) × (g.children ≡ children_at k acts) × Matched ks gs acts
 
--- so they are behind one action more
+-- so they are after one action more
 on_by : (k n m : ℕ) → k ≤ n → nat_le k n ≡ true
 on_by k n m h = grind (arith, nat_tests)
 

@@ -1,4 +1,4 @@
--- Tasks by their ids, and what is known of them behind one event more.
+-- Tasks by their ids, and what is known of them after one event more.
 use Rattle.std.proofs.Common.{◌≡◌, ◌≢◌, ◌<◌, ◌+◌, ℕ, zero, suc, List, [], ◌∷◌, ◌++◌, Bool, true, false, ◌⊎◌, cond, length, refl, sym, ap, ap₂, ◌∙◌, subst, arith, append-nil, Option, Some, None, slice_get, inl, inr, ⊎_elim}
 use Rattle.std.specs.List.{list_any}
 use Rattle.std.proofs.lemmas.Bool.{both_ways, or_parts, or_left, false_from_ne_true}
@@ -23,7 +23,7 @@ some_same x y h = cc
 
 -- ---- indexes of a list and one element more
 
--- an element of both lists is one of the first, or one of the second, behind all of the first
+-- an element of both lists is one of the first, or one of the second, after all of the first
 pub record Among {A : Type 0} (xs ys : List A) (i : ℕ) (x : A) : Type 0 where
   pub at : ℕ
   pub is : slice_get ys at ≡ Some x
@@ -111,7 +111,7 @@ module _ (cells : Cells) where
       (among (names_in H) (generated v.action) j t k))
       (among (names_in H) (generated v.action) i t h)
 
--- ---- what is known behind one event more
+-- ---- what is known after one event more
 
 nil_by : (acts : List Action) → (acts ≢ [] → ⊥) → acts ≡ []
 nil_by [] h = refl

@@ -49,7 +49,7 @@ abbrev pub is_undeferred : Action → Bool
 is_undeferred (Spawn s) = not s.deferred
 is_undeferred _ = false
 
--- the open groups behind the step with this index, where the task had so many children in front of it; the innermost first
+-- the open groups after the step with this index, in front of which the task had so many children; the innermost first
 abbrev pub groups_with : Action → ℕ → ℕ → List Group → List Group
 groups_with Open at n gs = (record { at = at; children = n }) ∷ gs
 groups_with Close at n gs = drop 1 gs
