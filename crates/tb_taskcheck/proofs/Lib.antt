@@ -1,3 +1,4 @@
 mod LineLemmas
 mod ReadLemmas
 mod WalkLemmas
+mod ReportLemmas

@@ -40,7 +40,7 @@ title_of (Step due) = codes "Step"
 abbrev pub task_carried : Name → List ℕ
 task_carried u = codes " " ++ name_text u
 
--- the task, the number or the step that is due, behind a blank
+-- the task, the number or the step that is due, after a blank
 abbrev pub carried : Refusal → List ℕ
 carried (Waiting u) = task_carried u
 carried (Excluded u) = task_carried u

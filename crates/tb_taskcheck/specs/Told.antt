@@ -32,7 +32,7 @@ Reported lines (Err _) = ⊥
 
 -- ---- what was read
 
--- an empty piece behind the last line feed is no line
+-- an empty piece after the last line feed is no line
 abbrev pub is_line : LineStop → List ℕ → Bool
 is_line stop.Input [] = false
 is_line stop.Input (b ∷ line) = true

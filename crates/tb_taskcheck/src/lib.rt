@@ -3,6 +3,7 @@
 
 mod halt;
 mod judging;
+pub mod laws;
 mod outcome;
 mod reading;
 mod refused;

@@ -1,6 +1,6 @@
 //! Tests of the judgement of run texts over readers and writers that fail, by the calls of
 //! `tb_taskcheck`.
-//! They stand apart from it, so that its proofs are not checked once more with them.
+//! They are in a crate of their own, so that its proofs are not checked once more with them.
 #![tactic(auto)]
 
 #[cfg(test)]

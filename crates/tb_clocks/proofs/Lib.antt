@@ -1,0 +1,6 @@
+mod TaskLemmas
+mod StepLemmas
+mod GroupLemmas
+mod TreeLemmas
+mod HoldLemmas
+mod OpenedLemmas
