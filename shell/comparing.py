@@ -69,7 +69,7 @@ def flip(other: Session, race: Race, stop: Callable[[], bool]) -> str | None:
         if race.second in other.history:
             return None
         if stop():
-            return "stopped by Ctrl-C; the session is as it was"
+            return "stopped; the session is as it was"
         ready = [task for task in other.view("ready")[1:] if task != early]
         if not ready:
             return f"{race.second} can't come in front of {race.first}: it waits for {early}"

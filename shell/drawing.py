@@ -31,7 +31,7 @@ class Drawing(Writing):
             if self.session.program.is_cut:
                 raise
             self.console.end_progress()
-            self.note("stopped by Ctrl-C; nothing is drawn")
+            self.note(f"stopped by {self.console.stopper}; nothing is drawn")
             return None
 
     def do_graph(self, words: Words) -> None:
@@ -113,7 +113,7 @@ class Drawing(Writing):
             self.refuse(f"can't serve on port {port}: {fault.strerror}")
             return
         with server:
-            self.say(f"the page is at {server.address} ; Ctrl-C ends it")
+            self.say(f"the page is at {server.address} ; {self.console.stopper} ends it")
             self.console.announce()
             server.serve_until(lambda: self.interrupted)
 
