@@ -151,13 +151,14 @@ class LanesTest(unittest.TestCase):
         self.addCleanup(session.close)
         session.do("run 99")
         whole = lanes_of(session)
-        with unittest.mock.patch.object(facts, "MOST_ASKED", 5), unittest.mock.patch.object(lanes, "MOST_ASKED", 5):
+        with unittest.mock.patch.object(facts, "MOST_ASKED", 5), unittest.mock.patch.multiple(lanes, MOST_ASKED=5, MOST_LABELLED=5):
             long = lanes_of(session)
             self.assertEqual(list(long.causes), list(whole.causes))
             for name, needed in whole.causes.items():
                 self.assertLessEqual({early for _, early in needed}, {early for _, early in long.causes[name]} | {early for early in long.causes if early.split("#")[0] == name.split("#")[0]})
             self.assertIn("some arrows are drawn that others imply", long.remarks()[-1])
             self.assertNotIn("font-size:11px", lanes_svg.svg_of(long))
+            self.assertIn("no arrow has a label", lanes_svg.svg_of(long))
         self.assertEqual(whole.remarks(), [])
 
     def test_many_tasks_are_pages_with_an_overview(self) -> None:
