@@ -61,10 +61,11 @@ class Graph:
     left_out: list[str]
 
     def pairs_of_races(self) -> dict[tuple[str, str], list[Race]]:
-        """The races by the tasks of their steps."""
+        """The races by the two tasks of their steps, whichever of them came first."""
         found: dict[tuple[str, str], list[Race]] = {}
         for race in self.races:
-            found.setdefault((race.first.split("#")[0], race.second.split("#")[0]), []).append(race)
+            one, two = sorted((race.first.split("#")[0], race.second.split("#")[0]), key=by_name)
+            found.setdefault((one, two), []).append(race)
         return found
 
 
@@ -163,8 +164,9 @@ def cluster(graph: Graph, group: str | None, inner: dict[str | None, list[str]],
     """The tasks of a group, and the groups in it, each in a box."""
     lines = [pad + node(graph.tasks[name]) for name in members.get(group, ())]
     for child in inner.get(group, ()):
+        # Its title is below its tasks, since arrows come from above.
         lines += [f"{pad}subgraph {quoted('cluster ' + child)} {{",
-                  f'{pad}  label={quoted("taskgroup " + child)}; style=rounded; color="#11693d"',
+                  f'{pad}  label={quoted("taskgroup " + child)}; labelloc=b; labeljust=l; fontsize=9; style=rounded; color="#11693d"',
                   *cluster(graph, child, inner, members, pad + "  "), pad + "}"]
     return lines
 
