@@ -113,7 +113,7 @@ class Shell(cmd.Cmd):
                 self.console.note("this build has no such view")
             else:
                 text = texts.error_words(command, told[-1], self.session.workers, list(self.session.source.bodies))
-                self.console.note(TASK.sub(self.focus, text) if told[-1] == "word" else text)
+                self.console.note(TASK.sub(self.focus, text) if text.startswith("did you mean") else text)
         elif told[0] == "refused":
             self.outcome = max(self.outcome, Outcome.REFUSED)
             text = texts.refusal_words(command, line, self.session)

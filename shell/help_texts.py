@@ -175,6 +175,9 @@ def meant(words: Sequence[str], bodies: Sequence[str]) -> str:
         found = " ".join([near[0], *words[1:]]) if near else None
         if near == ["break"]:
             found = break_meant(["break", *words[1:]], bodies) or found
+    if found is None and len(fitting) == 1:
+        # A command whose second word is none of its kinds.
+        return f"{HELP[fitting[0]].usage}, for example: {HELP[fitting[0]].example}"
     return f"did you mean `{found}`?" if found else "no such command; `help` lists them"
 
 

@@ -27,7 +27,7 @@ MEANT = (
     ("p $r1", "`$r1` can't stand in an expression; a register is written r1"), ("p c", "a cell is written c[3]"), ("p c + 1", "a cell is written c[3]"),
     ("info threads", "tasks 3"), ("info breakpoints", "breaks 0"), ("i locals", "task 0"), ("info registers 0.1", "task 0.1"), ("info zebra", "no such view: zebra"),
     ("list add", "=>   10  body add 1   <- 0.1, 0.2"),
-    ("rverse", "no such command"), ("reverse-continue", "did you mean `rc`?"), ("xyzzy", "no such command; `help` lists them"),
+    ("break zebra", "break task T | cell C | body NAME"), ("rverse", "no such command"), ("reverse-continue", "did you mean `rc`?"), ("xyzzy", "no such command; `help` lists them"),
     ("rollcell 9", "the program has no cell 9: it has cell 0 alone"), ("rollcell 0", "nothing was stored to cell 0"),
     ("rolltask 0.7", "task 0.7 hasn't been generated"), ("rolltask 0.2", "task 0.2 hasn't started"), ("rollprint", "nothing was printed"),
     ("undo 0.7#1", "task 0.7 hasn't been generated"), ("undo 0.1#9", "step 0.1#9 isn't in the history"), ("break cell 7", "the program has no cell 7"),
