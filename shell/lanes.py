@@ -12,6 +12,8 @@ NO_CAUSES = "this program shows no causes: their arrows are left out"
 NO_RACES = "this program shows no races: they are left out"
 IMPLIED = "of a history this long some arrows are drawn that others imply"
 UNLABELLED = "of a history this long no arrow has a label"
+# Letters to the right of the text's lanes: where all tasks have one, and else.
+LEAST_NOTE, NOTE = 12, 26
 # Of more steps the places of labels would take minutes.
 MOST_LABELLED = 8000
 
@@ -104,9 +106,9 @@ def cut(text: str, width: int) -> str:
 def text_rows(lanes: Lanes, width: int, shade: Callable[[str], str] = lambda text: text) -> list[str]:
     """The lines of the picture at a terminal of this width; `shade` marks a line that has a `*`."""
     names = [task.name for task in lanes.tasks]
-    room = min([len(step.did) for step in lanes.steps] + [16])
-    room = max([min(len(step.did), 16) for step in lanes.steps] + [room, 5]) + 2
-    fit = max(1, min(len(names), (width - 2) // room))
+    room = max([min(len(step.did), 16) for step in lanes.steps] + [5]) + 2
+    # To the right of them are notes, and the steps of tasks for whose lanes there is no place.
+    fit = len(names) if 2 + room * len(names) + LEAST_NOTE <= width else max(1, (width - 2 - NOTE) // room)
     hidden = names[fit:]
     names = names[:fit]
     there = lives(lanes.steps, names)
