@@ -3,7 +3,7 @@
 from __future__ import annotations
 
 import io
-from collections.abc import Callable, Iterable
+from collections.abc import Callable, Sequence
 
 from shell.commands import Shell
 from shell.console import Console
@@ -115,18 +115,27 @@ class Debuggee:
             self.shell.focus = task
         return line
 
-    def go_on(self, skipped: Iterable[str] = ()) -> str | None:
+    def go_on(self, skipped: Sequence[str] = ()) -> str | None:
         """The next step in the recorded order, or else of the least task that can; None where none can."""
         recorded = self.recorded_next()
         if recorded is not None and recorded not in skipped:
             line = self.step(recorded)
             if is_step(line):
                 return line
+        if not skipped:
+            return next(iter(self.run_on(1)), None)
         ready = [task for task in self.ready() if task not in skipped]
         if not ready:
             return None
         line = self.step(ready[0])
         return line if is_step(line) else None
+
+    def run_on(self, count: int) -> list[str]:
+        """The next steps, each of the least task that can; none where none can."""
+        lines = [line for line in self.session.do(f"run {count}") if is_step(line)]
+        if lines:
+            self.shell.focus = lines[-1].split("#")[0]
+        return lines
 
     def took_back(self) -> None:
         """Steps were taken back: the recorded order is looked through from its beginning."""

@@ -192,6 +192,14 @@ class Requests(unittest.TestCase):
         self.assertEqual(client.refused("pause", threadId=1), "no task is running")
         self.assertEqual(client.stopped("next", threadId=1)["reason"], "step")
 
+    def test_a_breakpoint_that_is_set_while_tasks_run(self) -> None:
+        path = write_file(self, LOOP)
+        client = self.open(path)
+        client.do("continue", threadId=1)
+        client.do("setBreakpoints", source={"path": path}, breakpoints=[{"line": 4}])
+        self.assertEqual(client.event("stopped")["reason"], "breakpoint")
+        self.assertEqual(client.frame("0")["line"], 3)
+
     def test_a_pause_ends_a_command_of_the_console(self) -> None:
         """Of an endless loop, in pieces and in one long reply; the editor shows that tasks run."""
         client = self.open(write_file(self, LOOP))
