@@ -58,13 +58,13 @@ def whole(line: str) -> str:
 
 
 def is_too_long(line: str) -> bool:
-    """Whether the program answers this line by `error line`, whatever its words are."""
+    """Whether the program answers this line by `error line`, whatever its words are; one without words has no reply."""
     return len(line.encode("utf-8", "surrogateescape")) > LONGEST_LINE
 
 
 def has_reply(line: str) -> bool:
-    """Whether the program answers this line: an empty one has no reply, too long a one has."""
-    return bool(words_of(line)) or is_too_long(line)
+    """Whether the program answers this line: one without words has no reply, however long it is."""
+    return bool(words_of(line))
 
 
 def count_of(line: str, word: str) -> int | None:

@@ -137,7 +137,7 @@ class Typed(unittest.TestCase):
         for _ in range(3):
             steps = steps_of([PROGRAM], (text + "---\n" + "\n".join(lines) + "\n").encode("latin-1"), 100000)
             lines += [spell(choice, [pick_command(choice, steps, steps[-10:], True, 0.2, 1)], 0.2) for _ in range(10)]
-        return text, lines + MALFORMED + ["run 1 #" + "y" * 1100, "go 1 1" + " " * 1100]
+        return text, lines + MALFORMED + ["run 1 #" + "y" * 1100, "go 1 1" + " " * 1100, "#" + "y" * 1100, " " * 1100, " " * 1100 + "hist"]
 
     def test_plain_lines_are_those_of_the_program(self) -> None:
         for seed in range(12):
