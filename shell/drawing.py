@@ -4,6 +4,7 @@ from __future__ import annotations
 
 import shutil
 from collections.abc import Callable, Sequence
+from functools import partial
 from typing import TypeVar
 
 from shell.console import counted
@@ -49,7 +50,7 @@ class Drawing(Writing):
             for line in tree_of(graph):
                 self.say(line)
             return
-        self.put(names[0], write_graph, graph, [written_to(names[0])])
+        self.put(names[0], partial(write_graph, stop=lambda: self.interrupted), graph, [written_to(names[0])])
 
     def do_lanes(self, words: Words) -> None:
         """The history in lanes, as text or to a file."""
@@ -82,6 +83,8 @@ class Drawing(Writing):
         try:
             self.say(write(path, what))
             WRITTEN.update((path, *more))
+        except Stopped:
+            self.note(f"stopped by {self.console.stopper}; nothing is drawn")
         except OSError as fault:
             self.refuse(f"can't write {path}: {fault.strerror}")
 

@@ -177,6 +177,19 @@ class GraphTest(unittest.TestCase):
         with open(path, encoding="utf-8") as file:
             self.assertIn("270 x w", file.read())
 
+    @needs_dot
+    def test_ctrl_c_ends_graphviz_and_keeps_the_file(self) -> None:
+        path = write_file(self, "as before", "many.svg")
+        asked: list[int] = []
+
+        def stop() -> bool:
+            asked.append(1)
+            return len(asked) > 1
+        with unittest.mock.patch.object(graph, "LOOK", 0.001):
+            self.assertRaises(facts.Stopped, write_graph, path, graph_of(self.many(250)), stop)
+        with open(path, encoding="utf-8") as file:
+            self.assertEqual(file.read(), "as before")
+
     def test_few_tasks_are_drawn_one_by_one(self) -> None:
         dot = dot_of(graph_of(self.many(50)))
         self.assertEqual(len(boxes(dot)), 52)
