@@ -6,8 +6,10 @@ _taskback_files() {
     local word=$1 ending found
     shift
     mapfile -t COMPREPLY < <(compgen -d -S / -- "$word"
-        for ending in "$@"; do
-            compgen -G "${word}*.$ending"
+        compgen -f -- "$word" | while IFS= read -r found; do
+            for ending in "$@"; do
+                [[ $found != *".$ending" || -d $found ]] || printf '%s\n' "$found"
+            done
         done)
     for found in "${COMPREPLY[@]}"; do
         [[ $found == */ ]] && compopt -o nospace 2> /dev/null

@@ -24,7 +24,7 @@ class Graph(Protocol):
     spawned: dict[str, int | None]
 
     def pairs_of_races(self) -> dict[tuple[str, str], list[Race]]:
-        """The races by the tasks of their steps."""
+        """The races by the two tasks of their steps."""
 
 
 def key_of(graph: Graph, name: str) -> Key:
@@ -44,8 +44,9 @@ def counts_of(graph: Graph) -> Counter[tuple[str, Key, Key]]:
         for other in task.apart:
             if by_name(other) < by_name(name):
                 found["apart", key_of(graph, other), own] += 1
-    for (first, second), races in graph.pairs_of_races().items():
-        found["race", key_of(graph, first), key_of(graph, second)] += len(races)
+    for pair, races in graph.pairs_of_races().items():
+        one, two = sorted((key_of(graph, name) for name in pair), key=lambda key: (key[1] or 0, key[0]))
+        found["race", one, two] += len(races)
     return found
 
 

@@ -18,7 +18,7 @@ from shell.filing import Filing
 from shell.group import Command, Words
 from shell.helping import Helping
 from shell.past import Looking
-from shell.protocol import Cut, Ended, Program, words_of
+from shell.protocol import Cut, Ended, Program, is_too_long, whole, words_of
 from shell.session import GREATEST_LIMIT, Session
 from shell.stops import Stops
 from shell.viewing import Viewing
@@ -92,7 +92,7 @@ class Shell(cmd.Cmd):
         """The lines of a reply; Ctrl-C ends them where the reply isn't one of many."""
         for at, line in enumerate(lines):
             if self.interrupted and not self.in_pieces:
-                self.console.note(f"stopped by Ctrl-C; {len(lines) - at} more lines")
+                self.console.note(f"stopped by {self.console.stopper}; {len(lines) - at} more lines")
                 return
             yield line
 
@@ -113,7 +113,7 @@ class Shell(cmd.Cmd):
                 self.console.note("this build has no such view")
             else:
                 text = texts.error_words(command, told[-1], self.session.workers, list(self.session.source.bodies))
-                self.console.note(TASK.sub(self.focus, text) if told[-1] == "word" else text)
+                self.console.note(TASK.sub(self.focus, text) if text.startswith("did you mean") else text)
         elif told[0] == "refused":
             self.outcome = max(self.outcome, Outcome.REFUSED)
             text = texts.refusal_words(command, line, self.session)
@@ -155,11 +155,11 @@ class Shell(cmd.Cmd):
 
     def take(self, line: str) -> bool:
         """Carries out a line that was read; true ends the shell."""
-        self.busy = True
         self.interrupted = False
+        self.busy = True
         self.outcome = Outcome.DONE
         try:
-            return self.carry_out(line)
+            return self.carry_out(whole(line))
         except Cut:
             return self.resume() if self.session.program.is_cut else self.stopped_beside()
         except Ended as ended:
@@ -184,13 +184,13 @@ class Shell(cmd.Cmd):
     def stopped_beside(self) -> bool:
         """After a reply of a second program was cut the session is as it was."""
         self.console.end_progress()
-        self.console.note("stopped by Ctrl-C; the session is as it was")
+        self.console.note(f"stopped by {self.console.stopper}; the session is as it was")
         return False
 
     def resume(self) -> bool:
         """After a cut reply the program starts anew and does what was done; true where it can't."""
         self.console.end_progress()
-        text = "stopped by Ctrl-C in a reply; the program starts anew and does the session so far again"
+        text = f"stopped by {self.console.stopper} in a reply; the program starts anew and does the session so far again"
         if self.console.exact:
             print(text, file=sys.stderr)
         else:
@@ -245,7 +245,7 @@ class Shell(cmd.Cmd):
         """Passes a line as it is; a long run goes in pieces, with the same lines."""
         if words[0] in self.methods and words[0] not in help_texts.OF_THE_PROGRAM:
             return bool(self.methods[words[0]](words[1:]))
-        count = words[-1] if re.fullmatch(r"[0-9]{1,7}", words[-1]) else ""
+        count = words[-1] if re.fullmatch(r"[0-9]{1,7}", words[-1]) and not is_too_long(line) else ""
         team = len(words) == 3 and words[0] == "go" and re.fullmatch(r"[0-9]{1,7}", words[1])
         if count and int(count) <= GREATEST_LIMIT and (words[:-1] == ["run"] or team and 1 <= int(words[1]) <= self.session.workers):
             self.walking.walk(" ".join(words[:-1]), int(count), verbose=True)

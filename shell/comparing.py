@@ -69,7 +69,7 @@ def flip(other: Session, race: Race, stop: Callable[[], bool]) -> str | None:
         if race.second in other.history:
             return None
         if stop():
-            return "stopped by Ctrl-C; the session is as it was"
+            return "stopped; the session is as it was"
         ready = [task for task in other.view("ready")[1:] if task != early]
         if not ready:
             return f"{race.second} can't come in front of {race.first}: it waits for {early}"
@@ -152,20 +152,25 @@ class Comparing(Group):
                 self.shell.show_line(self.session.line_of(name))
             heads = [f"{race.first} first", f"{race.second} first"]
             self.say(side_by_side([heads[0]], [heads[1]])[0])
-            for row in self.rows(first, second):
+            for row in self.rows(first, second, race):
                 self.say(row)
+            if self.session.source.is_recorded:
+                self.note("a recorded run stores the numbers that it had: what its program computes from what is read otherwise isn't known here")
             if not all(ends):
                 self.note(f"a run that hadn't ended after {MOST_STEPS:,} steps was left there")
         finally:
             first.close()
             second.close()
 
-    def rows(self, first: Session, second: Session) -> list[str]:
-        """The cells and the output that differ, side by side."""
+    def rows(self, first: Session, second: Session, race: Race) -> list[str]:
+        """What the racing steps read, the cells and the output, where they differ, side by side."""
         cells = [dict(line.split(" ") for line in session.view("cells")[1:]) for session in (first, second)]
         differing = sorted((cell for cell in cells[0].keys() | cells[1].keys() if cells[0].get(cell, "0") != cells[1].get(cell, "0")), key=int)
         outs = [session.view("out")[1:] for session in (first, second)]
-        columns = [[f"cell {cell}: {there.get(cell, '0')}" for cell in differing] for there in cells]
+        raced = [name for name in (race.first, race.second) if first.history.get(name) != second.history.get(name)]
+        columns = [[f"{name} {session.history.get(name, 'is not taken')}" for name in raced] for session in (first, second)]
+        for column, there in zip(columns, cells):
+            column += [f"cell {cell}: {there.get(cell, '0')}" for cell in differing]
         if outs[0] != outs[1]:
             for column, out in zip(columns, outs):
                 column.append("out: " + (" ".join(out[:SHOWN]) if out else "nothing"))

@@ -47,6 +47,8 @@ class Console:
         self.colours = colours
         self.typed = typed
         self.pages = True
+        # What ends a command early.
+        self.stopper = "Ctrl-C"
         # The newest words, for whoever has to say why a command failed.
         self.last_words = ""
         self._paged = False

@@ -4,6 +4,7 @@ from __future__ import annotations
 
 import shutil
 from collections.abc import Callable, Sequence
+from functools import partial
 from typing import TypeVar
 
 from shell.console import counted
@@ -31,7 +32,7 @@ class Drawing(Writing):
             if self.session.program.is_cut:
                 raise
             self.console.end_progress()
-            self.note("stopped by Ctrl-C; nothing is drawn")
+            self.note(f"stopped by {self.console.stopper}; nothing is drawn")
             return None
 
     def do_graph(self, words: Words) -> None:
@@ -49,7 +50,7 @@ class Drawing(Writing):
             for line in tree_of(graph):
                 self.say(line)
             return
-        self.put(names[0], write_graph, graph, [written_to(names[0])])
+        self.put(names[0], partial(write_graph, stop=lambda: self.interrupted), graph, [written_to(names[0])])
 
     def do_lanes(self, words: Words) -> None:
         """The history in lanes, as text or to a file."""
@@ -82,6 +83,8 @@ class Drawing(Writing):
         try:
             self.say(write(path, what))
             WRITTEN.update((path, *more))
+        except Stopped:
+            self.note(f"stopped by {self.console.stopper}; nothing is drawn")
         except OSError as fault:
             self.refuse(f"can't write {path}: {fault.strerror}")
 
@@ -113,7 +116,7 @@ class Drawing(Writing):
             self.refuse(f"can't serve on port {port}: {fault.strerror}")
             return
         with server:
-            self.say(f"the page is at {server.address} ; Ctrl-C ends it")
+            self.say(f"the page is at {server.address} ; {self.console.stopper} ends it")
             self.console.announce()
             server.serve_until(lambda: self.interrupted)
 

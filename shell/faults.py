@@ -92,10 +92,22 @@ def types_of(word: str) -> tuple[str, ...]:
     return tuple(kind for kind in TYPES if word != "taskwait" or kind != "mutexinoutset")
 
 
+def clause_at_fault(words: Sequence[str]) -> int | None:
+    """Which word should begin a clause of a task or a taskwait, or compare in its test, and doesn't."""
+    at = next((at for at, given in enumerate(words) if at and given in ("depend", "if")), 1 if words[0] == "taskwait" else len(words))
+    while words[at:at + 1] == ["depend"]:
+        at += 3
+    if words[at:at + 1] == ["if"]:
+        at += 2
+    return at if at < len(words) else None
+
+
 def unknown_at_fault(words: Sequence[str]) -> int | None:
     """Which word is unknown."""
     if words[0] not in FORMS:
         return 0
+    if words[0] in ("task", "taskwait"):
+        return clause_at_fault(words)
     place = {"let": 3, "if": 2, "while": 2, "body": 1}.get(words[0])
     return place if place is not None and place < len(words) else None
 
@@ -205,6 +217,8 @@ def meaning_of(kind: str, lines: Sequence[str], number: int, words: Sequence[str
             return "`all` has the type out or inout"
         types = types_of(words[0])
         return f"the types{' of a taskwait' if words[0] == 'taskwait' else ''} are {', '.join(types[:-1])} and {types[-1]}"
+    if kind == "UnknownWord" and words and words[0] in ("task", "taskwait") and (at := clause_at_fault(words)) is not None:
+        return "the comparisons are ==, !=, < and <=" if words[at - 2] == "if" else "a clause is `depend TYPE ADDR`, or at the end of a task `if A CMP B`"
     if kind == "UnknownBody":
         return FAULTS[kind] + there_are([told[1] for told in map(words_of, lines) if told[:1] == ["body"] and len(told) > 1])
     if kind == "NoMain":

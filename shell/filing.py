@@ -6,7 +6,7 @@ from shell.console import counted
 from shell.files import is_foreign, write_text
 from shell.group import Group, Words
 from shell.protocol import is_digits, words_of
-from shell.session import GREATEST_LIMIT
+from shell.session import GREATEST_LIMIT, LIMIT
 from shell.source import read_text, split_session
 
 WRITTEN: set[str] = set()
@@ -66,6 +66,8 @@ class Filing(Writing):
         """More room in the journal."""
         if len(words) != 1 or not is_digits(words[0]) or not 1 <= int(words[0]) <= GREATEST_LIMIT:
             self.fail("limit wants a number, 1 to 1000000: limit 200000")
+        elif int(words[0]) == (self.session.limit or LIMIT):
+            self.say(f"the journal has room for {int(words[0])} entries already")
         elif self.session.replay(int(words[0])):
             self.say(f"the journal has room for {int(words[0])} entries; all was done again")
         else:

@@ -22,7 +22,8 @@ OPERAND = r"(-?[0-9]+|r[0-9]+)"
 CLAUSE = re.compile(r"depend\s*\(\s*(\w+)\s*:\s*([^)]*)\)")
 CALLED = re.compile(r"(?:task\s+)?([A-Za-z_]\w*)\s*\(([^()]*)\)\s*(.*?);?")
 TESTED = re.compile(rf"(if|while)\s*\(?\s*({OPERAND}|true)\s*(?:(==|!=|<=|<|>=|>|=)\s*{OPERAND})?\s*\)?\s*(?:[{{:;]|then|do)?")
-TEST_OF_TASK = re.compile(rf"(task .* if) (?:\(\s*)?{OPERAND}(?:\s*\))?")
+TEST_OF_TASK = re.compile(rf"(task .* if) (?:\(\s*)?{OPERAND}\s*(?:(==|!=|<=|<|>=|>|=)\s*{OPERAND})?(?:\s*\))?;?")
+ADDRESSES = re.compile(rf"depend (\w+) ({OPERAND}(?:\s*,\s*{OPERAND})+)")
 INDEXED = re.compile(r"[A-Za-z_]\w*\[\s*(\w+)\s*\]")
 REGISTER = re.compile(r"r[0-9]+")
 
@@ -39,7 +40,7 @@ def of_clauses(line: str) -> str | None:
     """Clauses as C has them."""
     def spelled(found: re.Match[str]) -> str:
         return " ".join(f"depend {found[1]} {place.strip() or 'ADDR'}" for place in found[2].split(","))
-    mended = CLAUSE.sub(spelled, line)
+    mended = ADDRESSES.sub(spelled, CLAUSE.sub(spelled, line))
     return " ".join(mended.replace(";", " ").split()) if mended != line else None
 
 
@@ -47,7 +48,8 @@ def of_test(line: str) -> str | None:
     """A test with brackets, without blanks, of a number alone, or with a comparison that the notation hasn't."""
     task = TEST_OF_TASK.fullmatch(line)
     if task:
-        return f"{task[1]} {task[2]} != 0"
+        start, first, compared, second = task.groups()
+        return f"{start} " + (TURNED.get(compared, "{0} " + compared + " {1}").format(first, second) if compared else f"{first} != 0")
     found = TESTED.fullmatch(line)
     if not found:
         return None
@@ -118,7 +120,12 @@ def of_word(line: str) -> str | None:
     return WORDS.get(re.split(r"[(:;]", words[0])[0] or words[0])
 
 
-RULES: Sequence[Callable[[str], str | None]] = (of_comment, of_clauses, of_test, of_else, of_cell, of_assignment, of_word, of_body, of_call)
+def of_signs(line: str) -> str | None:
+    """Commas and semicolons, which the notation hasn't."""
+    return " ".join(re.sub("[,;]", " ", line).split())
+
+
+RULES: Sequence[Callable[[str], str | None]] = (of_comment, of_clauses, of_test, of_else, of_cell, of_assignment, of_word, of_body, of_call, of_signs)
 
 
 def in_the_notation(line: str) -> str | None:

@@ -6,12 +6,13 @@ import html
 import os
 import shutil
 import subprocess
+import time
 from collections.abc import Callable, Sequence
 from dataclasses import dataclass
 
 from shell.console import counted
 from shell.clusters import MOST_TASKS, clusters_in_dot
-from shell.facts import MOST_ASKED, Facts, Progress, Race, Step, Task, by_name, label_of, reduced
+from shell.facts import MOST_ASKED, Facts, Progress, Race, Step, Stopped, Task, by_name, label_of, reduced
 from shell.files import write_bytes, write_text
 from shell.lanes import NO_CAUSES, NO_RACES
 from shell.session import Session
@@ -29,6 +30,8 @@ MANY = 100
 QUICK = ("-Gnslimit=1", "-Gnslimit1=1", "-Gmclimit=0.1", "-Gsplines=line")
 # What takes longer, in seconds, is drawn as clusters.
 PATIENCE = 20.0
+# So often it is looked whether the user stops it.
+LOOK = 0.1
 RACE = "#b00020"
 # Of so many waits the needs are asked for one by one, and of more all needs by one reply.
 FEW_WAITS = 20
@@ -61,10 +64,11 @@ class Graph:
     left_out: list[str]
 
     def pairs_of_races(self) -> dict[tuple[str, str], list[Race]]:
-        """The races by the tasks of their steps."""
+        """The races by the two tasks of their steps, whichever of them came first."""
         found: dict[tuple[str, str], list[Race]] = {}
         for race in self.races:
-            found.setdefault((race.first.split("#")[0], race.second.split("#")[0]), []).append(race)
+            one, two = sorted((race.first.split("#")[0], race.second.split("#")[0]), key=by_name)
+            found.setdefault((one, two), []).append(race)
         return found
 
 
@@ -163,8 +167,9 @@ def cluster(graph: Graph, group: str | None, inner: dict[str | None, list[str]],
     """The tasks of a group, and the groups in it, each in a box."""
     lines = [pad + node(graph.tasks[name]) for name in members.get(group, ())]
     for child in inner.get(group, ()):
+        # Its title is below its tasks, since arrows come from above.
         lines += [f"{pad}subgraph {quoted('cluster ' + child)} {{",
-                  f'{pad}  label={quoted("taskgroup " + child)}; style=rounded; color="#11693d"',
+                  f'{pad}  label={quoted("taskgroup " + child)}; labelloc=b; labeljust=l; fontsize=9; style=rounded; color="#11693d"',
                   *cluster(graph, child, inner, members, pad + "  "), pad + "}"]
     return lines
 
@@ -229,10 +234,26 @@ def tree_of(graph: Graph) -> list[str]:
     return lines + graph.left_out
 
 
-def drawn_by(program: str, words: list[str], text: str, seconds: float | None) -> bytes | str:
-    """What Graphviz makes of a text in the dot language, or what it says against it; raises TimeoutExpired."""
-    done = subprocess.run([program, *words], input=text.encode("utf-8", "surrogateescape"), capture_output=True, check=False, timeout=seconds)
-    return done.stdout if not done.returncode else f"dot: {done.stderr.decode('utf-8', 'replace').strip()}"
+def drawn_by(words: list[str], text: str, seconds: float | None, stop: Callable[[], bool]) -> bytes | str:
+    """What Graphviz makes of a text in the dot language, or what it says against it; raises TimeoutExpired or Stopped."""
+    given: bytes | None = text.encode("utf-8", "surrogateescape")
+    end = time.monotonic() + (float("inf") if seconds is None else seconds)
+    # A session of its own: Ctrl-C at the terminal is for the shell alone.
+    with subprocess.Popen(words, stdin=subprocess.PIPE, stdout=subprocess.PIPE, stderr=subprocess.PIPE, start_new_session=True) as child:
+        try:
+            while True:
+                try:
+                    out, said = child.communicate(given, min(LOOK, max(0.0, end - time.monotonic())))
+                    return out if not child.returncode else f"dot: {said.decode('utf-8', 'replace').strip()}"
+                except subprocess.TimeoutExpired:
+                    given = None
+                    if stop():
+                        raise Stopped from None
+                    if time.monotonic() >= end:
+                        raise
+        except BaseException:
+            child.kill()
+            raise
 
 
 def written_to(path: str) -> str:
@@ -241,16 +262,16 @@ def written_to(path: str) -> str:
     return path if kind == ".dot" or shutil.which("dot") else base + ".dot"
 
 
-def write_graph(path: str, graph: Graph) -> str:
-    """Writes the picture, by Graphviz where the file isn't a `.dot`; returns what to say of it."""
+def write_graph(path: str, graph: Graph, stop: Callable[[], bool] = lambda: False) -> str:
+    """Writes the picture, by Graphviz where the file isn't a `.dot`; returns what to say of it. Raises Stopped where `stop` ends it."""
     kind, program = os.path.splitext(path)[1], shutil.which("dot")
     tasks = counted(len(graph.tasks), "task")
     if kind != ".dot" and program:
-        words, said = [f"-T{kind[1:] or 'svg'}"], f"drawn to {path}, {tasks}"
+        words, said = [program, f"-T{kind[1:] or 'svg'}"], f"drawn to {path}, {tasks}"
         try:
-            drawn = drawn_by(program, words + list(QUICK) * (len(graph.tasks) > MANY), dot_of(graph), PATIENCE)
+            drawn = drawn_by(words + list(QUICK) * (len(graph.tasks) > MANY), dot_of(graph), PATIENCE, stop)
         except subprocess.TimeoutExpired:
-            drawn = drawn_by(program, words, dot_of(graph, True), None)
+            drawn = drawn_by(words, dot_of(graph, True), None, stop)
             said += f" as clusters: Graphviz took more than {PATIENCE:g} s for each of its own"
         if isinstance(drawn, str):
             return drawn

@@ -93,15 +93,17 @@ ELSEWHERE = {"next": "step", "n": "step", "ni": "step", "si": "step", "stepi": "
              "tb": "break line L", "advance": "break line L", "condition": "break line L if EXPR", "rwatch": "watch EXPR",
              "awatch": "watch EXPR", "start": "step 0", "kill": "restart", "frame": "list T", "up": "list T", "down": "list T", "disassemble": "list T", "disas": "list T",
              "set-var": "roll T#K", "load": "source FILE", "open": "source FILE", "checkpoint": "save FILE",
-             "seek": "at N", "when": "hist", "history": "hist", "?": "help", "apropos": "help"}
+             "seek": "at N", "when": "hist", "history": "hist", "show": "set", "define": "source FILE", "?": "help", "apropos": "help"}
 # What other debuggers can and this one can't, with what there is in its place.
 ABSENT = {"jump": "where a task is follows from its steps: `until T#K` runs up to one, `roll T#K` goes back to one",
           "enable": "a breakpoint is there or isn't: `clear N` takes it away, and `break` makes it again",
           "ignore": "a condition may count: `break line L if steps(0.1) > 4`",
           "commands": "`display EXPR` shows a number after each command that steps",
           "call": "bodies are run by tasks alone: `step T`",
+          "shell": "no other program is run from here: Ctrl-Z goes to the system's shell, and `fg` there comes back",
+          "ptype": "all registers and cells are numbers of 64 bits: `print EXPR` shows one",
           "record": "every step is recorded: `back`, `roll` and `rc` take steps back"}
-ABSENT["goto"] = ABSENT["jump"]
+ABSENT.update({"goto": ABSENT["jump"], "whatis": ABSENT["ptype"], "!": ABSENT["shell"]})
 PLACE = re.compile(r" (T|N|L|FILE|EXPR)$")
 FITS = {"T": r"0(\.[1-9][0-9]*)*", "N": r"s?[0-9]+", "L": r"[0-9]+", "FILE": r".+", "EXPR": r".+"}
 KINDS = ("task", "cell", "body", "print", "fault", "line")
@@ -175,6 +177,9 @@ def meant(words: Sequence[str], bodies: Sequence[str]) -> str:
         found = " ".join([near[0], *words[1:]]) if near else None
         if near == ["break"]:
             found = break_meant(["break", *words[1:]], bodies) or found
+    if found is None and len(fitting) == 1:
+        # A command whose second word is none of its kinds.
+        return f"{HELP[fitting[0]].usage}, for example: {HELP[fitting[0]].example}"
     return f"did you mean `{found}`?" if found else "no such command; `help` lists them"
 
 

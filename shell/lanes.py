@@ -10,12 +10,17 @@ from shell.session import Session
 
 NO_CAUSES = "this program shows no causes: their arrows are left out"
 NO_RACES = "this program shows no races: they are left out"
-LONG = "of a history this long some arrows are drawn that others imply, and none has a label"
+IMPLIED = "of a history this long some arrows are drawn that others imply"
+UNLABELLED = "of a history this long no arrow has a label"
+# Letters to the right of the text's lanes: where all tasks have one, and else.
+LEAST_NOTE, NOTE = 12, 26
+# Of more steps the places of labels would take minutes.
+MOST_LABELLED = 8000
 
 
 @dataclass
 class Lanes:
-    """What is drawn."""
+    """What is drawn. `bodies` are those of all tasks, of which a page has some; `implied` says whether others imply some of the causes."""
 
     title: str
     tasks: list[Task]
@@ -26,16 +31,18 @@ class Lanes:
     shaded: frozenset[str] = frozenset()
     # Of a recorded run, the C file's line that each step's line names, as `sum.c:12`.
     recorded: dict[str, str] = field(default_factory=dict)
+    bodies: list[str] = field(default_factory=list)
+    implied: bool = False
 
     @property
-    def is_long(self) -> bool:
-        """Whether the needs were worked out and not asked for; then labels would take minutes."""
-        return len(self.steps) > MOST_ASKED
+    def is_labelled(self) -> bool:
+        """Whether arrows have labels."""
+        return len(self.steps) <= MOST_LABELLED
 
     def remarks(self) -> list[str]:
         """What isn't drawn, since the program has no such view, and what is drawn besides."""
         found = [text for view, text in ((self.causes, NO_CAUSES), (self.races, NO_RACES)) if view is None]
-        return found + [LONG] * (self.causes is not None and self.is_long)
+        return found + [IMPLIED] * (self.causes is not None and self.implied)
 
     def arrows(self) -> list[tuple[str, str, str]]:
         """Each immediate need of another task's step: the earlier step, the later one, and the kind."""
@@ -53,7 +60,13 @@ def lanes_of(session: Session, chosen: str | None = None, stop: Callable[[], boo
     if shaded is None:
         return None
     recorded = {step.name: session.source.place(step.line) for step in steps if session.source.recorded(step.line)}
-    return Lanes(session.source.name, tasks, steps, causes, facts.races(), chosen, frozenset(shaded), recorded)
+    return Lanes(session.source.name, tasks, steps, causes, facts.races(), chosen, frozenset(shaded), recorded,
+                 bodies_of(tasks), len(steps) > MOST_ASKED)
+
+
+def bodies_of(tasks: Sequence[Task]) -> list[str]:
+    """The bodies, in the order in which they come."""
+    return list(dict.fromkeys(task.body for task in tasks))
 
 
 def note_of(lanes: Lanes, step: Step, races: dict[str, list[Race]]) -> str:
@@ -93,9 +106,9 @@ def cut(text: str, width: int) -> str:
 def text_rows(lanes: Lanes, width: int, shade: Callable[[str], str] = lambda text: text) -> list[str]:
     """The lines of the picture at a terminal of this width; `shade` marks a line that has a `*`."""
     names = [task.name for task in lanes.tasks]
-    room = min([len(step.did) for step in lanes.steps] + [16])
-    room = max([min(len(step.did), 16) for step in lanes.steps] + [room, 5]) + 2
-    fit = max(1, min(len(names), (width - 2) // room))
+    room = max([min(len(step.did), 16) for step in lanes.steps] + [5]) + 2
+    # To the right of them are notes, and the steps of tasks for whose lanes there is no place.
+    fit = len(names) if 2 + room * len(names) + LEAST_NOTE <= width else max(1, (width - 2 - NOTE) // room)
     hidden = names[fit:]
     names = names[:fit]
     there = lives(lanes.steps, names)

@@ -3,12 +3,13 @@
 from __future__ import annotations
 
 import os
+from dataclasses import replace
 from xml.sax.saxutils import escape, quoteattr
 
 from shell.console import counted
 from shell.files import write_text
 from shell.lanes import Lanes, lives
-from shell.lanes_svg import BODIES, RED, svg_of
+from shell.lanes_svg import RED, colour_of, svg_of
 
 MOST_LANES = 50
 # Of the overview: a lane's width, its greatest height, and where it begins.
@@ -27,7 +28,7 @@ def parts_of(lanes: Lanes) -> list[Lanes]:
             late: [(kind, early) for kind, early in needed if early in there] for late, needed in lanes.causes.items() if late in there}
         races = None if lanes.races is None else [race for race in lanes.races if race.first in there and race.second in there]
         title = f"{lanes.title}, tasks {tasks[0].name} to {tasks[-1].name}"
-        found.append(Lanes(title, tasks, steps, causes, races, lanes.chosen, lanes.shaded & there))
+        found.append(replace(lanes, title=title, tasks=tasks, steps=steps, causes=causes, races=races, shaded=lanes.shaded & there))
     return found
 
 
@@ -36,7 +37,6 @@ def overview_of(lanes: Lanes, files: list[str]) -> str:
     count = len(lanes.steps)
     step_high = min(4.0, HEIGHT / max(1, count))
     row = {step.name: TOP + step_high * at for at, step in enumerate(lanes.steps)}
-    bodies = list(dict.fromkeys(task.body for task in lanes.tasks))
     x = {task.name: LEFT + LANE * at for at, task in enumerate(lanes.tasks)}
     there = lives(lanes.steps, x)
     wide, high = LEFT * 2 + LANE * len(lanes.tasks), TOP + step_high * count + 24
@@ -50,7 +50,7 @@ def overview_of(lanes: Lanes, files: list[str]) -> str:
                      f'<text x="{left + 3}" y="{TOP - 9}">{escape(tasks[0].name)} ..</text></a>')
     for task in lanes.tasks:
         first, last = there[task.name]
-        colour = BODIES[bodies.index(task.body) % len(BODIES)]
+        colour = colour_of(lanes, task)
         begin, end = (TOP + step_high * moment for moment in (first, min(last + 1, count)))
         parts.append(f'<path class="lane" data-task={quoteattr(task.name)} stroke="{colour}" d="M{x[task.name]} {begin:.1f} V{end:.1f}"/>')
     for step in lanes.steps:

@@ -6,7 +6,7 @@ from xml.sax.saxutils import escape, quoteattr
 
 from shell.facts import Race, Step, Task
 from shell.labels import Curve, Labels, Rect
-from shell.lanes import Lanes, lives
+from shell.lanes import UNLABELLED, Lanes, lives
 
 ROW = 28
 TOP = 76
@@ -39,6 +39,11 @@ def cut(text: str) -> str:
     return text if len(text) <= LONGEST else text[:LONGEST - 1] + "…"
 
 
+def colour_of(lanes: Lanes, task: Task) -> str:
+    """The colour of a task's body."""
+    return BODIES[lanes.bodies.index(task.body) % len(BODIES)]
+
+
 class Drawing:
     """Where the steps of some lanes are, and what is drawn there."""
 
@@ -46,8 +51,7 @@ class Drawing:
         self.lanes = lanes
         self.row = {step.name: at for at, step in enumerate(lanes.steps)}
         self.x: dict[str, int] = {}
-        bodies = list(dict.fromkeys(task.body for task in lanes.tasks))
-        self.colour = {task.name: BODIES[bodies.index(task.body) % len(BODIES)] for task in lanes.tasks}
+        self.colour = {task.name: colour_of(lanes, task) for task in lanes.tasks}
         at = LEFT
         labels: dict[str, list[str]] = {}
         for step in lanes.steps:
@@ -109,7 +113,7 @@ class Drawing:
         needs = [(early, late, kind, self.curve(early, late, 0, kind)) for early, late, kind in self.lanes.arrows()]
         raced = [(race, self.curve(race.first, race.second, -26, ("apart: " if race.apart else "race: ") + race.over)) for race in self.lanes.races or ()]
         parts = [self.arrow(early, late, kind, curve) for early, late, kind, curve in needs] + [self.race(race, curve) for race, curve in raced]
-        if self.lanes.is_long:
+        if not self.lanes.is_labelled:
             return parts
         labels = Labels([curve for *_, curve in needs] + [curve for _, curve in raced], map(self.words_at, self.lanes.steps))
         for race, curve in raced:
@@ -159,7 +163,7 @@ class Drawing:
                         f'stroke-dasharray="3 2"/><text x="{LEFT + 40}" y="{y}">roll {escape(self.lanes.chosen)} '
                         f'would take these {len(self.lanes.shaded)}</text>')
             y += 18
-        for text in self.lanes.remarks():
+        for text in self.lanes.remarks() + [UNLABELLED] * (not self.lanes.is_labelled and bool(words)):
             rows.append(f'<text x="{LEFT}" y="{y}">{escape(text)}</text>')
             y += 18
         return rows, y

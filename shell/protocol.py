@@ -4,11 +4,14 @@ import contextlib
 import re
 import subprocess
 import tempfile
+import threading
 from collections.abc import Iterator, Sequence
 from typing import ClassVar
 
 LONGEST_LINE = 1024
 BLANKS = re.compile(r"[ \t\r]+")
+# Halves of characters, as JSON can have them; those from U+DC80 to U+DCFF stand for bytes that are no text.
+HALVES = re.compile("[\ud800-\udc7f\udd00-\udfff]")
 
 
 class Refused(Exception):
@@ -49,9 +52,19 @@ def is_digits(word: str) -> bool:
     return word.isascii() and word.isdigit() and len(word) <= LONGEST_LINE
 
 
+def whole(line: str) -> str:
+    """A line that can be written as one: what has no bytes is replaced, and a line feed is a blank."""
+    return HALVES.sub("\ufffd", line.replace("\n", " "))
+
+
+def is_too_long(line: str) -> bool:
+    """Whether the program answers this line by `error line`, whatever its words are; one without words has no reply."""
+    return len(line.encode("utf-8", "surrogateescape")) > LONGEST_LINE
+
+
 def has_reply(line: str) -> bool:
-    """Whether the program answers this line: an empty one has no reply, too long a one has."""
-    return bool(words_of(line)) or len(line.encode("utf-8", "surrogateescape")) > LONGEST_LINE
+    """Whether the program answers this line: one without words has no reply, however long it is."""
+    return bool(words_of(line))
 
 
 def count_of(line: str, word: str) -> int | None:
@@ -68,6 +81,8 @@ class Program:
     # The program whose reply is awaited now, and whether it may be cut.
     awaited: "ClassVar[Program | None]" = None
     may_be_cut: ClassVar[bool] = True
+    # A signal, or another thread, cuts while a reply is awaited, and at no other time.
+    _turn: "ClassVar[threading.RLock]" = threading.RLock()
 
     def __init__(self, path: str, text: str, options: Sequence[str] = ()) -> None:
         self._said = tempfile.TemporaryFile()
@@ -94,10 +109,11 @@ class Program:
 
     @classmethod
     def cut(cls) -> None:
-        """Ends the program whose reply is awaited, where there is one: a signal comes while it is read."""
-        if cls.awaited and cls.may_be_cut:
-            cls.awaited.is_cut = True
-            cls.awaited._child.kill()
+        """Ends the program whose reply is awaited, where there is one."""
+        with cls._turn:
+            if cls.awaited and cls.may_be_cut:
+                cls.awaited.is_cut = True
+                cls.awaited._child.kill()
 
     @classmethod
     @contextlib.contextmanager
@@ -121,7 +137,8 @@ class Program:
             self._write("".join(command + "\n" + "step\n" * self._is_cells(command) for command in commands))
             replies = [self._lines_of(command) for command in commands]
         finally:
-            Program.awaited = None
+            with Program._turn:
+                Program.awaited = None
         if self.is_cut:
             raise self._ended()
         return replies

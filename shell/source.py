@@ -107,6 +107,11 @@ class Source:
         found = RECORDED.match(self.comment(number))
         return (found[1], int(found[2])) if found else None
 
+    @property
+    def is_recorded(self) -> bool:
+        """Whether this is the session of a recorded run: whether a line names one of C."""
+        return any(self.recorded(number) for number in range(1, len(self.lines) + 1))
+
     def place(self, number: int | None) -> str:
         """The number of a line; of a recorded run, the C file and its line: lines that are one line of C have one place."""
         found = self.recorded(number)

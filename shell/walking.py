@@ -86,7 +86,7 @@ class Walking(Group):
             self.note("no task can step: `waits` says for whom they wait" if len(self.session.view("waits")) > 1 else
                       "all tasks are over; `restart` starts anew, and `rc` goes back")
         if self.interrupted:
-            self.note("stopped by Ctrl-C; the session goes on")
+            self.note(f"stopped by {self.console.stopper}; the session goes on")
 
     def one_step(self, task: str) -> bool:
         """One step of a task; returns whether it was taken."""

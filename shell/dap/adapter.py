@@ -3,6 +3,7 @@
 from __future__ import annotations
 
 import os
+import time
 from collections.abc import Callable
 from typing import Any
 
@@ -22,7 +23,7 @@ CAPABILITIES: Body = {
     "supportsConfigurationDoneRequest": True, "supportsFunctionBreakpoints": True, "supportsConditionalBreakpoints": True,
     "supportsDataBreakpoints": True, "supportsStepBack": True, "supportsRestartFrame": True, "supportsEvaluateForHovers": True,
     "supportsCompletionsRequest": True, "completionTriggerCharacters": [" "], "supportsTerminateRequest": True, "supportsRestartRequest": True,
-    "supportsExceptionInfoRequest": True, "supportsGotoTargetsRequest": False, "supportsSetVariable": False,
+    "supportsExceptionInfoRequest": True, "supportsCancelRequest": True, "supportsGotoTargetsRequest": False, "supportsSetVariable": False,
     "exceptionBreakpointFilters": [{"filter": name, "label": label, "default": name == "fault"} for name, label in EXCEPTIONS.items()],
 }
 # Of longer histories races aren't looked for at each stop: `races` in the console does.
@@ -30,12 +31,15 @@ MOST_STEPS = 20000
 
 
 class Adapter:
-    """One client's session. `send` sends an event."""
+    """One client's session. `send` sends an event after the response that is being made, `send_at_once` in front of it."""
 
-    def __init__(self, program: str, send: Send) -> None:
+    def __init__(self, program: str, send: Send, send_at_once: Send) -> None:
         self.program = program
         self.send = send
+        self.send_at_once = send_at_once
         self.done = False
+        # Whether a command of the console runs that was told as `continued`, and whether one was ended by a request.
+        self._runs = self._interrupted = False
         self._debuggee: Debuggee | None = None
         self._breakpoints: Breakpoints | None = None
         self._runner: Runner | None = None
@@ -89,6 +93,16 @@ class Adapter:
         body: Body = method(arguments) or {}
         return body
 
+    def interrupt(self) -> None:
+        """Ends the command of the console that is under way; called by another thread, as Ctrl-C would."""
+        debuggee = self._debuggee
+        while debuggee is not None and self._runs and not debuggee.shell.busy:
+            # It begins, or ends, just now.
+            time.sleep(0.001)
+        if debuggee is not None and debuggee.shell.busy:
+            self._interrupted = True
+            debuggee.shell.interrupt()
+
     def close(self) -> None:
         """Ends what is debugged."""
         if self._debuggee is not None:
@@ -109,7 +123,7 @@ class Adapter:
             raise Failed("launch wants `program`: the path of a .task or .session file")
         folders = arguments.get("sourceFolders") or []
         folder = arguments.get("cwd") or os.getcwd()
-        self._debuggee = Debuggee(str(arguments.get("taskback") or self.program), os.path.join(folder, path), [str(name) for name in folders])
+        self._debuggee = Debuggee(str(arguments.get("taskback") or self.program), os.path.join(folder, path), [str(name) for name in folders], self.announce)
         self._breakpoints = Breakpoints(self._debuggee)
         self._runner = Runner(self._debuggee, self._breakpoints, self.stopped)
         self._stops_at_entry = bool(arguments.get("stopOnEntry", True))
@@ -190,12 +204,28 @@ class Adapter:
         in_console = arguments.get("context") == "repl"
         if in_console and self.runner.job is not None:
             raise Failed("the tasks are running; pause them first")
-        before = (self.debuggee.session.entries, shell.past is None, len(shell.session.history))
-        result, was_command = self.inspecting.evaluate(text, arguments.get("frameId"), in_console)
-        if was_command and before != (self.debuggee.session.entries, shell.past is None, len(shell.session.history)):
+        frame, before = arguments.get("frameId"), self.state()
+        task = self.inspecting.task_looked_at(frame)
+        runs = self._runs = in_console and self.inspecting.runs(text)
+        if runs:
+            self.send_at_once("continued", {"threadId": self.debuggee.id_of(task), "allThreadsContinued": True})
+        try:
+            result, was_command = self.inspecting.evaluate(text, task, in_console)
+        finally:
+            self._runs = False
+        if runs or (was_command and before != self.state()):
             there = shell.focus if shell.focus in shell.session.places.position else "0"
             self.stopped(Stopped("step", there, f"after `{text.strip()}`"))
         return {"result": result, "variablesReference": 0}
+
+    def state(self) -> tuple[int, bool, int]:
+        """What is another one after a command that changed something."""
+        shell = self.debuggee.shell
+        return self.debuggee.session.entries, shell.past is None, len(shell.session.history)
+
+    def announce(self, text: str) -> None:
+        """What a command that holds on says before its end."""
+        self.send_at_once("output", {"category": "console", "output": text})
 
     def on_completions(self, arguments: Body) -> Body:
         text = str(arguments.get("text", ""))[:max(0, int(arguments.get("column", 1)) - self._first)]
@@ -232,9 +262,14 @@ class Adapter:
         self.runner.begin(self.runner.backwards())
 
     def on_pause(self, arguments: Body) -> None:
-        if self.runner.job is None:
+        if self.runner.job is not None:
+            self.runner.pause()
+        elif not self._interrupted:
             raise Failed("no task is running")
-        self.runner.pause()
+        self._interrupted = False
+
+    def on_cancel(self, arguments: Body) -> None:
+        self._interrupted = False
 
     def on_restartFrame(self, arguments: Body) -> None:
         task = self.inspecting.task_of_frame(arguments.get("frameId"))

@@ -3,7 +3,7 @@
 from __future__ import annotations
 
 import io
-from collections.abc import Iterable
+from collections.abc import Callable, Sequence
 
 from shell.commands import Shell
 from shell.console import Console
@@ -20,10 +20,23 @@ class Failed(Exception):
     """A request that can't be carried out, and why; the client shows it."""
 
 
+class Announcing(Console):
+    """Keeps what a command says, and hands on at once what one that holds on says."""
+
+    def __init__(self, out: io.StringIO, announced: Callable[[str], None]) -> None:
+        super().__init__(out)
+        self.stopper = "a pause"
+        self.kept = out
+        self.announced = announced
+
+    def announce(self) -> None:
+        self.announced(self.kept.getvalue())
+
+
 class Debuggee:
     """A session that an editor steps. `order` has the steps of a recorded run, which `go_on` follows."""
 
-    def __init__(self, program: str, path: str, folders: list[str]) -> None:
+    def __init__(self, program: str, path: str, folders: list[str], announced: Callable[[str], None]) -> None:
         try:
             text, commands = split_session(read_text(path))
             source = Source(text, path)
@@ -36,7 +49,7 @@ class Debuggee:
             raise Failed(str(ended)) from None
         self.lines = Lines(source, folders)
         self._out = io.StringIO()
-        self.shell = Shell(self.session, Console(self._out))
+        self.shell = Shell(self.session, Announcing(self._out, announced))
         self.order = self.order_of(commands or [])
         self._next = 0
         self._ids: dict[str, int] = {}
@@ -102,18 +115,27 @@ class Debuggee:
             self.shell.focus = task
         return line
 
-    def go_on(self, skipped: Iterable[str] = ()) -> str | None:
+    def go_on(self, skipped: Sequence[str] = ()) -> str | None:
         """The next step in the recorded order, or else of the least task that can; None where none can."""
         recorded = self.recorded_next()
         if recorded is not None and recorded not in skipped:
             line = self.step(recorded)
             if is_step(line):
                 return line
+        if not skipped:
+            return next(iter(self.run_on(1)), None)
         ready = [task for task in self.ready() if task not in skipped]
         if not ready:
             return None
         line = self.step(ready[0])
         return line if is_step(line) else None
+
+    def run_on(self, count: int) -> list[str]:
+        """The next steps, each of the least task that can; none where none can."""
+        lines = [line for line in self.session.do(f"run {count}") if is_step(line)]
+        if lines:
+            self.shell.focus = lines[-1].split("#")[0]
+        return lines
 
     def took_back(self) -> None:
         """Steps were taken back: the recorded order is looked through from its beginning."""

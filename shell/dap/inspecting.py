@@ -5,6 +5,7 @@ from __future__ import annotations
 from typing import Any
 
 from shell import help_texts
+from shell.commands import PIECEWISE, STEPS
 from shell.dap.debuggee import Debuggee, Failed
 from shell.expressions import Unknown, Unreadable, parsed
 from shell.protocol import words_of
@@ -12,6 +13,8 @@ from shell.session import Session
 from shell.values import Values
 
 Body = dict[str, Any]
+# Commands that take steps in pieces, and the one that lets a page take them.
+RUNNING = tuple(name for name in PIECEWISE if name in STEPS) + ("serve",)
 SCOPES = ("Registers", "Cells", "Items", "Groups", "Waits")
 MOST_CELLS = 200
 # A frame's number has its task's and how many generators it lies above; a scope's has its frame's.
@@ -111,9 +114,10 @@ class Inspecting:
 
     # Expressions and commands
 
-    def evaluate(self, text: str, frame: object, in_console: bool) -> tuple[str, bool]:
-        """An expression's number, or in the console what any command says; and whether it was a command."""
-        task = self.task_of_frame(frame) if frame is not None else self.debuggee.shell.focus
+    def evaluate(self, text: str, task: str, in_console: bool) -> tuple[str, bool]:
+        """An expression's number for a task, or in the console what any command says; and whether it was a command."""
+        if in_console and "\n" in text:
+            return self.evaluate_lines(text.split("\n"), task)
         words = words_of(text)
         if in_console and words and len(help_texts.expanded(words[0])) == 1 and not self.is_expression(text):
             self.debuggee.shell.focus = task
@@ -124,6 +128,29 @@ class Inspecting:
             if in_console and words:
                 return "\n".join(self.debuggee.ask(text)), True
             raise Failed(str(fault)) from None
+
+    def evaluate_lines(self, lines: list[str], task: str) -> tuple[str, bool]:
+        """What the lines of the console say one after the other, up to one that a pause ends."""
+        told, was_command = [], False
+        for line in filter(words_of, lines):
+            result, is_command = self.evaluate(line, task, True)
+            told.append(result)
+            was_command = was_command or is_command
+            if is_command and self.debuggee.shell.interrupted:
+                break
+        return "\n".join(told), was_command
+
+    def task_looked_at(self, frame: object) -> str:
+        """The task of a frame, or where there is none the one that stepped last."""
+        return self.task_of_frame(frame) if frame is not None else self.debuggee.shell.focus
+
+    def runs(self, text: str) -> bool:
+        """Whether a text has a command that may run for long, and that a pause ends."""
+        for line in text.split("\n"):
+            found = help_texts.expanded((words_of(line) or [""])[0])
+            if len(found) == 1 and found[0] in RUNNING and not self.is_expression(line):
+                return True
+        return False
 
     @staticmethod
     def is_expression(text: str) -> bool:

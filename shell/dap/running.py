@@ -12,6 +12,8 @@ from shell.texts import refusal_words
 
 # So many steps are taken between two looks for a request.
 PIECE = 50
+# Of those at which nothing stops so many are taken.
+MANY = 500
 
 
 @dataclass
@@ -82,18 +84,18 @@ class Runner:
 
     # Forwards
 
-    def forwards(self, ends: Callable[[str], bool], skipped: frozenset[str] = frozenset(), reason: str = "step") -> Job:
+    def forwards(self, ends: Callable[[str], bool]) -> Job:
         """Steps in the recorded order, or of the least task, up to one that `ends` says, or a breakpoint."""
         count = 0
         while True:
-            line = self.debuggee.go_on(skipped)
+            line = self.debuggee.go_on()
             if line is None:
                 self.stopped(self.over(self.debuggee.shell.focus))
                 return
             task = line.split("#")[0]
             stop = self.met(self.debuggee.shell.stops.met(line, self.session), task)
             if stop or ends(line):
-                self.stopped(stop or Stopped(reason, task))
+                self.stopped(stop or Stopped("step", task))
                 return
             count += 1
             if self.pausing:
@@ -104,7 +106,22 @@ class Runner:
 
     def go(self) -> Job:
         """Steps up to a breakpoint."""
-        return self.forwards(lambda line: False)
+        if self.debuggee.shell.stops.there or self.debuggee.recorded_next() is not None:
+            return self.forwards(lambda line: False)
+        return self.freely()
+
+    def freely(self) -> Job:
+        """Steps where nothing can stop them, many at once."""
+        while lines := self.debuggee.run_on(MANY):
+            if self.pausing:
+                self.stopped(Stopped("pause", lines[-1].split("#")[0]))
+                return
+            yield
+            if self.debuggee.shell.stops.there:
+                # One was set on the way.
+                yield from self.forwards(lambda line: False)
+                return
+        self.stopped(self.over(self.debuggee.shell.focus))
 
     def next(self, task: str) -> Job:
         """The task's next step; where it has to wait, others run until it can."""

@@ -15,6 +15,8 @@ from shell.protocol import Ended
 
 # What the reader says in the place of a message.
 ENDED = "ended"
+# These requests end a command of the console that is under way, which would answer none.
+INTERRUPTING = ("pause", "cancel", "terminate", "disconnect")
 
 
 class Server:
@@ -24,7 +26,7 @@ class Server:
         self.source = source
         self.sink = sink
         self.inbox: queue.Queue[Message | Broken | str] = queue.Queue()
-        self.adapter = Adapter(program, self.send_event)
+        self.adapter = Adapter(program, self.send_event, self.send_at_once)
         self._sequence = 0
         # Events that belong after the response to the request that is being answered.
         self._held: list[Message] | None = None
@@ -33,6 +35,8 @@ class Server:
         """Puts each message into the inbox, up to the end of the stream."""
         try:
             while (message := read_message(self.source)) is not None:
+                if message.get("command") in INTERRUPTING:
+                    self.adapter.interrupt()
                 self.inbox.put(message)
             self.inbox.put(ENDED)
         except Broken as broken:
@@ -107,10 +111,11 @@ class Server:
         except Ended as ended:
             self.program_ended(ended)
             response = {"success": False, "message": str(ended)}
-        except (TypeError, ValueError, AttributeError, KeyError, IndexError) as fault:
+        except (TypeError, ValueError, AttributeError, LookupError, ArithmeticError, RecursionError) as fault:
             response = {"success": False, "message": f"the arguments of {command} are wrong: {fault}"}
         held, self._held = self._held, None
-        self.send({"type": "response", "request_seq": message.get("seq", 0), "command": command, **response})
+        number = message.get("seq")
+        self.send({"type": "response", "request_seq": number if type(number) is int else 0, "command": command, **response})
         for event in held:
             self.send(event)
 
@@ -121,11 +126,14 @@ class Server:
 
     def send_event(self, event: str, body: Message) -> None:
         """Sends an event, after the response that is being made."""
-        message = {"type": "event", "event": event, "body": body}
         if self._held is None:
-            self.send(message)
+            self.send_at_once(event, body)
         else:
-            self._held.append(message)
+            self._held.append({"type": "event", "event": event, "body": body})
+
+    def send_at_once(self, event: str, body: Message) -> None:
+        """Sends an event while a request is being answered."""
+        self.send({"type": "event", "event": event, "body": body})
 
 
 def serve_port(program: str, port: int) -> int:

@@ -2,6 +2,7 @@
 
 import json
 import re
+import sys
 from typing import Any, BinaryIO
 
 Message = dict[str, Any]
@@ -37,6 +38,17 @@ def read_header(stream: BinaryIO) -> int | None:
             raise Broken(f"no header: {text[:60].decode('ascii', 'replace')}")
 
 
+def finite(text: str) -> float:
+    """A number with a point or an exponent; one that is too great is the greatest, since JSON can't say another."""
+    greatest = sys.float_info.max
+    return min(greatest, max(-greatest, float(text)))
+
+
+def no_number(text: str) -> float:
+    """`NaN` and `Infinity`, which Python reads, are no JSON."""
+    raise ValueError(text)
+
+
 def read_message(stream: BinaryIO) -> Message | None:
     """The next message; None at the end of the stream. Raises Broken."""
     length = read_header(stream)
@@ -48,7 +60,7 @@ def read_message(stream: BinaryIO) -> Message | None:
     if len(data) < length:
         raise Broken(f"a message of {length} bytes ends after {len(data)}")
     try:
-        message = json.loads(data.decode("utf-8"))
+        message = json.loads(data.decode("utf-8"), parse_float=finite, parse_constant=no_number)
     except (ValueError, RecursionError):
         raise Broken("a message isn't JSON, or its length is wrong") from None
     if not isinstance(message, dict):

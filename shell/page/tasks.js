@@ -1,5 +1,5 @@
 // The graph of the tasks: groups as boxes, the waits that are over, races in red; many tasks stand in clusters.
-const MOST_BOXES = 300, LEAST_FIT = 4, WIDE = 188, HIGH = 116, SLANT = 10;     // from box to box, and how odd rows are moved
+const MOST_BOXES = 300, FEW_BOXES = 40, LEAST_FIT = 4, WIDE = 188, HIGH = 116, SLANT = 10;     // from box to box, and how odd rows are moved
 
 function showGraph() {
   const svg = find("graph"), parts = [], clustered = view.tasks.length > MOST_BOXES;
@@ -17,10 +17,11 @@ function showGraph() {
   const isPlain = (task) => !below.has(task.name) && (children.get(parentOf(task)) <= MOST_ARROWS || !task.before.length);
   const place = new Map(plan.nodes.map((node) => [node.name, [24 + node.column * WIDE + (node.row % 2) * SLANT, 30 + node.row * HIGH]]));
   coverBoxes(place);
-  for (const box of plan.boxes) groupBox(box, plan.groups.get(box.name).line, parts);
-  for (const task of shown) edgesOf(task, place, shown.length <= 40, isPlain(task), parts);
+  const titles = plan.boxes.map((box) => groupBox(box, plan.groups.get(box.name).line, parts)), few = shown.length <= FEW_BOXES;
+  for (const task of shown) edgesOf(task, place, few, isPlain(task), parts);
   raceEdges((step) => step.task, place, parts);
-  for (const node of plan.nodes.filter((some) => some.isWait)) waitOf(node, place, parts);
+  for (const node of plan.nodes.filter((some) => some.isWait)) waitOf(node, place, few, parts);
+  parts.push(...titles);
   putLabels(parts);
   for (const task of shown) boxOf(task, place.get(task.name), plan.inside.get(task.name), parts);
   svg.setAttribute("width", plan.wide * WIDE + 50);
@@ -28,12 +29,14 @@ function showGraph() {
   svg.replaceChildren(headOf(), ...parts);
 }
 
+// The box of a group; its title is returned, since edges lie below it.
 function groupBox(box, line, parts) {
   const pad = Math.max(4, 16 - 3 * box.depth), x = 24 + box.from * WIDE - pad, y = 20 + box.low * HIGH - pad;
   const title = "taskgroup " + box.name + (line ? ", line " + line : "");
   const rect = element("rect", { class: "group", "data-group": box.name, x, y, width: (box.to - box.from) * WIDE + SLANT + 140 + 2 * pad, height: (box.high - box.low) * HIGH + 68 + 2 * pad, rx: 9 });
   rect.append(element("title", {}, title));
-  parts.push(rect, element("text", { class: "kind", x: x + 6, y: y + 13 }, title.slice(0, 26)));
+  parts.push(rect);
+  return element("text", { class: "kind", x: x + 6, y: y + 13 }, title.slice(0, 26));
 }
 
 // An edge from one box down to another, or below both where they stand side by side: one back, and a race, go lower.
@@ -86,29 +89,31 @@ function coverBoxes(place) {
   Object.assign(covered, { rects: [...place.values()].map(([x, y]) => ({ x, y, wide: 140, high: 58 })), lines: [], thin: [], wanted: [] });
 }
 
-// Whether an edge passes below boxes that are neither of its ends.
-function passesBoxes(place, one, two) {
-  if (!place.has(one) || !place.has(two)) return false;
-  const lines = linesOf(pointsBetween(place, one, two, false));
+// Whether lines pass below boxes that are neither of their ends.
+function crossBoxes(place, lines, one, two) {
   return [...place].some(([name, [x, y]]) => name !== one && name !== two && lines.some((line) => crosses({ x, y, wide: 140, high: 58 }, line)));
+}
+
+function passesBoxes(place, one, two) {
+  return place.has(one) && place.has(two) && crossBoxes(place, linesOf(pointsBetween(place, one, two, false)), one, two);
 }
 
 const parentOf = (task) => task.name.split(".").slice(0, -1).join(".");
 
-// An arrow from who generated a task is left out where this one comes after another, and that one generated many or other
-// boxes are in between; and in a row that goes on below: the names tell who it was.
-function edgesOf(task, place, labelled, isPlain, parts) {
+// An arrow from who generated a task is left out where other boxes are in between and there are many, or this one comes
+// after another, which many that one generated do; and in a row that goes on below: the names tell who it was.
+function edgesOf(task, place, few, isPlain, parts) {
   const parent = parentOf(task);
-  if (parent && wish.spawns && isPlain && !(task.before.length && passesBoxes(place, parent, task.name))) edgeOf(place, parent, task.name, "spawn", parent + " generates " + task.name, "", parts);
-  for (const [other, label] of task.before) edgeOf(place, tasks[other].name, task.name, "before", label.join("; "), labelled ? label[0] : "", parts);
-  for (const [other, label] of task.apart) edgeOf(place, tasks[other].name, task.name, "apart", label.join("; "), labelled ? label[0] : "", parts);
+  if (parent && wish.spawns && isPlain && !((task.before.length || !few) && passesBoxes(place, parent, task.name))) edgeOf(place, parent, task.name, "spawn", parent + " generates " + task.name, "", parts);
+  for (const [other, label] of task.before) edgeOf(place, tasks[other].name, task.name, "before", label.join("; "), few ? label[0] : "", parts);
+  for (const [other, label] of task.apart) edgeOf(place, tasks[other].name, task.name, "apart", label.join("; "), few ? label[0] : "", parts);
 }
 
 // The races as red arrows between the boxes of their tasks, one for each pair.
 function raceEdges(boxOfStep, place, parts) {
   const counts = new Map();
   for (const step of view.races) {
-    const key = boxOfStep(steps[step.race[0]]) + "\n" + boxOfStep(step);
+    const key = [boxOfStep(steps[step.race[0]]), boxOfStep(step)].sort().join("\n");
     // Of a cluster's own races its box has the count.
     if (boxOfStep(steps[step.race[0]]) === boxOfStep(step)) continue;
     if (!counts.has(key)) counts.set(key, []);
@@ -121,10 +126,12 @@ function raceEdges(boxOfStep, place, parts) {
   }
 }
 
-// A diamond for a taskwait that is over, below its task and the children whose ends it needed.
-function waitOf(wait, place, parts) {
+// A diamond for a taskwait that is over, below its task and the children whose ends it needed; where a line to its task
+// would pass below other boxes and there are many, it has the task's name.
+function waitOf(wait, place, few, parts) {
   const [x, y] = place.get(wait.name), [fromX, fromY] = place.get(wait.task), told = "taskwait" + (wait.line ? ", line " + wait.line : "");
-  parts.push(element("path", { class: "edge at", d: "M" + (fromX + 12) + " " + (fromY + 58) + " L" + (x + 12) + " " + (y + 29) + " L" + (x + 30) + " " + (y + 29) }));
+  const named = !few && crossBoxes(place, [[[fromX + 12, fromY + 58], [x + 12, y + 29]]], wait.task, wait.name);
+  if (!named) parts.push(element("path", { class: "edge at", d: "M" + (fromX + 12) + " " + (fromY + 58) + " L" + (x + 12) + " " + (y + 29) + " L" + (x + 30) + " " + (y + 29) }));
   const many = wait.children.length > MOST_ARROWS;
   for (const child of wait.children) {
     if (many || !place.has(child)) continue;
@@ -135,6 +142,7 @@ function waitOf(wait, place, parts) {
   const group = element("g", { "data-wait": wait.name });
   group.append(element("path", { class: "diamond", d: "M" + (x + 30) + " " + (y + 29) + " L" + (x + 70) + " " + (y + 9) + " L" + (x + 110) + " " + (y + 29) + " L" + (x + 70) + " " + (y + 49) + " Z" }),
     element("text", { class: "kind", x: x + 70, y: y + 33, "text-anchor": "middle" }, wait.line ? "line " + wait.line : "wait"),
+    ...(named ? [element("text", { class: "kind", x: x + 70, y: y + 62, "text-anchor": "middle" }, "of " + wait.task)] : []),
     ...(many ? [element("text", { class: "kind", x: x + 116, y: y + 33 }, "waits for " + wait.children.length)] : []),
     element("title", {}, wait.name + " " + told + (wait.children.length ? ": waited for " + wait.children.join(", ") : "")));
   parts.push(group);

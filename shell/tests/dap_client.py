@@ -94,14 +94,14 @@ class Client:
     def event(self, name: str) -> Any:
         """The body of the next event of this name."""
         while True:
-            found = next((at for at, message in enumerate(self.events) if message["event"] == name), None)
+            found = next((at for at, message in enumerate(self.events) if message.get("event") == name), None)
             if found is not None:
                 return self.events.pop(found)["body"]
             self.events.append(self.receive())
 
     def stopped(self, command: str, **arguments: Any) -> Any:
         """The body of the `stopped` event after a request."""
-        self.events = [message for message in self.events if message["event"] != "stopped"]
+        self.events = [message for message in self.events if message.get("event") != "stopped"]
         self.do(command, **arguments)
         return self.event("stopped")
 

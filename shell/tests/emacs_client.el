@@ -62,5 +62,8 @@
     (say "reverse" (where))
     (say "races" (length taskback-races))
     (say "evaluate" (gethash "result" (dap-request session "evaluate" :expression "c[0] + 1" :context "watch")))
+    (say "console" (car (last (split-string (gethash "result" (dap-request session "evaluate" :expression "go 1 1" :context "repl")) "\n"))))
+    (wait-for-stop 7)
+    (say "after" (where))
     (dap-request session "disconnect")))
 ;;; emacs_client.el ends here

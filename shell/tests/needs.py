@@ -1,5 +1,6 @@
 """What each step of a history needs at once, worked out from its lines: what the program's `causes` is compared with."""
 
+from collections.abc import Mapping, Sequence
 from typing import Any
 
 from shell.needs import Needs as Direct
@@ -21,3 +22,19 @@ class Needs(Direct):
                 covered |= self.needed[place] | 1 << place
         self.needed.append(covered)
         return found[::-1]
+
+
+def without_implied(causes: Mapping[Any, Sequence[tuple[str, Any]]]) -> Any:
+    """Of the needs of steps, each of which comes after those that it needs, the ones that no other of the step implies."""
+    place = {step: at for at, step in enumerate(causes)}
+    needed: list[int] = []
+    found = {}
+    for step, near in causes.items():
+        kept, covered = [], 0
+        for kind, early in sorted(near, key=lambda need: place[need[1]], reverse=True):
+            if not covered >> place[early] & 1:
+                kept.append((kind, early))
+                covered |= needed[place[early]] | 1 << place[early]
+        needed.append(covered)
+        found[step] = kept[::-1]
+    return found

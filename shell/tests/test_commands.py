@@ -110,6 +110,7 @@ RACE: Rows = (
     ("help zebra", ["no such command: zebra"]),
     ("limit x", ["limit wants a number, 1 to 1000000: limit 200000"]),
     ("limit 500", ["the journal has room for 500 entries; all was done again"]),
+    ("limit 500", ["the journal has room for 500 entries already"]),
     ("restart", ["started anew"]),
     ("source", ["no commands are left"]),
     ("source /no/file", ["can't read /no/file: No such file or directory"]),

@@ -1,11 +1,13 @@
 """The server of the Debug Adapter Protocol: each request and its errors, hostile messages, and a port."""
 
+import json
 import os
 import re
 import socket
 import subprocess
 import time
 import unittest
+import urllib.request
 from typing import Any
 
 from dap_client import ADAPTER, Client
@@ -163,6 +165,9 @@ class Requests(unittest.TestCase):
         self.assertEqual(client.frame("0")["line"], 6)
         self.assertIn("a past state is looked at", client.refused("continue", threadId=1))
         client.do("evaluate", expression="at now", context="repl")
+        several = client.do("evaluate", expression="\nsteps(0.1)\nstep 0.1\n  c[0] + 1\n", context="repl")["result"].split("\n")
+        self.assertEqual([several[0], several[1].split("  ")[0], several[2]], ["3", "0.1#4 store 0 1", "2"])
+        self.assertIn("error line", client.do("evaluate", expression="step \ud800", context="repl")["result"])
         labels = [told["label"] for told in client.do("completions", text="rollt", column=6)["targets"]]
         self.assertEqual(labels, ["rolltask"])
         self.assertIn("0.1", [told["label"] for told in client.do("completions", text="step 0.", column=8)["targets"]])
@@ -186,6 +191,42 @@ class Requests(unittest.TestCase):
         self.assertEqual(client.event("stopped")["reason"], "pause")
         self.assertEqual(client.refused("pause", threadId=1), "no task is running")
         self.assertEqual(client.stopped("next", threadId=1)["reason"], "step")
+
+    def test_a_breakpoint_that_is_set_while_tasks_run(self) -> None:
+        path = write_file(self, LOOP)
+        client = self.open(path)
+        client.do("continue", threadId=1)
+        client.do("setBreakpoints", source={"path": path}, breakpoints=[{"line": 4}])
+        self.assertEqual(client.event("stopped")["reason"], "breakpoint")
+        self.assertEqual(client.frame("0")["line"], 3)
+
+    def test_a_pause_ends_a_command_of_the_console(self) -> None:
+        """Of an endless loop, in pieces and in one long reply; the editor shows that tasks run."""
+        client = self.open(write_file(self, LOOP))
+        for command, ending in (("until 0.1#1", "pause"), ("run", "cancel")):
+            client.send("evaluate", expression=command, context="repl")
+            client.event("continued")
+            client.do(ending)
+            self.assertEqual(client.event("stopped")["description"], f"after `{command}`")
+            said = next(message["body"]["result"] for message in reversed(client.messages) if message.get("command") == "evaluate")
+            self.assertIn("stopped by a pause; the session goes on", said)
+        self.assertEqual(client.refused("pause", threadId=1), "no task is running")
+        self.assertEqual(client.stopped("next", threadId=1)["reason"], "step")
+        client.send("evaluate", expression="finish 0", context="repl")
+        client.event("continued")
+        client.do("disconnect")
+        self.assertEqual(client.child.wait(timeout=20), 0)
+
+    def test_the_live_page_from_the_console(self) -> None:
+        client = self.open()
+        client.send("evaluate", expression="serve", context="repl")
+        said = client.event("output")["output"]
+        address = re.fullmatch(r"the page is at (http://127\.0\.0\.1:\d+/[\w-]+/) ; a pause ends it\n", said)
+        with urllib.request.urlopen(urllib.request.Request(address[1] + "do", b'{"command": "step 0"}', {"Content-Type": "application/json"})) as answer:
+            self.assertEqual(json.loads(answer.read())["lines"], ["0#1 start"])
+        client.do("pause")
+        self.assertEqual(client.event("stopped")["description"], "after `serve`")
+        self.assertEqual(client.frame("0")["line"], 4)
 
     def test_a_program_without_a_stop_at_its_entry(self) -> None:
         client = Client(self).launch(RACE, stopOnEntry=False)
@@ -312,6 +353,17 @@ class Hostile(unittest.TestCase):
         out, told, status = spoken(b"Content-Length: 32\r\n\r\n" + b'{"type":"request","arguments":3}')
         self.assertEqual((told, status), ("", 0))
         self.assertIn(b"the request None isn't supported", out)
+
+    def test_numbers_that_python_alone_reads(self) -> None:
+        for text in ("NaN", "Infinity", "-Infinity", "1" * 5000):
+            data = f'{{"seq":{text},"type":"request","command":"threads"}}'.encode()
+            out, told, status = spoken(b"Content-Length: %d\r\n\r\n" % len(data) + data)
+            self.assertEqual((out, status), (b"", 1))
+            self.assertIn("a message isn't JSON", told)
+        data = b'{"seq":1e999,"type":"request","command":"initialize","arguments":{"linesStartAt1":-1e999}}'
+        out, told, status = spoken(b"Content-Length: %d\r\n\r\n" % len(data) + data)
+        self.assertEqual((told, status), ("", 0))
+        self.assertIn(b'"request_seq":0,"command":"initialize","success":true', out)
 
     def test_a_message_that_is_cut_at_any_byte(self) -> None:
         data = b'Content-Length: 60\r\n\r\n{"seq":1,"type":"request","command":"threads","arguments":{}}'

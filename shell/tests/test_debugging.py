@@ -328,7 +328,8 @@ class SideBySide(unittest.TestCase):
         shell.ask("run")
         before = state(shell.session), shell.session.entries, list(shell.session.log)
         self.assertEqual(shell.plain("flip 1")[:2], ["0.1#4 store 0 1", "0.2#2 load r1 0 1"])
-        self.assertEqual(shell.ask("flip 1")[2:], ["  0.1#4 first                         0.2#2 first", "  cell 0: 3                           cell 0: 2",
+        self.assertEqual(shell.ask("flip 1")[2:], ["  0.1#4 first                         0.2#2 first", "  0.2#2 load r1 0 1                   0.2#2 load r1 0 0",
+                                                   "  cell 0: 3                           cell 0: 2",
                                                    "  out: 3                              out: 2"])
         self.assertEqual((state(shell.session), shell.session.entries, list(shell.session.log)), before)
         self.assertEqual(shell.ask("flip 9"), ["the run has 2 races: `flip 1` to `flip 2`"])
@@ -338,6 +339,14 @@ class SideBySide(unittest.TestCase):
         shell = Typed(self, example("apart.task"))
         shell.ask("run")
         self.assertEqual(shell.ask("flip")[-2:], ["  cell 0: 2                           cell 0: 1", "  out: 2                              out: 1"])
+
+    def test_flip_of_a_recorded_run(self) -> None:
+        text = "cells 1\nbody main 0\n  task w\n  task r\nend\nbody w 0\n  store 0 41  # a.c:3\nend\nbody r 0\n  load r0 0  # a.c:5\nend\n"
+        shell = Typed(self, text)
+        shell.ask("run")
+        told = shell.ask("flip")
+        self.assertEqual(told[3], "  0.2#2 load r0 0 41                  0.2#2 load r0 0 0")
+        self.assertIn("  a recorded run stores the numbers that it had", told[4])
 
     def test_flip_of_stores_that_come_out_alike(self) -> None:
         text = "cells 1\nbody main 0\n  task f\n  task f\nend\nbody f 0\n  store 0 7\nend\n"

@@ -92,7 +92,7 @@ class Emacs(unittest.TestCase):
         path = write_file(self, example("right_sum.task"), "right_sum.task")
         self.assertEqual(self.seen(path, path, 13), {
             "mode": "taskback-mode", "keys": "t taskback-step-back taskback-reverse-continue dap-next", "entry": "main:3", "breakpoint": "add:14 (r0=1 r1=1)", "threads": "(0 main 0.1 add 0.2 add)", "back": "add:13",
-            "again": "add:14 (r0=1 r1=1)", "second": "add:14", "reverse": "add:14", "races": "0", "evaluate": "2"})
+            "again": "add:14 (r0=1 r1=1)", "second": "add:14", "reverse": "add:14", "races": "0", "evaluate": "2", "console": "ran 1 limit", "after": "add:14"})
 
     def test_a_recorded_run_by_lines_of_its_c_file(self) -> None:
         path = write_file(self, RECORDED, "sum.session")

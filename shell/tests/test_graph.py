@@ -131,7 +131,7 @@ class GraphTest(unittest.TestCase):
         self.addCleanup(session.close)
         session.do("run 99")
         graph = graph_of(session)
-        wanted = {tuple(step.split("#")[0] for step in line.split(" ")[:2]) for line in session.view("races")[1:]}
+        wanted = {tuple(sorted(step.split("#")[0] for step in line.split(" ")[:2])) for line in session.view("races")[1:]}
         self.assertTrue(wanted)
         self.assertEqual(edges(dot_of(graph), "race"), wanted)
         self.assertIn('class=race, dir=none, style=bold, color="#b00020"', dot_of(graph))
@@ -176,6 +176,19 @@ class GraphTest(unittest.TestCase):
             self.assertEqual(write_graph(path, drawn), f"drawn to {path}, 271 tasks as clusters: Graphviz took more than 0.01 s for each of its own")
         with open(path, encoding="utf-8") as file:
             self.assertIn("270 x w", file.read())
+
+    @needs_dot
+    def test_ctrl_c_ends_graphviz_and_keeps_the_file(self) -> None:
+        path = write_file(self, "as before", "many.svg")
+        asked: list[int] = []
+
+        def stop() -> bool:
+            asked.append(1)
+            return len(asked) > 1
+        with unittest.mock.patch.object(graph, "LOOK", 0.001):
+            self.assertRaises(facts.Stopped, write_graph, path, graph_of(self.many(250)), stop)
+        with open(path, encoding="utf-8") as file:
+            self.assertEqual(file.read(), "as before")
 
     def test_few_tasks_are_drawn_one_by_one(self) -> None:
         dot = dot_of(graph_of(self.many(50)))

@@ -31,6 +31,10 @@ class Bash(unittest.TestCase):
     def test_files(self) -> None:
         self.assertEqual(completed(["./run", "examples/rac"]), ["examples/race.session", "examples/race.task"])
         self.assertEqual(completed(["./run", "--plain", "examp"]), ["examples/"])
+        # Also where a part of the ending is typed, and after an option.
+        self.assertEqual(completed(["./run", "--lanes", "examples/race.s"]), ["examples/race.session"])
+        self.assertEqual(completed(["./run", "examples/race.task"]), ["examples/race.task"])
+        self.assertEqual(completed(["./run", "examples/race.o"]), [])
         self.assertEqual(completed(["./run", "-x", "docs/taskback"]), ["docs/taskback.1"])
         folder = os.path.dirname(write_file(self, "", "a b.task"))
         self.assertEqual(completed(["./run", "a"], folder), ["a b.task"])

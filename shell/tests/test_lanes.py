@@ -151,14 +151,26 @@ class LanesTest(unittest.TestCase):
         self.addCleanup(session.close)
         session.do("run 99")
         whole = lanes_of(session)
-        with unittest.mock.patch.object(facts, "MOST_ASKED", 5), unittest.mock.patch.object(lanes, "MOST_ASKED", 5):
+        with unittest.mock.patch.object(facts, "MOST_ASKED", 5), unittest.mock.patch.multiple(lanes, MOST_ASKED=5, MOST_LABELLED=5):
             long = lanes_of(session)
             self.assertEqual(list(long.causes), list(whole.causes))
             for name, needed in whole.causes.items():
                 self.assertLessEqual({early for _, early in needed}, {early for _, early in long.causes[name]} | {early for early in long.causes if early.split("#")[0] == name.split("#")[0]})
             self.assertIn("some arrows are drawn that others imply", long.remarks()[-1])
             self.assertNotIn("font-size:11px", lanes_svg.svg_of(long))
+            self.assertIn("no arrow has a label", lanes_svg.svg_of(long))
         self.assertEqual(whole.remarks(), [])
+
+    def test_steps_without_a_lane_can_be_read(self) -> None:
+        text = "cells 1\nbody main 0\n  while r0 < 5\n    task add r0 depend inout 0\n    let r0 r0 + 1\n  end\nend\nbody add 1\n  load r1 0\n  let r1 r1 + r0\n  store 0 r1\nend\n"
+        session = Session(PROGRAM, Source(text, "x.task"))
+        self.addCleanup(session.close)
+        session.do("run 99")
+        for width in (60, 80, 100):
+            rows = lanes.text_rows(lanes_of(session), width)
+            self.assertLessEqual(max(map(len, rows)), width)
+            self.assertIn("0.5#4 store 0 10", "\n".join(rows))
+            self.assertTrue(rows[-1].startswith("  no lane fits for "), rows[-1])
 
     def test_many_tasks_are_pages_with_an_overview(self) -> None:
         text = "cells 1\nbody main 0\n  while r0 < 299\n    task t depend inout 0\n    let r0 r0 + 1\n  end\nend\nbody t 0\n  load r1 0\n  store 0 r1\nend\n"

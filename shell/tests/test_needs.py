@@ -1,5 +1,7 @@
 """The program's `causes` against those that are computed from the history, and replies that are asked for together."""
 
+import contextlib
+import dataclasses
 import random
 import unittest
 import unittest.mock
@@ -7,11 +9,15 @@ from typing import Any
 
 from programs import random_program
 from support import PROGRAM, needs_program
-from needs import Needs
+from needs import Needs, without_implied
+from shell import facts as facts_module, graph, lanes, story
 from shell.facts import Facts
+from shell.graph import dot_of, graph_of
 from shell.lanes import lanes_of
+from shell.lanes_svg import svg_of
 from shell.session import Session
 from shell.source import Source
+from shell.story import Story
 from test_lanes import walked
 from test_races import has_views
 
@@ -139,6 +145,37 @@ class NeedsTest(unittest.TestCase):
         names = [step.name for step in lanes.steps]
         self.assertEqual(lanes.causes, {step.name: [(kind, names[place]) for kind, place in needs.add(step.name, step.did)]
                                         for step in lanes.steps})
+
+    def both_ways(self) -> Any:
+        """Sessions of some length, also with rollbacks."""
+        long = Session(PROGRAM, Source(LONG, "x.task"))
+        self.addCleanup(long.close)
+        long.do("run 1500")
+        return [long, *(schedule(self, MANY if seed < 3 else random_program(seed), seed) for seed in range(9)), *(walked(self, seed)[0] for seed in range(6))]
+
+    def test_pictures_by_asked_needs_are_those_by_needs_that_were_worked_out(self) -> None:
+        """But for what others imply: lanes, graph and page are the same by `edges` and by the lines of the history."""
+        if not has_views(self):
+            return
+        for at, session in enumerate(self.both_ways()):
+            told = []
+            for most in (1000000, 0):
+                with contextlib.ExitStack() as stack:
+                    for module in (facts_module, lanes, graph, story):
+                        stack.enter_context(unittest.mock.patch.object(module, "MOST_ASKED", most))
+                    stack.enter_context(unittest.mock.patch.object(story, "VERY_FEW", 1000000))
+                    drawn = lanes_of(session)
+                    self.assertEqual(drawn.implied, not most)
+                    page: dict[str, Any] = Story(session).data()
+                    left = [text for text in page.pop("leftOut") if "follow from others" in text]
+                    self.assertEqual(len(left), int(not most))
+                    causes = without_implied({number: step[5] for number, step in enumerate(page["steps"])})
+                    page["steps"] = [step[:5] + [causes[number]] + step[6:] for number, step in enumerate(page["steps"])]
+                    drawn = dataclasses.replace(drawn, causes=without_implied(drawn.causes), implied=False)
+                    told.append((svg_of(drawn), dot_of(graph_of(session)), page))
+                if most:
+                    self.assertEqual(drawn.causes, lanes_of(session).causes, at)
+            self.assertEqual(told[0], told[1], at)
 
     def test_replies_that_are_asked_for_together(self) -> None:
         session, _ = walked(self, 3)

@@ -20,7 +20,9 @@ class WordsTest(unittest.TestCase):
     def test_comments_and_blanks(self) -> None:
         self.assertEqual(words_of("undo 0#3 # back"), ["undo", "0#3"])
         self.assertFalse(has_reply(" \t\r # only a comment"))
-        self.assertTrue(has_reply("#" * 1025))
+        for line in ("#" * 1025, " " * 1025, " # " + "y" * 1025):
+            self.assertFalse(has_reply(line), line[:9])
+        self.assertTrue(has_reply(" " * 1025 + "step 0"))
         self.assertTrue(has_reply("\x0b"))
 
     def test_split(self) -> None:

@@ -140,6 +140,13 @@ class Served(unittest.TestCase):
         self.assertEqual(json.loads(self.ask(server, "GET", f"/{server.token}/state")[1])["moments"], 0)
         self.assertFalse({"save", "source", "page", "graph", "lanes", "compare", "quit", "serve"} & set(ALLOWED))
 
+    def test_halves_of_characters(self) -> None:
+        """JSON has them, and they have no bytes."""
+        server = served(self)
+        for command in ("step \ud800", "rs \udfff", "rollcell \udc80"):
+            self.assertNotEqual(self.do(server, command)["outcome"], "done", command)
+        self.assertEqual(self.do(server, "step 0")["lines"], ["0#1 start"])
+
     def test_connections_on_which_nothing_is_asked_keep_nobody(self) -> None:
         server = served(self)
         with socket.create_connection(("127.0.0.1", server.server_port)), socket.create_connection(("127.0.0.1", server.server_port)):

@@ -20,18 +20,25 @@ class FaultTest(unittest.TestCase):
                                  ("task nobody", "UnknownBody", "nobody"), ("print r16", "Register", "r16"),
                                  ("task t depend readonly 0", "DependType", "readonly"), ("cell 7 1", "CellRange", "7"),
                                  ("task t x depend in 0", "BadNumber", "x"), ("task t depend in y", "BadNumber", "y"),
-                                 ("if r0 = 1", "UnknownWord", "="), ("load 3 r1", "Register", "3"), ("else", "Nesting", "else")):
+                                 ("if r0 = 1", "UnknownWord", "="), ("task t depend in 0 out 1", "UnknownWord", "out"), ("taskwait on 0 1", "UnknownWord", "on"),
+                                 ("task t 1 depend in 0 if r0 > 1", "UnknownWord", ">"), ("task t depend in 0", "UnknownWord", None), ("load 3 r1", "Register", "3"), ("else", "Nesting", "else")):
             words = line.split(" ")
             place = faults.word_at_fault(words, kind)
             self.assertEqual(None if place is None else words[place], word, line)
         self.assertIsNone(faults.word_at_fault(["print"], "Arity"))
+
+    def test_why_a_clause_is_unknown(self) -> None:
+        self.assertIn("  a clause is `depend TYPE ADDR`, or at the end of a task `if A CMP B` (UnknownWord)", self.show("task t depend in 0 out 1", "UnknownWord"))
+        self.assertIn("  the comparisons are ==, !=, < and <= (UnknownWord)", self.show("task t if r0 > 1", "UnknownWord"))
 
     def test_forms(self) -> None:
         self.assertEqual(faults.should_be(["stroe", "0", "1"]), "store ADDR VAL")
         self.assertIn("print VAL", self.show("print", "Arity")[-1])
         for line, kind, wanted in (("if r0 = 1", "UnknownWord", "if r0 == 1"), ("while r0 >= r1", "UnknownWord", "while r1 <= r0"),
                                    ("if r0 => 1", "UnknownWord", "if A CMP B, where CMP is == != < <="), ("r1 = r2 + 3", "UnknownWord", "let r1 r2 + 3"),
-                                   ("let r1 r0 / 2", "UnknownWord", "let rK A   or   let rK A OP B, where OP is + - *")):
+                                   ("let r1 r0 / 2", "UnknownWord", "let rK A   or   let rK A OP B, where OP is + - *"),
+                                   ("store 0, 5;", "BadNumber", "store 0 5"), ("task t depend in 0, r1", "BadNumber", "task t depend in 0 depend in r1"),
+                                   ("task t if (r0 >= 2)", "BadNumber", "task t if 2 <= r0"), ("task t depend in 0 if 1 > 2", "UnknownWord", "task t depend in 0 if 2 < 1")):
             self.assertEqual(self.show(line, kind)[-1], "  it should look like: " + wanted)
         text = "cells 1\nbody main 0\n  task ad 1\nend\nbody add 1\nend\n"
         self.assertEqual(faults.fault_lines("a.task", text, 3, "UnknownBody")[-1], "  it should look like: task add 1")
