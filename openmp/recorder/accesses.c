@@ -1,6 +1,6 @@
 /* The calls that the instrumentation makes: loads and stores, by clang's coverage, and the entry and end of functions,
    by its thread instrumentation. */
-#include "recorder.h"
+#include "writing.h"
 
 /* Unaligned numbers; no call of memcpy, which would be recorded too. */
 struct __attribute__((packed)) two { int16_t number; };
@@ -16,16 +16,18 @@ static uint64_t number_at(uint64_t address, uint32_t size) {
     }
 }
 
-void taskback_read_written(struct own *own) {
+static inline void read_written(struct own *own) {
     struct event *event = own->unread;
     uint32_t row = event->mark >> ROW_SHIFT;
     own->unread = 0;
     event->value = number_at(event->address, row ? 1u << (row - 1) : event->size);
 }
 
+void taskback_read_written(struct own *own) { read_written(own); }
+
 /* What the creator fills of a task's record, what the runtime does for a task, a thread's own variables, and what the
    compiler's code reads of a task's record to find what the task shares. */
-static int is_left_out(const struct own *own, enum kind kind, uint64_t address) {
+static inline int is_left_out(const struct own *own, enum kind kind, uint64_t address) {
     if (address - own->record < own->record_size && own->record_creator == own->task)
         return 1;
     if ((own->muted && own->muted == own->task) || address - own->tls_low < own->tls_size)
@@ -71,17 +73,14 @@ static inline int are_callers_known(const struct own *own, const struct chain *c
                       && chain->outer == (uint64_t)frame->outer && chain->task == own->task);
 }
 
-/* Writes down who called the function that makes the access, where that isn't known from the task's access before. */
-static void note_callers(struct own *own, struct frame *frame) {
-    struct chain *chain = chain_of(own);
-    if (are_callers_known(own, chain, frame))
-        return;
+/* Writes down who called the function that makes the access; the chain is that of its task. */
+__attribute__((noinline)) static void note_new_callers(struct own *own, struct chain *chain, struct frame *frame) {
     *chain = (struct chain){(uint64_t)frame, frame->back, (uint64_t)frame->outer, own->task};
     struct running *running = top_task(own);
     uint64_t places[CALLERS] = {0}, callers = 0;
     uint64_t base = running ? running->base : 0;
     while (callers < CALLERS && frame && (uint64_t)frame + sizeof *frame != base) {
-        places[callers++] = (uint32_t)taskback_offset(frame->back);
+        places[callers++] = (uint32_t)offset_of(frame->back);
         frame = outer_of(own, frame);
     }
     if (running && running->task == own->task) {
@@ -89,9 +88,15 @@ static void note_callers(struct own *own, struct frame *frame) {
             return;
         running->has_callers = 1;
     }
-    struct event *event = taskback_note_access(own, CHAIN, places[1] | places[2] << 32, 0, 0);
-    event->value = places[3] | places[4] << 32;
-    event->place = (int32_t)places[0];
+    write_down(own, CHAIN, number_of_event(CHAIN, 0), own->task, places[1] | places[2] << 32, places[3] | places[4] << 32,
+               (int32_t)places[0], 0, 0);
+}
+
+/* That where it isn't known from the task's access before. */
+static inline void note_callers(struct own *own, struct frame *frame) {
+    struct chain *chain = chain_of(own);
+    if (__builtin_expect(!are_callers_known(own, chain, frame), 0))
+        note_new_callers(own, chain, frame);
 }
 
 static inline uint8_t row_mark(uint32_t shift) { return (uint8_t)((1 + shift) << ROW_SHIFT); }
@@ -127,17 +132,18 @@ __attribute__((always_inline)) static inline int is_known(struct own *own, const
     return kind == READ || is_busy(own);
 }
 
-static struct event *note_touch(struct own *own, enum kind kind, uint64_t address, uint64_t size, uint64_t place, int mark) {
-    taskback_settle(own);
+/* `frame` is that of a call in the function that makes the access, or one further in. */
+__attribute__((always_inline)) static inline struct event *note_touch(struct own *own, enum kind kind, uint64_t address, uint64_t size,
+                                                                      uint64_t place, int mark, struct frame *frame) {
+    if (own->unread)
+        read_written(own);
     if (own->stack_high)
-        note_callers(own, frame_of(own, place, __builtin_frame_address(0)));
-    struct event *event = own->last = taskback_note_access(own, kind, address, place, mark);
-    set_size(event, size);
-    if (size > LONGEST_NUMBER || mark & FREED)
-        return event;
-    if (kind == READ)
-        event->value = number_at(address, (uint32_t)size);
-    else
+        note_callers(own, frame_of(own, place, frame));
+    int has_number = size <= LONGEST_NUMBER && !(mark & FREED);
+    uint64_t value = size > LONGEST_NUMBER ? size : kind == READ && has_number ? number_at(address, (uint32_t)size) : 0;
+    struct event *event = own->last = write_down(own, kind, number_of_event(kind, mark), own->task, address, value, offset_of(place),
+                                                 size_told(size), mark);
+    if (kind == WRITE && has_number)
         own->unread = event;
     return event;
 }
@@ -170,8 +176,8 @@ static void begin_set(struct own *own, struct touched *touched, enum kind kind, 
                       uint64_t place) {
     if (touched->set || !is_busy(own) || own->next == own->end)
         return;
-    touched->set = taskback_note_access(own, kind, address >> (shift + 6) << (shift + 6), place, row_mark(shift));
-    touched->set->size = SET;
+    touched->set = write_down(own, kind, number_of_event(kind, 0), own->task, address >> (shift + 6) << (shift + 6), 0, offset_of(place), SET,
+                              row_mark(shift));
 }
 
 /* Whether nothing of the block is left out, and the place has a frame by which its callers are told apart. */
@@ -189,8 +195,8 @@ static uint64_t may_grow(const struct own *own, enum kind kind, uint64_t address
 }
 
 /* An element that its place hasn't touched in this part; `frame` is that of the call. */
-__attribute__((noinline)) static void touch_more(struct own *own, enum kind kind, uint64_t address, uint32_t shift,
-                                                 uint64_t place, struct frame *frame) {
+__attribute__((always_inline)) static inline void touch_more(struct own *own, enum kind kind, uint64_t address, uint32_t shift,
+                                                             uint64_t place, struct frame *frame) {
     int is_aligned = (address & ((1u << shift) - 1)) == 0;
     uint64_t block = is_aligned ? address >> (shift + 6) : alone(kind, address);
     uint64_t bit = is_aligned ? 1ull << (address >> shift & 63) : 1;
@@ -205,11 +211,19 @@ __attribute__((noinline)) static void touch_more(struct own *own, enum kind kind
         if (joins(own, touched, address, shift, bit, frame))
             return;
     }
-    struct event *event = note_touch(own, kind, address, 1u << shift, place, 0);
+    struct event *event = note_touch(own, kind, address, 1u << shift, place, 0, frame);
     uint64_t key = key_of(own, place), outer = (uint64_t)outer_of(own, frame);
     is_same = is_same && touched->key == key;   /* else the page was turned */
     *touched = (struct touched){key, block, bit | (is_same ? touched->bits : 0), event, is_same ? touched->set : 0, outer,
                                 outer ? frame->outer->back : 0, is_same ? touched->growth : UNKNOWN};
+}
+
+__attribute__((noinline)) static void load_more(struct own *own, uint64_t address, uint32_t shift, uint64_t place, struct frame *frame) {
+    touch_more(own, READ, address, shift, place, frame);
+}
+
+__attribute__((noinline)) static void store_more(struct own *own, uint64_t address, uint32_t shift, uint64_t place, struct frame *frame) {
+    touch_more(own, WRITE, address, shift, place, frame);
 }
 
 void taskback_access(enum kind kind, uint64_t address, uint64_t size, uint64_t place, int mark) {
@@ -221,7 +235,7 @@ void taskback_access(enum kind kind, uint64_t address, uint64_t size, uint64_t p
         touch_again(own, touched->first, kind, size <= LONGEST_NUMBER && !(mark & FREED));
         return;
     }
-    struct event *event = note_touch(own, kind, address, size, place, mark);
+    struct event *event = note_touch(own, kind, address, size, place, mark, __builtin_frame_address(0));
     *touched = (struct touched){key_of(own, place), alone(kind, address), size, event, 0, 0, 0, 0};
 }
 
@@ -309,7 +323,10 @@ __attribute__((always_inline)) static inline void touch(struct own *own, enum ki
     if (touched->key == key_of(own, place) && touched->block == block && (address & ((1u << shift) - 1)) == 0
         && (touched->bits & bit ? is_known(own, touched, kind, address, bit) : joins(own, touched, address, shift, bit, frame)))
         return;
-    touch_more(own, kind, address, shift, place, frame);
+    if (kind == READ)
+        load_more(own, address, shift, place, frame);
+    else
+        store_more(own, address, shift, place, frame);
 }
 
 #define FRAME_HERE ((struct frame *)__builtin_frame_address(0))
