@@ -25,14 +25,20 @@ static inline void read_written(struct own *own) {
 
 void taskback_read_written(struct own *own) { read_written(own); }
 
-/* What the creator fills of a task's record, what the runtime does for a task, a thread's own variables, and what the
-   compiler's code reads of a task's record to find what the task shares. */
-static inline int is_left_out(const struct own *own, enum kind kind, uint64_t address) {
+/* What the creator fills of a task's record, what the runtime does for a task, and what is being sorted. */
+static int is_apart(const struct own *own, uint64_t address) {
     if (address - own->record < own->record_size && own->record_creator == own->task)
         return 1;
-    if ((own->muted && own->muted == own->task) || address - own->tls_low < own->tls_size)
+    if (own->muted && own->muted == own->task)
         return 1;
-    if (address - own->sorted.array < own->sorted.size || address - own->sorted.room < own->sorted.size)
+    return address - own->sorted.array < own->sorted.size || address - own->sorted.room < own->sorted.size;
+}
+
+/* That, a thread's own variables, and what the compiler's code reads of a task's record to find what the task shares. */
+static inline int is_left_out(const struct own *own, enum kind kind, uint64_t address) {
+    if (own->record_size | own->muted | own->sorted.size && is_apart(own, address))
+        return 1;
+    if (address - own->tls_low < own->tls_size)
         return 1;
     if (kind != READ || own->depth == 0 || own->depth > RUNNING_MOST)
         return 0;
@@ -132,13 +138,13 @@ __attribute__((always_inline)) static inline int is_known(struct own *own, const
     return kind == READ || is_busy(own);
 }
 
-/* `frame` is that of a call in the function that makes the access, or one further in. */
+/* `user` is the frame of the function that makes the access; 0 where it can't be told. */
 __attribute__((always_inline)) static inline struct event *note_touch(struct own *own, enum kind kind, uint64_t address, uint64_t size,
-                                                                      uint64_t place, int mark, struct frame *frame) {
+                                                                      uint64_t place, int mark, struct frame *user) {
     if (own->unread)
         read_written(own);
     if (own->stack_high)
-        note_callers(own, frame_of(own, place, frame));
+        note_callers(own, user);
     int has_number = size <= LONGEST_NUMBER && !(mark & FREED);
     uint64_t value = size > LONGEST_NUMBER ? size : kind == READ && has_number ? number_at(address, (uint32_t)size) : 0;
     struct event *event = own->last = write_down(own, kind, number_of_event(kind, mark), own->task, address, value, offset_of(place),
@@ -194,9 +200,20 @@ static uint64_t may_grow(const struct own *own, enum kind kind, uint64_t address
     return !own->muted && outer_of(own, frame) != 0;
 }
 
-/* An element that its place hasn't touched in this part; `frame` is that of the call. */
-__attribute__((always_inline)) static inline void touch_more(struct own *own, enum kind kind, uint64_t address, uint32_t shift,
-                                                             uint64_t place, struct frame *frame) {
+/* The first element of its block that the place touches in this part; `frame` is that of the call. */
+__attribute__((always_inline)) static inline void touch_first(struct own *own, enum kind kind, uint64_t address, uint32_t shift,
+                                                              struct touched *touched, uint64_t place, struct frame *frame) {
+    if (is_left_out(own, kind, address))
+        return;
+    struct frame *user = outer_of(own, frame);
+    struct event *event = note_touch(own, kind, address, 1u << shift, place, 0, user);
+    *touched = (struct touched){key_of(own, place), address >> (shift + 6), 1ull << (address >> shift & 63), event, 0, (uint64_t)user,
+                                user ? user->back : 0, UNKNOWN};
+}
+
+/* Another element of it, or one that isn't where elements of its size are. */
+__attribute__((noinline)) static void touch_more(struct own *own, enum kind kind, uint64_t address, uint32_t shift,
+                                                 uint64_t place, struct frame *frame) {
     int is_aligned = (address & ((1u << shift) - 1)) == 0;
     uint64_t block = is_aligned ? address >> (shift + 6) : alone(kind, address);
     uint64_t bit = is_aligned ? 1ull << (address >> shift & 63) : 1;
@@ -211,19 +228,22 @@ __attribute__((always_inline)) static inline void touch_more(struct own *own, en
         if (joins(own, touched, address, shift, bit, frame))
             return;
     }
-    struct event *event = note_touch(own, kind, address, 1u << shift, place, 0, frame);
-    uint64_t key = key_of(own, place), outer = (uint64_t)outer_of(own, frame);
+    struct frame *user = outer_of(own, frame);
+    struct event *event = note_touch(own, kind, address, 1u << shift, place, 0, user);
+    uint64_t key = key_of(own, place);
     is_same = is_same && touched->key == key;   /* else the page was turned */
-    *touched = (struct touched){key, block, bit | (is_same ? touched->bits : 0), event, is_same ? touched->set : 0, outer,
-                                outer ? frame->outer->back : 0, is_same ? touched->growth : UNKNOWN};
+    *touched = (struct touched){key, block, bit | (is_same ? touched->bits : 0), event, is_same ? touched->set : 0, (uint64_t)user,
+                                user ? user->back : 0, is_same ? touched->growth : UNKNOWN};
 }
 
-__attribute__((noinline)) static void load_more(struct own *own, uint64_t address, uint32_t shift, uint64_t place, struct frame *frame) {
-    touch_more(own, READ, address, shift, place, frame);
+__attribute__((noinline)) static void load_first(struct own *own, uint64_t address, uint32_t shift, struct touched *touched, uint64_t place,
+                                                 struct frame *frame) {
+    touch_first(own, READ, address, shift, touched, place, frame);
 }
 
-__attribute__((noinline)) static void store_more(struct own *own, uint64_t address, uint32_t shift, uint64_t place, struct frame *frame) {
-    touch_more(own, WRITE, address, shift, place, frame);
+__attribute__((noinline)) static void store_first(struct own *own, uint64_t address, uint32_t shift, struct touched *touched, uint64_t place,
+                                                  struct frame *frame) {
+    touch_first(own, WRITE, address, shift, touched, place, frame);
 }
 
 void taskback_access(enum kind kind, uint64_t address, uint64_t size, uint64_t place, int mark) {
@@ -235,7 +255,7 @@ void taskback_access(enum kind kind, uint64_t address, uint64_t size, uint64_t p
         touch_again(own, touched->first, kind, size <= LONGEST_NUMBER && !(mark & FREED));
         return;
     }
-    struct event *event = note_touch(own, kind, address, size, place, mark, __builtin_frame_address(0));
+    struct event *event = note_touch(own, kind, address, size, place, mark, frame_of(own, place, __builtin_frame_address(0)));
     *touched = (struct touched){key_of(own, place), alone(kind, address), size, event, 0, 0, 0, 0};
 }
 
@@ -320,13 +340,17 @@ static inline int is_quiet(const struct own *own, const void *address) {
 __attribute__((always_inline)) static inline void touch(struct own *own, enum kind kind, uint64_t address, uint32_t shift, uint64_t place, struct frame *frame) {
     uint64_t block = address >> (shift + 6), bit = 1ull << (address >> shift & 63);
     struct touched *touched = touched_at(own, block, place);
-    if (touched->key == key_of(own, place) && touched->block == block && (address & ((1u << shift) - 1)) == 0
-        && (touched->bits & bit ? is_known(own, touched, kind, address, bit) : joins(own, touched, address, shift, bit, frame)))
-        return;
-    if (kind == READ)
-        load_more(own, address, shift, place, frame);
-    else
-        store_more(own, address, shift, place, frame);
+    int is_aligned = (address & ((1u << shift) - 1)) == 0;
+    if (touched->key != key_of(own, place) || touched->block != block) {
+        if (!is_aligned)
+            touch_more(own, kind, address, shift, place, frame);
+        else if (kind == READ)
+            load_first(own, address, shift, touched, place, frame);
+        else
+            store_first(own, address, shift, touched, place, frame);
+    } else if (!is_aligned || !(touched->bits & bit ? is_known(own, touched, kind, address, bit) : joins(own, touched, address, shift, bit, frame))) {
+        touch_more(own, kind, address, shift, place, frame);
+    }
 }
 
 #define FRAME_HERE ((struct frame *)__builtin_frame_address(0))
