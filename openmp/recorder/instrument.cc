@@ -91,9 +91,9 @@ private:
         }
         for (auto &access : found)
             put_call(*access.first, access.second);
+        simd.put_calls();
         for (const Filling &filling : fillings)
             replace(filling);
-        simd.put_calls();
         for (BranchInst *branch : lasts) {
             put_call_of_last(*function.getParent(), branch->getSuccessor(0), "taskback_last_begin");
             put_call_of_last(*function.getParent(), branch->getSuccessor(1), "taskback_last_end");
