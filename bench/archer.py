@@ -1,45 +1,61 @@
 #!/usr/bin/env python3
 """The recorder beside Archer on the recorder's examples: races found and missed, false ones, and the time.
 
-    bench/archer.py [--threads N] [--runs N] [EXAMPLE ..]
+    bench/archer.py [--threads N ..] [--runs N] [--each] [EXAMPLE ..]
 
-Each example is compiled twice, by `openmp/record cc` and by clang with `-fsanitize=thread` for Archer (libarcher.so, of
-libomp), and run some times. Told are the runs with the right answer, of all; and the time of all runs, for the recorder
-with its check. TASKBACK_CLANG names another clang.
+Each example is compiled twice, by `openmp/record cc` and by clang with `-fsanitize=thread` for Archer (libarcher.so, which
+Debian's libomp-14-dev has), and run some times. A race is found in a run whose answer reports one, and false where the
+example has none. The time is the processor's for all runs, the recorder's with its check. `--each` also names the examples
+that a tool has answered wrongly in some run. TASKBACK_CLANG names another clang.
 """
 
 import argparse
 import os
 import re
+import signal
 import subprocess
 import sys
 import tempfile
-import time
 
 TOP = os.path.dirname(os.path.dirname(os.path.abspath(__file__)))
 CXX_ENDINGS = (".cc", ".cpp", ".cxx")
 EXAMPLES = os.path.join(TOP, "openmp", "examples")
-SECONDS = 120
+RECORD = os.path.join(TOP, "openmp", "record")
+CHECK = os.path.join(TOP, "openmp", "check")
+SECONDS = 60
+RACES = ("race", "hidden")      # what an example's first comment expects
 
 
 def compilers():
     """The recorder's compilers, of C and of C++."""
-    return subprocess.run([os.path.join(TOP, "openmp", "record"), "which"], capture_output=True, text=True, check=True).stdout.split("\n")[:2]
+    return subprocess.run([RECORD, "which"], capture_output=True, text=True, check=True).stdout.split("\n")[:2]
 
 
 def archer_library(compiler):
     """Archer's tool, which lies beside the runtime."""
     told = subprocess.run([compiler, "-print-file-name=libarcher.so"], capture_output=True, text=True, check=True).stdout.strip()
-    if os.path.exists(told):
-        return told
-    real = os.path.dirname(os.path.dirname(os.path.realpath(compiler)))
-    return os.path.join(real, "lib", "libarcher.so")
+    beside = os.path.join(os.path.dirname(os.path.dirname(os.path.realpath(compiler))), "lib", "libarcher.so")
+    found = [path for path in (told, beside) if os.path.exists(path)]
+    if not found:
+        sys.exit(f"archer.py: {compiler} has no libarcher.so (apt-get install libomp-14-dev)")
+    return found[0]
 
 
 def has_race(name):
     """Whether the example is one with a race."""
     with open(os.path.join(EXAMPLES, name), encoding="utf-8") as file:
-        return re.search(r"expect: (\w+)", file.read())[1] == "race"
+        return re.search(r"expect: (\w+)", file.read())[1] in RACES
+
+
+def run(words, **changes):
+    """(exit status, what it wrote to its standard error, seconds of the processor) of one run; it's ended where it takes long."""
+    with tempfile.TemporaryFile("w+", errors="replace") as told:
+        child = subprocess.Popen(words, stdin=subprocess.DEVNULL, stdout=subprocess.DEVNULL, stderr=told,
+                                 env={**os.environ, **changes}, preexec_fn=lambda: signal.alarm(SECONDS))
+        _, status, used = os.wait4(child.pid, 0)
+        child.returncode = os.waitstatus_to_exitcode(status)
+        told.seek(0)
+        return child.returncode, told.read(), used.ru_utime + used.ru_stime
 
 
 class Recorder:
@@ -48,15 +64,14 @@ class Recorder:
     name = "recorder"
 
     def compile(self, source, program):
-        return subprocess.run([os.path.join(TOP, "openmp", "record"), "cc", source, "-o", program, "-lm"], check=False,
-                              capture_output=True).returncode == 0
+        return subprocess.run([RECORD, "cc", source, "-o", program, "-lm"], check=False, capture_output=True).returncode == 0
 
     def finds(self, program, threads):
+        """(whether it reports a race, seconds)."""
         trace = program + ".trace"
-        subprocess.run([program], capture_output=True, timeout=SECONDS, check=False,
-                       env={**os.environ, "OMP_NUM_THREADS": str(threads), "TASKBACK_TRACE": trace})
-        done = subprocess.run([os.path.join(TOP, "openmp", "check"), trace], capture_output=True, check=False)
-        return done.returncode == 2
+        _, _, recorded = run([program], OMP_NUM_THREADS=str(threads), TASKBACK_TRACE=trace, OMP_TOOL="enabled")
+        status, _, judged = run([CHECK, trace])
+        return status == 2, recorded + judged
 
 
 class Archer:
@@ -73,45 +88,69 @@ class Archer:
                                "-o", program, "-lm"], check=False, capture_output=True).returncode == 0
 
     def finds(self, program, threads):
-        done = subprocess.run([program], capture_output=True, text=True, errors="replace", timeout=SECONDS, check=False,
-                              env={**os.environ, "OMP_NUM_THREADS": str(threads), "OMP_TOOL_LIBRARIES": self._library,
-                                   "TSAN_OPTIONS": "ignore_noninstrumented_modules=1 exitcode=0"})
-        return "WARNING: ThreadSanitizer: data race" in done.stderr
+        """(whether it reports a race, seconds)."""
+        _, told, seconds = run([program], OMP_NUM_THREADS=str(threads), OMP_TOOL_LIBRARIES=self._library, OMP_TOOL="enabled",
+                               TSAN_OPTIONS="ignore_noninstrumented_modules=1 exitcode=0")
+        return "WARNING: ThreadSanitizer: data race" in told, seconds
+
+
+class Counts:
+    """The runs of one tool, by whether there is a race and whether it reports one."""
+
+    def __init__(self):
+        self.runs = {(has, finds): 0 for has in (True, False) for finds in (True, False)}
+        self.wrong = {True: set(), False: set()}
+        self.seconds = 0.0
+
+    def add(self, name, has, finds, seconds):
+        self.runs[has, finds] += 1
+        self.seconds += seconds
+        if has != finds:
+            self.wrong[has].add(name)
+
+    def row(self, tool):
+        of = {has: self.runs[has, True] + self.runs[has, False] for has in (True, False)}
+        return (f"| {tool} | {self.runs[True, True]} | {self.runs[True, False]} of {of[True]} | {self.runs[False, True]} of "
+                f"{of[False]} | {len(self.wrong[True])} | {len(self.wrong[False])} | {self.seconds:.1f} |")
 
 
 def measure(tool, names, threads, runs, folder):
-    """(found, with a race, silent, without, seconds): runs."""
-    counts = {True: [0, 0], False: [0, 0]}
-    seconds = 0.0
+    """Counts for each number of threads."""
+    counts = {count: Counts() for count in threads}
     for name in names:
         program = os.path.join(folder, f"{tool.name}_{name}")
         if not tool.compile(os.path.join(EXAMPLES, name), program):
-            print(f"{tool.name} can't compile {name}", file=sys.stderr)
+            print(f"{tool.name}: {name} isn't compiled", file=sys.stderr)
             continue
-        is_racy = has_race(name)
-        for _ in range(runs):
-            begin = time.monotonic()
-            found = tool.finds(program, threads)
-            seconds += time.monotonic() - begin
-            counts[is_racy][0] += found == is_racy
-            counts[is_racy][1] += 1
-    return *counts[True], *counts[False], seconds
+        for count in threads:
+            for _ in range(runs):
+                counts[count].add(name, has_race(name), *tool.finds(program, count))
+        os.remove(program)
+    return counts
 
 
 def main():
     options = argparse.ArgumentParser(description=__doc__.splitlines()[0])
-    options.add_argument("--threads", type=int, default=8)
+    options.add_argument("--threads", type=int, nargs="+", default=[8])
     options.add_argument("--runs", type=int, default=3)
+    options.add_argument("--each", action="store_true")
     options.add_argument("examples", nargs="*")
     given = options.parse_args()
     names = given.examples or sorted(os.listdir(EXAMPLES))
     compiler, cxx = compilers()
-    print(f"{given.runs} runs each of {len(names)} examples with {given.threads} threads")
-    print("| tool | races found | silent where there is none | seconds |\n|---|---|---|---|")
+    print(f"{given.runs} runs each of {len(names)} examples; {sum(map(has_race, names))} have a race")
+    print("| tool | found | missed | false | examples with a race missed in some run | examples with a false one | seconds |")
+    print("|---|---|---|---|---|---|---|")
+    wrong = []
     with tempfile.TemporaryDirectory() as folder:
         for tool in (Recorder(), Archer(compiler, cxx)):
-            found, racy, silent, clean, seconds = measure(tool, names, given.threads, given.runs, folder)
-            print(f"| {tool.name} | {found} of {racy} | {silent} of {clean} | {seconds:.1f} |", flush=True)
+            for threads, counts in measure(tool, names, given.threads, given.runs, folder).items():
+                told = f"{tool.name}, {threads} threads"
+                print(counts.row(told), flush=True)
+                wrong += [f"{told}: {word}: {', '.join(sorted(counts.wrong[has]))}"
+                          for has, word in ((True, "missed"), (False, "false")) if counts.wrong[has]]
+    if given.each:
+        print("", *wrong, sep="\n")
     return 0
 
 

@@ -1,10 +1,12 @@
 #!/usr/bin/env python3
 """What a recorded run costs: processor time without the recorder, with it, and of the judge, and the judge's memory.
 
-    bench/recording.py [--threads N] [--tries N] [PROGRAM ..]
+    bench/recording.py [--threads N] [--tries N] [--beside FOLDER] [PROGRAM ..]
 
-The least of some runs counts. `loads` stores 10,000,000 times in an order in which no two elements stand behind each other,
-`far` so that each is an event of its own, `many` ten times that (the trace takes 3.2 GB). TASKBACK_CLANG names another clang.
+The least of some runs counts. `loads` stores 10,000,000 times in an order in which no two elements are next to each other,
+`far` so that each is an event of its own, `many` ten times that (the trace takes 3.2 GB). `lanes` has the iterations of a
+`simd` loop. `--beside` names another copy of the sources, whose recorder takes turns with this one's: its columns come
+last. TASKBACK_CLANG names another clang.
 """
 
 import argparse
@@ -14,7 +16,6 @@ import sys
 import tempfile
 
 TOP = os.path.dirname(os.path.dirname(os.path.abspath(__file__)))
-RECORD = os.path.join(TOP, "openmp", "record")
 
 MAIN = """#include <stdio.h>
 #include <stdlib.h>
@@ -77,6 +78,10 @@ CHAIN = """for (int i = 0; i < 100000; i++) {
 #pragma omp task depend(inout: x) shared(x)
         x += i;
     }"""
+LANES = """for (int t = 0; t < 100; t++)
+#pragma omp simd
+        for (int i = 0; i < 10000; i++)
+            x[i] = x[i] * 3 + t;"""
 PROGRAMS = {
     "fib": MAIN % (FIB, "", 'printf("%d\\n", fib(26));'),
     "chain": MAIN % ("", "int x = 0;", CHAIN),
@@ -84,6 +89,7 @@ PROGRAMS = {
     "list": MAIN % ("struct node { int value; struct node *next; };", MAKE_LIST, LIST),
     "loads": MAIN % ("static long x[64][10007];", "", SCATTER % 1000),
     "far": MAIN % ("static long x[10007 * 64];", "", FAR % 1000),
+    "lanes": "static long x[10000];\nint main(void) {\n    %s\n    return x[5] == 1;\n}\n" % LANES,
     "many": MAIN % ("static long x[10007 * 64];", "", FAR % 10000),
 }
 
@@ -95,34 +101,68 @@ def used(words, **changes):
     return told.ru_utime + told.ru_stime, told.ru_maxrss / 1000
 
 
-def measure(name, folder, threads, tries):
+class Recorder:
+    """The recorder of one copy of the sources, with the program that it has compiled."""
+
+    def __init__(self, top, folder, source):
+        self._record = os.path.join(top, "openmp", "record")
+        self._program = os.path.join(folder, f"recorded-{abs(hash(top))}")
+        self._trace = self._program + ".trace"
+        told = subprocess.run([self._record, "which"], capture_output=True, text=True, check=True).stdout
+        self.clang, _, self._judge = told.split("\n")[:3]
+        subprocess.run([self._record, "cc", source, "-o", self._program], check=True)
+        self.seconds = None
+
+    def run(self, **changes):
+        """One run more; each writes a new file."""
+        if os.path.exists(self._trace):
+            os.remove(self._trace)
+        seconds = used([self._program], **changes, TASKBACK_TRACE=self._trace)[0]
+        self.seconds = min(self.seconds or seconds, seconds)
+
+    def judge(self, tries):
+        """(events, seconds, MB) of the last trace, which goes then."""
+        judged = min(used([self._judge, self._trace]) for _ in range(tries))
+        events = os.path.getsize(self._trace) // 32
+        os.remove(self._trace)
+        return (events, *judged)
+
+
+def measure(name, folder, threads, tries, tops):
     """A row of the table."""
-    source, plain, recorded, trace = (os.path.join(folder, name + ending) for ending in (".c", "", ".recorded", ".trace"))
+    source, plain = os.path.join(folder, name + ".c"), os.path.join(folder, name)
     with open(source, "w", encoding="utf-8") as file:
         file.write(PROGRAMS[name])
-    clang, _, judge = subprocess.run([RECORD, "which"], capture_output=True, text=True, check=True).stdout.split("\n")[:3]
-    subprocess.run([clang, "-g", "-fopenmp", source, "-o", plain], check=True)
-    subprocess.run([RECORD, "cc", source, "-o", recorded], check=True)
+    recorders = [Recorder(top, folder, source) for top in tops]
+    subprocess.run([recorders[0].clang, "-g", "-fopenmp", source, "-o", plain], check=True)
     count = {"OMP_NUM_THREADS": str(threads)}
-    alone = min(used([plain], **count)[0] for _ in range(tries))
-    kept = min(used([recorded], **count, TASKBACK_TRACE=trace)[0] for _ in range(tries))
-    judged = min(used([judge, trace]) for _ in range(max(1, tries // 3)))
-    events = os.path.getsize(trace) // 32
-    os.remove(trace)
-    return (f"| {name} | {events:,} | {alone:.2f} | {kept:.2f} | {kept / max(alone, 0.01):.1f} | {judged[0]:.1f} |"
-            f" {judged[1] / 1000:.2f} |")
+    alone = float("inf")
+    for _ in range(tries):
+        alone = min(alone, used([plain], **count)[0])
+        for recorder in recorders:
+            recorder.run(**count)
+    columns = []
+    for recorder in recorders:
+        events, seconds, memory = recorder.judge(max(1, tries // 3))
+        columns += [f"{events:,}", f"{alone:.3f}", f"{recorder.seconds:.3f}", f"{recorder.seconds / max(alone, 0.001):.1f}",
+                    f"{seconds:.2f}", f"{memory / 1000:.2f}"]
+    return f"| {name} | {threads} | {' | '.join(columns)} |"
 
 
 def main():
     options = argparse.ArgumentParser(description=__doc__.splitlines()[0])
-    options.add_argument("--threads", type=int, default=2)
+    options.add_argument("--threads", type=int, nargs="+", default=[2, 1])
     options.add_argument("--tries", type=int, default=9)
+    options.add_argument("--beside", metavar="FOLDER")
     options.add_argument("programs", nargs="*", choices=[[], *PROGRAMS])
     given = options.parse_args()
-    print("| program | events | alone, s | recorded, s | times | judged, s | memory of the judge, GB |\n|---|---|---|---|---|---|---|")
+    tops = [TOP, *([given.beside] if given.beside else [])]
+    print("| program | threads |" + " events | alone, s | recorded, s | times | judged, s | memory of the judge, GB |" * len(tops))
+    print("|---|---|" + "---|---|---|---|---|---|" * len(tops))
     with tempfile.TemporaryDirectory() as folder:
-        for name in given.programs or [name for name in PROGRAMS if name != "many"]:
-            print(measure(name, folder, given.threads, given.tries), flush=True)
+        for threads in given.threads:
+            for name in given.programs or [name for name in PROGRAMS if name != "many"]:
+                print(measure(name, folder, threads, given.tries, tops), flush=True)
     return 0
 
 

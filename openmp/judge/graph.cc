@@ -5,21 +5,27 @@ namespace judge {
 u32 Graph::add(u32 parent) {
     u32 node = static_cast<u32>(parents_.size());
     parents_.push_back(parent);
+    newest_.push_back(parent);
     if (parent != NONE)
         edges_.emplace_back(parent, node);
     return node;
 }
 
 void Graph::lead(u32 from, u32 to) {
-    if (from != NONE && from < to && parents_[to] != from)
-        edges_.emplace_back(from, to);
+    if (from == NONE || from >= to || parents_[to] == from)
+        return;
+    edges_.emplace_back(from, to);
+    if (newest_[to] == NONE || newest_[to] < from)
+        newest_[to] = from;
 }
 
 void Graph::finish() {
     labels_.assign(parents_.size(), Label{});
     visited_.assign(parents_.size(), 0);
     gather();
-    number_tree();
+    number_tree(parents_, &Label::made);
+    number_tree(newest_, &Label::newest);
+    newest_ = {};
     number(false);
     number(true);
 }
@@ -40,19 +46,18 @@ void Graph::gather() {
 }
 
 // How many are below each node is known from the last node to the first; then each child takes its share of numbers.
-void Graph::number_tree() {
-    std::vector<u32> sizes(parents_.size(), 1);
-    for (std::size_t i = parents_.size(); i-- > 0;)
-        if (parents_[i] != NONE)
-            sizes[parents_[i]] += sizes[i];
+void Graph::number_tree(const std::vector<u32> &parents, Span Label::*span) {
+    std::vector<u32> sizes(parents.size(), 1);
+    for (std::size_t i = parents.size(); i-- > 0;)
+        if (parents[i] != NONE)
+            sizes[parents[i]] += sizes[i];
     u32 roots = 0;
-    std::vector<u32> given(parents_.size(), 0);
-    for (std::size_t i = 0; i < parents_.size(); i++) {
-        u32 parent = parents_[i];
-        u32 first = parent == NONE ? roots : labels_[parent].first + 1 + given[parent];
+    std::vector<u32> given(parents.size(), 0);
+    for (std::size_t i = 0; i < parents.size(); i++) {
+        u32 parent = parents[i];
+        u32 first = parent == NONE ? roots : (labels_[parent].*span).first + 1 + given[parent];
         (parent == NONE ? roots : given[parent]) += sizes[i];
-        labels_[i].first = first;
-        labels_[i].last = first + sizes[i] - 1;
+        labels_[i].*span = Span{first, first + sizes[i] - 1};
     }
 }
 

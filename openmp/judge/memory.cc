@@ -209,30 +209,39 @@ bool Memory::compare(const Now &now, Bucket &bucket) {
     return false;
 }
 
+// The nodes up the tree from where the segment begins, as far as they are as new as that.
+std::size_t Memory::climb(u32 segment, u32 newest) {
+    if (path_.empty() || path_of_ != segment) {
+        path_of_ = segment;
+        path_.assign(1, run_.begin_of(segment));
+        above_ = run_.in_front_of(segment);
+    }
+    for (; above_ != NONE && above_ >= newest && path_.size() < FARTHEST; above_ = run_.parent_of(above_))
+        path_.push_back(above_);
+    auto older = std::partition_point(path_.begin() + 1, path_.end(), [&](u32 node) { return node >= newest; });
+    return static_cast<std::size_t>(older - path_.begin());
+}
+
 // All of the bucket's touches come before this one: who comes after a node that they all come before needn't look at each
 // again. The farther that node is up the tree, the more come after it.
 void Memory::pass(const Now &now, Bucket &bucket) {
     u32 newest = 0;
     for (u32 at = bucket.head; at != NONE; at = touches_[at].next)
         newest = std::max(newest, run_.end_of(touches_[at].segment));
-    std::vector<u32> nodes(1, run_.begin_of(now.segment));
-    for (u32 node = run_.in_front_of(now.segment); node != NONE && node >= newest && nodes.size() < FARTHEST;
-         node = run_.parent_of(node))
-        nodes.push_back(node);
     auto is_passed = [&](u32 node) {
         for (u32 at = bucket.head; at != NONE; at = touches_[at].next)
             if (!run_.is_before_node(touches_[at].segment, node))
                 return false;
         return true;
     };
-    if (!is_passed(nodes[0]))
+    std::size_t known = 0, beyond = climb(now.segment, newest);
+    if (!is_passed(path_[0]))
         return;     // they are of the same iteration, which has no node
-    std::size_t known = 0, beyond = nodes.size();
     while (beyond - known > 1) {
         std::size_t middle = known + (beyond - known) / 2;
-        (is_passed(nodes[middle]) ? known : beyond) = middle;
+        (is_passed(path_[middle]) ? known : beyond) = middle;
     }
-    bucket.passed = nodes[known];
+    bucket.passed = path_[known];
 }
 
 void Memory::keep(const Now &now, u32 &place) {

@@ -75,6 +75,7 @@ private:
     void keep(const Now &now, u32 &place);
     void is_new(std::size_t at, const event &e);
     void clear(u64 address, u64 size);
+    std::size_t climb(u32 segment, u32 newest);
     void pass(const Now &now, Bucket &bucket);
     bool is_own(const Now &now, const Touch &earlier);
     bool is_in_turn(const Now &now, const Touch &earlier);
@@ -115,6 +116,9 @@ private:
     std::map<std::pair<u32, int>, Copied> copied_;
     // Since the last barrier, by where: under which locks, loads and stores apart.
     std::unordered_map<u64, std::vector<Copied>> copied_at_;
+    // The nodes up the tree from the segment that was looked at last, and the next one.
+    std::vector<u32> path_;
+    u32 path_of_ = NONE, above_ = NONE;
     std::unordered_map<u64, u32> raced_;     // how many races a place has had
     std::unordered_map<u32, std::pair<u64, u64>> stacks_;   // of each actor, its part of a stack
 };

@@ -187,7 +187,11 @@ void Run::note(const event &e) {
     case NOTE_REDUCTION: counts.reductions++; return;
     case NOTE_DETACH: counts.detached++; return;
     case NOTE_PRIORITY: counts.priorities++; return;
-    case NOTE_CANCEL: counts.cancellations++; return;
+    case NOTE_CANCEL:
+        counts.cancellations++;
+        if (s.actor != 0 && !(actors[s.actor].flags & Actor::IS_PART) && !actors[s.actor].is_started)
+            actors[s.actor].flags |= Actor::IS_DISCARDED;
+        return;
     case NOTE_DEEP: counts.deep++; return;
     case NOTE_FORK: counts.forks++; return;
     case NOTE_NO_TOOL: counts.no_tool++; return;

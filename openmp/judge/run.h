@@ -25,7 +25,8 @@ struct Actor {
         IS_COPIED = 8,      // each thread of its team makes one of its own
         HAS_NUMBER = 16,    // it has asked for the thread's number
         IS_DETACHED = 32,
-        IS_LOOPS = 64       // of a taskloop
+        IS_LOOPS = 64,      // of a taskloop
+        IS_DISCARDED = 128  // by a cancellation, before it started
     };
     u32 parent = NONE;
     u32 flags = 0;
@@ -227,6 +228,7 @@ private:
     void find_same_unit(State &s);
     void keep_apart(State &s, const event &e);
     void start(const event &e, u32 thread);
+    void discard(State &s);
     void end(const event &e);
     void fulfil(const event &e);
     void wait(const event &e);

@@ -114,9 +114,28 @@ void Run::start(const event &e, u32 thread) {
         s.locks = parent.locks;
 }
 
+// A task that a cancellation discards before it starts ends there, and whoever waits for it goes on.
+void Run::discard(State &s) {
+    Actor &actor = actors[s.actor];
+    State &parent = state(number_of_[actor.parent]);
+    if (parent.unsettled == s.actor)
+        settle_items(parent);
+    u32 node = graph_.add(actor.start);
+    for (u32 earlier : actor.waits)
+        if (actors[earlier].is_ended)
+            graph_.lead(actors[earlier].end, node);
+    actor.is_started = true;
+    actor.start = node;
+    s.segment = add_segment(s.actor, node, 0);
+}
+
 void Run::end(const event &e) {
     State &s = state_of(e);
-    if (s.actor == 0 || actors[s.actor].is_ended || !actors[s.actor].is_started)
+    if (s.actor == 0 || actors[s.actor].is_ended)
+        return;
+    if (actors[s.actor].flags & Actor::IS_DISCARDED)
+        discard(s);
+    if (!actors[s.actor].is_started)
         return;
     settle_items(s);
     Actor &actor = actors[s.actor];

@@ -1,6 +1,6 @@
 /* The calls that the instrumentation makes: loads and stores, by clang's coverage, and the entry and end of functions,
    by its thread instrumentation. */
-#include "recorder.h"
+#include "writing.h"
 
 /* Unaligned numbers; no call of memcpy, which would be recorded too. */
 struct __attribute__((packed)) two { int16_t number; };
@@ -16,21 +16,29 @@ static uint64_t number_at(uint64_t address, uint32_t size) {
     }
 }
 
-void taskback_read_written(struct own *own) {
+static inline void read_written(struct own *own) {
     struct event *event = own->unread;
     uint32_t row = event->mark >> ROW_SHIFT;
     own->unread = 0;
     event->value = number_at(event->address, row ? 1u << (row - 1) : event->size);
 }
 
-/* What the creator fills of a task's record, what the runtime does for a task, a thread's own variables, and what the
-   compiler's code reads of a task's record to find what the task shares. */
-static int is_left_out(const struct own *own, enum kind kind, uint64_t address) {
+void taskback_read_written(struct own *own) { read_written(own); }
+
+/* What the creator fills of a task's record, what the runtime does for a task, and what is being sorted. */
+static int is_apart(const struct own *own, uint64_t address) {
     if (address - own->record < own->record_size && own->record_creator == own->task)
         return 1;
-    if ((own->muted && own->muted == own->task) || address - own->tls_low < own->tls_size)
+    if (own->muted && own->muted == own->task)
         return 1;
-    if (address - own->sorted.array < own->sorted.size || address - own->sorted.room < own->sorted.size)
+    return address - own->sorted.array < own->sorted.size || address - own->sorted.room < own->sorted.size;
+}
+
+/* That, a thread's own variables, and what the compiler's code reads of a task's record to find what the task shares. */
+static inline int is_left_out(const struct own *own, enum kind kind, uint64_t address) {
+    if (own->record_size | own->muted | own->sorted.size && is_apart(own, address))
+        return 1;
+    if (address - own->tls_low < own->tls_size)
         return 1;
     if (kind != READ || own->depth == 0 || own->depth > RUNNING_MOST)
         return 0;
@@ -71,17 +79,14 @@ static inline int are_callers_known(const struct own *own, const struct chain *c
                       && chain->outer == (uint64_t)frame->outer && chain->task == own->task);
 }
 
-/* Writes down who called the function that makes the access, where that isn't known from the task's access before. */
-static void note_callers(struct own *own, struct frame *frame) {
-    struct chain *chain = chain_of(own);
-    if (are_callers_known(own, chain, frame))
-        return;
+/* Writes down who called the function that makes the access; the chain is that of its task. */
+__attribute__((noinline)) static void note_new_callers(struct own *own, struct chain *chain, struct frame *frame) {
     *chain = (struct chain){(uint64_t)frame, frame->back, (uint64_t)frame->outer, own->task};
     struct running *running = top_task(own);
     uint64_t places[CALLERS] = {0}, callers = 0;
     uint64_t base = running ? running->base : 0;
     while (callers < CALLERS && frame && (uint64_t)frame + sizeof *frame != base) {
-        places[callers++] = (uint32_t)taskback_offset(frame->back);
+        places[callers++] = (uint32_t)offset_of(frame->back);
         frame = outer_of(own, frame);
     }
     if (running && running->task == own->task) {
@@ -89,9 +94,15 @@ static void note_callers(struct own *own, struct frame *frame) {
             return;
         running->has_callers = 1;
     }
-    struct event *event = taskback_note_access(own, CHAIN, places[1] | places[2] << 32, 0, 0);
-    event->value = places[3] | places[4] << 32;
-    event->place = (int32_t)places[0];
+    write_down(own, CHAIN, number_of_event(CHAIN, 0), own->task, places[1] | places[2] << 32, places[3] | places[4] << 32,
+               (int32_t)places[0], 0, 0);
+}
+
+/* That where it isn't known from the task's access before. */
+static inline void note_callers(struct own *own, struct frame *frame) {
+    struct chain *chain = chain_of(own);
+    if (__builtin_expect(!are_callers_known(own, chain, frame), 0))
+        note_new_callers(own, chain, frame);
 }
 
 static inline uint8_t row_mark(uint32_t shift) { return (uint8_t)((1 + shift) << ROW_SHIFT); }
@@ -127,17 +138,18 @@ __attribute__((always_inline)) static inline int is_known(struct own *own, const
     return kind == READ || is_busy(own);
 }
 
-static struct event *note_touch(struct own *own, enum kind kind, uint64_t address, uint64_t size, uint64_t place, int mark) {
-    taskback_settle(own);
+/* `user` is the frame of the function that makes the access; 0 where it can't be told. */
+__attribute__((always_inline)) static inline struct event *note_touch(struct own *own, enum kind kind, uint64_t address, uint64_t size,
+                                                                      uint64_t place, int mark, struct frame *user) {
+    if (own->unread)
+        read_written(own);
     if (own->stack_high)
-        note_callers(own, frame_of(own, place, __builtin_frame_address(0)));
-    struct event *event = own->last = taskback_note_access(own, kind, address, place, mark);
-    set_size(event, size);
-    if (size > LONGEST_NUMBER || mark & FREED)
-        return event;
-    if (kind == READ)
-        event->value = number_at(address, (uint32_t)size);
-    else
+        note_callers(own, user);
+    int has_number = size <= LONGEST_NUMBER && !(mark & FREED);
+    uint64_t value = size > LONGEST_NUMBER ? size : kind == READ && has_number ? number_at(address, (uint32_t)size) : 0;
+    struct event *event = own->last = write_down(own, kind, number_of_event(kind, mark), own->task, address, value, offset_of(place),
+                                                 size_told(size), mark);
+    if (kind == WRITE && has_number)
         own->unread = event;
     return event;
 }
@@ -170,8 +182,8 @@ static void begin_set(struct own *own, struct touched *touched, enum kind kind, 
                       uint64_t place) {
     if (touched->set || !is_busy(own) || own->next == own->end)
         return;
-    touched->set = taskback_note_access(own, kind, address >> (shift + 6) << (shift + 6), place, row_mark(shift));
-    touched->set->size = SET;
+    touched->set = write_down(own, kind, number_of_event(kind, 0), own->task, address >> (shift + 6) << (shift + 6), 0, offset_of(place), SET,
+                              row_mark(shift));
 }
 
 /* Whether nothing of the block is left out, and the place has a frame by which its callers are told apart. */
@@ -188,7 +200,18 @@ static uint64_t may_grow(const struct own *own, enum kind kind, uint64_t address
     return !own->muted && outer_of(own, frame) != 0;
 }
 
-/* An element that its place hasn't touched in this part; `frame` is that of the call. */
+/* The first element of its block that the place touches in this part; `frame` is that of the call. */
+__attribute__((always_inline)) static inline void touch_first(struct own *own, enum kind kind, uint64_t address, uint32_t shift,
+                                                              struct touched *touched, uint64_t place, struct frame *frame) {
+    if (is_left_out(own, kind, address))
+        return;
+    struct frame *user = outer_of(own, frame);
+    struct event *event = note_touch(own, kind, address, 1u << shift, place, 0, user);
+    *touched = (struct touched){key_of(own, place), address >> (shift + 6), 1ull << (address >> shift & 63), event, 0, (uint64_t)user,
+                                user ? user->back : 0, UNKNOWN};
+}
+
+/* Another element of it, or one that isn't where elements of its size are. */
 __attribute__((noinline)) static void touch_more(struct own *own, enum kind kind, uint64_t address, uint32_t shift,
                                                  uint64_t place, struct frame *frame) {
     int is_aligned = (address & ((1u << shift) - 1)) == 0;
@@ -205,11 +228,22 @@ __attribute__((noinline)) static void touch_more(struct own *own, enum kind kind
         if (joins(own, touched, address, shift, bit, frame))
             return;
     }
-    struct event *event = note_touch(own, kind, address, 1u << shift, place, 0);
-    uint64_t key = key_of(own, place), outer = (uint64_t)outer_of(own, frame);
+    struct frame *user = outer_of(own, frame);
+    struct event *event = note_touch(own, kind, address, 1u << shift, place, 0, user);
+    uint64_t key = key_of(own, place);
     is_same = is_same && touched->key == key;   /* else the page was turned */
-    *touched = (struct touched){key, block, bit | (is_same ? touched->bits : 0), event, is_same ? touched->set : 0, outer,
-                                outer ? frame->outer->back : 0, is_same ? touched->growth : UNKNOWN};
+    *touched = (struct touched){key, block, bit | (is_same ? touched->bits : 0), event, is_same ? touched->set : 0, (uint64_t)user,
+                                user ? user->back : 0, is_same ? touched->growth : UNKNOWN};
+}
+
+__attribute__((noinline)) static void load_first(struct own *own, uint64_t address, uint32_t shift, struct touched *touched, uint64_t place,
+                                                 struct frame *frame) {
+    touch_first(own, READ, address, shift, touched, place, frame);
+}
+
+__attribute__((noinline)) static void store_first(struct own *own, uint64_t address, uint32_t shift, struct touched *touched, uint64_t place,
+                                                  struct frame *frame) {
+    touch_first(own, WRITE, address, shift, touched, place, frame);
 }
 
 void taskback_access(enum kind kind, uint64_t address, uint64_t size, uint64_t place, int mark) {
@@ -221,7 +255,7 @@ void taskback_access(enum kind kind, uint64_t address, uint64_t size, uint64_t p
         touch_again(own, touched->first, kind, size <= LONGEST_NUMBER && !(mark & FREED));
         return;
     }
-    struct event *event = note_touch(own, kind, address, size, place, mark);
+    struct event *event = note_touch(own, kind, address, size, place, mark, frame_of(own, place, __builtin_frame_address(0)));
     *touched = (struct touched){key_of(own, place), alone(kind, address), size, event, 0, 0, 0, 0};
 }
 
@@ -306,10 +340,17 @@ static inline int is_quiet(const struct own *own, const void *address) {
 __attribute__((always_inline)) static inline void touch(struct own *own, enum kind kind, uint64_t address, uint32_t shift, uint64_t place, struct frame *frame) {
     uint64_t block = address >> (shift + 6), bit = 1ull << (address >> shift & 63);
     struct touched *touched = touched_at(own, block, place);
-    if (touched->key == key_of(own, place) && touched->block == block && (address & ((1u << shift) - 1)) == 0
-        && (touched->bits & bit ? is_known(own, touched, kind, address, bit) : joins(own, touched, address, shift, bit, frame)))
-        return;
-    touch_more(own, kind, address, shift, place, frame);
+    int is_aligned = (address & ((1u << shift) - 1)) == 0;
+    if (touched->key != key_of(own, place) || touched->block != block) {
+        if (!is_aligned)
+            touch_more(own, kind, address, shift, place, frame);
+        else if (kind == READ)
+            load_first(own, address, shift, touched, place, frame);
+        else
+            store_first(own, address, shift, touched, place, frame);
+    } else if (!is_aligned || !(touched->bits & bit ? is_known(own, touched, kind, address, bit) : joins(own, touched, address, shift, bit, frame))) {
+        touch_more(own, kind, address, shift, place, frame);
+    }
 }
 
 #define FRAME_HERE ((struct frame *)__builtin_frame_address(0))

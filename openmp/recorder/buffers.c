@@ -11,7 +11,7 @@
 #include <sys/single_threaded.h>
 #include <unistd.h>
 
-#include "recorder.h"
+#include "writing.h"
 
 void *__real_mmap(void *, size_t, int, int, int, off_t);
 
@@ -20,11 +20,11 @@ enum { HEADER = 4096, PIECE = BUFFER * sizeof(struct event) };
 __thread struct own *taskback_own;
 int taskback_is_recording;
 static struct own *all_threads;
-/* In a line of the cache of its own: each thread writes it. */
-static struct { uint32_t last; char rest[124]; } __attribute__((aligned(128))) counter;
+struct counter taskback_counter;
+uint64_t taskback_base;
 static uint32_t thread_count;
 static uint64_t file_end = HEADER;
-static uint64_t program_base, thread_local_size;
+static uint64_t thread_local_size;
 static int file = -1;
 static int is_over;
 
@@ -85,14 +85,13 @@ static void stop_recording(void) { __atomic_store_n(&taskback_is_recording, 0, _
 /* That there is no room for more stands at the end of the first page. */
 static void run_out_of_room(void) {
     stop_recording();
-    __atomic_add_fetch(&counter.last, 1, __ATOMIC_ACQ_REL);
+    __atomic_add_fetch(&taskback_counter.last, 1, __ATOMIC_ACQ_REL);
     ssize_t put = pwrite(file, NO_ROOM, sizeof NO_ROOM - 1, HEADER - (off_t)sizeof NO_ROOM + 1);
     (void)put;
 }
 
-/* Makes room: the accesses in the piece are no longer there to be compared with. Where there is none the rest is left
-   out, and the trace's numbers show that some are missing. */
-__attribute__((noinline)) static void turn_page(struct own *own) {
+/* Where there is no room the rest is left out, and the trace's numbers show that some are missing. */
+void taskback_turn_page(struct own *own) {
     begin_part(own);
     int is_recording = __atomic_load_n(&taskback_is_recording, __ATOMIC_ACQUIRE);
     own->next = own->part = own->events + 1;
@@ -123,7 +122,7 @@ static int find_own(struct dl_phdr_info *info, size_t size, void *data) {
     int *count = data;
     (void)size;
     if ((*count)++ == 0)
-        program_base = info->dlpi_addr;
+        taskback_base = info->dlpi_addr;
     for (int i = 0; i < info->dlpi_phnum; i++)
         if (info->dlpi_phdr[i].p_type == PT_TLS) {
             uint64_t align = info->dlpi_phdr[i].p_align ? info->dlpi_phdr[i].p_align : 1;
@@ -160,39 +159,9 @@ struct own *taskback_adopt(void) {
     return own;
 }
 
-/* Behind what is written down last stands an event without a kind, at which the piece ends. */
-__attribute__((always_inline)) static inline struct event *write_down(struct own *own, struct event told) {
-    if (own->next == own->end)
-        turn_page(own);
-    struct event *event = own->next++;
-    if (own->next != own->end)
-        own->next->kind = 0;
-    uint8_t kind = told.kind;
-    told.kind = 0;
-    *event = told;
-    __atomic_store_n(&event->kind, kind, __ATOMIC_RELEASE);
-    return event;
-}
-
-int32_t taskback_offset(uint64_t place) {
-    int64_t offset = (int64_t)(place - program_base);
-    return offset > 0 && offset <= INT32_MAX ? (int32_t)offset : 0;
-}
-
-static inline uint32_t number(enum kind kind, int mark) {
-    return takes_number((uint8_t)kind, (uint8_t)mark) ? __atomic_add_fetch(&counter.last, 1, __ATOMIC_ACQ_REL)
-                                                      : __atomic_load_n(&counter.last, __ATOMIC_ACQUIRE);
-}
-
 struct event *taskback_note(struct own *own, enum kind kind, uint32_t task, uint64_t address, uint64_t value,
                             uint64_t place) {
-    uint32_t stamp = number(kind, 0);
-    return write_down(own, (struct event){address, value, stamp, task, taskback_offset(place), 0, (uint8_t)kind, 0});
-}
-
-struct event *taskback_note_access(struct own *own, enum kind kind, uint64_t address, uint64_t place, int mark) {
-    uint32_t stamp = number(kind, mark), task = own->task;
-    return write_down(own, (struct event){address, 0, stamp, task, taskback_offset(place), 0, (uint8_t)kind, (uint8_t)mark});
+    return note(own, kind, task, address, value, place);
 }
 
 static int add(char *line, int at, int most, const char *words) {

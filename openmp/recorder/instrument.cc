@@ -1,252 +1,13 @@
 // A pass of clang: a call in front of each load and store that somebody else may see. The coverage's calls, which it stands
 // for, are made for all variables of a function, also for those whose address nobody else can have.
-#include "llvm/Analysis/LoopInfo.h"
-#include "llvm/Analysis/ValueTracking.h"
-#include "llvm/IR/DebugInfoMetadata.h"
-#include "llvm/IR/Dominators.h"
-#include "llvm/IR/IRBuilder.h"
-#include "llvm/IR/InstIterator.h"
-#include "llvm/IR/IntrinsicInst.h"
-#include "llvm/IR/Module.h"
 #include "llvm/Passes/PassBuilder.h"
 #include "llvm/Passes/PassPlugin.h"
 
-using namespace llvm;
+#include "known.h"
 
 namespace {
 
-constexpr uint64_t LONGEST = 16;
-
-bool begins(StringRef name, StringRef with) { return name.substr(0, with.size()) == with; }
-
-// Whether the call only fills or copies what the pointer leads to, or says how long it lives.
-bool keeps_nothing(const User *user) {
-    const auto *call = dyn_cast<IntrinsicInst>(user);
-    return call && (isa<MemIntrinsic>(call) || isa<DbgInfoIntrinsic>(call) || call->isLifetimeStartOrEnd());
-}
-
-// Whether a variable's address may be known to anybody but the function's own loads and stores.
-bool is_known_elsewhere(const AllocaInst *variable) {
-    SmallVector<const Value *, 8> left(1, variable);
-    while (!left.empty()) {
-        const Value *pointer = left.pop_back_val();
-        for (const User *user : pointer->users()) {
-            if (isa<GetElementPtrInst>(user) || isa<BitCastInst>(user))
-                left.push_back(user);
-            else if (const auto *store = dyn_cast<StoreInst>(user)) {
-                if (store->getValueOperand() == pointer)
-                    return true;
-            } else if (!isa<LoadInst>(user) && !keeps_nothing(user))
-                return true;
-        }
-    }
-    return false;
-}
-
-// Whether the function takes its share of a loop: the recorder sees iterations by the number that is stored there.
-bool has_loop(const Function &function) {
-    for (const Instruction &one : instructions(function)) {
-        const auto *call = dyn_cast<CallBase>(&one);
-        const Function *called = call ? call->getCalledFunction() : nullptr;
-        if (called && (begins(called->getName(), "__kmpc_for_static_init") || begins(called->getName(), "__kmpc_dispatch_")))
-            return true;
-    }
-    return false;
-}
-
-// ---- `simd` loops, as code that isn't optimised has them
-
-// What is said of a loop: whether it is one of `simd`, and its `safelen` (0: none).
-struct Lanes {
-    bool is_simd = false;
-    uint64_t safelen = 0;
-    unsigned line = 0;
-};
-
-uint64_t number_in(const MDNode *node) {
-    const auto *number = node->getNumOperands() > 1 ? mdconst::dyn_extract_or_null<ConstantInt>(node->getOperand(1)) : nullptr;
-    return number ? number->getZExtValue() : 0;
-}
-
-Lanes lanes_of(const Loop &loop) {
-    Lanes found;
-    const MDNode *told = loop.getLoopID();
-    uint64_t width = 0;
-    bool is_parallel = false;
-    for (unsigned i = 1; told && i < told->getNumOperands(); i++) {
-        const auto *one = dyn_cast<MDNode>(told->getOperand(i));
-        const auto *name = one && one->getNumOperands() ? dyn_cast<MDString>(one->getOperand(0)) : nullptr;
-        if (name && name->getString() == "llvm.loop.vectorize.enable")
-            found.is_simd = number_in(one) != 0;
-        else if (name && name->getString() == "llvm.loop.vectorize.width")
-            width = number_in(one);
-        else if (name && name->getString() == "llvm.loop.parallel_accesses")
-            is_parallel = true;
-        else if (const auto *place = dyn_cast<DILocation>(told->getOperand(i)))
-            found.line = found.line ? found.line : place->getLine();
-    }
-    found.safelen = is_parallel ? 0 : width;
-    found.is_simd = found.is_simd && (is_parallel || width > 0);
-    return found;
-}
-
-// Whether it is a thread's share of a worksharing loop, whose end the runtime says: its iterations are told apart already.
-bool is_shared_out(const Loop &loop) {
-    for (const Instruction &one : *loop.getHeader()) {
-        const auto *load = dyn_cast<LoadInst>(&one);
-        const auto *variable = load ? dyn_cast<AllocaInst>(load->getPointerOperand()) : nullptr;
-        if (!variable)
-            continue;
-        for (const User *user : variable->users()) {
-            const auto *call = dyn_cast<CallBase>(user);
-            if (call && call->getCalledFunction() && begins(call->getCalledFunction()->getName(), "__kmpc_"))
-                return true;
-        }
-    }
-    return false;
-}
-
-// The variables that the program has declared, without the copies that clang makes for a clause: their lines.
-DenseMap<const Value *, unsigned> declared_in(const Function &function) {
-    DenseMap<const Value *, unsigned> lines;
-    auto add = [&](const auto &told) {
-        if (!told.getVariable()->isArtificial() && told.getNumVariableLocationOps() > 0)
-            lines.try_emplace(told.getVariableLocationOp(0), told.getVariable()->getLine());
-    };
-    for (const Instruction &one : instructions(function)) {
-        if (const auto *told = dyn_cast<DbgVariableIntrinsic>(&one))
-            add(*told);
-#if LLVM_VERSION_MAJOR >= 19
-        for (const DbgVariableRecord &told : filterDbgVars(one.getDbgRecordRange()))
-            add(told);
-#endif
-    }
-    return lines;
-}
-
-// How many bytes it has; 0 where that is known only when the function runs.
-uint64_t size_of(const AllocaInst *variable, const DataLayout &layout) {
-    const auto *count = dyn_cast<ConstantInt>(variable->getArraySize());
-    return count ? layout.getTypeAllocSize(variable->getAllocatedType()) * count->getZExtValue() : 0;
-}
-
-class Simd {
-public:
-    Simd(Function &function, bool is_optimised) : function_(function) {
-        if (is_optimised)
-            return;
-        tree_ = std::make_unique<DominatorTree>(function);
-        loops_ = std::make_unique<LoopInfo>(*tree_);
-        for (Loop *loop : loops_->getLoopsInPreorder()) {
-            const Lanes lanes = lanes_of(*loop);
-            if (lanes.is_simd && !is_shared_out(*loop) && is_simple(*loop) && !around(loop->getHeader()))
-                found_.emplace_back(loop, lanes);
-        }
-        if (!found_.empty())
-            lines_ = declared_in(function);
-    }
-
-    // Whether the access is one of a lane to a local variable that the lanes share, and that one of them may change.
-    bool is_lanes_shared(const Instruction &one, const AllocaInst *variable) const {
-        const auto *loop = around(one.getParent());
-        return loop && is_shared(*loop, variable) && is_stored_in(*loop->first, variable);
-    }
-
-    void put_calls() {
-        for (const auto &loop : found_)
-            put_calls(loop);
-    }
-
-private:
-    using Found = std::pair<Loop *, Lanes>;
-
-    static bool is_simple(const Loop &loop) { return loop.getLoopPredecessor() && body(loop) && loop.getUniqueExitBlock(); }
-
-    // The first block of an iteration.
-    static BasicBlock *body(const Loop &loop) {
-        BasicBlock *inside = nullptr;
-        for (BasicBlock *next : successors(loop.getHeader()))
-            if (loop.contains(next) && next != loop.getHeader()) {
-                if (inside)
-                    return nullptr;
-                inside = next;
-            }
-        return inside;
-    }
-
-    const Found *around(const BasicBlock *block) const {
-        for (const Found &loop : found_)
-            if (loop.first->contains(block))
-                return &loop;
-        return nullptr;
-    }
-
-    bool is_shared(const Found &loop, const AllocaInst *variable) const {
-        const auto line = lines_.find(variable);
-        return line != lines_.end() && line->second < loop.second.line;
-    }
-
-    static bool is_stored_in(const Loop &loop, const AllocaInst *variable) {
-        SmallVector<const Value *, 8> left(1, variable);
-        while (!left.empty()) {
-            const Value *pointer = left.pop_back_val();
-            for (const User *user : pointer->users()) {
-                const auto *one = dyn_cast<Instruction>(user);
-                if (isa<GetElementPtrInst>(user) || isa<BitCastInst>(user))
-                    left.push_back(user);
-                else if (one && !isa<LoadInst>(one) && !isa<DbgInfoIntrinsic>(one) && loop.contains(one->getParent()))
-                    return true;
-            }
-        }
-        return false;
-    }
-
-    FunctionCallee callee(const char *name, ArrayRef<Type *> given) const {
-        return function_.getParent()->getOrInsertFunction(name, FunctionType::get(Type::getVoidTy(function_.getContext()), given, false));
-    }
-
-    void put_calls(const Found &loop) {
-        IRBuilder<> builder(loop.first->getLoopPredecessor()->getTerminator());
-        Type *number = builder.getInt64Ty(), *address = PointerType::get(builder.getInt8Ty(), 0);
-        builder.CreateCall(callee("taskback_lanes_begin", {number}), {builder.getInt64(loop.second.safelen)});
-        put_ordered(*loop.first);
-        builder.SetInsertPoint(&*body(*loop.first)->getFirstInsertionPt());
-        builder.CreateCall(callee("taskback_lane", {}), {});
-        for (Instruction &one : function_.getEntryBlock()) {
-            auto *variable = dyn_cast<AllocaInst>(&one);
-            const uint64_t size = variable ? size_of(variable, function_.getParent()->getDataLayout()) : 0;
-            if (size && is_known_elsewhere(variable) && !is_shared(loop, variable) && is_stored_in(*loop.first, variable))
-                builder.CreateCall(callee("taskback_lane_has", {address, number}),
-                                   {builder.CreatePointerCast(variable, address), builder.getInt64(size)});
-        }
-        builder.SetInsertPoint(&*loop.first->getUniqueExitBlock()->getFirstInsertionPt());
-        builder.CreateCall(callee("taskback_lanes_end", {}), {});
-    }
-
-    // Clang makes a function of an ordered block.
-    void put_ordered(const Loop &loop) {
-        std::vector<CallInst *> blocks;
-        for (BasicBlock *block : loop.blocks())
-            for (Instruction &one : *block) {
-                auto *call = dyn_cast<CallInst>(&one);
-                const Function *called = call ? call->getCalledFunction() : nullptr;
-                if (called && begins(called->getName(), "__captured_stmt"))
-                    blocks.push_back(call);
-            }
-        for (CallInst *call : blocks) {
-            IRBuilder<> builder(call);
-            builder.CreateCall(callee("taskback_lane_in_order", {}), {});
-            builder.SetInsertPoint(call->getNextNode());
-            builder.CreateCall(callee("taskback_lane_out_of_order", {}), {});
-        }
-    }
-
-    Function &function_;
-    std::unique_ptr<DominatorTree> tree_;
-    std::unique_ptr<LoopInfo> loops_;
-    std::vector<Found> found_;
-    DenseMap<const Value *, unsigned> lines_;
-};
+constexpr uint64_t LONGEST = 16, SHORT_COPY = 64;
 
 // Whether a call sets the variable to whether the thread does the last iteration.
 bool tells_last(const User *user, const Value *variable) {
@@ -285,6 +46,8 @@ public:
         for (Function &function : module)
             if (!function.isDeclaration() && !function.hasAvailableExternallyLinkage() && is_of_program(function))
                 take(function);
+            else
+                function.removeFnAttr(Attribute::SanitizeThread);
         if (!is_optimised_)
             tell(module);
         return PreservedAnalyses::none();
@@ -301,11 +64,12 @@ private:
 
     static bool is_of_program(const Function &function) {
         StringRef name = function.getName();
-        return !begins(name, "__sanitizer_") && !begins(name, "__tsan_") && !begins(name, "tsan.");
+        return !begins(name, "__sanitizer_") && !begins(name, "__tsan_") && !begins(name, "tsan.") && !is_map(function);
     }
 
     void take(Function &function) {
         std::vector<std::pair<Instruction *, Value *>> found;
+        std::vector<Filling> fillings;
         DenseMap<const AllocaInst *, bool> known;
         const bool is_loop = has_loop(function);
         const auto lasts = is_loop && !is_optimised_ ? branches_of_last(function) : std::vector<BranchInst *>();
@@ -319,13 +83,17 @@ private:
                     loaded.clear();
                 if (isa<StoreInst>(one))
                     loaded.erase(pointer);
-                if (pointer && is_seen(one, pointer, known, is_loop, simd) && !(isa<LoadInst>(one) && !one.isAtomic() && !loaded.insert(pointer).second))
+                auto is_told = [&](const Value *to) { return is_seen(one, to, known, is_loop, simd); };
+                if (pointer && is_told(pointer) && !(isa<LoadInst>(one) && !one.isAtomic() && !loaded.insert(pointer).second))
                     found.emplace_back(&one, pointer);
+                add_filling(one, is_told, fillings);
             }
         }
         for (auto &access : found)
             put_call(*access.first, access.second);
         simd.put_calls();
+        for (const Filling &filling : fillings)
+            replace(filling);
         for (BranchInst *branch : lasts) {
             put_call_of_last(*function.getParent(), branch->getSuccessor(0), "taskback_last_begin");
             put_call_of_last(*function.getParent(), branch->getSuccessor(1), "taskback_last_end");
@@ -345,7 +113,9 @@ private:
         return is_loop && variable && isa<StoreInst>(one) && variable->getAllocatedType()->isIntegerTy();
     }
 
-    static bool is_seen(const Instruction &one, const Value *pointer, DenseMap<const AllocaInst *, bool> &known, bool is_loop, const Simd &simd) {
+    bool is_seen(const Instruction &one, const Value *pointer, DenseMap<const AllocaInst *, bool> &known, bool is_loop, const Simd &simd) const {
+        if (!is_optimised_ && is_in_new_record(pointer))
+            return false;
         const Value *object = getUnderlyingObject(pointer, 0);
         if (const auto *constant = dyn_cast<GlobalVariable>(object))
             return !constant->isConstant();
@@ -361,20 +131,84 @@ private:
     }
 
     static void put_call(Instruction &one, Value *pointer) {
-        Module &module = *one.getModule();
         const auto *store = dyn_cast<StoreInst>(&one);
         Type *type = store ? store->getValueOperand()->getType() : one.getType();
-        const uint64_t size = module.getDataLayout().getTypeStoreSize(type);
+        const uint64_t size = one.getModule()->getDataLayout().getTypeStoreSize(type);
+        if (size > LONGEST || (size & (size - 1)) != 0)
+            return put_call_of_size(one, pointer, ConstantInt::get(Type::getInt64Ty(one.getContext()), size), store);
         IRBuilder<> builder(&one);
-        Type *address = PointerType::get(builder.getInt8Ty(), pointer->getType()->getPointerAddressSpace());
-        Value *given = builder.CreatePointerCast(pointer, address);
-        if (size > LONGEST || (size & (size - 1)) != 0) {
-            auto callee = module.getOrInsertFunction(store ? "taskback_store" : "taskback_load", builder.getVoidTy(), address, builder.getInt64Ty());
-            builder.CreateCall(callee, {given, builder.getInt64(size)});
-            return;
-        }
+        Value *given = as_bytes(builder, pointer);
         auto name = (store ? "__sanitizer_cov_store" : "__sanitizer_cov_load") + std::to_string(size);
-        builder.CreateCall(module.getOrInsertFunction(name, builder.getVoidTy(), address), {given});
+        builder.CreateCall(one.getModule()->getOrInsertFunction(name, builder.getVoidTy(), given->getType()), {given});
+    }
+
+    static void put_call_of_size(Instruction &one, Value *pointer, Value *size, bool is_store) {
+        IRBuilder<> builder(&one);
+        Value *given = as_bytes(builder, pointer), *bytes = builder.CreateZExtOrTrunc(size, builder.getInt64Ty());
+        auto callee = one.getModule()->getOrInsertFunction(is_store ? "taskback_store" : "taskback_load", builder.getVoidTy(),
+                                                           given->getType(), bytes->getType());
+        builder.CreateCall(callee, {given, bytes});
+    }
+
+    static Value *as_bytes(IRBuilder<> &builder, Value *pointer) {
+        return builder.CreatePointerCast(pointer, PointerType::get(builder.getInt8Ty(), pointer->getType()->getPointerAddressSpace()));
+    }
+
+    // What fills or copies memory, of which nobody else sees one side or both: the other one alone is told.
+    struct Filling {
+        MemIntrinsic *call;
+        bool is_from_told, is_to_told;
+    };
+
+    template <typename IsTold>
+    static void add_filling(Instruction &one, IsTold is_told, std::vector<Filling> &found) {
+        auto *call = dyn_cast<MemIntrinsic>(&one);
+        if (!call || call->isVolatile() || call->getDestAddressSpace() != 0)
+            return;
+        const auto *copy = dyn_cast<MemTransferInst>(call);
+        const bool is_from_told = copy && is_told(copy->getRawSource()), is_to_told = is_told(call->getRawDest());
+        if (!is_to_told || (copy && !is_from_told))
+            found.push_back({call, is_from_told, is_to_told});
+    }
+
+    static void replace(const Filling &filling) {
+        MemIntrinsic &call = *filling.call;
+        auto *copy = dyn_cast<MemTransferInst>(&call);
+        if (filling.is_from_told)
+            put_call_of_size(call, copy->getRawSource(), call.getLength(), false);
+        if (filling.is_to_told)
+            put_call_of_size(call, call.getRawDest(), call.getLength(), true);
+        const auto *length = dyn_cast<ConstantInt>(call.getLength());
+        IRBuilder<> builder(&call);
+        Value *to = as_bytes(builder, call.getRawDest()), *from = copy ? as_bytes(builder, copy->getRawSource()) : nullptr;
+        if (copy && length && length->getZExtValue() <= SHORT_COPY) {
+            copy_by_parts(builder, to, from, length->getZExtValue());
+        } else {
+            Value *with = copy ? from : cast<MemSetInst>(call).getValue();
+            Value *bytes = builder.CreateZExtOrTrunc(call.getLength(), builder.getInt64Ty());
+            auto callee = call.getModule()->getOrInsertFunction(copy ? "taskback_copy" : "taskback_fill", builder.getVoidTy(),
+                                                                to->getType(), with->getType(), bytes->getType());
+            builder.CreateCall(callee, {to, with, bytes});
+        }
+        call.eraseFromParent();
+    }
+
+    // The two may be the same memory.
+    static void copy_by_parts(IRBuilder<> &builder, Value *to, Value *from, uint64_t length) {
+        std::vector<std::pair<Value *, uint64_t>> parts;
+        for (uint64_t at = 0; at < length;) {
+            uint64_t size = 8;
+            while (size > length - at)
+                size /= 2;
+            Type *type = builder.getIntNTy(static_cast<unsigned>(size) * 8);
+            Value *part = builder.CreateConstGEP1_64(builder.getInt8Ty(), from, at);
+            parts.emplace_back(builder.CreateAlignedLoad(type, builder.CreatePointerCast(part, PointerType::get(type, 0)), Align(1)), at);
+            at += size;
+        }
+        for (const auto &part : parts) {
+            Value *place = builder.CreateConstGEP1_64(builder.getInt8Ty(), to, part.second);
+            builder.CreateAlignedStore(part.first, builder.CreatePointerCast(place, PointerType::get(part.first->getType(), 0)), Align(1));
+        }
     }
 
     const bool is_optimised_;

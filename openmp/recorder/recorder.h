@@ -8,8 +8,11 @@
 
 #include "event.h"
 
+/* More is its value in place of a number. */
+static inline uint16_t size_told(uint64_t size) { return size <= LONGEST_NUMBER ? (uint16_t)size : LARGE; }
+
 static inline void set_size(struct event *event, uint64_t size) {
-    event->size = size <= LONGEST_NUMBER ? (uint16_t)size : LARGE;
+    event->size = size_told(size);
     if (size > LONGEST_NUMBER)
         event->value = size;
 }
@@ -128,10 +131,6 @@ static inline struct own *own_state(void) {
 struct event *taskback_note(struct own *own, enum kind kind, uint32_t task, uint64_t address, uint64_t value,
                             uint64_t place);
 
-/* Writes down what the thread's task does to memory, or who called it; it has a number of its own only where an order may
-   hang on it. */
-struct event *taskback_note_access(struct own *own, enum kind kind, uint64_t address, uint64_t place, int mark);
-
 /* Reads the number of the last write. */
 void taskback_read_written(struct own *own);
 
@@ -159,9 +158,6 @@ static inline void begin_loud_part(struct own *own) {
         own->quiet_span = used;
     own->quiet_size = 0;
 }
-
-/* A place, counted from where the program is loaded; 0: it isn't in it. */
-int32_t taskback_offset(uint64_t place);
 
 /* An access of `size` bytes by the thread's task. */
 void taskback_access(enum kind kind, uint64_t address, uint64_t size, uint64_t place, int mark);

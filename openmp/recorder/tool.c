@@ -1,7 +1,7 @@
 /* The OMPT tool: which tasks there are, and when each starts, waits and ends. */
 #include <omp-tools.h>
 
-#include "recorder.h"
+#include "writing.h"
 
 /* A task's data is its number with these below, and above it the size of its record. */
 enum { STARTED = 1, UNTIED = 2, NUMBER_SHIFT = 2, SIZE_SHIFT = 34, SIZE_MOST = 1 << 16 };
@@ -20,7 +20,7 @@ static void name_task(ompt_data_t *data, uint64_t marks) {
 
 struct event *taskback_new_memory(struct own *own, uint64_t address, uint64_t size, uint64_t place) {
     begin_part(own);
-    return taskback_note(own, MEMORY, own->task, address, size, place);
+    return note(own, MEMORY, own->task, address, size, place);
 }
 
 /* The runtime's record of a task stands at one distance from its data; 0 where that isn't known. */
@@ -45,7 +45,7 @@ static void push_task(struct own *own, uint32_t task, uint32_t prior, int is_unt
         own->quiet_record = record;
         own->quiet_size = record ? data->value >> SIZE_SHIFT : 0;
     } else {
-        taskback_note(own, NOTE, task, 0, NOTE_DEEP, 0);
+        note(own, NOTE, task, 0, NOTE_DEEP, 0);
     }
     own->depth++;
 }
@@ -81,7 +81,7 @@ static uint64_t record_size(struct own *own, uint32_t creator) {
 static void note_items(struct own *own, uint32_t child, int count, const void *items) {
     const struct runtime_item *item = items;
     for (int i = 0; i < count; i++)
-        taskback_note(own, ITEM, child, item[i].address, item[i].length, 0)->mark = item[i].type;
+        note(own, ITEM, child, item[i].address, item[i].length, 0)->mark = item[i].type;
 }
 
 static void on_create(ompt_data_t *creator, const ompt_frame_t *frame, ompt_data_t *child, int flags, int depends,
@@ -104,7 +104,7 @@ static void on_create(ompt_data_t *creator, const ompt_frame_t *frame, ompt_data
         own->is_alone = 0;
         taskback_has_strangers = 1;
     }
-    taskback_note(own, CREATE, number_of(creator), number_of(child), kept, where);
+    note(own, CREATE, number_of(creator), number_of(child), kept, where);
     learn_distance(own, child);
     note_items(own, number_of(child), own->item_count, own->items);
     note_items(own, number_of(child), own->more_count, own->more_items);
@@ -113,7 +113,7 @@ static void on_create(ompt_data_t *creator, const ompt_frame_t *frame, ompt_data
 
 static void finish(struct own *own, uint32_t task, uint64_t stack) {
     begin_part(own);
-    taskback_note(own, END, task, stack ? own->stack_low : 0, stack, 0)->mark = stack ? STACK : 0;
+    note(own, END, task, stack ? own->stack_low : 0, stack, 0)->mark = stack ? STACK : 0;
 }
 
 static int runs_here(const struct own *own, uint32_t task) {
@@ -129,14 +129,14 @@ static void go_on(struct own *own, ompt_data_t *next, uint32_t before) {
     own->task = number_of(next);
     if (next->value & STARTED) {
         if (is_untied && !runs_here(own, own->task)) {
-            taskback_note(own, RESUME, own->task, 0, 0, 0);
+            note(own, RESUME, own->task, 0, 0, 0);
             push_task(own, own->task, before, 1, 0);
             own->running[own->depth <= RUNNING_MOST ? own->depth - 1 : 0].has_callers = 1;
         }
         return;
     }
     next->value |= STARTED;
-    own->started = taskback_note(own, START, own->task, 0, 0, 0);
+    own->started = note(own, START, own->task, 0, 0, 0);
     push_task(own, own->task, before, is_untied, next);
 }
 
@@ -153,11 +153,11 @@ static void on_schedule(ompt_data_t *prior, ompt_task_status_t status, ompt_data
         taskback_pop_task(own, before);
         break;
     case ompt_task_late_fulfill:
-        taskback_note(own, FULFIL, own->task, before, 0, 0);
+        note(own, FULFIL, own->task, before, 0, 0);
         finish(own, before, 0);
         return;
     case ompt_task_early_fulfill:
-        taskback_note(own, FULFIL, own->task, before, 0, 0);
+        note(own, FULFIL, own->task, before, 0, 0);
         return;
     case ompt_taskwait_complete:
         return;
@@ -177,15 +177,15 @@ static void on_sync(ompt_sync_region_t kind, ompt_scope_endpoint_t end, ompt_dat
     switch (kind) {
     case ompt_sync_region_taskwait:
         if (end == ompt_scope_end)
-            taskback_note(own, WAIT, number, 0, 0, (uint64_t)place);
+            note(own, WAIT, number, 0, 0, (uint64_t)place);
         break;
     case ompt_sync_region_taskgroup:
-        taskback_note(own, end == ompt_scope_begin ? GROUP_OPEN : GROUP_CLOSE, number, 0, 0, (uint64_t)place);
+        note(own, end == ompt_scope_begin ? GROUP_OPEN : GROUP_CLOSE, number, 0, 0, (uint64_t)place);
         break;
     case ompt_sync_region_reduction:
         break;
     default:
-        taskback_note(own, end == ompt_scope_begin ? BARRIER_BEGIN : BARRIER_END, number, where, 0, (uint64_t)place);
+        note(own, end == ompt_scope_begin ? BARRIER_BEGIN : BARRIER_END, number, where, 0, (uint64_t)place);
         break;
     }
 }
@@ -204,7 +204,7 @@ static void on_region_begin(ompt_data_t *task, const ompt_frame_t *frame, ompt_d
     own->met = region->value;
     own->nesting++;
     own->loop.is_on = 0;
-    taskback_note(own, REGION_BEGIN, number_of(task), region->value, wanted, (uint64_t)place);
+    note(own, REGION_BEGIN, number_of(task), region->value, wanted, (uint64_t)place);
 }
 
 static void on_region_end(ompt_data_t *region, ompt_data_t *task, int flags, const void *place) {
@@ -212,7 +212,7 @@ static void on_region_end(ompt_data_t *region, ompt_data_t *task, int flags, con
     struct own *own = own_state();
     begin_loud_part(own);
     own->task = number_of(task);
-    taskback_note(own, REGION_END, own->task, region->value, 0, (uint64_t)place);
+    note(own, REGION_END, own->task, region->value, 0, (uint64_t)place);
     own->met = 0;
     if (own->nesting > 0 && --own->nesting < NESTED) {
         own->loop = own->outer[own->nesting];
@@ -235,7 +235,7 @@ static void on_implicit(ompt_scope_endpoint_t end, ompt_data_t *region, ompt_dat
     own->task = number_of(task);
     /* Of a league with one team the runtime doesn't say which region it is. */
     uint64_t where = region && region->value ? region->value : flags & ompt_task_initial ? own->met : 0;
-    struct event *event = taskback_note(own, IMPLICIT_BEGIN, own->task, where, index, 0);
+    struct event *event = note(own, IMPLICIT_BEGIN, own->task, where, index, 0);
     event->size = (uint16_t)size;
     event->mark = where && flags & ompt_task_initial ? TEAMS : 0;
     if (where)
@@ -245,7 +245,7 @@ static void on_implicit(ompt_scope_endpoint_t end, ompt_data_t *region, ompt_dat
 void taskback_note_lock(enum kind kind, const void *lock, uint64_t place) {
     struct own *own = own_state();
     begin_loud_part(own);
-    taskback_note(own, kind, own->task, (uint64_t)lock, 0, place);
+    note(own, kind, own->task, (uint64_t)lock, 0, place);
 }
 
 static void on_lock(ompt_mutex_t kind, ompt_wait_id_t lock, const void *place) {
@@ -260,7 +260,7 @@ static void on_unlock(ompt_mutex_t kind, ompt_wait_id_t lock, const void *place)
 
 static void on_cancel(ompt_data_t *task, int flags, const void *place) {
     (void)flags;
-    taskback_note(own_state(), NOTE, number_of(task), 0, NOTE_CANCEL, (uint64_t)place);
+    note(own_state(), NOTE, number_of(task), 0, NOTE_CANCEL, (uint64_t)place);
 }
 
 static int begin(ompt_function_lookup_t look_up, int device, ompt_data_t *data) {

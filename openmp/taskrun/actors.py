@@ -186,6 +186,8 @@ class Run:
         if event.mark == t.STACK:
             self.memory.append((event.stamp, event.address, event.value))
         if actor is not self.root and actor.ended is None:
+            if actor.started is None:
+                actor.started = event.stamp     # it was discarded by a cancellation: it does nothing
             actor.ended = event.stamp
 
     def _wait_item(self, event: t.Event) -> None:

@@ -195,7 +195,8 @@ def pass_plugin(compiler: str) -> str | None:
     made = os.path.join(folder_for(compiler), "instrument.so")
     if os.environ.get("TASKBACK_PLUGIN") == "0":
         return None
-    if is_newer(made, source):
+    sources = [source, os.path.join(RECORDER, "known.h")]
+    if is_newer(made, *sources):
         return made
     told = subprocess.run([compiler, "-print-resource-dir"], capture_output=True, text=True, check=False).stdout.strip()
     root = os.path.join(told, "..", "..", "..")
@@ -205,7 +206,7 @@ def pass_plugin(compiler: str) -> str | None:
     options = subprocess.run([config, "--cxxflags"], capture_output=True, text=True, check=False).stdout.split()
     with alone_at(made):
         try:
-            if not is_newer(made, source):
+            if not is_newer(made, *sources):
                 compile_whole([driver_of(compiler, True), *options, "-O2", "-fPIC", "-shared", source], made, subprocess.DEVNULL)
         except subprocess.CalledProcessError:
             return None

@@ -42,6 +42,13 @@ class Agreement(support.Recorded):
         self.assertEqual(is_racy["races"], is_racy["judge"], is_racy)
         return 1
 
+    def test_discarded_tasks_start_and_end(self):
+        """A task that a cancellation discards starts and ends in the session too, or the group's end would be refused."""
+        session = support.Session(support.Trace(self.run_alone(self.example("cancel_group.c"), 2)))
+        text = session.text()
+        self.assertEqual(text.count(" start of the task"), 20)
+        self.assertIsNone(support.replies_to(text, len(session.taken)).refused())
+
 
 if __name__ == "__main__":
     unittest.main()

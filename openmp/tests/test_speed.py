@@ -32,7 +32,21 @@ int main(void) {
     return 0;
 }
 """
-MOST_TIMES, MOST_SECONDS = 8, 5
+LOOPS = """#include <stdlib.h>
+static long sums[100];
+int main(int count, char **words) {
+    (void)count;
+#pragma omp parallel
+#pragma omp single
+    for (long i = atol(words[1]); i > 0; i--) {
+#pragma omp taskloop grainsize(1)
+        for (long j = 0; j < 100; j++)
+            sums[j] += i;
+    }
+    return 0;
+}
+"""
+MOST_TIMES, MOST_SECONDS, MOST_GROWTH = 8, 5, 8
 TRIES = 40
 
 
@@ -65,6 +79,16 @@ class Speed(support.Recorded):
         self.assertIn(status, (0, 3))
         self.assertLessEqual(times, MOST_TIMES)
         self.assertLessEqual(seconds, MOST_SECONDS)
+
+    def test_checking_grows_with_the_tasks(self):
+        """Four times the tasks in loops one behind the other: a walk from each to the end would take sixteen times as long."""
+        recorded = self.compile_text(LOOPS)
+        seconds = []
+        for count in (400, 1600):
+            trace = self.path("loops.trace")
+            subprocess.run([recorded, str(count)], check=True, env={**os.environ, "OMP_NUM_THREADS": "2", "TASKBACK_TRACE": trace})
+            seconds.append(min(processor_time([building.judge(), trace])[0] for _ in range(5)))
+        self.assertLessEqual(seconds[1], MOST_GROWTH * seconds[0], seconds)
 
 
 if __name__ == "__main__":

@@ -1,0 +1,55 @@
+/* How an event is put behind those that the thread has written down: in a header, since this is most of what recording costs. */
+#ifndef TASKBACK_WRITING_H
+#define TASKBACK_WRITING_H
+
+#include "recorder.h"
+
+/* In a line of the cache of its own: each thread writes it. */
+struct counter { uint32_t last; char rest[124]; } __attribute__((aligned(128)));
+extern struct counter taskback_counter;
+
+/* From where the program is loaded. */
+extern uint64_t taskback_base;
+
+/* Makes room: the accesses in the piece are no longer there to be compared with. */
+void taskback_turn_page(struct own *own);
+
+/* A place, counted from where the program is loaded; 0: it isn't in it. */
+static inline int32_t offset_of(uint64_t place) {
+    int64_t offset = (int64_t)(place - taskback_base);
+    return offset > 0 && offset <= INT32_MAX ? (int32_t)offset : 0;
+}
+
+static inline uint32_t number_of_event(enum kind kind, int mark) {
+    return takes_number((uint8_t)kind, (uint8_t)mark) ? __atomic_add_fetch(&taskback_counter.last, 1, __ATOMIC_ACQ_REL)
+                                                      : __atomic_load_n(&taskback_counter.last, __ATOMIC_ACQUIRE);
+}
+
+/* The half of an event that is stored last, as one number: until then the event has no kind. */
+typedef uint64_t __attribute__((may_alias)) half;
+_Static_assert(offsetof(struct event, place) == 24 && offsetof(struct event, kind) == 30 && sizeof(struct event) == 32,
+               "the last eight bytes are one store");
+
+/* Behind what is written down last stands an event without a kind, at which the piece ends. */
+__attribute__((always_inline)) static inline struct event *write_down(struct own *own, enum kind kind, uint32_t stamp, uint32_t task,
+                                                                      uint64_t address, uint64_t value, int32_t place, uint16_t size, int mark) {
+    if (__builtin_expect(own->next == own->end, 0))
+        taskback_turn_page(own);
+    struct event *event = own->next++;
+    if (own->next != own->end)
+        own->next->kind = 0;
+    event->address = address;
+    event->value = value;
+    event->stamp = stamp;
+    event->task = task;
+    __atomic_store_n((half *)&event->place, (uint32_t)place | (uint64_t)size << 32 | (uint64_t)kind << 48 | (uint64_t)(uint8_t)mark << 56,
+                     __ATOMIC_RELEASE);
+    return event;
+}
+
+/* Writes an event down, with the next number of the one counter. */
+__attribute__((always_inline)) static inline struct event *note(struct own *own, enum kind kind, uint32_t task, uint64_t address,
+                                                                uint64_t value, uint64_t place) {
+    return write_down(own, kind, number_of_event(kind, 0), task, address, value, offset_of(place), 0, 0);
+}
+#endif
