@@ -45,18 +45,18 @@ end_counts H t (Wait items) u h = either_counts Synchronised (covers H t items u
 end_counts H t Close u h = either_counts Synchronised (is_member (own t H) u) (holds (own t H) u) _ Undeferred h
 end_counts H t _ u h = inl (some_counts Synchronised (holds (own t H) u) Undeferred h)
 
-chosen : (o : Order) (p q : Bool) (s : Option Conflict) (e : Bool) (k : Option NeedKind) → counts_some o (cond p (Some Task) (cond q (Some Spawned) (option_or (option_map Conflicts s) (cond e k None)))) ≡ true → (p ≡ true) ⊎ ((q ≡ true) ⊎ ((e ≡ true) × (counts_some o k ≡ true)))
-chosen o true q s e k h = inl refl
-chosen o false true s e k h = inr (inl refl)
-chosen o false false (Some c) e k h = absurd (false≢true h)
-chosen o false false None true k h = inr (inr (refl, h))
-chosen o false false None false k h = absurd (false≢true h)
+chosen : (p q : Bool) (s : Option Conflict) (e : Bool) (k : Option NeedKind) → counts_some Synchronised (cond p (Some Task) (cond q (Some Spawned) (option_or (option_map Conflicts s) (cond e k None)))) ≡ true → (p ≡ true) ⊎ ((q ≡ true) ⊎ ((e ≡ true) × (counts_some Synchronised k ≡ true)))
+chosen true q s e k h = inl refl
+chosen false true s e k h = inr (inl refl)
+chosen false false (Some c) e k h = absurd (false≢true h)
+chosen false false None true k h = inr (inr (refl, h))
+chosen false false None false k h = absurd (false≢true h)
 
 -- a synchronised link is of one task, from its spawn, or from an end that it waits for
 pub linked : (H : History) (x u : Event) → links Synchronised H x u ≡ true → (is_of x.task u ≡ true) ⊎ ((spawns x.task u ≡ true) ⊎ ((is_end u.action ≡ true) × ((holds (own x.task H) u.task ≡ true) ⊎ (awaits H x.task x.action u.task ≡ true))))
 linked H x u h =
     ⊎_elim (λ a. inl a) (λ a. ⊎_elim (λ b. inr (inl b)) (λ b. inr (inr (b.0, end_counts H x.task x.action u.task b.1))) a)
-    (chosen Synchronised (is_of x.task u) (spawns x.task u) (shared x.action u.action) (is_end u.action) (end_kind H x.task x.action u.task) h)
+    (chosen (is_of x.task u) (spawns x.task u) (shared x.action u.action) (is_end u.action) (end_kind H x.task x.action u.task) h)
 
 -- ---- what is closed
 

@@ -71,7 +71,7 @@ module _ (o : Order) (entries : List Entry) where
     e = step_of (H q) (at q inside).event
 
     -- the step at a place is that one only where the place is
-    step_place : (n : ℕ) (w : n < length entries) → is_step e (H n) (at n w).event ≡ true → n ≡ q
+    pub step_place : (n : ℕ) (w : n < length entries) → is_step e (H n) (at n w).event ≡ true → n ≡ q
     step_place n w h = by (cases_eq n q)
       where
         later : q < n → ⊥

@@ -1,12 +1,14 @@
 -- What is joined, end by end.
-use Rattle.std.proofs.Common.{◌≡◌, ◌<◌, ℕ, Option, Some, None, List, refl, sym, ◌∙◌, subst, ◌⊎◌, inl, inr}
+use Rattle.std.proofs.Common.{◌≡◌, ◌<◌, ℕ, Option, Some, None, List, [], ◌∷◌, ◌++◌, true, refl, sym, ◌∙◌, subst, ◌⊎◌, inl, inr, ⊎_elim}
 use Rattle.tb_core.specs.Entries.{Entry}
 use Rattle.tb_order.specs.declared.tasks.Tasks.{Tasks}
 use Rattle.tb_order.specs.declared.past.Past.{Past}
 use Rattle.tb_order.specs.declared.joined.Joined.{Joined}
-use Rattle.tb_order.specs.Clocks.{IsJoined, IsSound, lanes_of}
+use Rattle.tb_order.specs.Clocks.{IsJoined, IsSound, lanes_of, links_at, reaches}
 use Rattle.tb_order.specs.Bounds.{AreRising, bound_among}
 use Rattle.tb_order.specs.Linking.{order_of}
+use Rattle.tb_order.specs.Needing.{IsLinkedEnd}
+use Rattle.tb_order.proofs.NeedingLemmas.{below_last, below_more, each_more}
 use Rattle.tb_order.specs.Rows.{AreJoined, IsTold, JoinsMore}
 
 module _ (entries : List Entry) (tasks : Tasks) (past : Past) (k p : ℕ) where
@@ -14,6 +16,8 @@ module _ (entries : List Entry) (tasks : Tasks) (past : Past) (k p : ℕ) where
   joins_none j are = record {
     are = are;
     kept = λ q l t. t;
+    added = λ q l t. inl t;
+    listed = λ q h. h;
     same = λ e. (refl, e);
   }
 
@@ -21,19 +25,28 @@ module _ (entries : List Entry) (tasks : Tasks) (past : Past) (k p : ℕ) where
   joins_trans a b c f g = record {
     are = g.are;
     kept = λ q l t. g.kept q l (f.kept q l t);
+    added = λ q l t. ⊎_elim (λ h. ⊎_elim (λ y. inl y) (λ y. inr (g.listed q y)) (f.added q l h)) (λ h. inr h) (g.added q l t);
+    listed = λ q h. g.listed q (f.listed q h);
     same = λ e. let s = g.same e in let r = f.same s.1 in (s.0 ∙ r.0, r.1);
   }
 
   -- one end more
   pub joins_one : (a b c : Joined) (s : ℕ) → JoinsMore entries tasks past k p a b → AreRising c.rows.items → IsSound (order_of past.exclusion) entries tasks (lanes_of past.clocks) (bound_among c.rows.items) k p → ((q : ℕ) → q < p → IsTold entries tasks past k p b q → IsTold entries tasks past k p c q)
-      → IsJoined (order_of past.exclusion) entries tasks (lanes_of past.clocks) (bound_among c.rows.items) k p s → (y : ℕ) → (y ≡ s) ⊎ (b.end ≡ Some y) → c.end ≡ Some y → JoinsMore entries tasks past k p a c
-  joins_one a b c s f rising sound stays here y found is = record {
+      → IsJoined (order_of past.exclusion) entries tasks (lanes_of past.clocks) (bound_among c.rows.items) k p s → (y : ℕ) → (y ≡ s) ⊎ (b.end ≡ Some y) → c.end ≡ Some y
+      → c.ends.items ≡ b.ends.items ++ s ∷ [] → links_at (order_of past.exclusion) entries p s ≡ true
+      → ((q : ℕ) → q < p → IsTold entries tasks past k p c q → IsTold entries tasks past k p b q ⊎ (reaches (order_of past.exclusion) entries s q ≡ true)) → JoinsMore entries tasks past k p a c
+  joins_one a b c s f rising sound stays here y found is more link adds = record {
     are = record {
       rising = rising;
       sound = sound;
       end = λ x e. subst (IsJoined (order_of past.exclusion) entries tasks (lanes_of past.clocks) (bound_among c.rows.items) k p) (the_some y x (sym_some is e)) (one y found);
+      ends = each_more b.ends.items c.ends.items s more (IsLinkedEnd (order_of past.exclusion) entries p) f.are.ends (here.0, here.1, link);
     };
     kept = λ q l t. stays q l (f.kept q l t);
+    added = λ q l t.
+        ⊎_elim (λ h. ⊎_elim (λ y. inl y) (λ y. inr (below_more (order_of past.exclusion) entries b.ends.items c.ends.items s more q y)) (f.added q l h)) (λ h. inr (below_last (order_of past.exclusion) entries b.ends.items c.ends.items s more q h))
+        (adds q l t);
+    listed = λ q h. below_more (order_of past.exclusion) entries b.ends.items c.ends.items s more q (f.listed q h);
     same = λ e. absurd (no_some y (sym_some is e));
   }
     where

@@ -12,9 +12,10 @@ use Rattle.tb_core.specs.Scans.{AreLegal}
 use Rattle.tb_races.specs.Orders.{Order, Synchronised}
 use Rattle.tb_order.specs.declared.tasks.Tasks.{Tasks}
 use Rattle.tb_order.specs.Clocks.{AreLanes, AreTasks, Behind, alone, generated, going_on, GoesOn, IsClock, IsLane, IsLastOf, IsSound, Lanes, TellsEnds, both_at, is_end_at, lane, number, of_one, origin, previous, row_at, touches}
+use Rattle.tb_order.specs.Needing.{IsEndBefore, IsOwn, TellsShared}
 use Rattle.tb_order.proofs.LinkLemmas.{end_is}
 use Rattle.tb_order.proofs.OwnLemmas.{H, ev, head_here, legal_here}
-use Rattle.tb_order.proofs.SoundLemmas.{clock_told, ends_moved, own_touches, sound_going, sound_moved}
+use Rattle.tb_order.proofs.SoundLemmas.{clock_told, ends_moved, own_going, own_touches, shares_moved, sound_going, sound_moved}
 
 -- nothing follows an end
 no_more : (cells : Cells) (t : Name) (last : Action) (acts : List Action) (a : Action) → Continues cells t (last ∷ acts) a → is_end last ≡ true → ⊥
@@ -83,6 +84,9 @@ module _ (o : Order) (entries : List Entry) (tasks : Tasks) (are : AreTasks entr
     pub sound_before : IsSound o entries tasks clocks (row_at clocks b) (lane clocks b) p
     sound_before = sound_going o entries tasks are p w clocks told b goes.low goes.origins goes.mine goes_last
 
+    pub own_before : IsOwn o entries tasks clocks (row_at clocks b) (lane clocks b) p
+    own_before = own_going o entries tasks are p w clocks told b goes.low goes.origins goes.mine goes_last
+
     pub lane_before : IsLane entries clocks (lane clocks b) p
     lane_before = record {
       few = omega (arith, told.few b goes.low);
@@ -146,11 +150,11 @@ module _ (o : Order) (entries : List Entry) (tasks : Tasks) (are : AreTasks entr
         by b m e only (inr d) = absurd (only x (omega (arith, d, last_in b m e)) l (sym e))
 
   -- with what its row tells, it stands in either
-  pub stands_in : (row : ℕ → ℕ) (k j : ℕ) → IsLane entries clocks k p → IsSound o entries tasks clocks row k p → TellsEnds o entries tasks clocks row k p → GoesOn o entries tasks clocks row k p j
+  pub stands_in : (row : ℕ → ℕ) (k j : ℕ) → IsLane entries clocks k p → IsSound o entries tasks clocks row k p → TellsEnds o entries tasks clocks row k p → TellsShared o entries tasks clocks row k p → GoesOn o entries tasks clocks row k p j
       → IsClock o entries tasks clocks row j p × IsLane entries clocks j p
-  stands_in row k j is so ends (inl e) =
-      subst (λ m. IsClock o entries tasks clocks row m p × IsLane entries clocks m p) (sym e) (clock_told o entries tasks are p w clocks told k is.own row so ends, is)
-  stands_in row k j is so ends (inr h) =
+  stands_in row k j is so ends shares (inl e) =
+      subst (λ m. IsClock o entries tasks clocks row m p × IsLane entries clocks m p) (sym e) (clock_told o entries tasks are p w clocks told k is.own row so ends shares, is)
+  stands_in row k j is so ends shares (inr h) =
       let x = h.0 in
       let joined = h.1 in
       let new = λ (q : ℕ) (m : q < p) (s : lane clocks q ≡ k). fresh_new q m (s ∙ h.2) in
@@ -159,6 +163,16 @@ module _ (o : Order) (entries : List Entry) (tasks : Tasks) (are : AreTasks entr
       subst (λ m. IsClock o entries tasks clocks row m p × IsLane entries clocks m p) (sym h.3) (
         clock_told o entries tasks are p w clocks told (lane clocks x) place.own row
             (sound_moved o entries tasks are p w clocks told k row x joined.0 new last so joined.2)
-            (ends_moved o entries tasks are p w clocks told k row x joined.0 new last so joined.2 ends),
+            (ends_moved o entries tasks are p w clocks told k row x joined.0 new last so joined.2 ends)
+            (shares_moved o entries tasks are p w clocks told k row x joined.0 new last so joined.2 shares),
         place,
       )
+
+  -- where it goes on in another lane, it does so behind an end after which it comes
+  pub goes_behind : (row : ℕ → ℕ) (k j : ℕ) → IsSound o entries tasks clocks row k p → GoesOn o entries tasks clocks row k p j → (j ≡ k) ⊎ ((j < clocks.count) × IsEndBefore o entries p (clocks.last j))
+  goes_behind row k j so (inl e) = inl e
+  goes_behind row k j so (inr h) =
+      let x = h.0 in
+      let joined = h.1 in
+      let last : clocks.last j ≡ x = ap clocks.last h.3 ∙ h.4 in
+      inr (omega (arith, h.3, told.few x joined.0), subst (IsEndBefore o entries p) (sym last) (joined.0, joined.1, so.sound x joined.0 joined.2))

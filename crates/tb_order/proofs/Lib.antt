@@ -10,6 +10,7 @@ pub mod AfterLemmas
 pub mod BoundLemmas
 pub mod ClockLemmas
 pub mod LinkLemmas
+pub mod KindLemmas
 pub mod StartLemmas
 pub mod ExclusionLemmas
 pub mod SoundLemmas
@@ -18,6 +19,12 @@ pub mod NumberLemmas
 pub mod TableLemmas
 pub mod CauseLemmas
 pub mod EdgeLemmas
+pub mod NeedingLemmas
+pub mod SharedLemmas
+pub mod NeededLemmas
+pub mod DirectLemmas
+pub mod TakenLemmas
+pub mod WalkedLemmas
 pub mod JoinedLemmas
 pub mod AskedLemmas
 pub mod RowLemmas

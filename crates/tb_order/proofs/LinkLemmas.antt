@@ -1,5 +1,5 @@
 -- What links a step to another, by places.
-use Rattle.std.proofs.Common.{◌≡◌, ◌<◌, ℕ, List, Bool, true, false, ◌||◌, cond, length, take, refl, sym, ap, ap₂, ◌∙◌, Option, Some, None, ◌⊎◌, inl, inr, get_or}
+use Rattle.std.proofs.Common.{◌≡◌, ◌<◌, ℕ, List, Bool, true, false, ◌||◌, cond, length, take, refl, sym, ap, ap₂, ◌∙◌, Option, Some, None, is_some, ◌⊎◌, inl, inr, get_or}
 use Rattle.std.specs.Option.{option_or, option_map}
 use Rattle.std.proofs.lemmas.Bool.{false≢true}
 use Rattle.tb_model.specs.declared.action.Action.{Action}
@@ -15,8 +15,9 @@ use Rattle.tb_races.specs.declared.conflict.Conflict.{Conflict}
 use Rattle.tb_races.specs.declared.need_kind.NeedKind.{NeedKind}
 use Rattle.tb_races.specs.declared.need_kind.NeedKind.TheVariants.{Task, Spawn, Conflict as Conflicts}
 use Rattle.tb_races.specs.Kinds.{shared, end_kind}
-use Rattle.tb_races.specs.Orders.{Order, links, counts_some}
+use Rattle.tb_races.specs.Orders.{Order, links, counts_conflicts, counts_some}
 use Rattle.tb_order.specs.Clocks.{both_at, both_so, ends_so, is_end_at, links_at, touches}
+use Rattle.tb_order.specs.Kept.{shares_at, shares_so}
 use Rattle.tb_order.proofs.AfterLemmas.{at, at_read, links_is}
 
 module _ (o : Order) where
@@ -29,15 +30,15 @@ module _ (o : Order) where
       by false true rest h = refl
       by false false rest h = absurd (false≢true h)
 
-  -- all others are to ends
-  pub link_cases : (H : History) (v u : Event) → links o H v u ≡ true → (touches v u ≡ true) ⊎ (is_end u.action ≡ true)
+  -- all others are to ends, or where conflicts count, to what shares something
+  pub link_cases : (H : History) (v u : Event) → links o H v u ≡ true → (touches v u ≡ true) ⊎ ((is_end u.action ≡ true) ⊎ ((counts_conflicts o ≡ true) × (is_some (shared v.action u.action) ≡ true)))
   link_cases H v u h = by (is_of v.task u) (spawns v.task u) (shared v.action u.action) (is_end u.action) _ h
     where
-      by : (a b : Bool) (s : Option Conflict) (e : Bool) (k : Option NeedKind) → counts_some o (cond a (Some Task) (cond b (Some Spawn) (option_or (option_map Conflicts s) (cond e k None)))) ≡ true → ((a || b) ≡ true) ⊎ (e ≡ true)
+      by : (a b : Bool) (s : Option Conflict) (e : Bool) (k : Option NeedKind) → counts_some o (cond a (Some Task) (cond b (Some Spawn) (option_or (option_map Conflicts s) (cond e k None)))) ≡ true → ((a || b) ≡ true) ⊎ ((e ≡ true) ⊎ ((counts_conflicts o ≡ true) × (is_some s ≡ true)))
       by true b s e k h = inl refl
       by false true s e k h = inl refl
-      by false false (Some c) e k h = absurd (false≢true h)
-      by false false None true k h = inr refl
+      by false false (Some c) e k h = inr (inr (h, refl))
+      by false false None true k h = inr (inl refl)
       by false false None false k h = absurd (false≢true h)
 
   no_spawn : (t : Name) (a : Action) → is_end a ≡ true → is_spawn_of t a ≡ false
@@ -89,12 +90,16 @@ module _ (o : Order) (entries : List Entry) (p x : ℕ) (w : p < length entries)
   pub touch_links_at : both_at touches entries p x ≡ true → links_at o entries p x ≡ true
   touch_links_at h = links_is o entries p x w i ∙ touch_links o (history_of (take p entries)) v u (sym (both_is touches) ∙ h)
 
-  pub link_cases_at : links_at o entries p x ≡ true → (both_at touches entries p x ≡ true) ⊎ (is_end_at entries x ≡ true)
+  pub shares_is : shares_at entries p x ≡ is_some (shared v.action u.action)
+  shares_is = ap₂ shares_so (at_read o entries p w) (at_read o entries x i)
+
+  pub link_cases_at : links_at o entries p x ≡ true → (both_at touches entries p x ≡ true) ⊎ ((is_end_at entries x ≡ true) ⊎ ((counts_conflicts o ≡ true) × (shares_at entries p x ≡ true)))
   link_cases_at h = either (link_cases o (history_of (take p entries)) v u (sym (links_is o entries p x w i) ∙ h))
     where
-      either : (touches v u ≡ true) ⊎ (is_end u.action ≡ true) → (both_at touches entries p x ≡ true) ⊎ (is_end_at entries x ≡ true)
+      either : (touches v u ≡ true) ⊎ ((is_end u.action ≡ true) ⊎ ((counts_conflicts o ≡ true) × (is_some (shared v.action u.action) ≡ true))) → (both_at touches entries p x ≡ true) ⊎ ((is_end_at entries x ≡ true) ⊎ ((counts_conflicts o ≡ true) × (shares_at entries p x ≡ true)))
       either (inl a) = inl (both_is touches ∙ a)
-      either (inr a) = inr (end_is ∙ a)
+      either (inr (inl a)) = inr (inl (end_is ∙ a))
+      either (inr (inr a)) = inr (inr (a.0, shares_is ∙ a.1))
 
   -- an end, as the code reads it
   module _ (a b : Entry) (here : a ≡ get_or entries p a) (there : b ≡ get_or entries x b) (end : is_end_at entries x ≡ true) where

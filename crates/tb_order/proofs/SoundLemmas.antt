@@ -7,7 +7,8 @@ use Rattle.tb_model.proofs.TestLemmas.{same_true}
 use Rattle.tb_core.specs.Entries.{Entry}
 use Rattle.tb_races.specs.Orders.{Order}
 use Rattle.tb_order.specs.declared.tasks.Tasks.{Tasks}
-use Rattle.tb_order.specs.Clocks.{Adds, AreLanes, AreTasks, IsClock, IsSound, TellsEnds, Behind, alone, generated, going_on, reaches, is_after, is_told, links_at, is_end_at, both_at, of_one, generates, touches, origin, origin_reaches, row_at, number, previous, says, lane, IsLow, IsLastOf, Lanes}
+use Rattle.tb_order.specs.Clocks.{Adds, AreLanes, AreTasks, IsOrigin, IsClock, IsSound, TellsEnds, Behind, alone, generated, going_on, reaches, is_after, is_told, links_at, is_end_at, both_at, of_one, generates, touches, origin, origin_reaches, row_at, number, previous, says, lane, IsLow, IsLastOf, Lanes}
+use Rattle.tb_order.specs.Needing.{IsOwn, IsTouched, TellsShared}
 use Rattle.tb_order.proofs.AfterLemmas.{at, low, Reached, reached, reaches_so, reach_on, first_link, linked_on, after_links, links_after}
 use Rattle.tb_order.proofs.LinkLemmas.{both_is, touch_links_at, link_cases_at}
 
@@ -122,6 +123,9 @@ module _ (o : Order) (entries : List Entry) (tasks : Tasks) (are : AreTasks entr
         (or_cases (says row (lane clocks q) q) (origin_reaches o entries (origin tasks b) q) c))
         (or_cases (k == lane clocks q && nat_lt q b) _ (sym (told.told b l q m) ∙ reaches_so o entries b q (inr a)))
 
+    pub own_going : IsOwn o entries tasks clocks row k p
+    own_going q m h = (b, l, own_touches b ib mine, reaches_so o entries b q (from_b q m h))
+
     pub sound_going : IsSound o entries tasks clocks row k p
     sound_going = record {
       sound = λ q m h. behind_link b q l (omega (arith, m, w)) (own_touches b ib mine) (from_b q m h);
@@ -169,6 +173,16 @@ module _ (o : Order) (entries : List Entry) (tasks : Tasks) (are : AreTasks entr
           low = no_low;
         }
 
+    pub own_none : (previous tasks p ≡ 0) ⊎ ((b : ℕ) × (previous tasks p ≡ suc b) × (number tasks b ≢ number tasks p)) → IsOwn o entries tasks clocks none k p
+    own_none c q m h = by (are.origins p w)
+      where
+        by : IsOrigin entries tasks p → IsTouched o entries p q
+        by (inl a) = absurd (both_ways (origin_reaches o entries (origin tasks p) q) (origin_none o entries (origin tasks p) q a.0) (no_row q h))
+        by (inr a) =
+            let u = a.0 in
+            let iu : u < length entries = omega (arith, a.2, w) in
+            (u, a.2, both_is o entries p u w iu touches ∙ or_right _ _ (sym (both_is o entries p u w iu generates) ∙ a.3), sym (origin_suc o entries u (origin tasks p) q a.1) ∙ no_row q h)
+
     pub sound_none : (previous tasks p ≡ 0) ⊎ ((b : ℕ) × (previous tasks p ≡ suc b) × (number tasks b ≢ number tasks p)) → IsSound o entries tasks clocks none k p
     sound_none c = by (are.behind p w)
       where
@@ -194,6 +208,9 @@ module _ (o : Order) (entries : List Entry) (tasks : Tasks) (are : AreTasks entr
         by (inl a) = inl (told_lane k row q a.0 a.1)
         by (inr (inr a)) = inl (told_origin k row q a)
         by (inr (inl a)) = ⊎_elim (λ c. inl (told_says k row q c)) (λ c. inr (reached o entries s q is (omega (arith, m, w)) c)) (more.sound q m a)
+
+    pub adds_told : (q : ℕ) → q < p → Told k next q → Told k row q ⊎ (reaches o entries s q ≡ true)
+    adds_told q m h = ⊎_elim (λ a. inl a) (λ a. inr (reaches_so o entries s q a)) (added q m h)
 
     pub stays_told : (q : ℕ) → q < p → Told k row q → Told k next q
     stays_told q m h = by (ways k row q h)
@@ -258,8 +275,51 @@ module _ (o : Order) (entries : List Entry) (tasks : Tasks) (are : AreTasks entr
       low = so.low;
     }
 
+    pub shares_moved : TellsShared o entries tasks clocks row k p → TellsShared o entries tasks clocks row m p
+    shares_moved shares c y j h = forth y j (shares c y j h)
+
     pub ends_moved : TellsEnds o entries tasks clocks row k p → TellsEnds o entries tasks clocks row m p
     ends_moved ends y j e h = forth y j (ends y j e h)
+
+  moved : (x b : ℕ) (j : x < length entries) (ib : b < length entries) → both_at of_one entries p b ≡ true → both_at touches entries p x ≡ true → both_at touches entries b x ≡ true
+  moved x b j ib mine h =
+      let same = same_true (at o entries b ib).event.task (at o entries p w).event.task (sym (both_is o entries p b w ib of_one) ∙ mine) in
+      both_is o entries b x ib j touches
+      ∙ ap (λ t. same_name (at o entries x j).event.task t || spawns t (at o entries x j).event) same
+      ∙ sym (both_is o entries p x w j touches) ∙ h
+
+  touched_back : (x b : ℕ) (j : x < length entries) (ib : b < length entries) → x < b → both_at of_one entries p b ≡ true → both_at touches entries p x ≡ true → is_after o entries b x ≡ true
+  touched_back x b j ib l mine h = links_after (linked_on o entries b x x l ib (touch_links_at o entries b x ib j (moved x b j ib mine h)) (inl refl))
+
+  -- what touches its task is reached by the newest that does
+  pub first_reaches : (x : ℕ) → x < p → both_at touches entries p x ≡ true → (b : ℕ) × (previous tasks p ≡ suc b) × (b < p) × Reached o entries b x
+  first_reaches x l h = by (are.behind p w)
+    where
+      j : x < length entries
+      j = omega (arith, l, w)
+
+      by : Behind entries tasks p → (b : ℕ) × (previous tasks p ≡ suc b) × (b < p) × Reached o entries b x
+      by (alone _ _ _ none zero_is nothing) = absurd (nothing x l h)
+      by (generated _ _ _ b m prev is made other only) = (b, prev, m, inl (sym (only x l h)))
+      by (going_on _ _ _ b m prev same mine newest) = (
+        b,
+        prev,
+        m,
+        ⊎_elim (λ e. inl (sym e)) (λ d. let le : x ≤ b = newest x l h in inr (after_links o entries b x (omega (arith, m, w)) j (touched_back x b j (omega (arith, m, w)) (omega (arith, le, d)) mine h))) (cases_eq x b),
+      )
+
+  -- the newest touches it
+  pub first_touches : (b : ℕ) → previous tasks p ≡ suc b → (b < p) × (both_at touches entries p b ≡ true)
+  first_touches b prev = by (are.behind p w)
+    where
+      by : Behind entries tasks p → (b < p) × (both_at touches entries p b ≡ true)
+      by (alone _ _ _ none zero_is nothing) = absurd (omega (arith, none, prev))
+      by (generated _ _ _ c m is from made other only) =
+          let e : c ≡ b = omega (arith, is, prev) in
+          subst (λ y. (y < p) × (both_at touches entries p y ≡ true)) e (m, both_is o entries p c w (omega (arith, m, w)) touches ∙ or_right _ _ (sym (both_is o entries p c w (omega (arith, m, w)) generates) ∙ made))
+      by (going_on _ _ _ c m is same mine newest) =
+          let e : c ≡ b = omega (arith, is, prev) in
+          subst (λ y. (y < p) × (both_at touches entries p y ≡ true)) e (m, own_touches c (omega (arith, m, w)) mine)
 
   -- ---- the whole
 
@@ -268,46 +328,36 @@ module _ (o : Order) (entries : List Entry) (tasks : Tasks) (are : AreTasks entr
     pub told_own : (row : ℕ → ℕ) (q : ℕ) → q < p → both_at of_one entries p q ≡ true → Told k row q
     told_own row q l h = told_lane k row q (own q l h) l
 
-    pub clock_told : (row : ℕ → ℕ) → IsSound o entries tasks clocks row k p → TellsEnds o entries tasks clocks row k p → IsClock o entries tasks clocks row k p
-    clock_told row so ends q m =
+    -- what touches its task is told of
+    pub told_touch : (row : ℕ → ℕ) → IsSound o entries tasks clocks row k p → (x : ℕ) → x < p → x < length entries → both_at touches entries p x ≡ true → Behind entries tasks p → Told k row x
+    told_touch row so x l j h (alone _ _ _ none zero_is nothing) = absurd (nothing x l h)
+    told_touch row so x l j h (generated _ _ _ b m prev is made other only) =
+        told_origin k row x (origin_suc o entries b (origin tasks p) x is ∙ reaches_so o entries b x (inl (sym (only x l h))))
+    told_touch row so x l j h (going_on _ _ _ b m prev same mine newest) = by (cases_eq x b)
+      where
+        ib : b < length entries
+        ib = omega (arith, m, w)
+
+        told_b : Told k row b
+        told_b = told_own row b m mine
+
+        by : (x ≡ b) ⊎ (x ≢ b) → Told k row x
+        by (inl e) = subst (λ y. Told k row y) (sym e) told_b
+        by (inr d) =
+            let le : x ≤ b = newest x l h in
+            so.closed b x m l told_b (touched_back x b j ib (omega (arith, le, d)) mine h)
+
+    pub clock_told : (row : ℕ → ℕ) → IsSound o entries tasks clocks row k p → TellsEnds o entries tasks clocks row k p → TellsShared o entries tasks clocks row k p → IsClock o entries tasks clocks row k p
+    clock_told row so ends shares q m =
         same_tests (reaches o entries p q) (is_told o entries tasks clocks row k p q) (λ h. into (reached o entries p q w (omega (arith, m, w)) h)) (λ h. or_right (p == q) _ (so.sound q m h))
       where
         i : q < length entries
         i = omega (arith, m, w)
 
-        -- what touches its task is told of
-        told_touch : (x : ℕ) → x < p → x < length entries → both_at touches entries p x ≡ true → Behind entries tasks p → Told k row x
-        told_touch x l j h (alone _ _ _ none zero_is nothing) = absurd (nothing x l h)
-        told_touch x l j h (generated _ _ _ b m prev is made other only) =
-            told_origin k row x (origin_suc o entries b (origin tasks p) x is ∙ reaches_so o entries b x (inl (sym (only x l h))))
-        told_touch x l j h (going_on _ _ _ b m prev same mine newest) = by (cases_eq x b)
-          where
-            ib : b < length entries
-            ib = omega (arith, m, w)
-
-            told_b : Told k row b
-            told_b = told_own row b m mine
-
-            by : (x ≡ b) ⊎ (x ≢ b) → Told k row x
-            by (inl e) = subst (λ y. Told k row y) (sym e) told_b
-            by (inr d) =
-                let le : x ≤ b = newest x l h in
-                so.closed b x m l told_b (touched_back x b j ib (omega (arith, le, d)) mine h)
-              where
-                moved : (x b : ℕ) (j : x < length entries) (ib : b < length entries) → both_at of_one entries p b ≡ true → both_at touches entries p x ≡ true → both_at touches entries b x ≡ true
-                moved x b j ib mine h =
-                    let same = same_true (at o entries b ib).event.task (at o entries p w).event.task (sym (both_is o entries p b w ib of_one) ∙ mine) in
-                    both_is o entries b x ib j touches
-                    ∙ ap (λ t. same_name (at o entries x j).event.task t || spawns t (at o entries x j).event) same
-                    ∙ sym (both_is o entries p x w j touches) ∙ h
-
-                touched_back : (x b : ℕ) (j : x < length entries) (ib : b < length entries) → x < b → both_at of_one entries p b ≡ true → both_at touches entries p x ≡ true → is_after o entries b x ≡ true
-                touched_back x b j ib l mine h = links_after (linked_on o entries b x x l ib (touch_links_at o entries b x ib j (moved x b j ib mine h)) (inl refl))
-
         link_told : (x : ℕ) → x < p → links_at o entries p x ≡ true → Told k row x
         link_told x l h =
             let j : x < length entries = omega (arith, l, w) in
-            ⊎_elim (λ a. told_touch x l j a (are.behind p w)) (λ a. ends x l a h) (link_cases_at o entries p x w j h)
+            ⊎_elim (λ a. told_touch row so x l j a (are.behind p w)) (λ a. ⊎_elim (λ b. ends x l b h) (λ b. shares b.0 x l b.1) a) (link_cases_at o entries p x w j h)
 
         into : Reached o entries p q → is_told o entries tasks clocks row k p q ≡ true
         into (inl e) = absurd (omega (arith, e, m))

@@ -6,4 +6,7 @@ pub mod Numbering
 pub mod Told
 pub mod Exclusion
 pub mod Edges
+pub mod Needing
+pub mod Walked
+pub mod AllNeeds
 pub mod Rows

@@ -21,6 +21,7 @@ use Rattle.tb_order.specs.declared.joined.Joined.{Joined}
 use Rattle.tb_order.specs.declared.waiter.Waiter.{Waiter}
 use Rattle.tb_order.specs.Linking.{order_of}
 use Rattle.tb_order.specs.Bounds.{AreRising, bound_among}
+use Rattle.tb_order.specs.Needing.{IsBelow, IsLinkedEnd, place_at}
 use Rattle.tb_order.specs.Clocks.{AddsEnd, AreClocks, AreEnds, AreRow, AreTasks, AreTied, IsEnd, IsJoined, IsLane, IsSound, end_at, is_told, lanes_of, links_at, number, origin, skip_at}
 
 -- ---- keys
@@ -144,6 +145,7 @@ pub record AreJoined (entries : List Entry) (tasks : Tasks) (past : Past) (k p :
   pub rising : AreRising j.rows.items
   pub sound : IsSound (order_of past.exclusion) entries tasks (lanes_of past.clocks) (bound_among j.rows.items) k p
   pub end : (x : ℕ) → j.end ≡ Some x → IsJoined (order_of past.exclusion) entries tasks (lanes_of past.clocks) (bound_among j.rows.items) k p x
+  pub ends : (i : ℕ) → i < length j.ends.items → IsLinkedEnd (order_of past.exclusion) entries p (place_at j.ends.items i)
 
 -- the row so far tells of q as one in front of the step
 abbrev pub IsTold : List Entry → Tasks → Past → ℕ → ℕ → Joined → ℕ → Type 0
@@ -153,6 +155,8 @@ IsTold entries tasks past k p j q = IsTrue (is_told (order_of past.exclusion) en
 pub record JoinsMore (entries : List Entry) (tasks : Tasks) (past : Past) (k p : ℕ) (old new : Joined) : Type 0 where
   pub are : AreJoined entries tasks past k p new
   pub kept : (q : ℕ) → q < p → IsTold entries tasks past k p old q → IsTold entries tasks past k p new q
+  pub added : (q : ℕ) → q < p → IsTold entries tasks past k p new q → IsTold entries tasks past k p old q ⊎ IsBelow (order_of past.exclusion) entries new.ends.items q
+  pub listed : (q : ℕ) → IsBelow (order_of past.exclusion) entries old.ends.items q → IsBelow (order_of past.exclusion) entries new.ends.items q
   pub same : new.end ≡ None → (new.rows.items ≡ old.rows.items) × (old.end ≡ None)
 
 -- ---- which ends a step is linked to

@@ -1,14 +1,32 @@
 //! The immediate needs of all steps.
 
-ghost use Rattle.std.specs.Prelude.{◌≡◌, ◌<◌, ◌≤◌, ◌++◌, IfOk, OnOk, Some, length, map, reverse};
-ghost use Rattle.tb_core.specs.Scans.{AreLegal, history_of, step_at};
+ghost use Rattle.std.specs.Prelude.{◌≡◌, ◌<◌, ◌≤◌, ◌+◌, ◌++◌, ℕ, List, IfOk, IfSome, OnOk, IsTrue, Some, is_some, get_or, length, map, reverse, take};
+ghost use Rattle.tb_core.specs.Entries.{Entry};
+ghost use Rattle.tb_core.specs.Scans.{AreLegal, history_of};
+ghost use Rattle.tb_races.specs.declared.cause.Cause.{Cause as ACause};
+ghost use Rattle.tb_order.specs.declared.tasks.Tasks.{Tasks as ATasks};
+ghost use Rattle.tb_order.specs.AllNeeds.{AreDirect, AreNeeds, GoesBehind, IsMade};
+ghost use Rattle.tb_order.specs.Clocks as is;
+ghost use Rattle.tb_order.specs.Clocks.{AreOrdinals, AreTasks, lanes_of};
 ghost use Rattle.tb_order.specs.Edges;
 ghost use Rattle.tb_order.specs.Edges.{as_edge};
+ghost use Rattle.tb_order.specs.Needing.{place_at};
+ghost use Rattle.tb_order.specs.Told.{told};
 
+use crate::clocks::Clocks;
 use crate::edge::Edge;
-use crate::immediate::immediate;
+use crate::kept::nothing;
+use crate::lane_bound::LaneBound;
+use crate::merging::{Step, add, advance, begin, lane_behind, no_clocks, nothing_past};
+use crate::needing::{candidates, needed_among, untold};
+use crate::needs::Needs;
+use crate::numbering::tasks_of;
+use crate::ordinals::{named, ordinals_of};
+use crate::sharing::note_shared;
+use crate::tasks::Tasks;
+use crate::waiting::kind_at;
 use std::alloc::{AllocError, Global};
-use tb_core::{History, step_at};
+use tb_core::History;
 use tb_model::StepId;
 use tb_races::Cause;
 
@@ -18,13 +36,117 @@ pub fn edges_among(alloc: Global, entries: &History<'_>) -> Result<Vec<Edge>, Al
     requires bound { length entries.now ≤ 1000000 }
     ensures { IfOk result (λ edges. edges.items ≡ reverse (Edges.edges (history_of entries.now))) }
 {
+    let tasks = tasks_of(alloc, entries)?;
+    let ordinals = ordinals_of(alloc, entries, &tasks)?;
     let mut edges = Vec::new(alloc);
+    let mut needs = no_needs(alloc);
     for at in 0..entries.len() {
-        let causes = immediate(alloc, entries, at)?;
-        let later = step_at(entries, at)?;
+        let mut places = take_step(&mut needs, entries, &tasks, at)?;
+        places.reverse();
+        let causes = causes_of(alloc, entries, &tasks, &ordinals, at, &places)?;
+        let later = named(entries, &ordinals, at)?;
         append_edges(&mut edges, &later, &causes)?;
     }
     Ok(edges)
+}
+
+/// Nothing is known of any step yet.
+fn no_needs(alloc: Global) -> Needs
+    ensures { (entries : List Entry) (tasks : ATasks) → AreNeeds entries tasks 0 result }
+{
+    Needs {
+        alloc,
+        past: nothing_past(alloc, true),
+        clocks: no_clocks(alloc),
+        kept: nothing(alloc),
+    }
+}
+
+/// Takes the step at this place, and returns those that it needs immediately, the newest first.
+fn take_step(
+    needs: &mut Needs,
+    entries: &History<'_>,
+    tasks: &Tasks,
+    at: usize,
+) -> Result<Vec<usize>, AllocError>
+    requires legal { AreLegal entries.now }
+    requires tasks { AreTasks entries.now tasks.now }
+    requires at { at < length entries.now }
+    requires needs { AreNeeds entries.now tasks.now at needs.old }
+    ensures needs { OnOk result (AreNeeds entries.now tasks.now (at + 1) needs.new) }
+    ensures places { IfOk result (λ places. AreDirect entries.now at places.items) }
+{
+    let alloc = needs.alloc;
+    let behind = advance(alloc, entries, tasks, &mut needs.past, at)?;
+    let step = begin(tasks, &needs.clocks, at);
+    let may = candidates(alloc, &needs.past.joined, &needs.kept, entries.action(at))?;
+    let found = untold(alloc, entries, tasks, &needs.clocks, &step, &may)?;
+    let (made, places) = needed_among(alloc, entries, tasks, &needs.clocks, &step, found)?;
+    let lane = lane_on(&needs.clocks, step.lane, behind);
+    let row = row_of(&mut needs.clocks, step.row, made)?;
+    add(&mut needs.clocks, &Step { at, row, lane })?;
+    note_shared(&mut needs.kept, entries, at)?;
+    Ok(places)
+}
+
+/// The lane of a step, where it may go on in that of this end.
+fn lane_on(clocks: &Clocks, lane: usize, behind: Option<usize>) -> usize
+    requires end { IfSome behind (λ x. (x < length clocks.now.lanes.items)
+        × (is.lane (lanes_of clocks.now) x < length clocks.now.lasts.items)) }
+    requires lane { lane ≤ length clocks.now.lasts.items }
+    ensures { GoesBehind (lanes_of clocks.now) lane behind result }
+{
+    match behind {
+        None => lane,
+        Some(end) => lane_behind(clocks, lane, end),
+    }
+}
+
+/// The number of the row that was made, which is added, or of the other where none was.
+fn row_of(
+    clocks: &mut Clocks,
+    row: usize,
+    made: Option<Vec<LaneBound>>,
+) -> Result<usize, AllocError>
+    ensures { IfOk result (λ n. IsMade clocks.old row made clocks.new n) }
+{
+    match made {
+        None => Ok(row),
+        Some(made) => {
+            clocks.rows.push(made)?;
+            Ok(clocks.rows.len())
+        }
+    }
+}
+
+/// The steps at these places, as what the step at the other needs immediately.
+fn causes_of(
+    alloc: Global,
+    entries: &History<'_>,
+    tasks: &Tasks,
+    ordinals: &[u32],
+    at: usize,
+    places: &[usize],
+) -> Result<Vec<Cause>, AllocError>
+    requires legal { AreLegal entries.now }
+    requires tasks { AreTasks entries.now tasks.now }
+    requires at { at < length entries.now }
+    requires listed { length ordinals.now ≡ length entries.now }
+    requires told { AreOrdinals entries.now (length entries.now) ordinals.now }
+    requires low { (i : ℕ) → i < length places.now → place_at places.now i < at }
+    requires near { (v : Entry) → v ≡ get_or entries.now at v → (i : ℕ) → i < length places.now
+        → IsTrue (is_some (told (take at entries.now) v.event (place_at places.now i))) }
+    ensures { IfOk result (λ causes. (v : Entry) → v ≡ get_or entries.now at v →
+        map (λ (c : ACause). Some c) causes.items
+        ≡ map (told (take at entries.now) v.event) places.now) }
+{
+    let mut causes = Vec::new(alloc);
+    for place in places {
+        let kind = kind_at(entries, tasks, at, *place).unwrap();
+        let step = named(entries, ordinals, *place)?;
+        causes.push(Cause { kind, step })?;
+    }
+    Ok(causes)
 }
 
 /// Appends these immediate needs of the later step.

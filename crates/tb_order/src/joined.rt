@@ -9,4 +9,6 @@ pub struct Joined {
     pub rows: Vec<Vec<LaneBound>>,
     /// An end that was added, one that is the newest of its lane if there is one.
     pub end: Option<usize>,
+    /// All that were added.
+    pub ends: Vec<usize>,
 }

@@ -39,7 +39,7 @@ pub fn nothing(alloc: Global) -> Kept
 
 /// The number of what the action shares with others: 0 for the output, and for each cell the next
 /// after its own.
-fn slot_of(action: &Action) -> Option<usize>
+pub fn slot_of(action: &Action) -> Option<usize>
     ensures { result ≡ sharing.slot_of action.now }
 {
     match action {
@@ -50,7 +50,7 @@ fn slot_of(action: &Action) -> Option<usize>
     }
 }
 
-fn is_load(action: &Action) -> bool
+pub fn is_load(action: &Action) -> bool
     ensures { result ≡ sharing.is_load action.now }
 {
     matches!(action, Action::Load { .. })
@@ -147,7 +147,7 @@ fn newer(one: Option<usize>, other: Option<usize>) -> Option<usize>
 }
 
 /// Of the row of this number the first places stay, as many as are told.
-fn cut(rows: &mut Vec<Vec<usize>>, slot: usize, count: usize)
+pub fn cut(rows: &mut Vec<Vec<usize>>, slot: usize, count: usize)
     requires slot { slot < length rows.old.items }
     ensures row { kept_in rows.new.items slot ≡ take count (kept_in rows.old.items slot) }
     ensures others { (k : ℕ) → k ≢ slot → kept_in rows.new.items k ≡ kept_in rows.old.items k }
@@ -157,7 +157,12 @@ fn cut(rows: &mut Vec<Vec<usize>>, slot: usize, count: usize)
 }
 
 /// And this one is added.
-fn put(rows: &mut Vec<Vec<usize>>, slot: usize, count: usize, at: usize) -> Result<(), AllocError>
+pub fn put(
+    rows: &mut Vec<Vec<usize>>,
+    slot: usize,
+    count: usize,
+    at: usize,
+) -> Result<(), AllocError>
     requires slot { slot < length rows.old.items }
     ensures row { OnOk result (kept_in rows.new.items slot
         ≡ take count (kept_in rows.old.items slot) ++ at ∷ []) }
@@ -169,7 +174,7 @@ fn put(rows: &mut Vec<Vec<usize>>, slot: usize, count: usize, at: usize) -> Resu
 }
 
 /// Makes room for the row of this number.
-fn grow(alloc: Global, rows: &mut Vec<Vec<usize>>, i: usize) -> Result<(), AllocError>
+pub fn grow(alloc: Global, rows: &mut Vec<Vec<usize>>, i: usize) -> Result<(), AllocError>
     ensures same { (j : ℕ) → kept_in rows.new.items j ≡ kept_in rows.old.items j }
     ensures within { OnOk result (i < length rows.new.items) }
 {

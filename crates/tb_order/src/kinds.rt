@@ -70,7 +70,7 @@ pub fn conflict(entries: &History<'_>, later: usize, earlier: usize) -> Option<C
 }
 
 /// What a later and an earlier action share: a cell that one of them stores to, or the output.
-fn shared(later: &Action, earlier: &Action) -> Option<Conflict>
+pub fn shared(later: &Action, earlier: &Action) -> Option<Conflict>
     ensures { result ≡ Kinds.shared later.now earlier.now }
 {
     match later {

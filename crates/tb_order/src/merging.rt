@@ -1,14 +1,16 @@
 //! The clocks of a history.
 
-ghost use Rattle.std.specs.Prelude.{◌≡◌, ◌⊎◌, ◌<◌, ◌≤◌, ◌+◌, ◌||◌, ◌&&◌, ◌==◌, ℕ, List, Vec, Some, false, length, nat_lt, slice_index_or, IfOk, IsTrue, OnOk};
+ghost use Rattle.std.specs.Prelude.{◌≡◌, ◌≢◌, IfSome, ◌⊎◌, ◌<◌, ◌≤◌, ◌+◌, ◌||◌, ◌&&◌, ◌==◌, ℕ, List, Vec, Some, false, length, nat_lt, slice_index_or, IfOk, IsTrue, OnOk};
 ghost use Rattle.tb_core.specs.Entries.{Entry};
 ghost use Rattle.tb_core.specs.Scans.{AreLegal};
 ghost use Rattle.tb_races.specs.Orders.{Order};
 ghost use Rattle.tb_order.specs.Clocks as is;
 ghost use Rattle.tb_order.specs.Clocks.{AreClocks, AreEnds, AreTasks, GoesOn, IsLane, IsLow, IsOneMore, IsShaped, IsSound, IsStanding, adds, end_at, lane, lanes_of, links_at, number, row_in};
 ghost use Rattle.tb_order.specs.Bounds.{IsRising, bound_in};
-ghost use Rattle.tb_order.specs.Rows.{AreJoined, IsPast, IsRow, IsTold, IsWaiting, JoinsMore, parent, starts_at};
+ghost use Rattle.tb_order.specs.Rows.{AreJoined, AreRows, IsNoted, IsPast, IsRow, IsTold, IsWaiting, JoinsMore, parent, starts_at};
 ghost use Rattle.tb_order.specs.Linking.{order_of};
+ghost use Rattle.tb_order.specs.Needing.{FindsEnds, IsEndBefore, IsOwn};
+ghost use Rattle.tb_order.specs.declared.tasks.Tasks.{Tasks as ATasks};
 
 use crate::asked::merge_all;
 use crate::bounds::{add_row, bound, bound_among, whole};
@@ -29,10 +31,10 @@ use tb_core::History;
 
 /// A step for which a clock is made: its place, the number of its row so far, and its lane.
 #[derive(Drop)]
-struct Step {
-    at: usize,
-    row: usize,
-    lane: usize,
+pub struct Step {
+    pub at: usize,
+    pub row: usize,
+    pub lane: usize,
 }
 
 /// What the order puts in front of each of these entries, where exclusion counts or doesn't.
@@ -46,35 +48,110 @@ pub fn clocks_of(
     requires tasks { AreTasks entries.now tasks.now }
     ensures { IfOk result (AreClocks (order_of exclusion) entries.now tasks.now (length entries.now)) }
 {
-    let clocks = Clocks {
-        of: Vec::new(alloc),
-        rows: Vec::new(alloc),
-        lanes: Vec::new(alloc),
-        lasts: Vec::new(alloc),
-    };
-    let mut past = Past {
-        alloc,
-        exclusion,
-        clocks,
-        ends: no_ends(alloc),
-        rows: IndexMap::new(alloc),
-        free: 0,
-    };
+    let mut past = nothing_past(alloc, exclusion);
     for at in 0..entries.len() {
-        let first = begin(tasks, &past.clocks, at);
-        let step = finish(alloc, entries, tasks, &mut past, first)?;
-        add(&mut past.clocks, &step)?;
-        if entries.action(at).is_end() {
-            note_end(tasks, &past.clocks, &mut past.ends, at)?;
-            note_rows(alloc, entries, tasks, &past.clocks, &mut past.rows, at)?;
-        }
+        advance(alloc, entries, tasks, &mut past, at)?;
     }
     Ok(past.clocks)
 }
 
+/// No clocks yet.
+pub fn no_clocks(alloc: Global) -> Clocks
+    ensures { (o : Order) (entries : List Entry) (tasks : ATasks) → AreClocks o entries tasks 0 result }
+{
+    Clocks {
+        of: Vec::new(alloc),
+        rows: Vec::new(alloc),
+        lanes: Vec::new(alloc),
+        lasts: Vec::new(alloc),
+    }
+}
+
+/// An order of no steps.
+pub fn nothing_past(alloc: Global, exclusion: bool) -> Past
+    ensures past { (entries : List Entry) (tasks : ATasks) → IsPast entries tasks result 0 }
+    ensures same { result.exclusion ≡ exclusion }
+{
+    Past {
+        alloc,
+        exclusion,
+        clocks: no_clocks(alloc),
+        ends: no_ends(alloc),
+        rows: IndexMap::new(alloc),
+        free: 0,
+        joined: Vec::new(alloc),
+    }
+}
+
+/// Takes the step at this place into the order, and returns an end after which it comes, where it
+/// goes on in the lane of one.
+pub fn advance(
+    alloc: Global,
+    entries: &History<'_>,
+    tasks: &Tasks,
+    past: &mut Past,
+    at: usize,
+) -> Result<Option<usize>, AllocError>
+    requires legal { AreLegal entries.now }
+    requires tasks { AreTasks entries.now tasks.now }
+    requires at { at < length entries.now }
+    requires past { IsPast entries.now tasks.now past.old at }
+    ensures past { OnOk result (IsPast entries.now tasks.now past.new (at + 1)) }
+    ensures same { past.new.exclusion ≡ past.old.exclusion }
+    ensures joined { OnOk result (FindsEnds (order_of past.old.exclusion) entries.now at past.new.joined.items) }
+    ensures behind { IfOk result (λ o. (x : ℕ) → o ≡ Some x
+        → IsEndBefore (order_of past.old.exclusion) entries.now at x) }
+{
+    let first = begin(tasks, &past.clocks, at);
+    let lane = first.lane;
+    let step = finish(alloc, entries, tasks, past, first)?;
+    let behind = behind_of(&past.clocks, lane, step.lane);
+    add(&mut past.clocks, &step)?;
+    note_over(alloc, entries, tasks, past, at)?;
+    Ok(behind)
+}
+
+/// The newest step of the lane, where it is another than the first.
+fn behind_of(clocks: &Clocks, first: usize, lane: usize) -> Option<usize>
+    requires { (lane ≡ first) ⊎ (lane < length clocks.now.lasts.items) }
+    ensures { IfSome result (λ x. (lane ≢ first) × (x ≡ slice_index_or clocks.now.lasts.items lane 0)) }
+{
+    if lane == first {
+        None
+    } else {
+        Some(clocks.lasts[lane])
+    }
+}
+
+/// Notes the step at this place among the ends, where it is one.
+fn note_over(
+    alloc: Global,
+    entries: &History<'_>,
+    tasks: &Tasks,
+    past: &mut Past,
+    at: usize,
+) -> Result<(), AllocError>
+    requires legal { AreLegal entries.now }
+    requires tasks { AreTasks entries.now tasks.now }
+    requires at { at < length entries.now }
+    requires clocks { AreClocks (order_of past.old.exclusion) entries.now tasks.now (at + 1) past.old.clocks }
+    requires ends { AreEnds (order_of past.old.exclusion) entries.now at past.old.ends }
+    requires rows { AreRows (order_of past.old.exclusion) entries.now
+        (IsNoted entries.now tasks.now at) past.old.rows.entries }
+    ensures past { OnOk result (IsPast entries.now tasks.now past.new (at + 1)) }
+    ensures same { past.new.exclusion ≡ past.old.exclusion }
+    ensures joined { past.new.joined ≡ past.old.joined }
+{
+    if entries.action(at).is_end() {
+        note_end(tasks, &past.clocks, &mut past.ends, at)?;
+        note_rows(alloc, entries, tasks, &past.clocks, &mut past.rows, at)?;
+    }
+    Ok(())
+}
+
 /// The step at this place, with the row and the lane of the step of its task in front of it, else
 /// with none and a new lane.
-fn begin(tasks: &Tasks, clocks: &Clocks, at: usize) -> Step
+pub fn begin(tasks: &Tasks, clocks: &Clocks, at: usize) -> Step
     requires shaped { IsShaped tasks.now }
     requires listed { at ≡ length clocks.now.of.items }
     requires laned { at ≡ length clocks.now.lanes.items }
@@ -92,6 +169,10 @@ fn begin(tasks: &Tasks, clocks: &Clocks, at: usize) -> Step
     ensures lane { (o : Order) (entries : List Entry) → AreLegal entries
         → AreTasks entries tasks.now → AreClocks o entries tasks.now at clocks.now
         → IsLane entries (lanes_of clocks.now) result.lane at }
+    ensures own { (o : Order) (entries : List Entry) → AreLegal entries
+        → AreTasks entries tasks.now → AreClocks o entries tasks.now at clocks.now
+        → IsOwn o entries tasks.now (lanes_of clocks.now)
+        (bound_in (row_in clocks.now.rows.items result.row)) result.lane at }
 {
     match step_before(tasks, at) {
         Some(before) => Step {
@@ -125,19 +206,30 @@ fn finish(
         (lanes_of past.old.clocks) (bound_in (row_in past.old.clocks.rows.items step.row))
         step.lane step.at }
     requires lane { IsLane entries.now (lanes_of past.old.clocks) step.lane step.at }
+    requires own { IsOwn (order_of past.old.exclusion) entries.now tasks.now
+        (lanes_of past.old.clocks) (bound_in (row_in past.old.clocks.rows.items step.row))
+        step.lane step.at }
     ensures at { IfOk result (λ s. s.at ≡ step.at) }
     ensures past { OnOk result (IsPast entries.now tasks.now past.new step.at) }
     ensures same { past.new.exclusion ≡ past.old.exclusion }
     ensures stands { IfOk result (λ s. IsStanding (order_of past.old.exclusion) entries.now
         tasks.now past.new.clocks s.row s.lane step.at) }
+    ensures joined { OnOk result
+        (FindsEnds (order_of past.old.exclusion) entries.now step.at past.new.joined.items) }
+    ensures lane { IfOk result (λ s. (s.lane ≡ step.lane)
+        ⊎ ((s.lane < length past.new.clocks.lasts.items)
+        × IsEndBefore (order_of past.old.exclusion) entries.now step.at
+        (slice_index_or past.new.clocks.lasts.items s.lane 0))) }
 {
     past.free = first_free(&past.clocks, &past.ends, past.free);
+    past.joined = Vec::new(alloc);
     if !may_wait(entries, tasks, step.at) {
         return Ok(stay(tasks, &past.clocks, &past.ends, past.free, step));
     }
     let mut joined = Joined {
         rows: Vec::new(alloc),
         end: None,
+        ends: Vec::new(alloc),
     };
     let own = Vec::from_slice(alloc, row(&past.clocks.rows, step.row))?;
     add_row(alloc, &mut joined.rows, own)?;
@@ -148,6 +240,7 @@ fn finish(
         from: first_asked(entries, tasks, step.at),
     };
     merge_all(&mut joined, &waiter, entries, tasks, past)?;
+    past.joined = joined.ends;
     match joined.end {
         None => Ok(stay(tasks, &past.clocks, &past.ends, past.free, step)),
         Some(end) => {
@@ -239,7 +332,7 @@ fn stay(tasks: &Tasks, clocks: &Clocks, ends: &Ends, free: usize, step: Step) ->
 
 /// The lane of a step that comes after this end: a step that opens a lane goes on in that of the
 /// end where nothing else does.
-fn lane_behind(clocks: &Clocks, lane: usize, end: usize) -> usize
+pub fn lane_behind(clocks: &Clocks, lane: usize, end: usize) -> usize
     requires end { end < length clocks.now.lanes.items }
     requires few { is.lane (lanes_of clocks.now) end < length clocks.now.lasts.items }
     requires lane { lane ≤ length clocks.now.lasts.items }
@@ -256,7 +349,7 @@ fn lane_behind(clocks: &Clocks, lane: usize, end: usize) -> usize
 }
 
 /// Adds the step to the clocks.
-fn add(clocks: &mut Clocks, step: &Step) -> Result<(), AllocError>
+pub fn add(clocks: &mut Clocks, step: &Step) -> Result<(), AllocError>
     requires few { step.now.lane ≤ length clocks.old.lasts.items }
     ensures { OnOk result (IsOneMore clocks.old step.now.row step.now.lane step.now.at clocks.new) }
 {
@@ -309,6 +402,7 @@ pub fn merge(
                 end,
             )?;
             left = ends.skips[left];
+            joined.ends.push(end)?;
             joined.end = Some(better(&past.clocks, joined.end, end));
         }
     }

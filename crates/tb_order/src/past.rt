@@ -19,4 +19,6 @@ pub struct Past {
     /// The number of the first end in whose lane no step went on: none of those in front of it is
     /// the last of its lane.
     pub free: usize,
+    /// The ends that were joined to the newest step.
+    pub joined: Vec<usize>,
 }

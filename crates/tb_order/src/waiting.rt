@@ -13,7 +13,7 @@ ghost use Rattle.tb_order.specs.Clocks.{AreTasks, both_at, is_end_at, links_at, 
 ghost use Rattle.tb_order.specs.Linking;
 ghost use Rattle.tb_order.specs.Linking.{order_of};
 
-use crate::kinds::counts;
+use crate::kinds::{counts, shared};
 use crate::tasks::{Tasks, step_before};
 use tb_core::{History, is_member};
 use tb_model::{Action, Item, TaskName, some_apart, some_before};
@@ -102,12 +102,50 @@ pub fn waits(exclusion: bool, entries: &History<'_>, tasks: &Tasks, at: usize, e
     if entries.are_of_one(at, end) {
         return true;
     }
+    counts(exclusion, waiting_kind(entries, tasks, at, end))
+}
+
+/// Why the step at this place needs the one at the other directly.
+pub fn kind_at(entries: &History<'_>, tasks: &Tasks, at: usize, earlier: usize) -> Option<NeedKind>
+    requires legal { AreLegal entries.now }
+    requires tasks { AreTasks entries.now tasks.now }
+    requires at { at < length entries.now }
+    requires earlier { earlier < at }
+    ensures { (v u : Entry) → slice_get entries.now at ≡ Some v → slice_get entries.now earlier ≡ Some u
+        → result ≡ Kinds.need_kind (history_of (take at entries.now)) v.event u.event }
+{
+    let action = entries.action(earlier);
+    if entries.are_of_one(at, earlier) {
+        return Some(NeedKind::Task);
+    }
+    if action.is_spawn_of(entries.task(at)) {
+        return Some(NeedKind::Spawn);
+    }
+    if let Some(shares) = shared(entries.action(at), action) {
+        return Some(NeedKind::Conflict(shares));
+    }
+    if action.is_end() {
+        waiting_kind(entries, tasks, at, earlier)
+    } else {
+        None
+    }
+}
+
+/// Why the step at this place comes behind the end of the task of the step at the other.
+fn waiting_kind(entries: &History<'_>, tasks: &Tasks, at: usize, end: usize) -> Option<NeedKind>
+    requires legal { AreLegal entries.now }
+    requires tasks { AreTasks entries.now tasks.now }
+    requires at { at < length entries.now }
+    requires end { end < at }
+    ensures { (v u : Entry) → slice_get entries.now at ≡ Some v → slice_get entries.now end ≡ Some u
+        → result ≡ Kinds.end_kind (history_of (take at entries.now)) v.event.task v.event.action u.event.task }
+{
     let front = entries.front(at);
     let ended = entries.task(end);
     let items = items_of(entries, tasks, at);
     let others = items_of(entries, tasks, end);
     let held = holds(entries, tasks, at, ended);
-    let kind = end_kind(
+    end_kind(
         &front,
         entries.task(at),
         items,
@@ -115,8 +153,7 @@ pub fn waits(exclusion: bool, entries: &History<'_>, tasks: &Tasks, at: usize, e
         ended,
         others,
         held,
-    );
-    counts(exclusion, kind)
+    )
 }
 
 /// Why the action of `t` comes behind the end of `u`, where these are their items, and `t` stood at

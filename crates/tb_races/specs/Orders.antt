@@ -9,20 +9,27 @@ use Rattle.tb_races.specs.declared.need_kind.NeedKind.{NeedKind}
 use Rattle.tb_races.specs.declared.need_kind.NeedKind.TheVariants.{Task, Spawn, Conflict as Conflicts, Before, Apart, Wait as Waits, Group, Undeferred}
 use Rattle.tb_races.specs.Kinds.{need_kind}
 
--- what every schedule keeps, or that with what exclusion made of this one
+-- what every schedule keeps, that with what exclusion made of this one, or all needs
 pub data Order : Type 0 where
   Synchronised : Order
   WithExclusion : Order
+  AllNeeds : Order
 
 abbrev pub counts_exclusion : Order → Bool
 counts_exclusion Synchronised = false
 counts_exclusion WithExclusion = true
+counts_exclusion AllNeeds = true
 
--- needs of the kind are links of the order: none of a conflict is, and those of exclusion only where it counts
+abbrev pub counts_conflicts : Order → Bool
+counts_conflicts Synchronised = false
+counts_conflicts WithExclusion = false
+counts_conflicts AllNeeds = true
+
+-- needs of the kind are links of the order: those of a conflict only where all needs are, and those of exclusion only where it counts
 abbrev pub counts : Order → NeedKind → Bool
 counts o Task = true
 counts o Spawn = true
-counts o (Conflicts c) = false
+counts o (Conflicts c) = counts_conflicts o
 counts o Before = true
 counts o Apart = counts_exclusion o
 counts o Waits = true

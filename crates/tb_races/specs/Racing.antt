@@ -8,7 +8,7 @@ use Rattle.tb_model.specs.Needs.{step_of}
 use Rattle.tb_races.specs.declared.conflict.Conflict.{Conflict}
 use Rattle.tb_races.specs.declared.race.Race.{Race}
 use Rattle.tb_races.specs.Kinds.{shared}
-use Rattle.tb_races.specs.Orders.{Order, Synchronised, WithExclusion, ComesAfter, comes_after}
+use Rattle.tb_races.specs.Orders.{Order, Synchronised, WithExclusion, AllNeeds, ComesAfter, comes_after}
 
 -- what a later and an earlier event of different tasks share, so that their order can be seen
 abbrev pub conflict : Event → Event → Option Conflict
@@ -28,6 +28,7 @@ contested o H v K u = if comes_after o (step_of K u) H v then None else conflict
 abbrev pub is_apart : Order → Bool
 is_apart Synchronised = true
 is_apart WithExclusion = false
+is_apart AllNeeds = false
 
 abbrev pub as_race : Order → StepId → StepId → Conflict → Race
 as_race o e f shares = record { earlier = e; later = f; conflict = shares; apart = is_apart o }

@@ -3,8 +3,9 @@ use Rattle.std.specs.Prelude.{slice_index_or}
 use Rattle.tb_order.specs.Clocks.{IsLane, IsSound, lane, lanes_of, row_in}
 use Rattle.tb_order.specs.Bounds.{IsRising, bound_in}
 use Rattle.tb_order.proofs.ClockLemmas.{within_any}
-use Rattle.tb_order.proofs.LaneLemmas.{fresh_new, lane_before, lane_none, sound_before}
-use Rattle.tb_order.proofs.SoundLemmas.{sound_none}
+use Rattle.tb_order.proofs.LaneLemmas.{fresh_new, own_before, lane_before, lane_none, sound_before}
+use Rattle.tb_order.proofs.SoundLemmas.{own_none, sound_none}
+use Rattle.tb_order.specs.Needing.{IsOwn}
 use Rattle.tb_order.proofs.merging.begin.Goals as goal
 
 pub returns-in-Some-clause-row : goal.returns-in-Some-clause-row
@@ -61,3 +62,25 @@ returns-in-Some-clause-rising c o entries are told =
     let f = c.in-Some.ensures.own in
     let e : c.index.result.now ≡ slice_index_or clocks.of.items b 0 = within_any clocks.of.items b 0 c.index.result.now (omega (arith, f.2, c.requires.listed)) c.index.ensures in
     subst (λ m. IsRising (row_in clocks.rows.items m)) (sym e) (told.rising b f.2)
+
+pub returns-in-Some-clause-own : goal.returns-in-Some-clause-own
+returns-in-Some-clause-own c o entries legal are told =
+    let clocks = c.args.clocks.now in
+    let at = c.args.at in
+    let b = c.in-Some.before in
+    let f = c.in-Some.ensures.own in
+    let w : at < length entries = omega (arith, c.requires.at, are.numbers_listed) in
+    let e : c.index.result.now ≡ slice_index_or clocks.of.items b 0 = within_any clocks.of.items b 0 c.index.result.now (omega (arith, f.2, c.requires.listed)) c.index.ensures in
+    let k : c.index-in-Some.result.now ≡ lane (lanes_of clocks) b = within_any clocks.lanes.items b 0 c.index-in-Some.result.now (omega (arith, f.2, c.requires.laned)) c.index-in-Some.ensures in
+    subst (λ m. IsOwn o entries c.args.tasks.now (lanes_of clocks) (bound_in (row_in clocks.rows.items m)) c.index-in-Some.result.now at) (sym e)
+    (subst (λ m. IsOwn o entries c.args.tasks.now (lanes_of clocks) (bound_in (row_in clocks.rows.items (slice_index_or clocks.of.items b 0))) m at) (sym k)
+    (own_before o entries c.args.tasks.now are at w (lanes_of clocks) told.lanes legal b f.0 f.1))
+
+pub returns-in-None-clause-own : goal.returns-in-None-clause-own
+returns-in-None-clause-own c o entries legal are told =
+    let clocks = c.args.clocks.now in
+    let at = c.args.at in
+    let w : at < length entries = omega (arith, c.requires.at, are.numbers_listed) in
+    let k : c.len.result ≡ length clocks.lasts.items = omega (arith, c.len.ensures, clocks.lasts.ok) in
+    subst (λ m. IsOwn o entries c.args.tasks.now (lanes_of clocks) (bound_in []) m at) (sym k)
+    (own_none o entries c.args.tasks.now are at w (lanes_of clocks) told.lanes (length clocks.lasts.items) (fresh_new o entries c.args.tasks.now are at w (lanes_of clocks) told.lanes) c.in-None.ensures.none)

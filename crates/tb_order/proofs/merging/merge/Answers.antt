@@ -6,7 +6,7 @@ use Rattle.tb_order.specs.Bounds.{AreRising, bound_among}
 use Rattle.tb_order.proofs.ClockLemmas.{within_any}
 use Rattle.tb_order.proofs.EndLemmas.{seen_more}
 use Rattle.tb_order.proofs.JoinedLemmas.{joins_none, joins_one}
-use Rattle.tb_order.proofs.SoundLemmas.{sound_more, stays_told, itself_told}
+use Rattle.tb_order.proofs.SoundLemmas.{adds_told, sound_more, stays_told, itself_told}
 use Rattle.tb_order.proofs.merging.merge.Goals as goal
 
 pub back-init : goal.back-init
@@ -73,7 +73,7 @@ back-preserved-then-waits c =
     let stays = stays_told o entries tasks are at w clocks told k row next s each.0 more in
     let sound = sound_more o entries tasks are at w clocks told k row next s each.0 more l.invariant.more.are.sound link in record {
       within = omega (arith, skip, low, inside);
-      more = joins_one entries tasks c.args.past.now k at c.args.joined.now l.joined _ s l.invariant.more (c.in_ok-join.ensures.rising o entries are stored up) sound stays (each.0, each.1, itself) c.better.result c.better.ensures refl;
+      more = joins_one entries tasks c.args.past.now k at c.args.joined.now l.joined _ s l.invariant.more (c.in_ok-join.ensures.rising o entries are stored up) sound stays (each.0, each.1, itself) c.better.result c.better.ensures refl c.in_ok-push.ensures.items link (adds_told o entries tasks are at w clocks told k row next s each.0 more);
       seen = λ j m h q.
           seen_more o entries tasks clocks next k at sound ends c.requires.row i inside (subst (λ y. is_told o entries tasks clocks next k at y ≡ true) e itself) (λ n. links_at o entries at (end_at ends n) ≡ true)
           (λ n a b r. stays (end_at ends n) (c.requires.row.each n b).0 (l.invariant.seen n (omega (arith, a)) b r)) j (omega (arith, m, skip)) h q;

@@ -1,43 +1,12 @@
-use Rattle.std.proofs.Common.{◌<◌, List, length, refl, sym, ap, ap₂, ◌∙◌, subst, arith}
+use Rattle.std.proofs.Common.{◌<◌, length, refl, sym, ap, ◌∙◌, arith}
 use Rattle.std.proofs.lemmas.Bool.{or_left}
 use Rattle.std.proofs.lemmas.Option.{slice_get_read}
-use Rattle.tb_core.proofs.FirstLemmas.{front_legal}
-use Rattle.tb_core.specs.Entries.{Entry}
-use Rattle.tb_core.specs.Scans.{AreLegal, history_of}
 use Rattle.tb_cause.proofs.ConeLemmas.{there}
-use Rattle.tb_model.specs.Facts
 use Rattle.tb_races.specs.Orders.{counts_some}
 use Rattle.tb_order.specs.Linking.{order_of}
 use Rattle.tb_order.proofs.ClockLemmas.{or_if}
-use Rattle.tb_order.proofs.LinkLemmas.{end_linked, end_read}
+use Rattle.tb_order.proofs.LinkLemmas.{end_linked}
 use Rattle.tb_order.proofs.waiting.waits.Goals as goal
-
-pub end_kind-kind-requires-clause-legal : goal.end_kind-kind-requires-clause-legal
-end_kind-kind-requires-clause-legal c =
-    let x = there c.args.entries.now c.args.at c.requires.at in
-    subst AreLegal (sym c.front-front.ensures) (front_legal c.args.entries.now c.args.at x.0 c.requires.at x.1 c.requires.legal)
-
-pub end_kind-kind-requires-clause-items : goal.end_kind-kind-requires-clause-items
-end_kind-kind-requires-clause-items c =
-    let entries = c.args.entries.now in
-    let x = there entries c.args.at c.requires.at in
-    c.items_of-items.ensures c.args.at (omega arith) c.requires.at x.0 (slice_get_read entries (length entries) c.args.at x.0 refl c.requires.at x.1)
-    ∙ sym (ap₂ (λ t (front : List Entry). Facts.items_of t (history_of front)) (c.task.ensures x.0 x.1) c.front-front.ensures)
-
-pub end_kind-kind-requires-clause-others : goal.end_kind-kind-requires-clause-others
-end_kind-kind-requires-clause-others c =
-    let entries = c.args.entries.now in
-    let inside : c.args.end < length entries = omega (arith, c.requires.at, c.requires.end) in
-    let y = there entries c.args.end inside in
-    c.items_of-others.ensures c.args.at (omega (arith, c.requires.end)) c.requires.at y.0 (slice_get_read entries (length entries) c.args.end y.0 refl inside y.1)
-    ∙ sym (ap₂ (λ t (front : List Entry). Facts.items_of t (history_of front)) (c.task-ended.ensures y.0 y.1) c.front-front.ensures)
-
-pub end_kind-kind-requires-clause-held : goal.end_kind-kind-requires-clause-held
-end_kind-kind-requires-clause-held c =
-    let entries = c.args.entries.now in
-    let x = there entries c.args.at c.requires.at in
-    c.holds-held.ensures x.0 (slice_get_read entries (length entries) c.args.at x.0 refl c.requires.at x.1)
-    ∙ sym (ap₂ (λ t (front : List Entry). Facts.holds (Facts.own t (history_of front)) c.task-ended.result.now) (c.task.ensures x.0 x.1) c.front-front.ensures)
 
 pub returns-then-are_of_one : goal.returns-then-are_of_one
 returns-then-are_of_one c end =
@@ -57,8 +26,7 @@ returns c end =
     let y = there entries c.args.end inside in
     c.counts.ensures
     ∙ ap (counts_some (order_of c.args.exclusion))
-    (c.end_kind-kind.ensures
-    ∙ end_read entries c.args.at x.0 y.0 c.front-front.result _ _ _ c.front-front.ensures (c.task.ensures x.0 x.1) (c.action.ensures x.0 x.1) (c.task-ended.ensures y.0 y.1))
+    (c.waiting_kind.ensures x.0 y.0 (slice_get_read entries (length entries) c.args.at x.0 refl c.requires.at x.1) (slice_get_read entries (length entries) c.args.end y.0 refl inside y.1))
     ∙ sym
     (end_linked (order_of c.args.exclusion) entries c.args.at c.args.end c.requires.at inside x.0 y.0 x.1 y.1 end
     ∙ or_if _ _ (sym (c.are_of_one.ensures x.0 y.0 x.1 y.1) ∙ c.if-are_of_one.false))

@@ -1,0 +1,18 @@
+//! What has been made of all needs so far.
+
+use crate::clocks::Clocks;
+use crate::kept::Kept;
+use crate::past::Past;
+use std::alloc::Global;
+
+/// The first steps of a history by all that they need.
+#[derive(Drop)]
+pub struct Needs {
+    pub alloc: Global,
+    /// The order with exclusion, by which the ends are found that a step waits for.
+    pub past: Past,
+    /// What all needs put in front of each.
+    pub clocks: Clocks,
+    /// Of each cell and of the output the steps that a later one may need for it.
+    pub kept: Kept,
+}
