@@ -10,7 +10,7 @@ import unittest
 from support import FOLDER, TOP
 from taskrun import trace
 
-PROGRAMS = ("record", "check", "session", "stress")
+PROGRAMS = ("record", "check", "session", "stress", "merge")
 
 
 def files():
