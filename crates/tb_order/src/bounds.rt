@@ -98,8 +98,8 @@ fn further(left: LaneBound, right: LaneBound) -> LaneBound
     if left.to < right.to { right } else { left }
 }
 
-/// Adds the row to the others. Those behind it that aren't longer are merged with it, so that there
-/// are few.
+/// Adds the row to the others. The last are merged with it as long as they aren't more than twice as
+/// long, so that there are few.
 pub fn add_row(
     alloc: Global,
     rows: &mut Vec<Vec<LaneBound>>,
@@ -111,7 +111,7 @@ pub fn add_row(
         → AreRising rows.new.items) }
 {
     let mut whole = row;
-    'halve: while !rows.is_empty() && rows[rows.len() - 1].len() <= whole.len() {
+    'halve: while !rows.is_empty() && rows[rows.len() - 1].len() / 2 <= whole.len() {
         let last = rows.pop().unwrap();
         whole = merged(alloc, &last, &whole)?;
     }

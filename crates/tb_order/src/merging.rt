@@ -57,7 +57,8 @@ pub fn clocks_of(
 
 /// No clocks yet.
 pub fn no_clocks(alloc: Global) -> Clocks
-    ensures { (o : Order) (entries : List Entry) (tasks : ATasks) → AreClocks o entries tasks 0 result }
+    ensures { (o : Order) (entries : List Entry) (tasks : ATasks) →
+        AreClocks o entries tasks 0 result }
 {
     Clocks {
         of: Vec::new(alloc),
@@ -98,7 +99,8 @@ pub fn advance(
     requires past { IsPast entries.now tasks.now past.old at }
     ensures past { OnOk result (IsPast entries.now tasks.now past.new (at + 1)) }
     ensures same { past.new.exclusion ≡ past.old.exclusion }
-    ensures joined { OnOk result (FindsEnds (order_of past.old.exclusion) entries.now at past.new.joined.items) }
+    ensures joined { OnOk result
+        (FindsEnds (order_of past.old.exclusion) entries.now at past.new.joined.items) }
     ensures behind { IfOk result (λ o. (x : ℕ) → o ≡ Some x
         → IsEndBefore (order_of past.old.exclusion) entries.now at x) }
 {
@@ -134,7 +136,8 @@ fn note_over(
     requires legal { AreLegal entries.now }
     requires tasks { AreTasks entries.now tasks.now }
     requires at { at < length entries.now }
-    requires clocks { AreClocks (order_of past.old.exclusion) entries.now tasks.now (at + 1) past.old.clocks }
+    requires clocks { AreClocks (order_of past.old.exclusion) entries.now tasks.now (at + 1)
+        past.old.clocks }
     requires ends { AreEnds (order_of past.old.exclusion) entries.now at past.old.ends }
     requires rows { AreRows (order_of past.old.exclusion) entries.now
         (IsNoted entries.now tasks.now at) past.old.rows.entries }

@@ -37,7 +37,8 @@ pub fn candidates(
     kept: &Kept,
     action: &Action,
 ) -> Result<Vec<usize>, AllocError>
-    ensures { IfOk result (λ found. found.items ≡ ends.now ++ shared_places kept.now action.now) }
+    ensures { IfOk result (λ found.
+        found.items ≡ ends.now ++ shared_places kept.now action.now) }
 {
     let mut found = Vec::from_slice(alloc, ends)?;
     let Some(slot) = slot_of(action) else {
@@ -206,7 +207,8 @@ fn is_reached(tasks: &Tasks, clocks: &Clocks, places: &[usize], early: usize) ->
     requires listed { length clocks.now.of.items ≤ length tasks.now.numbers.items }
     requires laned { length clocks.now.lanes.items ≡ length clocks.now.of.items }
     requires early { (i : ℕ) → i < length places.now → early ≤ place_at places.now i }
-    requires late { (i : ℕ) → i < length places.now → place_at places.now i < length clocks.now.of.items }
+    requires late { (i : ℕ) → i < length places.now
+        → place_at places.now i < length clocks.now.of.items }
     ensures yes { IsTrue result → (entries : List Entry) (n : ℕ) → AreTasks entries tasks.now
         → AreClocks AllNeeds entries tasks.now n clocks.now → n ≡ length clocks.now.of.items
         → IsBelow AllNeeds entries places.now early }

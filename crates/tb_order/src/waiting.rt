@@ -138,7 +138,8 @@ fn waiting_kind(entries: &History<'_>, tasks: &Tasks, at: usize, end: usize) -> 
     requires at { at < length entries.now }
     requires end { end < at }
     ensures { (v u : Entry) → slice_get entries.now at ≡ Some v → slice_get entries.now end ≡ Some u
-        → result ≡ Kinds.end_kind (history_of (take at entries.now)) v.event.task v.event.action u.event.task }
+        → result ≡ Kinds.end_kind (history_of (take at entries.now)) v.event.task v.event.action
+        u.event.task }
 {
     let front = entries.front(at);
     let ended = entries.task(end);
