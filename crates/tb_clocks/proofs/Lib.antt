@@ -4,3 +4,4 @@ mod GroupLemmas
 mod TreeLemmas
 mod HoldLemmas
 mod OpenedLemmas
+mod IdLemmas

@@ -90,7 +90,7 @@ id_spawned (v ∷ H) i t h =
 
 module _ (cells : Cells) where
   -- one that was generated isn't the child of the next event
-  not_child : (H : History) (v : Event) (i j : ℕ) (t : Name) → Legal cells (v ∷ H) → HasId H i t → slice_get (generated v.action) j ≡ Some t → ⊥
+  pub not_child : (H : History) (v : Event) (i j : ℕ) (t : Name) → Legal cells (v ∷ H) → HasId H i t → slice_get (generated v.action) j ≡ Some t → ⊥
   not_child H v i j t l h g =
       let first : slice_get (generated v.action) 0 ≡ Some t = subst (λ n. slice_get (generated v.action) n ≡ Some t) (only_one v.action j t g) g in
       both_ways (spawns t v) (not_again cells H l.0 v l.1 t (id_spawned H i t h)) (generates_it v.action t first)

@@ -2,9 +2,11 @@
 #![tactic(auto)]
 
 mod group;
+mod ids;
 mod row;
 mod rows;
 mod tasks;
 
 pub use group::Group;
+pub use ids::Ids;
 pub use tasks::Tasks;

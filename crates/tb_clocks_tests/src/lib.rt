@@ -3,4 +3,6 @@
 #![tactic(auto)]
 
 #[cfg(test)]
+mod ids;
+#[cfg(test)]
 mod tasks;

@@ -13,7 +13,7 @@ const CELL: Item = Item {
 };
 
 /// The action that generates this child, with one item.
-fn spawn(alloc: Global, child: TaskName, deferred: bool) -> Option<Action> {
+pub fn spawn(alloc: Global, child: TaskName, deferred: bool) -> Option<Action> {
     let mut items = Items::new(alloc);
     let _ = items.push(CELL);
     let spawn = Spawn {
@@ -63,7 +63,7 @@ fn root(alloc: Global) -> TaskName {
 }
 
 /// The second child of the root, and the root where there was no memory for its name.
-fn second(alloc: Global) -> TaskName {
+pub fn second(alloc: Global) -> TaskName {
     match TaskName::root(alloc).child(2) {
         Ok(name) => name,
         Err(_) => TaskName::root(alloc),

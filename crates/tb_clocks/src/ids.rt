@@ -1,0 +1,53 @@
+//! The ids of tasks.
+
+ghost use Rattle.std.specs.Prelude.{◌≡◌, ◌∷◌, [], ℕ, IfOk, None, OnErr, OnOk, Some};
+ghost use Rattle.tb_model.specs.Facts.{History, IsSpawned};
+ghost use Rattle.tb_model.specs.Legal.{Cells, Legal};
+ghost use Rattle.tb_clocks.specs.Ids.{AreIds};
+ghost use Rattle.tb_clocks.specs.Known.{HasId};
+
+use indexmap::IndexSet;
+use std::alloc::{AllocError, Global};
+use tb_model::{Action, Event, TaskName};
+
+/// The ids of tasks: they are counted in the order of spawning, the root first.
+#[derive(Drop)]
+pub struct Ids {
+    names: IndexSet<TaskName>,
+}
+
+impl Ids {
+    /// The root's.
+    pub fn new(alloc: Global) -> Result<Ids, AllocError>
+        ensures { IfOk result (λ ids. (cells : Cells) → AreIds cells [] ids) }
+    {
+        let mut names = IndexSet::new(alloc);
+        names.insert(TaskName::root(alloc))?;
+        Ok(Ids { names })
+    }
+
+    /// Takes the next event: a child that it generates gets the next id. Where memory is wanted,
+    /// nothing changes.
+    pub fn push(&mut self, event: &Event) -> Result<(), AllocError>
+        ensures ok { OnOk result ((cells : Cells) (H : History) → AreIds cells H self.old → Legal cells (event.now ∷ H) →
+            AreIds cells (event.now ∷ H) self.new) }
+        ensures err { OnErr result ((cells : Cells) (H : History) → AreIds cells H self.old → AreIds cells H self.new) }
+    {
+        match &event.action {
+            Action::Spawn(spawned) => {
+                let name = spawned.get().child.clone()?;
+                self.names.insert(name)?;
+                Ok(())
+            }
+            _ => Ok(()),
+        }
+    }
+
+    /// The id of the task, if it was generated.
+    pub fn id(&self, name: &TaskName) -> Option<usize>
+        ensures some { (cells : Cells) (H : History) (i : ℕ) → AreIds cells H self.now → result ≡ Some i → HasId H i name.now }
+        ensures none { (cells : Cells) (H : History) → AreIds cells H self.now → result ≡ None → IsSpawned H name.now → ⊥ }
+    {
+        self.names.get_index_of(name)
+    }
+}
