@@ -30,7 +30,7 @@ pub fn immediate(alloc: Global, entries: &History<'_>, at: usize) -> Result<Vec<
     Ok(causes)
 }
 
-/// Those at these places, for the action of the task, which comes after these steps.
+/// The causes at these places, for the action of the task, which comes after these steps.
 fn causes_at(
     alloc: Global,
     front: &History<'_>,

@@ -62,7 +62,7 @@ fn no_needs(alloc: Global) -> Needs
     }
 }
 
-/// Takes the step at this place, and returns those that it needs immediately, the newest first.
+/// Adds the step at this place, and returns those that it needs immediately, the newest first.
 fn take_step(
     needs: &mut Needs,
     entries: &History<'_>,

@@ -22,7 +22,7 @@ pub struct Kept {
     pub alloc: Global,
     /// By the number of what they share: those that store or print.
     pub writes: Vec<Vec<usize>>,
-    /// Those that load.
+    /// By the number of what they share: those that load.
     pub loads: Vec<Vec<usize>>,
 }
 

@@ -84,7 +84,7 @@ pub fn nothing_past(alloc: Global, exclusion: bool) -> Past
     }
 }
 
-/// Takes the step at this place into the order, and returns an end after which it comes, where it
+/// Adds the step at this place to the order, and returns an end after which it comes, where it
 /// goes on in the lane of one.
 pub fn advance(
     alloc: Global,

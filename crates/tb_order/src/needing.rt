@@ -51,7 +51,7 @@ pub fn candidates(
     Ok(found)
 }
 
-/// Those of the places of which the row with which the step begins doesn't tell.
+/// The places of which the row with which the step begins doesn't tell.
 pub fn untold(
     alloc: Global,
     entries: &History<'_>,

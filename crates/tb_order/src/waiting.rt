@@ -273,7 +273,7 @@ fn named_items<'a>(entries: &History<'a>, at: usize) -> &'a [Item]
     action_items(entries.action(at))
 }
 
-/// Those that the action gives to a child.
+/// The depend items that the action gives to a child.
 pub fn action_items(action: &Action) -> &[Item]
     ensures { result.now ≡ items_in (Some action.now) }
 {

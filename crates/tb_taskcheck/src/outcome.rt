@@ -6,11 +6,11 @@ ghost use Rattle.tb_taskcheck.specs.Report.{status_of};
 /// What a report says of a run.
 #[derive(Clone, Copy, Debug, PartialEq, Eq, Drop)]
 pub enum Outcome {
-    /// It is legal, and all of its tasks have ended.
+    /// A legal run, all of whose tasks have ended.
     Over,
-    /// It is legal, and some of its tasks haven't ended.
+    /// A legal run, some of whose tasks haven't ended.
     Unended,
-    /// One of its events may not follow those in front of it.
+    /// A run with an event that may not follow those in front of it.
     Refused,
 }
 

@@ -24,7 +24,7 @@ use tb_model::{Event, TaskName};
 use tb_runs::{Said, Stage, Unread, read_event, read_line};
 use tb_undo::Tables;
 
-/// So many events are taken at most; one more wants memory.
+/// The most events of a run; one more wants memory.
 const MOST: u32 = 4_294_967_294;
 
 /// Judges a run text line by line. It keeps no events: what it keeps goes by tasks and cells.
@@ -65,7 +65,7 @@ fn refuse_event(
     }
 }
 
-/// Takes an event and counts it, where it may follow.
+/// Counts an event and feeds it to the tables, where it may follow.
 fn count_event(
     tables: &mut Tables,
     count: &mut u32,
@@ -192,7 +192,7 @@ fn begin(
     }
 }
 
-/// Takes what a line in front of the events says.
+/// What comes of what a line in front of the events says.
 fn head_said(
     alloc: Global,
     stage: &mut Stage,

@@ -19,7 +19,7 @@ use tb_runs::Fault;
 /// Judges a run text line by line, up to the line at which its judgement ends.
 #[derive(Drop)]
 pub enum TextJudge {
-    /// So many lines came, and the judgement ended at none of them.
+    /// The lines so far, by their count, at none of which the judgement ended.
     Open { lines: u64, judge: Judge },
     /// The judgement ended at the line with this number.
     Ended { line: u64, ending: Ending },

@@ -79,8 +79,20 @@ fn a_text_without_words(rt: HostRuntime) {
 
 #[test]
 fn the_first_ending_stays(rt: HostRuntime) {
-    let text: [&[u8]; 5] = [b"cells 0", b"0 start", b"0 start", b"0 nothing", b"0.1 start"];
-    assert!(rt; judged(&rt, &text) == Comes::Refused { line: 3, number: 15 });
+    let text: [&[u8]; 5] = [
+        b"cells 0",
+        b"0 start",
+        b"0 start",
+        b"0 nothing",
+        b"0.1 start",
+    ];
+    assert!(rt;
+        judged(&rt, &text)
+            == Comes::Refused {
+                line: 3,
+                number: 15
+            }
+    );
     let fault = Comes::Faulty {
         line: 2,
         fault: Fault::UnknownWord,
