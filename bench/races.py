@@ -1,15 +1,15 @@
 #!/usr/bin/env python3
-"""Measures `races` on long runs, on the built program.
+"""Measures `races`, or with --view `edges`, on long runs, on the built program.
 
-    bench/races.py [--program P] [--seconds S] [--tasks N] [--same] [WORD]
+    bench/races.py [--program P] [--seconds S] [--tasks N] [--same] [--view VIEW] [WORD]
 
-Each row is a kind of program whose run is done first: what is timed is the command `races` itself,
+Each row is a kind of program whose run is done first: what is timed is the command of the view,
 from its line to its reply. The run has 1,000 steps at first, and then ten times as many each time,
-until `races` takes more than S seconds (2) or the run is at its longest: 100,000 steps by N tasks
+until that takes more than S seconds (2) or the run is at its longest: 100,000 steps by N tasks
 (1,000), for one task alone 1,000,000. A tenth of the steps are done by a tenth of the tasks, or,
 with --same, by as many (N is 10 then). Printed are the time, the most memory that the program had,
-the races, and the growth: how much longer ten times the steps took. With a word, only the rows in
-whose name it is.
+the rows of the reply, and the growth: how much longer ten times the steps took. With a word, only
+the kinds in whose name it is.
 """
 import argparse
 import os
@@ -121,8 +121,8 @@ def memory(child: subprocess.Popen[bytes]) -> float:
         return [int(line.split()[1]) / 1024 for line in status if line.startswith('VmHWM')][0]
 
 
-def measure(program: str, lines: Sequence[str], most: float) -> tuple[int, float | None, float, int]:
-    """Steps of the run, seconds of `races`, memory in MB, and races; no seconds where it takes more than the most."""
+def measure(program: str, lines: Sequence[str], most: float, view: str = 'races') -> tuple[int, float | None, float, int]:
+    """Steps of the run, seconds of the view, memory in MB, and its rows; no seconds where it takes more than the most."""
     child = subprocess.Popen([program, '--limit', '1000000'], stdin=subprocess.PIPE, stdout=subprocess.PIPE)
     commands, told = child.stdin, child.stdout
     assert commands is not None and told is not None
@@ -136,7 +136,7 @@ def measure(program: str, lines: Sequence[str], most: float) -> tuple[int, float
             line = told.readline()
         steps = int(line.split()[1])
         given = time.perf_counter()
-        commands.write(b'races\n')
+        commands.write(view.encode() + b'\n')
         commands.flush()
         if not select.select([told], [], [], most)[0]:
             return steps, None, memory(child), 0
@@ -156,12 +156,12 @@ def row(given: argparse.Namespace, lines: OfSizes) -> Iterator[str]:
         if steps == 1000000 and lines is not alone:
             return
         tasks = given.tasks or 10 if given.same else max(1, steps * (given.tasks or 1000) // 100000)
-        done, taken, most, count = measure(os.path.abspath(given.program), lines(steps, tasks), 10 * given.seconds)
+        done, taken, most, count = measure(os.path.abspath(given.program), lines(steps, tasks), 10 * given.seconds, given.view)
         if taken is None:
             yield '%d steps: more than %g s' % (done, 10 * given.seconds)
             return
         growth = ', growth %.1f' % (taken / before) if before else ''
-        yield '%d steps: %.3f s %.0f MB, %d races%s' % (done, taken, most, count, growth)
+        yield '%d steps: %.3f s %.0f MB, %d %s%s' % (done, taken, most, count, given.view, growth)
         if taken > given.seconds:
             return
         before = taken
@@ -173,6 +173,7 @@ def main() -> None:
     args.add_argument('--seconds', type=float, default=2)
     args.add_argument('--tasks', type=int)
     args.add_argument('--same', action='store_true')
+    args.add_argument('--view', choices=('races', 'edges'), default='races')
     args.add_argument('word', nargs='?', default='')
     given = args.parse_args()
     for name, lines in ROWS:
