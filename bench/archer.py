@@ -145,7 +145,7 @@ def main():
     with tempfile.TemporaryDirectory() as folder:
         for tool in (Recorder(), Archer(compiler, cxx)):
             for threads, counts in measure(tool, names, given.threads, given.runs, folder).items():
-                told = f"{tool.name}, {threads} threads"
+                told = f"{tool.name}, {threads} thread{'s' if threads > 1 else ''}"
                 print(counts.row(told), flush=True)
                 wrong += [f"{told}: {word}: {', '.join(sorted(counts.wrong[has]))}"
                           for has, word in ((True, "missed"), (False, "false")) if counts.wrong[has]]
