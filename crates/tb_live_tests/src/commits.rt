@@ -6,38 +6,78 @@ use crate::seats::{SPAWNED, gone, opened, step_all, task};
 use std::alloc::AllocGlobal;
 use std::mem;
 use std::process::Abort;
-use tb_live::Live;
+use tb_live::{CommitRefusal, Live, Work};
 use tb_model::StepId;
 use tb_plan::{Plan, plan};
 
 /// The plan of the task, which the seat claims then.
 fn planned(rt: &(impl Abort + AllocGlobal), live: &mut Live, seat: u32, name: &str) -> Plan {
     assert!(rt; seat < live.seats());
-    match live.claim_task(seat, &task(rt, name)) {
+    let task = task(rt, name);
+    let claimed = live.claim_task(seat, &task);
+    mem::forget(task);
+    match claimed {
         Ok(work) => {
-            assert!(rt; work.instr.line == work.config.at);
-            let made = plan(rt.alloc(), &work.instr, &work.config).expect(rt, "a plan");
+            let made = evaluated(rt, &work);
             mem::forget(work);
             made
         }
-        Err(_) => panic!(rt; "a claim on {name}"),
+        Err(refusal) => {
+            mem::forget(refusal);
+            panic!(rt; "a claim on {name}")
+        }
     }
+}
+
+fn evaluated(rt: &(impl Abort + AllocGlobal), work: &Work) -> Plan {
+    assert!(rt; work.instr.line == work.config.at);
+    plan(rt.alloc(), &work.instr, &work.config).expect(rt, "a plan")
+}
+
+/// 100 more than the number of the refusal.
+fn refused(refusal: CommitRefusal) -> u32 {
+    let number = refusal.number();
+    mem::forget(refusal);
+    100 + u32::from(number)
 }
 
 /// The place of the entry, or 100 more than the number of the refusal.
 fn committed(live: &mut Live, seat: u32, plan: Plan) -> u32 {
     match live.commit(seat, plan) {
         Ok(place) => place,
-        Err(refusal) => 100 + refusal.number() as u32,
+        Err(refusal) => refused(refusal),
     }
 }
 
 /// 1 where the commit is prepared, or 100 more than the number of the refusal.
 fn prepared(live: &mut Live, seat: u32, plan: &Plan) -> u32 {
     match live.prepare(seat, plan) {
-        Ok(_) => 1,
-        Err(refusal) => 100 + refusal.number() as u32,
+        Ok(entry) => {
+            mem::forget(entry);
+            1
+        }
+        Err(refusal) => refused(refusal),
     }
+}
+
+/// Whether the undo of the step for seat 0 was made.
+fn undone(rt: &(impl Abort + AllocGlobal), live: &mut Live, text: &str) -> bool {
+    let id = step(rt, text);
+    let outcome = live.undo(0, &id);
+    let is_made = outcome.is_ok();
+    mem::forget(outcome);
+    mem::forget(id);
+    is_made
+}
+
+/// Whether the rollback of the step for seat 0 was prepared.
+fn roll_prepared(rt: &(impl Abort + AllocGlobal), live: &mut Live, text: &str) -> bool {
+    let id = step(rt, text);
+    let prepared = live.prepare_roll(0, &id);
+    let is_prepared = prepared.is_ok();
+    mem::forget(prepared);
+    mem::forget(id);
+    is_prepared
 }
 
 /// Steps of the root by plans of seat 0, each prepared first.
@@ -72,10 +112,10 @@ fn a_plan_of_a_removed_step_is_withdrawn(rt: HostRuntime) {
 /// A plan of a task whose spawn goes, and then the root's start.
 fn withdraw_a_spawn(rt: &(impl Abort + AllocGlobal), live: &mut Live) {
     let plan = planned(rt, live, 1, "0.1");
-    assert!(rt; live.prepare_roll(0, &step(rt, "0#2")).is_ok());
+    assert!(rt; roll_prepared(rt, live, "0#2"));
     assert_eq!(rt; gone(rt, live, "0#2"), 3);
     assert_eq!(rt; committed(live, 1, plan), 110);
-    assert!(rt; live.undo(0, &step(rt, "0#1")).is_ok());
+    assert!(rt; undone(rt, live, "0#1"));
     assert_eq!(rt; live.core().count(), 0);
 }
 
@@ -98,7 +138,7 @@ const UNDEFERRED: &[u8] = b"cells 1\nbody main 0\n  task a 1 if 1 == 2\n  print 
 fn undo_the_end(rt: &(impl Abort + AllocGlobal), live: &mut Live) {
     let plan = planned(rt, live, 1, "0");
     assert_eq!(rt; prepared(live, 1, &plan), 1);
-    assert!(rt; live.undo(0, &step(rt, "0.1#3")).is_ok());
+    assert!(rt; undone(rt, live, "0.1#3"));
     assert_eq!(rt; committed(live, 1, plan), 113);
 }
 

@@ -66,13 +66,20 @@ fn compare_groups(rt: &(impl Abort + AllocGlobal), live: &Live, name: &str, want
     mem::forget(text);
 }
 
+fn has_faulted(rt: &(impl Abort + AllocGlobal), live: &Live, name: &str) -> bool {
+    let task = task(rt, name);
+    let has_faulted = live.has_faulted(&task);
+    mem::forget(task);
+    has_faulted
+}
+
 fn ask(rt: &(impl Abort + AllocGlobal), live: &Live) {
     compare_groups(rt, live, "0", "0#2 ");
     compare_groups(rt, live, "0.1", "");
     compare_children(rt, live, "0", "0.1 ");
     compare_members(rt, live, "0#2", "0.1 0.1.1 ");
-    assert!(rt; live.has_faulted(&task(rt, "0.2")));
-    assert!(rt; !live.has_faulted(&task(rt, "0.1")));
+    assert!(rt; has_faulted(rt, live, "0.2"));
+    assert!(rt; !has_faulted(rt, live, "0.1"));
 }
 
 #[test]

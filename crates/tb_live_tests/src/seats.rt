@@ -5,7 +5,7 @@ ghost use Rattle.std.specs.Prelude.{◌≤◌};
 use std::alloc::{AllocGlobal, Global};
 use std::mem;
 use std::process::Abort;
-use tb_live::{Break, Claim, Live, Mode, Offer, PausedBy};
+use tb_live::{Break, Claim, Live, Mode, Offer, PausedBy, Work};
 use tb_model::{StepId, TaskName};
 use tb_read::read;
 
@@ -58,9 +58,11 @@ fn run_on(rt: &(impl Abort + AllocGlobal), live: &mut Live) -> u32 {
         if live.mode().is_paused() {
             return count;
         }
-        match live.step_least_for(1) {
-            Ok(Some(_)) => (),
-            _ => return count,
+        let taken = live.step_least_for(1);
+        let is_taken = matches!(&taken, Ok(Some(_)));
+        mem::forget(taken);
+        if !is_taken {
+            return count;
         }
     }
     panic!(rt; "the run goes on")
@@ -132,11 +134,18 @@ fn a_breakpoint_pauses(rt: HostRuntime) {
 pub const SPAWNED: &[u8] = b"cells 2\nbody main 0\n  task u 0\n  task u 1\nend\nbody u 1\n\
     let r1 r0 + 1\n  store r0 r1\n  load r2 r0\nend\n";
 
+/// The line of the statement to be executed.
+fn line_of(work: Work) -> u32 {
+    let line = work.config.at;
+    mem::forget(work);
+    line
+}
+
 /// The line at which the seat gets work, 101 for Later, 102 for Done and 103 for Stopped.
 fn claimed(rt: &(impl Abort + AllocGlobal), live: &mut Live, seat: u32) -> u32 {
     assert!(rt; seat < live.seats());
     match live.claim(seat) {
-        Ok(Claim::Work(work)) => work.config.at,
+        Ok(Claim::Work(work)) => line_of(work),
         Ok(Claim::Later) => 101,
         Ok(Claim::Done) => 102,
         Ok(Claim::Stopped) => 103,
@@ -148,7 +157,11 @@ fn claimed(rt: &(impl Abort + AllocGlobal), live: &mut Live, seat: u32) -> u32 {
 fn offered(rt: &(impl Abort + AllocGlobal), live: &mut Live, seat: u32) -> u32 {
     assert!(rt; seat < live.seats());
     match live.offer(seat) {
-        Ok(Offer::Task(task)) => task.config.at,
+        Ok(Offer::Task(task)) => {
+            let line = task.config.at;
+            mem::forget(task);
+            line
+        }
         Ok(Offer::Later) => 101,
         Ok(Offer::Done) => 102,
         Ok(Offer::Stopped) => 103,
@@ -159,9 +172,16 @@ fn offered(rt: &(impl Abort + AllocGlobal), live: &mut Live, seat: u32) -> u32 {
 /// The line at which the task stands, or 100 more than the number of the refusal.
 pub fn asked(rt: &(impl Abort + AllocGlobal), live: &mut Live, seat: u32, name: &str) -> u32 {
     assert!(rt; seat < live.seats());
-    match live.claim_task(seat, &task(rt, name)) {
-        Ok(work) => work.config.at,
-        Err(refusal) => 100 + refusal.number() as u32,
+    let task = task(rt, name);
+    let claimed = live.claim_task(seat, &task);
+    mem::forget(task);
+    match claimed {
+        Ok(work) => line_of(work),
+        Err(refusal) => {
+            let number = refusal.number();
+            mem::forget(refusal);
+            100 + u32::from(number)
+        }
     }
 }
 
@@ -169,10 +189,20 @@ fn has_claim(live: &Live, seat: u32) -> bool {
     live.claim_of(seat).is_some()
 }
 
+/// Whether the step of the task for seat 0 was taken.
+fn is_taken(rt: &(impl Abort + AllocGlobal), live: &mut Live, name: &str) -> bool {
+    let task = task(rt, name);
+    let taken = live.step(&task);
+    let is_taken = taken.is_ok();
+    mem::forget(taken);
+    mem::forget(task);
+    is_taken
+}
+
 /// Steps of the tasks for seat 0, one after another.
 pub fn step_all(rt: &(impl Abort + AllocGlobal), live: &mut Live, names: &[&str]) {
     for name in names {
-        assert!(rt; live.step(&task(rt, *name)).is_ok(), "{name}");
+        assert!(rt; is_taken(rt, live, name), "{name}");
     }
 }
 
@@ -185,7 +215,10 @@ pub fn gone(rt: &(impl Abort + AllocGlobal), live: &mut Live, id: &str) -> usize
             mem::forget(removed);
             count
         }
-        Err(_) => 100,
+        Err(refusal) => {
+            mem::forget(refusal);
+            100
+        }
     };
     mem::forget(id);
     count

@@ -23,11 +23,13 @@ fn opened(alloc: Global, text: &[u8], limit: u32) -> Option<Live>
     }
 }
 
-fn number_of(refusal: Result<StepId, StepRefusal>) -> u8 {
-    match refusal {
+fn number_of(taken: Result<StepId, StepRefusal>) -> u8 {
+    let number = match &taken {
         Ok(_) => 100,
         Err(refusal) => refusal.number(),
-    }
+    };
+    mem::forget(taken);
+    number
 }
 
 fn number_kept(live: &mut Live, alloc: Global, k: u32) -> u8 {
@@ -35,7 +37,16 @@ fn number_kept(live: &mut Live, alloc: Global, k: u32) -> u8 {
         task: TaskName::root(alloc),
         k,
     };
-    match live.undo(0, &id) {
+    let outcome = live.undo(0, &id);
+    let number = number_behind(&outcome, k);
+    mem::forget(outcome);
+    mem::forget(id);
+    number
+}
+
+/// The number of the answer to an undo of the nth step of the root.
+fn number_behind(outcome: &Result<Removed, UndoRefusal>, k: u32) -> u8 {
+    match outcome {
         Ok(_) => 100,
         Err(UndoRefusal::Needed { by }) => { if by.k > k { 2 } else { 99 } }
         Err(refusal) => refusal.number(),
@@ -57,6 +68,7 @@ fn step_root(rt: &(impl Abort + AllocGlobal), live: &mut Live, numbers: &[u8]) {
     for number in numbers {
         assert_eq!(rt; number_of(live.step(&root)), *number);
     }
+    mem::forget(root);
 }
 
 #[test]
@@ -236,6 +248,7 @@ fn roll_back(rt: &(impl Abort + AllocGlobal), live: &mut Live, id: &StepId, text
         }
         Err(refusal) => {
             let number = refusal.number();
+            mem::forget(refusal);
             write!(text, "{number}").expect(rt, "memory is there");
         }
     }
@@ -350,6 +363,7 @@ fn step_again(rt: &(impl Abort + AllocGlobal), live: &mut Live, k: u32) {
         );
         assert_eq!(rt; number_of(live.step(&root)), 100);
     }
+    mem::forget(root);
 }
 
 /// An undo that was refused for memory changes nothing, and made again it is done.
@@ -369,7 +383,11 @@ fn gone(live: &mut Live, id: &StepId) -> Result<usize, u8> {
             mem::forget(removed);
             Ok(count)
         }
-        Err(refusal) => Err(refusal.number()),
+        Err(refusal) => {
+            let number = refusal.number();
+            mem::forget(refusal);
+            Err(number)
+        }
     }
 }
 

@@ -1,8 +1,19 @@
 //! The lines that follow each statement of programs with blocks.
 
+use std::mem;
 use std::process::Abort;
 use std::test::Fail;
 use tb_read::read;
+
+/// The row of the line.
+fn row_of(rows: &[(u32, u32, u32)], line: u32) -> Option<(u32, u32, u32)> {
+    for row in rows {
+        if row.0 == line {
+            return Some(*row);
+        }
+    }
+    None
+}
 
 /// Asks for the positions of a text, each with the lines that follow it: behind a test that says
 /// yes or another statement, and behind a test that says no.
@@ -14,9 +25,9 @@ fn expect_flow(
     let program = read(rt.alloc(), text)?;
     for line in 0u32..40 {
         let found = program.instr(line).map(|i| (i.line, i.next, i.otherwise));
-        let expected = rows.iter().find(|row| row.0 == line).copied();
-        assert_eq!(rt; found, expected, "line {line}");
+        assert_eq!(rt; found, row_of(rows, line), "line {line}");
     }
+    mem::forget(program);
     Ok(())
 }
 

@@ -1,13 +1,17 @@
 //! The limits of a text, each met and passed, and the text of a fault.
 
 use std::alloc::{AllocError, Global};
+use std::mem;
 use std::process::Abort;
 use std::test::Fail;
 use tb_read::{FaultKind, ReadFault, read};
 
 fn fault(text: &[u8], alloc: Global) -> Option<ReadFault> {
     match read(alloc, text) {
-        Ok(_) => None,
+        Ok(program) => {
+            mem::forget(program);
+            None
+        }
         Err(fault) => Some(fault),
     }
 }
@@ -21,39 +25,68 @@ fn joined(alloc: Global, parts: &[&[u8]]) -> Result<Vec<u8>, AllocError> {
     Ok(text)
 }
 
+/// The fault of the parts in a row.
+fn fault_of(alloc: Global, parts: &[&[u8]]) -> Result<Option<ReadFault>, AllocError> {
+    let text = joined(alloc, parts)?;
+    let found = fault(&text, alloc);
+    mem::forget(text);
+    Ok(found)
+}
+
+/// Whether the fault is at this line, for a text that is too large there.
+fn is_too_large(found: Option<ReadFault>, line: u32) -> bool {
+    match found {
+        Some(
+            ReadFault {
+                line: at,
+                kind: FaultKind::TooLarge,
+            },
+        ) => at == line,
+        _ => false,
+    }
+}
+
+/// The kind of the fault of the parts in a row.
+fn kind_of(alloc: Global, parts: &[&[u8]]) -> Result<Option<FaultKind>, AllocError> {
+    match fault_of(alloc, parts)? {
+        Some(fault) => Ok(Some(fault.kind)),
+        None => Ok(None),
+    }
+}
+
 #[test]
-fn limits(rt: HostRuntime) -> Result<(), Fail> {
+fn bytes_of_a_line_up_to_the_limit(rt: HostRuntime) -> Result<(), Fail> {
     let alloc = rt.alloc();
     let blanks = vec![in alloc; b' '; 1021]?;
-    let full = joined(alloc, &[b"cells 1\nend", &blanks, b"\n"])?;
-    assert_eq!(rt;
-        fault(&full, alloc).map(|f| f.kind),
-        Some(FaultKind::Nesting)
-    );
-    let long = joined(alloc, &[b"cells 1\nend", &blanks, b" \n"])?;
-    assert_eq!(rt;
-        fault(&long, alloc).map(|f| f.kind),
-        Some(FaultKind::TooLarge)
-    );
+    let full = kind_of(alloc, &[b"cells 1\nend", &blanks, b"\n"])?;
+    assert_eq!(rt; full, Some(FaultKind::Nesting));
+    let long = kind_of(alloc, &[b"cells 1\nend", &blanks, b" \n"])?;
+    assert_eq!(rt; long, Some(FaultKind::TooLarge));
+    Ok(())
+}
+
+#[test]
+fn items_of_a_line_up_to_the_limit(rt: HostRuntime) -> Result<(), Fail> {
+    let alloc = rt.alloc();
     let mut text = Vec::from_slice(alloc, b"cells 1\nbody main 0\ntaskwait")?;
     for _ in 0..64 {
         text.extend_from_slice(b" depend in 0")?;
     }
-    let met = joined(alloc, &[&text, b"\nend\n"])?;
-    assert_eq!(rt; fault(&met, alloc), None);
-    let passed = joined(alloc, &[&text, b" depend in 0\nend\n"])?;
-    assert_eq!(rt;
-        fault(&passed, alloc).map(|f| f.kind),
-        Some(FaultKind::TooLarge)
-    );
+    let met = fault_of(alloc, &[&text, b"\nend\n"])?;
+    assert!(rt; met.is_none(), "{met:?}");
+    let passed = kind_of(alloc, &[&text, b" depend in 0\nend\n"])?;
+    assert_eq!(rt; passed, Some(FaultKind::TooLarge));
+    Ok(())
+}
+
+#[test]
+fn lines_up_to_the_limit(rt: HostRuntime) -> Result<(), Fail> {
+    let alloc = rt.alloc();
     let feeds = vec![in alloc; b'\n'; 65533]?;
-    let most = joined(alloc, &[b"cells 0\nbody main 0\nend\n", &feeds])?;
-    assert_eq!(rt; fault(&most, alloc), None);
-    let more = joined(alloc, &[b"cells 0\nbody main 0\nend\n", &feeds, b"\n"])?;
-    assert_eq!(rt;
-        fault(&more, alloc).map(|f| (f.line, f.kind)),
-        Some((65537, FaultKind::TooLarge))
-    );
+    let most = fault_of(alloc, &[b"cells 0\nbody main 0\nend\n", &feeds])?;
+    assert!(rt; most.is_none(), "{most:?}");
+    let more = fault_of(alloc, &[b"cells 0\nbody main 0\nend\n", &feeds, b"\n"])?;
+    assert!(rt; is_too_large(more, 65537), "{more:?}");
     Ok(())
 }
 
@@ -64,13 +97,11 @@ fn bodies_up_to_the_limit(rt: HostRuntime) -> Result<(), Fail> {
     for n in 1u32..1024 {
         write!(text, "body b{n} 0\nend\n")?;
     }
-    assert_eq!(rt; fault(text.as_bytes(), rt.alloc()), None);
+    let most = fault(text.as_bytes(), rt.alloc());
+    assert!(rt; most.is_none(), "{most:?}");
     text.push_str("body b1024 0\nend\n")?;
-    let expected = ReadFault {
-        line: 2050,
-        kind: FaultKind::TooLarge,
-    };
-    assert_eq!(rt; fault(text.as_bytes(), rt.alloc()), Some(expected));
+    let more = fault(text.as_bytes(), rt.alloc());
+    assert!(rt; is_too_large(more, 2050), "{more:?}");
     Ok(())
 }
 

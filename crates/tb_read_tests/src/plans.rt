@@ -1,13 +1,13 @@
 //! One statement of each kind, evaluated.
 
+use std::mem;
 use std::process::Abort;
 use std::test::Fail;
 use tb_model::{Action, Spawn, TaskName};
 use tb_plan::{Config, Plan, plan};
 use tb_read::{Program, read};
 
-/// The plan of a line of a program with two cells and this statement on line 3, for task `0`. Its
-/// registers are 0, 5, -1, the greatest and the least number, and zeros.
+/// The plan of a line of a program with two cells and this statement on line 3, for task `0`.
 fn planned(rt: &(impl Abort + AllocGlobal), statement: &str, line: u32) -> Result<Plan, Fail> {
     let mut text = String::new(rt.alloc());
     write!(
@@ -15,7 +15,20 @@ fn planned(rt: &(impl Abort + AllocGlobal), statement: &str, line: u32) -> Resul
         "cells 2\nbody main 0\n{statement}\nend\nbody b 2\nend\n"
     )?;
     let program = read(rt.alloc(), text.as_bytes())?;
-    plan_at(rt, &program, line)
+    let made = plan_at(rt, &program, line);
+    mem::forget(program);
+    mem::forget(text);
+    made
+}
+
+/// The task's registers: 0, 5, -1, the greatest and the least number, and zeros.
+fn registers() -> [i64; 16] {
+    let mut regs = [0; 16];
+    regs[1] = 5;
+    regs[2] = -1;
+    regs[3] = i64::MAX;
+    regs[4] = i64::MIN;
+    regs
 }
 
 fn plan_at(rt: &impl AllocGlobal, program: &Program, line: u32) -> Result<Plan, Fail> {
@@ -24,34 +37,37 @@ fn plan_at(rt: &impl AllocGlobal, program: &Program, line: u32) -> Result<Plan, 
         task: TaskName::root(rt.alloc()),
         steps: 1,
         at: instr.line,
-        regs: [
-            0,
-            5,
-            -1,
-            i64::MAX,
-            i64::MIN,
-            0,
-            0,
-            0,
-            0,
-            0,
-            0,
-            0,
-            0,
-            0,
-            0,
-            0,
-        ],
+        regs: registers(),
     };
-    Ok(plan(rt.alloc(), instr, &config)?)
+    let made = plan(rt.alloc(), instr, &config);
+    mem::forget(config);
+    Ok(made?)
+}
+
+fn text_of(rt: &impl AllocGlobal, action: &Action) -> Result<String, Fail> {
+    Ok(format!(in rt.alloc(); "{action:?}")?)
+}
+
+/// The statement's plan has this action, and leads to this line.
+fn expect_action(
+    rt: &(impl Abort + AllocGlobal),
+    statement: &str,
+    action: &str,
+    to: u32,
+) -> Result<(), Fail> {
+    let found = planned(rt, statement, 3)?;
+    assert_eq!(rt; found.to(), to, "{statement}");
+    let text = text_of(rt, &found.action);
+    mem::forget(found);
+    let text = text?;
+    assert_eq!(rt; text.as_str(), action, "{statement}");
+    mem::forget(text);
+    Ok(())
 }
 
 fn expect_actions(rt: &(impl Abort + AllocGlobal), rows: &[(&str, &str, u32)]) -> Result<(), Fail> {
     for (statement, action, to) in rows {
-        let found = planned(rt, statement, 3)?;
-        let text = format!(in rt.alloc(); "{:?}", found.action)?;
-        assert_eq!(rt; text.as_str(), *action, "{statement}");
-        assert_eq!(rt; found.to(), *to, "{statement}");
+        expect_action(rt, statement, action, *to)?;
     }
     Ok(())
 }
@@ -130,36 +146,41 @@ fn tests_and_blocks(rt: HostRuntime) -> Result<(), Fail> {
 #[test]
 fn a_body_starts_and_a_group_closes(rt: HostRuntime) -> Result<(), Fail> {
     let start = planned(&rt, "taskgroup\nend", 2)?;
-    assert!(rt; matches!(start.action, Action::Start));
+    assert!(rt; matches!(&start.action, Action::Start));
     assert_eq!(rt; start.to(), 3);
+    mem::forget(start);
     let close = planned(&rt, "taskgroup\nend", 4)?;
-    assert!(rt; matches!(close.action, Action::Close));
+    assert!(rt; matches!(&close.action, Action::Close));
     assert_eq!(rt; close.to(), 5);
+    mem::forget(close);
     Ok(())
 }
 
 /// The spawn of a `task` line: its body, its arguments, its items, whether it is deferred.
 fn spawn(rt: &(impl Abort + AllocGlobal), statement: &str) -> Result<String, Fail> {
     let planned = planned(rt, statement, 3)?;
-    spawn_text(rt, &planned.action)
+    let text = match &planned.action {
+        Action::Spawn(spawned) => spawn_text(rt, spawned.get()),
+        action => text_of(rt, action),
+    };
+    mem::forget(planned);
+    text
 }
 
-fn spawn_text(rt: &(impl Abort + AllocGlobal), action: &Action) -> Result<String, Fail> {
-    match action {
-        Action::Spawn(spawned) => {
-            let Spawn {
-                child,
-                body,
-                args,
-                items,
-                deferred,
-            } = spawned.get();
-            assert!(rt; child.ordinal() == Some(1), "the first child");
-            let (args, items) = (args.as_slice(), items.as_slice());
-            Ok(format!(in rt.alloc(); "{body} {args:?} {items:?} {deferred}")?)
-        }
-        action => Ok(format!(in rt.alloc(); "{action:?}")?),
+fn spawn_text(rt: &(impl Abort + AllocGlobal), spawn: &Spawn) -> Result<String, Fail> {
+    assert!(rt; spawn.child.ordinal() == Some(1), "the first child");
+    let (args, items) = (spawn.args.as_slice(), spawn.items.as_slice());
+    let (body, deferred) = (spawn.body, spawn.deferred);
+    Ok(format!(in rt.alloc(); "{body} {args:?} {items:?} {deferred}")?)
+}
+
+fn expect_spawns(rt: &(impl Abort + AllocGlobal), rows: &[(&str, &str)]) -> Result<(), Fail> {
+    for (statement, expected) in rows {
+        let text = spawn(rt, statement)?;
+        assert_eq!(rt; text.as_str(), *expected, "{statement}");
+        mem::forget(text);
     }
+    Ok(())
 }
 
 #[test]
@@ -186,8 +207,5 @@ fn tasks_are_spawned(rt: HostRuntime) -> Result<(), Fail> {
         ("task main depend in 0 depend inout r2", "Fault"),
         ("task main depend in 2 if 0 == 1", "Fault"),
     ];
-    for (statement, expected) in rows {
-        assert_eq!(rt; spawn(&rt, statement)?.as_str(), expected, "{statement}");
-    }
-    Ok(())
+    expect_spawns(&rt, &rows)
 }

@@ -1,5 +1,7 @@
 //! Accepted texts and their programs.
 
+use std::mem;
+use std::process::Abort;
 use std::test::Fail;
 use tb_model::Statement;
 use tb_read::{Program, read};
@@ -9,20 +11,32 @@ fn an_accepted_text_is_a_program(rt: HostRuntime) -> Result<(), Fail> {
     let text =
         b"cells 3 # all\n\ncell 1 5\nbody main 0\n store 0 r0\n # c\n\nprint -7\nend\nbody b 2\nend";
     let program = read(rt.alloc(), text)?;
+    expect_headings(&rt, &program);
+    let outcome = expect_statements(&rt, &program);
+    mem::forget(program);
+    outcome
+}
+
+fn expect_headings(rt: &impl Abort, program: &Program) {
     assert_eq!(rt; program.cells(), [0, 5, 0].as_slice());
     assert_eq!(rt; program.root_line(), 4);
     assert_eq!(rt; program.body_name(10), Some("b"));
     assert_eq!(rt; program.body_name(9), None);
+}
+
+fn expect_statements(rt: &impl Abort, program: &Program) -> Result<(), Fail> {
     let store = program.instr(5).ok_or("no store")?;
-    assert_eq!(rt; (store.line, store.next, store.cells), (5, 8, 3));
+    assert_eq!(rt; store.line, 5);
+    assert_eq!(rt; store.next, 8);
+    assert_eq!(rt; store.cells, 3);
     assert!(rt; program.instr(1).is_none());
     assert!(rt; program.instr(6).is_none());
     assert!(rt; program.instr(12).is_none());
     let start = program.instr(4).ok_or("no start")?;
     assert_eq!(rt; start.next, 5);
     assert!(rt; matches!(&start.statement, Statement::Start));
-    let end = program.instr(9).ok_or("no end")?;
-    assert!(rt; matches!(&end.statement, Statement::End));
+    let end = statement_at(program, 9)?;
+    assert!(rt; matches!(end, Statement::End));
     Ok(())
 }
 
@@ -39,7 +53,10 @@ fn texts_that_are_accepted(rt: HostRuntime) -> Result<(), Fail> {
         b"cells 0\nbody main 0\ntask main depend out all\ntask main depend inout all\ntaskwait depend out all\nend\n",
     ];
     for text in texts {
-        assert!(rt; read(rt.alloc(), text).is_ok(), "{text:?}");
+        match read(rt.alloc(), text) {
+            Ok(program) => mem::forget(program),
+            Err(fault) => panic!(rt; "{fault:?} of {text:?}"),
+        }
     }
     Ok(())
 }
@@ -55,12 +72,18 @@ fn a_task_line_is_kept_whole(rt: HostRuntime) -> Result<(), Fail> {
     let text =
         b"cells 9\nbody main 0\ntask b r1 -3 depend in r2 depend out all if r0 <= 5\nend\nbody b 2\nend\n";
     let program = read(rt.alloc(), text)?;
+    let outcome = expect_task(&rt, &program);
+    mem::forget(program);
+    outcome
+}
+
+fn expect_task(rt: &(impl Abort + AllocGlobal), program: &Program) -> Result<(), Fail> {
     let Statement::Task {
         body,
         args,
         depends,
         condition,
-    } = statement_at(&program, 3)?
+    } = statement_at(program, 3)?
     else {
         return Err(Fail::from("no task"));
     };
