@@ -12,8 +12,8 @@ from shell.texts import matching_pairs
 
 NOT_THERE = ["error word"]
 # Of more steps the needs are worked out from the lines of the history, with some among them that others imply: what
-# `edges` takes grows with the square of the steps where tasks begin long after they were generated.
-MOST_ASKED = 8000
+# `edges` takes grows with the square of the steps where many tasks store to one cell and nothing orders them.
+MOST_ASKED = 100000
 # Of more tasks the order is worked out from the lines of the history: `deps` names all siblings that a task comes after.
 MOST_ORDERED = 300
 # So many steps are worked out between two looks whether the user stops it.

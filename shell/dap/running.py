@@ -8,6 +8,7 @@ from dataclasses import dataclass, field
 from shell.dap.breakpoints import Breakpoints
 from shell.dap.debuggee import Debuggee, Failed
 from shell.session import Session, is_step
+from shell.stops import Where, program_stops
 from shell.texts import refusal_words
 
 # So many steps are taken between two looks for a request.
@@ -39,6 +40,8 @@ class Runner:
         self.stopped = stopped
         self.job: Job | None = None
         self.pausing = False
+        # The program's own breakpoints, which a command of the console has set.
+        self.own: list[Where] = []
 
     @property
     def session(self) -> Session:
@@ -53,6 +56,7 @@ class Runner:
             raise Failed("a past state is looked at; `at now` in the console comes back")
         self.pausing = False
         self.debuggee.shell.stops.refresh(self.session)
+        self.own = [where for _, where in program_stops(self.session.view("breaks")[1:])]
         self.job = job
 
     def work(self) -> None:
@@ -65,10 +69,12 @@ class Runner:
 
     # What ends a job
 
-    def met(self, said: list[str], task: str) -> Stopped | None:
-        """How breakpoints end a job, from what is said of those that are met."""
+    def met(self, said: list[str], line: str) -> Stopped | None:
+        """How breakpoints end a job at a step, from what is said of those that are met, and by those of the program."""
+        task = line.split("#")[0]
         if not said:
-            return None
+            own = [str(where) for where in self.own if where.meets(line, self.session.places)]
+            return Stopped("breakpoint", task, "; ".join(own)) if own else None
         found = [(int(number[1:]), text) for number, text in (line.split(": ", 1) for line in said)]
         reason = self.breakpoints.reasons.get(found[0][0], "breakpoint")
         told = [self.breakpoints.as_told(number, text) for number, text in found]
@@ -93,7 +99,7 @@ class Runner:
                 self.stopped(self.over(self.debuggee.shell.focus))
                 return
             task = line.split("#")[0]
-            stop = self.met(self.debuggee.shell.stops.met(line, self.session), task)
+            stop = self.met(self.debuggee.shell.stops.met(line, self.session), line)
             if stop or ends(line):
                 self.stopped(stop or Stopped("step", task))
                 return
@@ -106,9 +112,11 @@ class Runner:
 
     def go(self) -> Job:
         """Steps up to a breakpoint."""
-        if self.debuggee.shell.stops.there or self.debuggee.recorded_next() is not None:
-            return self.forwards(lambda line: False)
-        return self.freely()
+        return self.forwards(lambda line: False) if self.may_stop() else self.freely()
+
+    def may_stop(self) -> bool:
+        """Whether each step has to be looked at: for a breakpoint, or for the recorded order."""
+        return bool(self.debuggee.shell.stops.there or self.own) or self.debuggee.recorded_next() is not None
 
     def freely(self) -> Job:
         """Steps where nothing can stop them, many at once."""
@@ -117,8 +125,8 @@ class Runner:
                 self.stopped(Stopped("pause", lines[-1].split("#")[0]))
                 return
             yield
-            if self.debuggee.shell.stops.there:
-                # One was set on the way.
+            if self.may_stop():
+                # A breakpoint was set on the way.
                 yield from self.forwards(lambda line: False)
                 return
         self.stopped(self.over(self.debuggee.shell.focus))
@@ -128,13 +136,13 @@ class Runner:
         while True:
             line = self.debuggee.step(task)
             if is_step(line):
-                stop = self.met(self.debuggee.shell.stops.met(line, self.session), task)
+                stop = self.met(self.debuggee.shell.stops.met(line, self.session), line)
                 self.stopped(stop or Stopped("step", task))
                 return
             if line.split(" ")[2] == "Ended" or not (other := self.debuggee.go_on((task,))):
                 self.stopped(self.over(task))
                 return
-            stop = self.met(self.debuggee.shell.stops.met(other, self.session), other.split("#")[0])
+            stop = self.met(self.debuggee.shell.stops.met(other, self.session), other)
             if stop or self.pausing:
                 self.stopped(stop or Stopped("pause", task))
                 return
@@ -147,7 +155,7 @@ class Runner:
             raise Failed(refusal_words(f"step {task}", line, self.session))
         did = line.split(" ")
         where = did[2] if did[1] == "spawn" else task
-        stop = self.met(self.debuggee.shell.stops.met(line, self.session), task)
+        stop = self.met(self.debuggee.shell.stops.met(line, self.session), line)
         self.stopped(stop or Stopped("step", where))
         yield from ()
 
@@ -189,10 +197,11 @@ class Runner:
             self.debuggee.took_back()
             count += 1
             now = self.session.newest
-            task = (now or line).split("#")[0]
+            there = self.session.line_of(now) if now else ""
+            task = (there or line).split("#")[0]
             shell.focus = task
-            said = shell.stops.changed(line, self.session) + (shell.stops.at_step(self.session.line_of(now), self.session) if now else [])
-            stop = self.met(said, task)
+            said = shell.stops.changed(line, self.session) + (shell.stops.at_step(there, self.session) if there else [])
+            stop = self.met(said, there or line) if there or said else None
             if stop or self.pausing:
                 self.session.merge_taken_back(count)
                 self.stopped(stop or Stopped("pause", task))

@@ -192,6 +192,16 @@ class Requests(unittest.TestCase):
         self.assertEqual(client.refused("pause", threadId=1), "no task is running")
         self.assertEqual(client.stopped("next", threadId=1)["reason"], "step")
 
+    def test_a_breakpoint_of_the_console_stops_too(self) -> None:
+        client = self.open(SUM)
+        client.do("evaluate", expression="break print", context="repl")
+        client.do("evaluate", expression="break line 13 if r0 == 2", context="repl")
+        for reason, text in (("breakpoint", "line 13 if r0 == 2"), ("breakpoint", "print"), ("end", None)):
+            stopped = client.stopped("continue", threadId=1)
+            self.assertEqual((stopped["reason"], stopped.get("text") if text else None), (reason, text))
+        for text in ("print", "line 13 if r0 == 2", "the run is at its beginning"):
+            self.assertEqual(client.stopped("reverseContinue", threadId=1)["text"], text)
+
     def test_a_breakpoint_that_is_set_while_tasks_run(self) -> None:
         path = write_file(self, LOOP)
         client = self.open(path)
