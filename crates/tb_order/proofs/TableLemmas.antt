@@ -58,9 +58,17 @@ clocks_none o entries tasks clocks a b = record {
   };
 }
 
--- the same is told by bounds that are the same
+-- bounds that are equal tell as much
 pub sound_same : (o : Order) (entries : List Entry) (tasks : Tasks) (clocks : Lanes) (row next : ℕ → ℕ) (k p : ℕ) → ((j : ℕ) → row j ≡ next j) → IsSound o entries tasks clocks row k p → IsSound o entries tasks clocks next k p
 sound_same o entries tasks clocks row next k p same = subst (λ r. IsSound o entries tasks clocks r k p) (fun_ext same)
+
+-- each of the first n, and that at n
+each : (n : ℕ) (P : ℕ → Type 0) → ((p : ℕ) → p < n → P p) → P n → (p : ℕ) → p < n + 1 → P p
+each n P old here p l = by (cases_eq p n)
+  where
+    by : (p ≡ n) ⊎ (p ≢ n) → P p
+    by (inl e) = subst P (sym e) here
+    by (inr d) = old p (omega (arith, l, d))
 
 module _ (o : Order) (entries : List Entry) (tasks : Tasks) (n : ℕ) where
   -- ---- one row more, where nothing goes by it yet
@@ -138,14 +146,6 @@ module _ (o : Order) (entries : List Entry) (tasks : Tasks) (n : ℕ) where
         by (inr (inl h)) = inr (inl (h.0, h.1, omega (arith, h.2), h.3))
         by (inr (inr over)) = inr (inr over)
 
-    -- each of the first n, and that at n
-    pub each : (P : ℕ → Type 0) → ((p : ℕ) → p < n → P p) → P n → (p : ℕ) → p < n + 1 → P p
-    each P old here p l = by (cases_eq p n)
-      where
-        by : (p ≡ n) ⊎ (p ≢ n) → P p
-        by (inl e) = subst P (sym e) here
-        by (inr d) = old p (omega (arith, l, d))
-
     -- the newest of its lane is the new step, and those of the other lanes are as they were
     module _ (within : k < new.count) (more : old.count ≤ new.count) (last : new.last k ≡ n) (others : (j : ℕ) → j ≢ k → j < old.count → new.last j ≡ old.last j) where
       late : (q : ℕ) → q < n → (lane old q ≡ k) ⊎ (lane old q ≢ k) → q ≤ new.last (lane new q)
@@ -154,16 +154,16 @@ module _ (o : Order) (entries : List Entry) (tasks : Tasks) (n : ℕ) where
 
       pub lanes_more : AreLanes o entries tasks (n + 1) new
       lanes_more = record {
-        low = each (λ p. IsLow (row_at new p) p) (λ p l. subst (λ r. IsLow r p) (sym (row_same p l)) (are.low p l)) (subst (λ r. IsLow r n) (sym row_here) small);
-        told = each (λ p. IsClock o entries tasks new (row_at new p) (lane new p) p)
+        low = each n (λ p. IsLow (row_at new p) p) (λ p l. subst (λ r. IsLow r p) (sym (row_same p l)) (are.low p l)) (subst (λ r. IsLow r n) (sym row_here) small);
+        told = each n (λ p. IsClock o entries tasks new (row_at new p) (lane new p) p)
             (λ p l. clock_same (row_at new p) (row_at old p) (lane new p) (lane old p) p (row_same p l) (lane_kept p l) (omega (arith, l)) (are.told p l))
             (clock_same (row_at new n) row (lane new n) k n row_here lane_here (omega arith) clock);
-        own = λ p q l m h. each (λ p. (q : ℕ) → q < p → IsTrue (both_at of_one entries p q) → lane new p ≡ lane new q)
+        own = λ p q l m h. each n (λ p. (q : ℕ) → q < p → IsTrue (both_at of_one entries p q) → lane new p ≡ lane new q)
             (λ p l q m h. lane_kept p l ∙ are.own p q l m h ∙ sym (lane_kept q (omega (arith, l, m))))
             (λ q m h. lane_here ∙ place.own q m h ∙ sym (lane_kept q m)) p l q m h;
-        going = each Going going_on (inl (λ q m h e. omega (arith, m, h)));
-        few = each (λ q. lane new q < new.count) (λ q l. omega (arith, lane_kept q l, are.few q l, more)) (omega (arith, lane_here, within));
-        newest = each (λ q. q ≤ new.last (lane new q)) (λ q l. late q l (cases_eq (lane old q) k)) (omega (arith, ap new.last lane_here, last));
+        going = each n Going going_on (inl (λ q m h e. omega (arith, m, h)));
+        few = each n (λ q. lane new q < new.count) (λ q l. omega (arith, lane_kept q l, are.few q l, more)) (omega (arith, lane_here, within));
+        newest = each n (λ q. q ≤ new.last (lane new q)) (λ q l. late q l (cases_eq (lane old q) k)) (omega (arith, ap new.last lane_here, last));
       }
 
   module _ (old new : Clocks) (row k : ℕ) (one : IsOneMore old row k n new) (stands : IsStanding o entries tasks old row k n) (are : AreClocks o entries tasks n old) where
@@ -185,20 +185,12 @@ module _ (o : Order) (entries : List Entry) (tasks : Tasks) (n : ℕ) where
     row_same : (p : ℕ) → p < n → row_of_step new p ≡ row_of_step old p
     row_same p l = ap₂ row_in one.rows (of_kept p l)
 
-    -- each of the first n, and that at n
-    each_of : (P : ℕ → Type 0) → ((p : ℕ) → p < n → P p) → P n → (p : ℕ) → p < n + 1 → P p
-    each_of P old here p l = by (cases_eq p n)
-      where
-        by : (p ≡ n) ⊎ (p ≢ n) → P p
-        by (inl e) = subst P (sym e) here
-        by (inr d) = old p (omega (arith, l, d))
-
     pub clocks_more : AreClocks o entries tasks (n + 1) new
     clocks_more = record {
       listed = ap length one.of ∙ length-append old.of.items (row ∷ []) ∙ ap (λ m. m + 1) are.listed;
       laned = ap length one.lanes ∙ length-append old.lanes.items (k ∷ []) ∙ ap (λ m. m + 1) are.laned;
-      within = each_of (λ p. slice_index_or new.of.items p 0 ≤ length new.rows.items) (λ p l. omega (arith, of_kept p l, are.within p l, ap length one.rows)) (omega (arith, of_here, stands.within, ap length one.rows));
-      rising = each_of (λ p. IsRising (row_of_step new p)) (λ p l. subst IsRising (sym (row_same p l)) (are.rising p l)) (subst IsRising (sym row_here) stands.rising);
+      within = each n (λ p. slice_index_or new.of.items p 0 ≤ length new.rows.items) (λ p l. omega (arith, of_kept p l, are.within p l, ap length one.rows)) (omega (arith, of_here, stands.within, ap length one.rows));
+      rising = each n (λ p. IsRising (row_of_step new p)) (λ p l. subst IsRising (sym (row_same p l)) (are.rising p l)) (subst IsRising (sym row_here) stands.rising);
       lanes = lanes_more (lanes_of old) (lanes_of new) (bound_in (row_in old.rows.items row)) k lane_here lane_kept (ap bound_in row_here) (λ p l. ap bound_in (row_same p l)) stands.clock stands.low stands.lane are.lanes
           one.within one.more one.last one.others;
     }

@@ -37,7 +37,8 @@ pub fn races_among(alloc: Global, entries: &History<'_>) -> Result<Vec<Race>, Al
     races_by(alloc, entries, &tasks, &ordinals, &loose, &strict)
 }
 
-/// The same by what stands in front of each, where exclusion doesn't count and where it does.
+/// The race of each entry that has one, by the clocks of the order without exclusion and of the one
+/// with it.
 fn races_by(
     alloc: Global,
     entries: &History<'_>,
