@@ -12,16 +12,16 @@ use tb_model::{Action, Items};
 pub struct Row {
     /// The id of its parent; the root has its own.
     pub parent: usize,
-    /// Its ordinal among its parent's children, from 1; the root has 0.
+    /// The task's ordinal among its parent's children, from 1; the root has 0.
     pub ordinal: u32,
     /// How many steps it took, and how many children it generated.
     pub steps: u32,
     pub children: u32,
     /// Whether its newest step generated an undeferred child.
     pub held: bool,
-    /// Its depend items.
+    /// The task's depend items.
     pub items: Items,
-    /// Its open groups, the innermost last.
+    /// The groups that it has open, the innermost last.
     pub groups: Vec<Group>,
 }
 
