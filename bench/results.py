@@ -16,6 +16,9 @@ TOP = os.path.dirname(os.path.dirname(os.path.abspath(__file__)))
 PAGE = os.path.join(TOP, "bench", "RESULTS.md")
 PROVED = os.path.join(TOP, "crates", "taskback", "out", "taskback")
 
+RACES = ["races.py", "--program", "PROGRAM", "--seconds", "1", "--tasks", "100000", "--most", "1000000"]
+EDGES = ["races.py", "--program", "PROGRAM", "--seconds", "1", "--view", "edges", "--tasks", "10000"]
+
 # What a script measures, and its words; PROGRAM stands for the program's path. The third are those of a short run.
 ROWS: list[tuple[str, list[str], list[str] | None]] = [
     ("Long rows of steps and undos", ["steps.py", "PROGRAM"], ["steps.py", "PROGRAM"]),
@@ -24,8 +27,9 @@ ROWS: list[tuple[str, list[str], list[str] | None]] = [
      ["growth.py", "--program", "PROGRAM", "--seconds", "0.05", "--most", "2000"]),
     ("What needs a step, and what it needs", ["needs.py", "PROGRAM"], ["needs.py", "PROGRAM", "500,1000"]),
     ("Rollbacks", ["rollbacks.py", "PROGRAM"], None),
-    ("Causes of all steps", ["causes.py", "PROGRAM", "2000,10000"], ["causes.py", "PROGRAM", "500"]),
-    ("Races", ["races.py", "--program", "PROGRAM"], ["races.py", "--program", "PROGRAM", "--seconds", "0.05"]),
+    ("Causes of each step", ["causes.py", "PROGRAM", "2000,10000"], ["causes.py", "PROGRAM", "500"]),
+    ("Races", RACES, RACES),
+    ("Immediate needs of all steps", EDGES, EDGES),
     ("One worker and several", ["workers.py", "--program", "PROGRAM"], ["workers.py", "--program", "PROGRAM", "--rounds", "1"]),
     ("Deep tasks", ["levels.py", "--program", "PROGRAM", "4000", "16384"], ["levels.py", "--program", "PROGRAM", "1000"]),
 ]
