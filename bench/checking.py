@@ -149,12 +149,12 @@ KINDS = ("fib", "tree", "chain", "wide", "tall", "grid", "readers", "exclusive",
          "races", "regions", "iterations")
 
 
-def judged(program, judge, kind, count, threads):
-    """(events, seconds) of the judge on a run of this size."""
+def judged(program: str, judge: str, kind: str, count: int, threads: int) -> tuple[int, float]:
+    """The events, and the judge's seconds, of a run of this size."""
     trace = program + ".trace"
     subprocess.run([program, kind, str(count)], check=True, stdout=subprocess.DEVNULL,
                    env={**os.environ, "OMP_NUM_THREADS": str(threads), "TASKBACK_TRACE": trace})
-    seconds = []
+    seconds: list[float] = []
     for _ in range(3):
         child = subprocess.Popen([judge, trace], stdout=subprocess.DEVNULL)
         _, status, used = os.wait4(child.pid, 0)
@@ -167,8 +167,8 @@ def judged(program, judge, kind, count, threads):
     return events, min(seconds)
 
 
-def main():
-    options = argparse.ArgumentParser(description=__doc__.splitlines()[0])
+def main() -> int:
+    options = argparse.ArgumentParser(description=(__doc__ or "").splitlines()[0])
     options.add_argument("--tasks", type=int, default=50000)
     options.add_argument("--doublings", type=int, default=3)
     options.add_argument("--threads", type=int, default=2)
