@@ -1,5 +1,5 @@
 /*
- * Writes run texts: the events of a run of tasks, one a line, each as the command `hist` writes it (docs/COMMANDS.md).
+ * Writes run texts: the events of a run of tasks, one a line, each as the command `hist` writes it (docs/RUNS.md).
  * One file of C99 or C++11, for GCC and clang; nothing is linked but the C library.
  *
  *     taskback_clock clock = {0};                          one for all threads
