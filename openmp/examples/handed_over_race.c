@@ -4,9 +4,11 @@
 #include <stdio.h>
 #include <stdlib.h>
 
+/* The number is at the end, where malloc has nothing of its own in a freed block: the late change spoils no list of it. */
 struct node {
-    int number;
     struct node *next;
+    struct node *unused;
+    int number;
 };
 
 static struct node *first;
