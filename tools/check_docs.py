@@ -203,13 +203,13 @@ class Check:
             self.fault(page, 0, f"the edit {name[1]}/{name[0]} is {'missing here' if name[0] in self.crates.edits else 'not there'}")
 
     def check_rows(self, page: str) -> None:
-        """The tables of promises: | promise | call | clause | tested besides |, below a line `Crates: ..`."""
+        """The tables of promises: promise | call | clause | tested besides, below a line `Crates: ..`."""
         crates: list[str] = []
         for number, line in enumerate(text_of(page).split("\n"), 1):
             if line.startswith(("#", "Crates: ")):
                 crates = [it for it in re.findall(r"`(\w+)`", line) if it in self.crates.crates]
-            cells = [it.strip() for it in re.split(r"(?<!\\)\|", line)[1:-1]]
-            if line.startswith("| ") and len(cells) == 4 and cells[0] != "promise" and crates:
+            cells = [it.strip() for it in re.split(r"(?<!\\)\|", line)]
+            if len(cells) == 4 and cells[0] not in ("promise", "---") and crates:
                 self.check_row(page, number, crates, cells[1], cells[2])
 
     def check_row(self, page: str, number: int, crates: list[str], calls: str, clauses: str) -> None:

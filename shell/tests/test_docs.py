@@ -27,7 +27,7 @@ def anchors(name: str) -> set[str]:
 def commands_of_sessions() -> list[str]:
     """The commands that COMMANDS.md has in its tables."""
     text = text_of("docs/COMMANDS.md").split("## Refusals")[0]
-    return sorted({words.split(" ")[0] for words in re.findall(r"^\| `([a-z]+(?: [^`]*)?)` \|", text, re.M)
+    return sorted({words.split(" ")[0] for words in re.findall(r"^`([a-z]+(?: [^`]*)?)` \|", text, re.M)
                    if words.split(" ")[0] not in ("start", "let", "spawn", "wait", "open", "close", "test", "end")})
 
 
