@@ -1,5 +1,5 @@
 -- A row is lowered in place.
-use Rattle.std.proofs.Common.{◌≡◌, ◌<◌, ◌≤◌, ◌+◌, ◌-◌, ◌==◌, min, ℕ, zero, suc, List, [], ◌∷◌, ◌++◌, Bool, true, false, cond, ltb, Some, None, length, take, drop, get_or, slice_get, set, refl, sym, ap, ◌∙◌, arith, rules, tests, append_assoc, if◌then◌else◌}
+use Rattle.std.proofs.Common.{◌≡◌, ◌<◌, ◌≤◌, ◌+◌, ◌-◌, ◌==◌, min, ℕ, zero, suc, List, [], ◌∷◌, ◌++◌, Bool, true, false, cond, ltb, Some, None, length, take, drop, get_or, slice_get, set, refl, sym, ap, ◌∙◌, subst, arith, rules, tests, append_assoc, if◌then◌else◌}
 use Rattle.std.proofs.lemmas.Bool.{true≢false, ltb-true, ltb-false}
 use Rattle.std.proofs.lemmas.Bool.Decides.{nat_tests}
 use Rattle.std.proofs.lemmas.List.{drop_more, take_more_set, drop-set-lt, length-set, length-take-le, length-drop, get_or-take, get_or-drop}
@@ -164,6 +164,7 @@ leap_found gs x from width to n rises least start is some ahead inside under ove
 pub record Lowers (going old : List ℕ) (from : ℕ) (places : List ℕ) (at stay next : ℕ) : Type 0 where
   pub len : length places ≡ length old
   pub order : stay ≤ at
+  pub inside : at ≤ length old
   pub rest : drop at places ≡ drop at old
   pub done : take stay places ++ lowered going (drop at old) ≡ take from old ++ lowered going (drop from old)
   pub behind : (i : ℕ) → at ≤ i → i < length old → next ≤ below going (get_or old i 0)
@@ -197,6 +198,7 @@ module _ (going old : List ℕ) (from : ℕ) (places : List ℕ) (at stay next x
   lowers_gone goes = record {
     len = l.len;
     order = omega (arith, l.order);
+    inside = omega (arith, within);
     rest = past;
     done =
         ap (λ r. take stay places ++ r)
@@ -209,6 +211,7 @@ module _ (going old : List ℕ) (from : ℕ) (places : List ℕ) (at stay next x
   lowers_kept stays new set_is = record {
     len = ap length set_is ∙ length-set places stay (x - below going x) ∙ l.len;
     order = omega (arith, l.order);
+    inside = omega (arith, within);
     rest = ap (drop (at + 1)) set_is ∙ drop-set-lt (at + 1) places stay (x - below going x) (omega (arith, l.order)) ∙ past;
     done =
         ap (λ r. r ++ lowered going here) (ap (take (stay + 1)) set_is ∙ take_more_set places stay (x - below going x) (omega (arith, l.order, l.len, within)))
@@ -231,6 +234,35 @@ slice_rises gs from to rises = rise 0 (take (to - from) (drop from gs)) (front 0
     back low zero xs h = h
     back low (suc n) [] h = tt
     back low (suc n) (x ∷ xs) h = lower low (suc x) (drop n xs) (omega (arith, h.0)) (back (suc x) n xs h.1)
+
+-- nothing goes behind those that are passed
+none_goes : (gs : List ℕ) (x n : ℕ) → length gs ≤ n → goes_at x (drop n gs) ≡ false
+none_goes [] x zero h = refl
+none_goes [] x (suc n) h = refl
+none_goes (g ∷ gs) x zero h = absurd (omega (arith, h))
+none_goes (g ∷ gs) x (suc n) h = none_goes gs x n (omega (arith, h))
+
+-- where all that go are in front, the places from here on only move
+pub lowers_rest : (going old : List ℕ) (from : ℕ) (places : List ℕ) (at stay next : ℕ) → Lowers going old from places at stay next → (at < length old → length going ≤ next) → Lowers going old from places at stay (length going)
+lowers_rest going old from places at stay next l past = record {
+  len = l.len;
+  order = l.order;
+  inside = l.inside;
+  rest = l.rest;
+  done = l.done;
+  behind = λ i less within. let h = l.behind i less within in omega (arith, h, past (omega (arith, less, within)));
+}
+
+pub all_below : (going old : List ℕ) (from : ℕ) (places : List ℕ) (at stay : ℕ) → Lowers going old from places at stay (length going) → at < length old → below going (get_or old at 0) ≡ length going
+all_below going old from places at stay l within =
+    let most = prefix_len-le-length (λ g. ltb g (get_or old at 0)) going in
+    omega (arith, l.behind at (omega arith) within, most)
+
+pub lowers_on : (going old : List ℕ) (from : ℕ) (places : List ℕ) (at stay x : ℕ) → Lowers going old from places at stay (length going) → RiseFrom 0 going → RiseFrom 0 old → at < length old → x ≡ get_or old at 0 → (new : List ℕ) → new ≡ set places stay (x - length going) → Lowers going old from new (at + 1) (stay + 1) (length going)
+lowers_on going old from places at stay x l rises up within is new set_is =
+    let all : below going x ≡ length going = ap (below going) is ∙ all_below going old from places at stay l within in
+    subst (Lowers going old from new (at + 1) (stay + 1)) all
+    (lowers_kept going old from places at stay (length going) x l rises up within is (none_goes going x (below going x) (omega (arith, all))) new (set_is ∙ ap (λ n. set places stay (x - n)) (sym all)))
 
 -- a place that is read from what is lowered so far is that of the row
 pub same_here : (going old : List ℕ) (from : ℕ) (places : List ℕ) (at stay next : ℕ) → Lowers going old from places at stay next → at < length old → get_or places at 0 ≡ get_or old at 0

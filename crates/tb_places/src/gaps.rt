@@ -50,7 +50,8 @@ fn lower(places: &mut [u32], from: usize, going: &[u32]) -> usize
 {
     let mut stay = from;
     let mut next = 0;
-    for at in from..places.len() {
+    let mut at = from;
+    'pass: while at < places.len() && next < going.len() {
         let place = places[at];
         next = passed(going, next, place);
         if goes(going, next, place) {
@@ -59,6 +60,14 @@ fn lower(places: &mut [u32], from: usize, going: &[u32]) -> usize
             places[stay] = place - next as u32;
             stay += 1;
         }
+        at += 1;
+    }
+    // all that go are passed, so the rest only moves
+    'rest: while at < places.len() {
+        let place = places[at];
+        places[stay] = place - going.len() as u32;
+        stay += 1;
+        at += 1;
     }
     stay
 }
