@@ -74,4 +74,5 @@ rest-preserved c =
     let x = get_or l.places l.at 0 in
     let within : l.at < length old = omega (arith, c.rest-test.true, l.invariant.len) in
     let same = same_here going old c.args.from l.places l.at l.stay (length going) l.invariant within in
-    lowers_on going old c.args.from l.places l.at l.stay x l.invariant c.requires.going c.requires.places within same (set l.places l.stay (x - length going)) refl
+    let new = set l.places l.stay (x - length going) in
+    lowers_on going old c.args.from l.places l.at l.stay x l.invariant c.requires.going c.requires.places within same new refl
