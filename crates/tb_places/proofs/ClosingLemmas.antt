@@ -1,5 +1,7 @@
 -- A row is lowered in place.
-use Rattle.std.proofs.Common.{◌≡◌, ◌<◌, ◌≤◌, ◌+◌, ◌-◌, ◌==◌, min, ℕ, zero, suc, List, [], ◌∷◌, ◌++◌, Bool, true, false, cond, ltb, Some, None, length, take, drop, get_or, slice_get, set, refl, sym, ap, ◌∙◌, arith, rules, tests, append_assoc, if◌then◌else◌}
+use Rattle.std.proofs.Common.{◌≡◌, ◌<◌, ◌≤◌, ◌+◌, ◌-◌, ◌==◌, min, ℕ, zero, suc, List, [], ◌∷◌, ◌++◌, Bool, true, false, cond, ltb, Some, None, length, take, drop, get_or, slice_get, set, refl, sym, ap, ◌∙◌, subst, arith, rules, tests, append_assoc, append-nil, if◌then◌else◌}
+use Rattle.std.proofs.Math.ListN.{drop_of_length-le}
+use Rattle.std.proofs.Math.Seq.{take-length}
 use Rattle.std.proofs.lemmas.Bool.{true≢false, ltb-true, ltb-false}
 use Rattle.std.proofs.lemmas.Bool.Decides.{nat_tests}
 use Rattle.std.proofs.lemmas.List.{drop_more, take_more_set, drop-set-lt, length-set, length-take-le, length-drop, get_or-take, get_or-drop}
@@ -164,6 +166,7 @@ leap_found gs x from width to n rises least start is some ahead inside under ove
 pub record Lowers (going old : List ℕ) (from : ℕ) (places : List ℕ) (at stay next : ℕ) : Type 0 where
   pub len : length places ≡ length old
   pub order : stay ≤ at
+  pub inside : at ≤ length old
   pub rest : drop at places ≡ drop at old
   pub done : take stay places ++ lowered going (drop at old) ≡ take from old ++ lowered going (drop from old)
   pub behind : (i : ℕ) → at ≤ i → i < length old → next ≤ below going (get_or old i 0)
@@ -197,6 +200,7 @@ module _ (going old : List ℕ) (from : ℕ) (places : List ℕ) (at stay next x
   lowers_gone goes = record {
     len = l.len;
     order = omega (arith, l.order);
+    inside = omega (arith, within);
     rest = past;
     done =
         ap (λ r. take stay places ++ r)
@@ -209,6 +213,7 @@ module _ (going old : List ℕ) (from : ℕ) (places : List ℕ) (at stay next x
   lowers_kept stays new set_is = record {
     len = ap length set_is ∙ length-set places stay (x - below going x) ∙ l.len;
     order = omega (arith, l.order);
+    inside = omega (arith, within);
     rest = ap (drop (at + 1)) set_is ∙ drop-set-lt (at + 1) places stay (x - below going x) (omega (arith, l.order)) ∙ past;
     done =
         ap (λ r. r ++ lowered going here) (ap (take (stay + 1)) set_is ∙ take_more_set places stay (x - below going x) (omega (arith, l.order, l.len, within)))
@@ -232,6 +237,40 @@ slice_rises gs from to rises = rise 0 (take (to - from) (drop from gs)) (front 0
     back low (suc n) [] h = tt
     back low (suc n) (x ∷ xs) h = lower low (suc x) (drop n xs) (omega (arith, h.0)) (back (suc x) n xs h.1)
 
+-- nothing goes behind those that are passed
+none_goes : (gs : List ℕ) (x n : ℕ) → length gs ≤ n → goes_at x (drop n gs) ≡ false
+none_goes [] x zero h = refl
+none_goes [] x (suc n) h = refl
+none_goes (g ∷ gs) x zero h = absurd (omega (arith, h))
+none_goes (g ∷ gs) x (suc n) h = none_goes gs x n (omega (arith, h))
+
+-- where all that go are in front, the places from here on only move
+pub lowers_rest : (going old : List ℕ) (from : ℕ) (places : List ℕ) (at stay next : ℕ) → Lowers going old from places at stay next
+    → (at < length old → length going ≤ next) → Lowers going old from places at stay (length going)
+lowers_rest going old from places at stay next l past = record {
+  len = l.len;
+  order = l.order;
+  inside = l.inside;
+  rest = l.rest;
+  done = l.done;
+  behind = λ i less within. let h = l.behind i less within in omega (arith, h, past (omega (arith, less, within)));
+}
+
+pub all_below : (going old : List ℕ) (from : ℕ) (places : List ℕ) (at stay : ℕ) → Lowers going old from places at stay (length going)
+    → at < length old → below going (get_or old at 0) ≡ length going
+all_below going old from places at stay l within =
+    let most = prefix_len-le-length (λ g. ltb g (get_or old at 0)) going in
+    omega (arith, l.behind at (omega arith) within, most)
+
+pub lowers_on : (going old : List ℕ) (from : ℕ) (places : List ℕ) (at stay x : ℕ) → Lowers going old from places at stay (length going)
+    → RiseFrom 0 going → RiseFrom 0 old → at < length old → x ≡ get_or old at 0 → (new : List ℕ) → new ≡ set places stay (x - length going)
+    → Lowers going old from new (at + 1) (stay + 1) (length going)
+lowers_on going old from places at stay x l rises up within is new set_is =
+    let all : below going x ≡ length going = ap (below going) is ∙ all_below going old from places at stay l within in
+    let stays = none_goes going x (below going x) (omega (arith, all)) in
+    let same = set_is ∙ ap (λ n. set places stay (x - n)) (sym all) in
+    subst (Lowers going old from new (at + 1) (stay + 1)) all (lowers_kept going old from places at stay (length going) x l rises up within is stays new same)
+
 -- a place that is read from what is lowered so far is that of the row
 pub same_here : (going old : List ℕ) (from : ℕ) (places : List ℕ) (at stay next : ℕ) → Lowers going old from places at stay next → at < length old → get_or places at 0 ≡ get_or old at 0
 same_here going old from places at stay next l within =
@@ -239,3 +278,40 @@ same_here going old from places at stay next l within =
     let n = drop_more old at 0 within in
     let o = l.rest in
     cc
+
+-- ---- where the first place is behind all that go
+
+pub lowers_first : (going old : List ℕ) → RiseFrom 0 going → RiseFrom 0 old → length going ≤ below going (get_or old 0 0)
+    → Lowers going old 0 old 0 0 (length going)
+lowers_first going old rises up first = record {
+  len = refl;
+  order = omega arith;
+  inside = omega arith;
+  rest = refl;
+  done = refl;
+  behind = λ i less within.
+      let high = rise 0 old up 0 i 0 (omega arith) within in
+      let more = below_up going (get_or old 0 0) (get_or old i 0) rises high in
+      omega (arith, first, more);
+}
+
+pub lowers_last : (going old places : List ℕ) (at : ℕ) → Lowers going old 0 places at at (length going) → length old ≤ at → places ≡ lowered going old
+lowers_last going old places at l done =
+    sym (whole places at (omega (arith, l.len, l.inside, done))) ∙ sym (append-nil (take at places))
+    ∙ ap (λ r. take at places ++ lowered going r) (sym (drop_of_length-le old done)) ∙ l.done
+  where
+    whole : (xs : List ℕ) (n : ℕ) → n ≡ length xs → take n xs ≡ xs
+    whole xs n e = ap (λ m. take m xs) e ∙ take-length xs
+
+pub all_passed : (going places : List ℕ) (last first : ℕ) → RiseFrom 0 going → Some last ≡ slice_get going (length going - 1)
+    → Some first ≡ slice_get places 0 → last < first → length going ≤ below going (get_or places 0 0)
+all_passed going places last first rises is here less = by (length going) refl
+  where
+    by : (n : ℕ) → n ≡ length going → length going ≤ below going (get_or places 0 0)
+    by zero e = omega (arith, e)
+    by (suc n) e =
+        let there = get_or_from_slice_get going (length going - 1) last 0 (sym is) in
+        let newest : get_or going n 0 ≡ last = ap (λ i. get_or going i 0) (omega (arith, e)) ∙ there in
+        let front = get_or_from_slice_get places 0 first 0 (sym here) in
+        let more = below_at 0 going (get_or places 0 0) n rises (omega (arith, e)) (omega (arith, newest, front, less)) in
+        omega (arith, more, e)

@@ -1,7 +1,7 @@
 //! The places of one row, where some events go: the places of these go too, and each other is lower by
 //! as many as go in front of it.
 
-ghost use Rattle.std.specs.Prelude.{◌≡◌, ◌≤◌, ◌<◌, ◌++◌, IsTrue, length, take, drop, vec_len, vec_capacity};
+ghost use Rattle.std.specs.Prelude.{◌≡◌, ◌≤◌, ◌<◌, ◌++◌, IsTrue, length, take, drop, get_or, vec_len, vec_capacity};
 ghost use Rattle.tb_places.specs.Renumbering.{RiseFrom, below, goes_at, lowered};
 
 /// Closes the gaps that the events at the going places leave.
@@ -11,6 +11,10 @@ pub fn close(row: &mut Vec<u32>, going: &[u32])
     ensures lowered { row.new.items ≡ lowered going.now row.old.items }
     ensures capacity { vec_capacity row.new ≡ vec_capacity row.old }
 {
+    if all_follow(row.as_slice(), going) {
+        lower_all(row.as_mut_slice(), going);
+        return;
+    }
     let from = in_front(row.as_slice(), going);
     if from < row.len() {
         let stay = lower(row.as_mut_slice(), from, going);
@@ -38,6 +42,32 @@ fn in_front(places: &[u32], going: &[u32]) -> usize
     places.partition_point(|place| *place < *first)
 }
 
+/// Whether there are places, and all are behind all that go.
+#[inline(always)]
+fn all_follow(places: &[u32], going: &[u32]) -> bool
+    requires { RiseFrom 0 going.now }
+    ensures { IsTrue result → length going.now ≤ below going.now (get_or places.now 0 0) }
+{
+    match (going.last(), places.first()) {
+        (Some(last), Some(first)) => *last < *first,
+        _ => false,
+    }
+}
+
+/// Lowers places of which the first is behind all that go.
+#[inline(always)]
+fn lower_all(places: &mut [u32], going: &[u32])
+    requires going { RiseFrom 0 going.now }
+    requires places { RiseFrom 0 places.old }
+    requires behind { length going.now ≤ below going.now (get_or places.old 0 0) }
+    ensures { places.new ≡ lowered going.now places.old }
+{
+    for at in 0..places.len() {
+        let place = places[at];
+        places[at] = place - going.len() as u32;
+    }
+}
+
 /// Moves those from this one on that stay to the front, each lowered. It answers how many stay in all.
 fn lower(places: &mut [u32], from: usize, going: &[u32]) -> usize
     requires going { RiseFrom 0 going.now }
@@ -50,7 +80,8 @@ fn lower(places: &mut [u32], from: usize, going: &[u32]) -> usize
 {
     let mut stay = from;
     let mut next = 0;
-    for at in from..places.len() {
+    let mut at = from;
+    'pass: while at < places.len() && next < going.len() {
         let place = places[at];
         next = passed(going, next, place);
         if goes(going, next, place) {
@@ -59,6 +90,14 @@ fn lower(places: &mut [u32], from: usize, going: &[u32]) -> usize
             places[stay] = place - next as u32;
             stay += 1;
         }
+        at += 1;
+    }
+    // all that go are passed, so the rest only moves
+    'rest: while at < places.len() {
+        let place = places[at];
+        places[stay] = place - going.len() as u32;
+        stay += 1;
+        at += 1;
     }
     stay
 }

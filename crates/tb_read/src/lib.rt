@@ -25,7 +25,7 @@ mod stack;
 mod strip;
 mod text;
 mod ways;
-mod word;
+pub mod word;
 
 pub use fault::{FaultKind, ReadFault};
 pub use program::Program;

@@ -39,7 +39,7 @@ fn is_numeral(digits: &[u8]) -> bool
 }
 
 /// The value of one or more digits, up to that of the least number.
-fn magnitude(digits: &[u8]) -> Option<u64>
+pub fn magnitude(digits: &[u8]) -> Option<u64>
     ensures magnitude { result ≡ magnitude_of digits.now }
     ensures most { IfSome result (λ value. value ≤ 2 ^ 63) }
 {

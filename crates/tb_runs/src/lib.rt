@@ -10,7 +10,6 @@ mod name;
 mod said;
 mod taking;
 mod verb;
-mod word;
 mod words;
 
 pub use fault::{Fault, Unread};

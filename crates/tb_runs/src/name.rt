@@ -6,10 +6,10 @@ ghost use Rattle.tb_model.specs.Spelling.{is_dot, is_hash, before_hash, behind_h
 ghost use Rattle.tb_runs.specs.Memory.{is_long};
 ghost use Rattle.tb_runs.specs.Names.{ordinal_of, last_child, last_step, task_of, id_of, next_of, numbered_of};
 
-use crate::word::magnitude;
 use crate::words::{behind, from};
 use std::alloc::{AllocError, Global};
 use tb_model::TaskName;
+use tb_read::word::magnitude;
 
 /// The greatest number of a child.
 const LAST_CHILD: u64 = 4_294_967_295;

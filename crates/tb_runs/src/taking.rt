@@ -10,11 +10,11 @@ ghost use Rattle.tb_runs.specs.declared.fault.Unread.TheVariants.{Faulty, Memory
 
 use crate::fault::{Fault, Unread};
 use crate::name::{Id, read_id, read_task};
-use crate::word::{is_name, kind, number, register};
 use crate::words::Words;
 use std::alloc::Global;
 use tb_model::{Kind, TaskName};
 use tb_read::same_word;
+use tb_read::word::{is_name, kind, number, register};
 
 /// A word, whatever it is.
 #[inline(always)]
