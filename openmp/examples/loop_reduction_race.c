@@ -1,5 +1,5 @@
 /* The reduction's variable is read before its loop's barrier.
-   expect: race sum memory */
+   expect: race sum */
 #include <stdio.h>
 
 int main(void) {

@@ -1,6 +1,6 @@
 /* A thread sets the variable while others may have added their parts already: with many threads, too, where the runtime
    has one of them add all.
-   expect: race total memory */
+   expect: race total */
 #include <stdio.h>
 
 int main(void) {

@@ -1,5 +1,5 @@
 /* A task of a group adds to the variable without being part of its reduction.
-   expect: race sum memory */
+   expect: race sum */
 #include <stdio.h>
 
 int main(void) {

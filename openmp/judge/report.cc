@@ -99,10 +99,12 @@ void Report::write_callers(std::ostream &out, u32 at) const {
 
 void Report::write_side(std::ostream &out, u32 at, u32 segment) {
     const event &e = run_.trace[at];
+    auto reduced = run_.reduced_at.find(at);
+    const int place = reduced == run_.reduced_at.end() ? e.place : run_.trace[reduced->second].place;
     u32 actor = run_.segments[segment].actor;
     name(actor);
     const char *done = e.kind == GROUP_CLOSE || e.kind == COPY || e.kind == LOCK ? "writes" : e.mark & FREED ? "frees" : e.kind == WRITE ? "writes" : "reads";
-    out << "{\"done\": \"" << done << "\", \"place\": " << e.place << ", \"actor\": " << actor << ", \"address\": " << e.address
+    out << "{\"done\": \"" << done << "\", \"place\": " << place << ", \"actor\": " << actor << ", \"address\": " << e.address
         << ", \"size\": " << (e.mark >> ROW_SHIFT ? 1u << ((e.mark >> ROW_SHIFT) - 1) : e.size) << ", \"unit\": " << (run_.segments[segment].flags & Segment::IS_UNIT ? "true" : "false")
         << ", \"frame\": " << (e.mark & FRAME && e.kind == WRITE ? "true" : "false") << ", \"library\": " << (e.mark & LIBRARY && (e.kind == READ || e.kind == WRITE) ? "true" : "false")
         << ", \"callers\": ";

@@ -217,6 +217,7 @@ void Run::copy(std::size_t at, const event &e) {
         sizes_[e.address] = size;
         if (s.group != NONE) {
             groups[s.group].reduced.emplace_back(e.address, size);
+            groups[s.group].reduced_at = at;
             originals_.insert(e.address);
         } else if (actors[s.actor].flags & Actor::IS_PART) {
             region_copies_[e.address] = RegionCopy{size, actors[s.actor].region};

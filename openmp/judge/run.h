@@ -101,6 +101,7 @@ struct Region {
 struct Group {
     std::vector<u32> members;
     std::vector<std::pair<u64, u64>> reduced;   // address, size
+    std::size_t reduced_at = 0;                 // the event that says so
 };
 
 // What one thread writes to put a reduction of its team together: each of them may do it. The events.
@@ -203,6 +204,7 @@ public:
     std::map<u64, u64> copies;
     // Writes that the runtime does when it puts a reduction together: the event behind which, address and size.
     std::map<std::size_t, std::vector<std::pair<u64, u64>>> combined;
+    std::map<std::size_t, std::size_t> reduced_at;  // by the event that closes a group: the one that says what it reduces
     std::vector<Reduction> reductions;
     std::map<std::size_t, u32> reduction_at;    // by the event at which a thread gives its part
     bool has_ended = false;

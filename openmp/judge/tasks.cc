@@ -238,6 +238,7 @@ void Run::close_group(std::size_t at, const event &e) {
         for (const auto &reduced : group.reduced)
             originals_.erase(originals_.find(reduced.first));
         combined[at] = std::move(group.reduced);
+        reduced_at[at] = group.reduced_at;
         segment_of[at] = s.segment;
     }
     group.members = {};

@@ -241,8 +241,18 @@ __attribute__((noinline)) static void load_first(struct own *own, uint64_t addre
     touch_first(own, READ, address, shift, touched, place, frame);
 }
 
+/* The program's store comes next: where its line of the cache is far, it is under way while the event is written down. */
+static inline void fetch_to_write(uint64_t address) {
+#ifdef __x86_64__
+    __asm__ volatile("prefetchw (%0)" : : "r"(address));
+#else
+    __builtin_prefetch((const void *)address, 1);
+#endif
+}
+
 __attribute__((noinline)) static void store_first(struct own *own, uint64_t address, uint32_t shift, struct touched *touched, uint64_t place,
                                                   struct frame *frame) {
+    fetch_to_write(address);
     touch_first(own, WRITE, address, shift, touched, place, frame);
 }
 

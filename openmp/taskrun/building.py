@@ -160,7 +160,7 @@ def folder_for(compiler: str) -> str:
 def recorder_objects(compiler: str, names: list[str]) -> list[str]:
     """The recorder's parts, compiled where they aren't or are older than their text."""
     folder = folder_for(compiler)
-    headers = [os.path.join(RECORDER, name) for name in ("recorder.h", "event.h")]
+    headers = [os.path.join(RECORDER, name) for name in ("recorder.h", "event.h", "writing.h")]
     objects = []
     for name in names:
         source = os.path.join(RECORDER, name)

@@ -8,6 +8,7 @@ from collections.abc import Collection, Iterable
 from typing import NamedTuple
 
 IDENTIFIER = re.compile(r"[A-Za-z_]\w*")
+DIRECTIVE = re.compile(r"[ \t]*#[ \t]*pragma[ \t]+omp\b")
 LONGEST = 40
 SYSTEM = ("/usr/", "/opt/")
 LONGEST_STATEMENT = 40   # lines
@@ -89,7 +90,7 @@ class Sources:
             place = self.place(address)
             lines = self.lines(place.file) if place.line else []
             line = lines[place.line - 1] if 0 < place.line <= len(lines) else ""
-            self._names[address] = expression_at(line, place.column) or "memory"
+            self._names[address] = expression_at(line, place.column) or self.reduced(address) or "memory"
         return self._names[address]
 
     def is_own(self, address: int) -> bool:
@@ -136,6 +137,15 @@ class Sources:
         text = self.directive(address)
         return [name for clause in re.finditer(r"\bdepend\s*\(", text)
                 for name in names_in(text[clause.end():matching(text, clause.end() - 1) - 1])]
+
+    def reduced(self, address: int) -> str:
+        """The variable that the directive there reduces, if it is one: which of several is put together can't be told."""
+        text = self.directive(address)
+        if not DIRECTIVE.match(text):
+            return ""
+        names = [name for clause in re.finditer(r"\b(?:task_|in_)?reduction\s*\(", text)
+                 for name in names_in(":" + text[clause.end():matching(text, clause.end() - 1) - 1].partition(":")[2])]
+        return names[0] if len(names) == 1 and IDENTIFIER.fullmatch(names[0]) else ""
 
     def statement(self, address: int) -> str:
         """The statement that the directive there stands in front of: up to its semicolon, or its closing brace."""

@@ -1,10 +1,13 @@
 """What stands at a column of a source line, and what is left out of a session or told."""
 
+import os
+import tempfile
 import unittest
+import unittest.mock
 
 import support
 from taskrun import session as sessions
-from taskrun.places import expression_at, read_place
+from taskrun.places import Place, Sources, expression_at, read_place
 
 
 class Expressions(unittest.TestCase):
@@ -17,6 +20,19 @@ class Expressions(unittest.TestCase):
                 ("  return x;", 2, ""), ("", 0, ""), ("  x", 40, "")):
             with self.subTest(line=line, column=mark + 1):
                 self.assertEqual(expression_at(line, mark + 1), wanted)
+
+    def test_what_a_directive_reduces(self):
+        with tempfile.TemporaryDirectory() as folder:
+            path = os.path.join(folder, "text.c")
+            for text, wanted in (("#pragma omp for reduction(+ : sum) nowait", "sum"), ("#pragma omp for reduction(+ : a, b)", "memory"),
+                                 ("  #pragma omp taskgroup \\\n task_reduction(max: most)", "most"), (" y = reduction(x);", "y"),
+                                 ("#pragma omp for reduction(+ : a) reduction(* : b)", "memory")):
+                with self.subTest(text=text), open(path, "w", encoding="utf-8") as file:
+                    file.write(text + "\n")
+                    file.flush()
+                    column = len(text) - len(text.lstrip()) + 1
+                    with unittest.mock.patch("taskrun.places.find_places", return_value={1: Place(path, 1, column)}):
+                        self.assertEqual(Sources("", {1}).expression(1), wanted)
 
     def test_places(self):
         self.assertEqual(str(read_place("/a/b.c:12:5")), "b.c:12")
