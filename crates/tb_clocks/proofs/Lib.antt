@@ -1,7 +1,8 @@
-mod TaskLemmas
+pub mod TaskLemmas
 mod StepLemmas
 mod GroupLemmas
-mod TreeLemmas
+pub mod TreeLemmas
 mod HoldLemmas
 mod OpenedLemmas
 mod IdLemmas
+mod SiblingLemmas

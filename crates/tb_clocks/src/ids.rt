@@ -1,6 +1,8 @@
 //! The ids of tasks.
 
 ghost use Rattle.std.specs.Prelude.{◌≡◌, ◌∷◌, [], ℕ, IfOk, None, OnErr, OnOk, Some};
+ghost use Rattle.std.specs.Option.{option_copied};
+ghost use Rattle.tb_model.specs.Names.{Name};
 ghost use Rattle.tb_model.specs.Facts.{History, IsSpawned};
 ghost use Rattle.tb_model.specs.Legal.{Cells, Legal};
 ghost use Rattle.tb_clocks.specs.Ids.{AreIds};
@@ -49,5 +51,12 @@ impl Ids {
         ensures none { (cells : Cells) (H : History) → AreIds cells H self.now → result ≡ None → IsSpawned H name.now → ⊥ }
     {
         self.names.get_index_of(name)
+    }
+    /// The task with this id.
+    pub fn name(&self, id: usize) -> Option<&TaskName>
+        ensures { (cells : Cells) (H : History) → AreIds cells H self.now → (t : Name)
+            → HasId H id t → option_copied result ≡ Some t }
+    {
+        self.names.get_index(id)
     }
 }

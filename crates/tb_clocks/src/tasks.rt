@@ -1,10 +1,10 @@
 //! What a history says of its tasks.
 
-ghost use Rattle.std.specs.Prelude.{◌≡◌, ◌<◌, ◌∷◌, ◌==◌, ◌&&◌, false, [], IfOk, IfSome, OnErr, OnOk, length, reverse};
+ghost use Rattle.std.specs.Prelude.{◌≡◌, ◌<◌, ◌∷◌, ◌==◌, ◌&&◌, false, [], nat_lt, IfOk, IfSome, OnErr, OnOk, length, reverse};
 ghost use Rattle.tb_model.specs.Facts;
 ghost use Rattle.tb_model.specs.Facts.{History, IsSpawned};
 ghost use Rattle.tb_model.specs.Legal.{Cells, Legal, spawn_count};
-ghost use Rattle.tb_model.specs.Names.{Name};
+ghost use Rattle.tb_model.specs.Names.{Name, is_child, is_elder};
 ghost use Rattle.tb_clocks.specs.Known.{AreTasks, HasId, groups_in, holds_some, parent_of};
 ghost use Rattle.tb_clocks.specs.Steps.{IsChildRow};
 ghost use Rattle.tb_clocks.specs.Tree.{IsStepUp, first_of, older};
@@ -166,6 +166,31 @@ impl Tasks {
         }
     }
 
+    /// Whether the first task is an elder sibling of the second: their parent generated it earlier.
+    pub fn is_elder(&self, elder: usize, task: usize) -> bool
+        ensures { (cells : Cells) (H : History) (u t : Name) → AreTasks cells H self.now
+            → HasId H elder u → HasId H task t → result ≡ is_elder u t }
+    {
+        let Some(above) = self.above(elder) else {
+            return false;
+        };
+        let Some(its) = self.above(task) else {
+            return false;
+        };
+        comes_first(above, its)
+    }
+
+    /// Whether the second task is a child of the first.
+    pub fn is_child(&self, task: usize, child: usize) -> bool
+        ensures { (cells : Cells) (H : History) (t u : Name) → AreTasks cells H self.now
+            → HasId H task t → HasId H child u → result ≡ is_child t u }
+    {
+        match self.above(child) {
+            Some((parent, _)) => parent == task,
+            None => false,
+        }
+    }
+
     /// Whether it is a child of the task with an ordinal above `low`, or a descendant of one.
     fn is_later(&self, task: usize, low: u32, member: usize) -> bool
         ensures { (cells : Cells) (H : History) (t m : Name) → AreTasks cells H self.now → HasId H task t → HasId H member m →
@@ -210,6 +235,14 @@ fn last(groups: &[Group]) -> Option<Group>
         [.., group] => Some(*group),
         [] => None,
     }
+}
+
+/// Of two tasks, by the ids of their parents and their ordinals, whether the first is an elder sibling
+/// of the second.
+fn comes_first(first: (usize, u32), second: (usize, u32)) -> bool
+    ensures { result ≡ (nat_lt first.1 second.1 && (first.0 == second.0)) }
+{
+    first.1 < second.1 && first.0 == second.0
 }
 
 /// Whether a task is held, and both pairs are the same.

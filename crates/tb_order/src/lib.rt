@@ -31,4 +31,9 @@ mod waiter;
 mod waiting;
 
 pub use asking::{causes, edges, races};
+pub use bounds::{add_row, bound, bound_among, merged, whole};
+pub use clocks::row;
 pub use edge::Edge;
+pub use kept::{is_load, slot_of};
+pub use lane_bound::LaneBound;
+pub use rows::{Key, item_key};

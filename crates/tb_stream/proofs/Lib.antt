@@ -1,0 +1,14 @@
+pub mod SeenLemmas
+pub mod ListLemmas
+pub mod ReachLemmas
+pub mod GrowLemmas
+pub mod MergeLemmas
+pub mod AskLemmas
+pub mod WaitLemmas
+pub mod PlaceLemmas
+pub mod NoteLemmas
+pub mod OverLemmas
+pub mod TouchLemmas
+pub mod RunLemmas
+pub mod HalfLemmas
+pub mod NewLemmas

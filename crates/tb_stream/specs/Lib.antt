@@ -1,0 +1,6 @@
+pub mod Seen
+pub mod Ends
+pub mod Joins
+pub mod Placing
+pub mod Keeping
+pub mod Halves

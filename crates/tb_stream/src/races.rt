@@ -1,0 +1,85 @@
+//! The races of a run.
+
+ghost use Rattle.std.specs.Prelude.{◌≡◌, ◌∷◌, ◌<◌, [], IfOk, IsFalse, OnOk};
+ghost use Rattle.tb_model.specs.Facts.{History};
+ghost use Rattle.tb_model.specs.Legal.{Cells, Legal};
+ghost use Rattle.tb_races.specs.Racing;
+ghost use Rattle.tb_stream.specs.Halves.{AreRaces};
+
+use crate::half::Half;
+use crate::racing::race_of;
+use std::alloc::{AllocError, Global};
+use tb_clocks::{Ids, Tasks};
+use tb_model::Event;
+use tb_races::Race;
+
+/// As many events as a run can have.
+const MOST: usize = 4_294_967_295;
+
+/// Whether no more is counted, after so many events and so many steps of a task.
+fn is_full(events: usize, steps: u32) -> bool
+    ensures { IsFalse result → (events < 4294967295) × (steps < 4294967295) }
+{
+    events >= MOST || steps == u32::MAX
+}
+
+/// What is kept of a run to tell with which earlier steps the next one races. Memory goes by tasks,
+/// lanes and cells, not by events.
+#[derive(Drop)]
+pub struct Races {
+    alloc: Global,
+    ids: Ids,
+    tasks: Tasks,
+    /// How many events there are.
+    count: usize,
+    /// By the order with exclusion.
+    strict: Half,
+    /// By the order without it.
+    loose: Half,
+}
+
+impl Races {
+    /// Of no events.
+    pub fn new(alloc: Global) -> Result<Races, AllocError>
+        ensures { IfOk result (λ races. (cells : Cells) → AreRaces cells [] races) }
+    {
+        Ok(Races {
+            alloc,
+            ids: Ids::new(alloc)?,
+            tasks: Tasks::new(alloc)?,
+            count: 0,
+            strict: Half::new(alloc, true)?,
+            loose: Half::new(alloc, false)?,
+        })
+    }
+
+    /// Adds the next event, and returns the race that is named for it: with the newest event from
+    /// which exclusion doesn't keep it apart, else with the newest. After an error nothing is known
+    /// of it.
+    pub fn push(&mut self, event: &Event) -> Result<Option<Race>, AllocError>
+        ensures race { IfOk result (λ race. (cells : Cells) (H : History)
+            → AreRaces cells H self.old
+            → Legal cells (event.now ∷ H) → race ≡ Racing.race_of H event.now) }
+        ensures more { OnOk result ((cells : Cells) (H : History)
+            → AreRaces cells H self.old
+            → Legal cells (event.now ∷ H) → AreRaces cells (event.now ∷ H) self.new) }
+    {
+        let Some(task) = self.ids.id(&event.task) else {
+            return Err(AllocError);
+        };
+        let at = self.count;
+        let steps = self.tasks.steps(task);
+        if is_full(at, steps) {
+            return Err(AllocError);
+        }
+        let action = &event.action;
+        let k = steps + 1;
+        let strict = self.strict.take(&self.tasks, action, at, task, k)?;
+        let loose = self.loose.take(&self.tasks, action, at, task, k)?;
+        let race = race_of(&self.ids, event, k, strict, loose)?;
+        self.tasks.push(self.alloc, task, event)?;
+        self.ids.push(event)?;
+        self.count = at + 1;
+        Ok(race)
+    }
+}

@@ -1,0 +1,84 @@
+//! The race that is named for a step.
+
+ghost use Rattle.std.specs.Prelude.{◌≡◌, ◌∷◌, Bool, IfOk, length, suc, true, false, not};
+ghost use Rattle.tb_model.specs.Facts.{History, own};
+ghost use Rattle.tb_model.specs.Legal.{Cells};
+ghost use Rattle.tb_stream.specs.Seen.{Run};
+ghost use Rattle.tb_races.specs.Racing;
+ghost use Rattle.tb_order.specs.Linking.{order_of};
+ghost use Rattle.tb_clocks.specs.Ids.{AreIds};
+ghost use Rattle.tb_stream.specs.Halves.{Begins, IsFound, conflict_of};
+
+use crate::access::Access;
+use std::alloc::AllocError;
+use tb_clocks::Ids;
+use tb_model::{Action, Event, StepId};
+use tb_races::{Conflict, Race};
+
+/// What the action shares with those with which it conflicts.
+fn conflict_of(action: &Action) -> Option<Conflict>
+    ensures { result ≡ conflict_of action.now }
+{
+    match action {
+        Action::Load { cell, .. } => Some(Conflict::Cell { cell: *cell }),
+        Action::Store { cell, .. } => Some(Conflict::Cell { cell: *cell }),
+        Action::Print { .. } => Some(Conflict::Print),
+        _ => None,
+    }
+}
+
+/// The race that is named for the event, the step of its task with this number, where these are the
+/// newest with which it has one by the order with exclusion and by that without.
+pub fn race_of(
+    ids: &Ids,
+    event: &Event,
+    k: u32,
+    newest: Option<Access>,
+    excluded: Option<Access>,
+) -> Result<Option<Race>, AllocError>
+    ensures { IfOk result (λ o. (cells : Cells) (H : History) (strict loose : Run)
+        → AreIds cells H ids.now
+        → Begins true (event.now ∷ H) strict → Begins false (event.now ∷ H) loose
+        → k ≡ suc (length (own event.now.task H)) → IsFound true H event.now newest
+        → IsFound false H event.now excluded → o ≡ Racing.race_of H event.now) }
+{
+    match race_with(ids, event, k, newest, false)? {
+        Some(race) => Ok(Some(race)),
+        None => race_with(ids, event, k, excluded, true),
+    }
+}
+
+/// The race of the event with this step.
+fn race_with(
+    ids: &Ids,
+    event: &Event,
+    k: u32,
+    earlier: Option<Access>,
+    apart: bool,
+) -> Result<Option<Race>, AllocError>
+    ensures { IfOk result (λ o. (cells : Cells) (H : History) (exclusion : Bool) (r : Run)
+        → AreIds cells H ids.now → Begins exclusion (event.now ∷ H) r
+        → k ≡ suc (length (own event.now.task H)) → IsFound exclusion H event.now earlier
+        → apart ≡ not exclusion → o ≡ Racing.newest_race (order_of exclusion) H event.now H) }
+{
+    let Some(access) = earlier else {
+        return Ok(None);
+    };
+    let Some(conflict) = conflict_of(&event.action) else {
+        return Ok(None);
+    };
+    let Some(name) = ids.name(access.mark.task) else {
+        return Err(AllocError);
+    };
+    let first = name.clone()?;
+    let second = event.task.clone()?;
+    Ok(Some(Race {
+        earlier: StepId {
+            task: first,
+            k: access.k,
+        },
+        later: StepId { task: second, k },
+        conflict,
+        apart,
+    }))
+}

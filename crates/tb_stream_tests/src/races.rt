@@ -1,0 +1,112 @@
+//! Two children store to one cell, and their parent loads it after a `taskwait`.
+
+ghost use Rattle.std.specs.Prelude.{◌<◌};
+
+use std::alloc::Global;
+use std::mem::forget;
+use tb_model::{Action, Args, Event, Items, Spawn, Spawned, TaskName, WaitItems};
+use tb_stream::Races;
+
+fn root(alloc: Global) -> TaskName {
+    TaskName::root(alloc)
+}
+
+/// The nth child of the root, and the root where there was no memory for its name.
+fn child(alloc: Global, n: u32) -> TaskName
+    requires { 0 < n }
+{
+    match root(alloc).child(n) {
+        Ok(name) => name,
+        Err(_) => root(alloc),
+    }
+}
+
+/// The action that generates the nth child of the root.
+fn spawn(alloc: Global, n: u32) -> Option<Action>
+    requires { 0 < n }
+{
+    let spawn = Spawn {
+        child: child(alloc, n),
+        body: 0,
+        args: Args::new(alloc),
+        items: Items::new(alloc),
+        deferred: true,
+    };
+    match Spawned::new(alloc, spawn) {
+        Ok(spawned) => Some(Action::Spawn(spawned)),
+        Err(_) => None,
+    }
+}
+
+/// Adds a step, and returns the number of the step with which it races, 0 for none; none where there
+/// was no memory. What it needs isn't given back.
+fn racing(races: &mut Races, task: TaskName, action: Action) -> Option<u32> {
+    let event = Event { task, action };
+    let told = races.push(&event);
+    forget(event);
+    match told {
+        Ok(Some(race)) => {
+            let k = race.earlier.k;
+            forget(race);
+            Some(k)
+        }
+        Ok(None) => Some(0),
+        Err(_) => None,
+    }
+}
+
+/// Whether the step of the root that generates its nth child races with none.
+fn spawns(alloc: Global, races: &mut Races, n: u32) -> bool
+    requires { 0 < n }
+{
+    match spawn(alloc, n) {
+        Some(action) => racing(races, root(alloc), action) == Some(0),
+        None => false,
+    }
+}
+
+/// The number of the step with which the store of the root's nth child races.
+fn stores(alloc: Global, races: &mut Races, n: u32) -> Option<u32>
+    requires { 0 < n }
+{
+    let started = racing(races, child(alloc, n), Action::Start);
+    let stored = racing(races, child(alloc, n), Action::Store { cell: 7, value: 1 });
+    let ended = racing(races, child(alloc, n), Action::End);
+    if started == Some(0) && ended == Some(0) {
+        stored
+    } else {
+        None
+    }
+}
+
+#[test]
+fn stores_of_siblings_race_and_a_load_after_a_taskwait_does_not(rt: HostRuntime) {
+    let alloc = rt.alloc();
+    let Ok(mut races) = Races::new(alloc) else {
+        assert!(rt; false);
+        return;
+    };
+    let started = racing(&mut races, root(alloc), Action::Start);
+    let spawned = spawns(alloc, &mut races, 1) && spawns(alloc, &mut races, 2);
+    let first = stores(alloc, &mut races, 1);
+    let second = stores(alloc, &mut races, 2);
+    let Ok(items) = WaitItems::new(alloc, Items::new(alloc)) else {
+        assert!(rt; false);
+        return;
+    };
+    let wait = Action::Wait { items };
+    let waited = racing(&mut races, root(alloc), wait);
+    let load = Action::Load {
+        reg: 0,
+        cell: 7,
+        value: 1,
+    };
+    let loaded = racing(&mut races, root(alloc), load);
+    forget(races);
+    assert!(rt; started == Some(0));
+    assert!(rt; spawned);
+    assert!(rt; first == Some(0));
+    assert!(rt; second == Some(2));
+    assert!(rt; waited == Some(0));
+    assert!(rt; loaded == Some(0));
+}
