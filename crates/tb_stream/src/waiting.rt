@@ -121,12 +121,14 @@ fn starts_after(exclusion: bool, tasks: &Tasks, task: usize, other: usize) -> bo
     either(before, both(exclusion, either(apart, excluded)))
 }
 
+// for the proof: a call has no branch, `||` has one
 fn either(one: bool, other: bool) -> bool
     ensures { result ≡ (one || other) }
 {
     one || other
 }
 
+// for the proof: a call has no branch, `&&` has one
 fn both(one: bool, other: bool) -> bool
     ensures { result ≡ (one && other) }
 {
