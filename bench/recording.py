@@ -4,12 +4,13 @@
     bench/recording.py [--threads N] [--tries N] [--beside FOLDER] [PROGRAM ..]
 
 The least of some runs counts. `loads` stores 10,000,000 times in an order in which no two elements are next to each other,
-`far` so that each is an event of its own, `many` ten times that (the trace takes 3.2 GB). `lanes` has the iterations of a
+`far` so that each is an event of its own, `many` ten times that (the trace takes some 0.6 GB). `lanes` has the iterations of a
 `simd` loop. `--beside` names another copy of the sources, whose recorder takes turns with this one's: its columns come
 last. TASKBACK_CLANG names another clang.
 """
 
 import argparse
+import json
 import os
 import subprocess
 import sys
@@ -121,11 +122,12 @@ class Recorder:
         self.seconds = min(self.seconds or seconds, seconds)
 
     def judge(self, tries):
-        """(events, seconds, MB) of the last trace, which goes then."""
+        """(events, MB of the trace, seconds, MB) of the last trace, which goes then."""
         judged = min(used([self._judge, self._trace]) for _ in range(tries))
-        events = os.path.getsize(self._trace) // 32
+        told = subprocess.run([self._judge, self._trace], capture_output=True, text=True, check=True).stdout
+        events, size = json.loads(told)["events"], os.path.getsize(self._trace) / 1e6
         os.remove(self._trace)
-        return (events, *judged)
+        return (events, size, *judged)
 
 
 def measure(name, folder, threads, tries, tops):
@@ -143,8 +145,8 @@ def measure(name, folder, threads, tries, tops):
             recorder.run(**count)
     columns = []
     for recorder in recorders:
-        events, seconds, memory = recorder.judge(max(1, tries // 3))
-        columns += [f"{events:,}", f"{alone:.3f}", f"{recorder.seconds:.3f}", f"{recorder.seconds / max(alone, 0.001):.1f}",
+        events, size, seconds, memory = recorder.judge(max(1, tries // 3))
+        columns += [f"{events:,}", f"{size:,.0f}", f"{alone:.3f}", f"{recorder.seconds:.3f}", f"{recorder.seconds / max(alone, 0.001):.1f}",
                     f"{seconds:.2f}", f"{memory / 1000:.2f}"]
     return f"| {name} | {threads} | {' | '.join(columns)} |"
 
@@ -157,8 +159,8 @@ def main():
     options.add_argument("programs", nargs="*", choices=[[], *PROGRAMS])
     given = options.parse_args()
     tops = [TOP, *([given.beside] if given.beside else [])]
-    print("| program | threads |" + " events | alone, s | recorded, s | times | judged, s | memory of the judge, GB |" * len(tops))
-    print("|---|---|" + "---|---|---|---|---|---|" * len(tops))
+    print("| program | threads |" + " events | trace, MB | alone, s | recorded, s | times | judged, s | memory of the judge, GB |" * len(tops))
+    print("|---|---|" + "---|---|---|---|---|---|---|" * len(tops))
     with tempfile.TemporaryDirectory() as folder:
         for threads in given.threads:
             for name in given.programs or [name for name in PROGRAMS if name != "many"]:

@@ -1,10 +1,10 @@
 #!/usr/bin/env python3
 """Runs the measurements and writes what they say into bench/RESULTS.md, with the commit, the machine and the program.
 
-    bench/results.py [--short] [PROGRAM]
+    bench/results.py [--short] [PROGRAM [JUDGE]]
 
-The program is the proved one, crates/taskback/out/taskback, or another that is named. All takes some twenty minutes on a quiet
-machine. --short takes a minute, with small sizes: it shows that the scripts work, and the page says so.
+The programs are the proved ones, crates/taskback/out/taskback and crates/taskcheck/out/taskcheck, or others that are named. All
+takes some thirty minutes on a quiet machine. --short takes a minute, with small sizes: it shows that the scripts work, and the page says so.
 """
 import datetime
 import os
@@ -15,11 +15,12 @@ import sys
 TOP = os.path.dirname(os.path.dirname(os.path.abspath(__file__)))
 PAGE = os.path.join(TOP, "bench", "RESULTS.md")
 PROVED = os.path.join(TOP, "crates", "taskback", "out", "taskback")
+PROVED_JUDGE = os.path.join(TOP, "crates", "taskcheck", "out", "taskcheck")
 
 RACES = ["races.py", "--program", "PROGRAM", "--seconds", "1", "--tasks", "100000", "--most", "1000000"]
 EDGES = ["races.py", "--program", "PROGRAM", "--seconds", "1", "--view", "edges", "--tasks", "10000"]
 
-# What a script measures, and its words; PROGRAM stands for the program's path. The third are those of a short run.
+# What a script measures, and its words; PROGRAM and JUDGE stand for the paths of the programs. The third are those of a short run.
 ROWS: list[tuple[str, list[str], list[str] | None]] = [
     ("Long rows of steps and undos", ["steps.py", "PROGRAM"], ["steps.py", "PROGRAM"]),
     ("One big session of each kind", ["sessions.py", "PROGRAM"], ["sessions.py", "PROGRAM", "siblings"]),
@@ -32,6 +33,7 @@ ROWS: list[tuple[str, list[str], list[str] | None]] = [
     ("Immediate needs of all steps", EDGES, EDGES),
     ("One worker and several", ["workers.py", "--program", "PROGRAM"], ["workers.py", "--program", "PROGRAM", "--rounds", "1"]),
     ("Deep tasks", ["levels.py", "--program", "PROGRAM", "4000", "16384"], ["levels.py", "--program", "PROGRAM", "1000"]),
+    ("Recorded runs", ["runs.py", "--program", "JUDGE"], ["runs.py", "--program", "JUDGE", "--events", "100000", "--tasks", "1000", "--small", "100"]),
 ]
 
 
@@ -61,12 +63,12 @@ def head(program: str, short: bool) -> str:
     return "\n".join(lines)
 
 
-def measured(title: str, words: list[str], program: str) -> tuple[str, bool]:
+def measured(title: str, asked: list[str], programs: dict[str, str]) -> tuple[str, bool]:
     """The output of a script, below its title."""
-    words = [program if it == "PROGRAM" else it for it in words]
+    words = [programs.get(it, it) for it in asked]
     done = subprocess.run([sys.executable, os.path.join(TOP, "bench", words[0]), *words[1:]], cwd=TOP, capture_output=True, text=True, check=False)
     print(f"{title}: status {done.returncode}", flush=True)
-    shown = " ".join(["bench/" + words[0], *(it for it in words[1:] if it != program)]).replace(" --program", "")
+    shown = " ".join(["bench/" + words[0], *(it for it in asked[1:] if it not in programs)]).replace(" --program", "")
     text = done.stdout.rstrip() if done.returncode == 0 else f"failed: {done.stderr.strip().splitlines()[-1]}"
     return f"## {title}\n\n`{shown}`\n\n```text\n{text}\n```", done.returncode == 0
 
@@ -75,17 +77,19 @@ def main() -> None:
     words = sys.argv[1:]
     short = "--short" in words
     named = [it for it in words if it != "--short"]
-    if len(named) > 1 or any(it.startswith("-") for it in named):
+    if len(named) > 2 or any(it.startswith("-") for it in named):
         sys.exit(__doc__.strip())
     program = os.path.abspath(named[0]) if named else PROVED
-    if not os.access(program, os.X_OK):
-        sys.exit(f"no program at {program}")
+    judge = os.path.abspath(named[1]) if len(named) > 1 else PROVED_JUDGE
+    for needed in (program, judge):
+        if not os.access(needed, os.X_OK):
+            sys.exit(f"no program at {needed}")
     parts = [head(program, short)]
     failed = 0
     for title, whole, small in ROWS:
         asked = small if short else whole
         if asked:
-            text, right = measured(title, asked, program)
+            text, right = measured(title, asked, {"PROGRAM": program, "JUDGE": judge})
             parts.append(text)
             failed += not right
     with open(PAGE, "w", encoding="utf-8") as file:

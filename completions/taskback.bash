@@ -1,5 +1,5 @@
 # Completions for bash: `source completions/taskback.bash`, or copy it into /usr/share/bash-completion/completions/.
-# They are for ./run, taskback and taskback-dap.
+# They are for ./run, taskback, taskback-dap and taskcheck.
 
 # The files that begin so and end with one of these, and folders.
 _taskback_files() {
@@ -27,9 +27,10 @@ _taskback_run() {
         --limit) _taskback_words "$word" "1000 100000 1000000" ;;
         --workers) _taskback_words "$word" "1 2 4 8 16 32 64" ;;
         -x) mapfile -t COMPREPLY < <(compgen -f -- "$word") ;;
+        --judge) _taskback_files "$word" run ;;
         *)
             if [[ $word == -* ]]; then
-                _taskback_words "$word" "--prove --serve --page --graph --lanes --limit --workers --plain --check --json --help --version -i -x"
+                _taskback_words "$word" "--prove --serve --page --graph --lanes --judge --limit --workers --plain --check --json --help --version -i -x"
             else
                 _taskback_files "$word" task session
             fi
@@ -57,6 +58,17 @@ _taskback_dap() {
     esac
 }
 
+_taskback_check() {
+    local word=${COMP_WORDS[COMP_CWORD]}
+    COMPREPLY=()
+    if [[ $word == -* ]]; then
+        _taskback_words "$word" "--help --version"
+    else
+        _taskback_files "$word" run
+    fi
+}
+
 complete -F _taskback_run run
 complete -F _taskback_program taskback
 complete -F _taskback_dap taskback-dap
+complete -F _taskback_check taskcheck

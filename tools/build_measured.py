@@ -1,7 +1,9 @@
 #!/usr/bin/env python3
-"""Builds the program without proof, for measurements: as fast as the proved one, within a few percent.
+"""Builds a program without proof, for measurements: as fast as the proved one, within a few percent.
 
-    tools/build_measured.py TARGET
+    tools/build_measured.py [--crate NAME] TARGET
+
+NAME is the program's crate: `taskback` where none is named, or `taskcheck`.
 
 `rt try` compiles a program with a check at each step that a proof would spare it, fills what is
 declared before it is written, and follows no hints on inlining. Here the checks and the fillings are
@@ -80,6 +82,7 @@ def rewritten(lines: Iterable[str], found: Hints) -> Iterator[str]:
 
 
 def main(words: list[str]) -> int:
+    crate = unproved.crate_of(words)
     if len(words) != 1 or words[0].startswith('-'):
         print(__doc__, file=sys.stderr)
         return 2
@@ -89,7 +92,7 @@ def main(words: list[str]) -> int:
         log, text = os.path.join(folder, 'log'), os.path.join(folder, 'measured.ll')
         try:
             with open(log, 'wb') as said:
-                module = unproved.taken_module(folder, said)
+                module = unproved.taken_module(folder, said, crate)
             subprocess.run([clang, '-x', 'ir', module, '-S', '-emit-llvm', '-Xclang', '-disable-llvm-passes', '-o', text + '.checked'], check=True)
             with open(text + '.checked', encoding='utf-8') as old, open(text, 'w', encoding='utf-8') as new:
                 new.writelines(rewritten(old, found))

@@ -62,6 +62,14 @@ class Count:
         with ThreadPoolExecutor(max_workers=self.jobs) as pool:
             list(pool.map(check, numbers))
 
+    def report(self) -> None:
+        """Prints how often each kind was checked, and ends with status 1 where one was wrong."""
+        for kind, checks in self.checks.items():
+            print('%8d %s%s' % (checks, kind, ', some wrong' if kind in self.wrong else ''))
+        print('%d checks' % sum(self.checks.values()))
+        print('%d passed, %d failed' % (len(self.checks) - len(self.wrong), len(self.wrong)))
+        sys.exit(1 if self.wrong else 0)
+
 
 def writes(program: Program, count: Count, stride: int) -> None:
     """What was written is a beginning of the whole, as long as the sink was; then status 3."""
@@ -276,11 +284,7 @@ def main() -> None:
             part(program, count, argument)
             print('%s: %.0f s' % (part.__name__, time.monotonic() - began), flush=True)
         texts(program, count, given.texts, given.seed)
-    for kind, checks in count.checks.items():
-        print('%8d %s%s' % (checks, kind, ', some wrong' if kind in count.wrong else ''))
-    print('%d checks' % sum(count.checks.values()))
-    print('%d passed, %d failed' % (len(count.checks) - len(count.wrong), len(count.wrong)))
-    sys.exit(1 if count.wrong else 0)
+    count.report()
 
 
 if __name__ == '__main__':

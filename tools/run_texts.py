@@ -109,6 +109,8 @@ def execute(r: random.Random, session: Session, most: int) -> None:
     """Up to `most` steps, in an order by chance or by a style."""
     style = r.choice(['least', 'any', 'any', 'newest', 'bursts'])
     rolls = r.choice([0, 0, 0.02])
+    # More of them could take back as much as is executed.
+    left_to_roll = 10
     while len(session.steps) < most:
         left = most - len(session.steps)
         if style == 'least':
@@ -122,7 +124,8 @@ def execute(r: random.Random, session: Session, most: int) -> None:
             for _ in range(min(left, 1 if style == 'any' and len(ready) < 50 else r.choice([2, 5, 20]))):
                 if not session.execute('step ' + task):
                     break
-        if session.steps and r.random() < rolls:
+        if session.steps and left_to_roll and r.random() < rolls:
+            left_to_roll -= 1
             session.roll(r.choice(list(session.steps)[-20:]))
 
 

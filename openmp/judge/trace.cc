@@ -19,7 +19,7 @@ Trace::Trace(const char *path) {
     length_ = static_cast<std::size_t>(about.st_size);
     void *mapped = length_ ? mmap(nullptr, length_, PROT_READ, MAP_PRIVATE, file, 0) : MAP_FAILED;
     close(file);
-    constexpr char WORDS[] = "taskback trace 2 ";
+    constexpr char WORDS[] = "taskback trace 3 ";
     bool is_whole = mapped != MAP_FAILED && length_ >= HEADER && std::memcmp(mapped, WORDS, sizeof WORDS - 1) == 0;
     if (mapped != MAP_FAILED)
         bytes_ = static_cast<const char *>(mapped);
@@ -36,31 +36,87 @@ Trace::~Trace() {
 
 void Trace::read_header() {
     std::string page(bytes_, HEADER);
-    std::size_t begin = std::strlen("taskback trace 2 "), end = page.find('\n');
+    std::size_t begin = std::strlen("taskback trace 3 "), end = page.find('\n');
     program_ = page.substr(begin, end - begin);
     is_cut_ = page.compare(HEADER - (sizeof NO_ROOM - 1), sizeof NO_ROOM - 1, NO_ROOM) == 0;
     std::size_t second = page.find('\n', end + 1);
     unseen_ = page.substr(end + 1, second - end - 1);
 }
 
+// Where the piece that begins there ends: a packed one says so, another one has room for PIECE events.
+std::size_t Trace::end_of_piece(std::size_t at) const {
+    event head;
+    std::memcpy(&head, bytes_ + at, sizeof head);
+    if (head.kind != CHUNK || head.value == 0)
+        return std::min(at + PIECE * sizeof(event), length_);
+    if (head.value > length_)
+        return length_;
+    return std::min(at + (head.value + END_MARK + 2 * sizeof(event) - 1) / sizeof(event) * sizeof(event), length_);
+}
+
+// Where there was no room for all of a packed piece, or the program ended while it was written, its events are in the
+// thread's first one.
+bool Trace::is_whole(std::size_t at, std::size_t end) const {
+    event head;
+    std::memcpy(&head, bytes_ + at, sizeof head);
+    const std::size_t behind = at + sizeof head + head.value;
+    if (head.kind != CHUNK || head.value == 0)
+        return true;
+    return head.value <= length_ && behind + END_MARK <= end && std::count(bytes_ + behind, bytes_ + behind + END_MARK, '\xff') == END_MARK;
+}
+
+// Where pieces begin; what stands between them is empty.
+std::vector<std::size_t> Trace::find_begins() const {
+    std::vector<std::size_t> begins;
+    for (std::size_t at = HEADER; at + sizeof(event) <= length_;) {
+        if (bytes_[at + offsetof(event, kind)] == 0) {
+            at += sizeof(event);
+            continue;
+        }
+        std::size_t end = end_of_piece(at);
+        if (is_whole(at, end))
+            begins.push_back(at);
+        at = end;
+    }
+    return begins;
+}
+
+// Writes the events of a piece to `to`, and returns their number.
+u32 Trace::unpack(std::size_t at, event *to) const {
+    const std::size_t end = end_of_piece(at);
+    std::memcpy(to, bytes_ + at, sizeof *to);
+    u32 count = 1;
+    if (to->kind == CHUNK && to->value != 0) {
+        const auto *from = reinterpret_cast<const unsigned char *>(bytes_ + at + sizeof *to), *behind = from + to->value;
+        to->value = 0;
+        const event *last[FAMILIES];
+        std::fill(last, last + FAMILIES, to);
+        for (; from != behind && count < PIECE; count++)
+            if (!(from = unpack_event(last, to + count, from, behind)))
+                throw BadTrace("a piece of the trace is wrong");
+        return count;
+    }
+    for (at += sizeof *to; at + sizeof *to <= end && bytes_[at + offsetof(event, kind)] != 0; at += sizeof *to)
+        std::memcpy(to + count++, bytes_ + at, sizeof *to);
+    return count;
+}
+
 // The pieces of each thread in its order: its first one, which it fills again and again, has its newest events.
-std::vector<std::vector<Trace::Piece>> Trace::find_pieces() {
-    events_ = reinterpret_cast<const event *>(bytes_ + HEADER);
-    count_ = (length_ - HEADER) / sizeof(event);
-    threads_.assign(count_ / PIECE + 1, 0);
+std::vector<std::vector<Trace::Piece>> Trace::read_pieces() {
+    const auto begins = find_begins();
+    events_.reset(new event[begins.size() * PIECE]);
     std::vector<std::vector<Piece>> pieces(1);
-    for (std::size_t begin = 0; begin < count_; begin += PIECE) {
-        std::size_t end = begin, most = std::min(begin + PIECE, count_);
-        while (end < most && events_[end].kind != 0)
-            end++;
-        u32 thread = begin < end && events_[begin].kind == CHUNK ? static_cast<u32>(events_[begin].address) : 0;
-        if (thread >= count_)
+    for (std::size_t number = 0; number < begins.size(); number++) {
+        const auto begin = static_cast<u32>(number * PIECE);
+        const event &head = events_[begin];
+        const u32 end = begin + unpack(begins[number], &events_[begin]);
+        const u32 thread = head.kind == CHUNK ? static_cast<u32>(head.address) : 0;
+        if (thread >= length_ / sizeof(event))
             throw BadTrace("the trace's threads are wrong");
-        threads_[begin / PIECE] = thread;
+        threads_.push_back(thread);
         if (thread >= pieces.size())
             pieces.resize(thread + 1);
-        if (begin < end)
-            pieces[thread].push_back(Piece{static_cast<u32>(begin), static_cast<u32>(end)});
+        pieces[thread].push_back(Piece{begin, end});
     }
     for (auto &own : pieces) {
         if (own.empty() || events_[own[0].begin].kind != CHUNK)
@@ -69,7 +125,7 @@ std::vector<std::vector<Trace::Piece>> Trace::find_pieces() {
         // A run that ended between the copy of a full piece and what comes next has it twice.
         const Piece &last = own.back(), &newest = own[own.size() > 1 ? own.size() - 2 : 0];
         if (own.size() > 1 && last.end - last.begin == PIECE && newest.end - newest.begin == PIECE
-            && std::memcmp(events_ + last.begin, events_ + newest.begin, PIECE * sizeof(event)) == 0)
+            && std::memcmp(&events_[last.begin + 1], &events_[newest.begin + 1], (PIECE - 1) * sizeof(event)) == 0)
             own.pop_back();
     }
     return pieces;
@@ -78,7 +134,7 @@ std::vector<std::vector<Trace::Piece>> Trace::find_pieces() {
 // The last number in front of one that is missing: where there was no room for all, or a thread was in the middle of
 // writing at the end, what comes behind makes no sense without it.
 u32 Trace::find_whole(const std::vector<std::vector<Piece>> &pieces) {
-    std::vector<bool> is_there(count_ + 2, false);
+    std::vector<bool> is_there(threads_.size() * PIECE + 2, false);
     u32 last = 0;
     for (const auto &own : pieces)
         for (const Piece &piece : own)
@@ -100,7 +156,9 @@ u32 Trace::find_whole(const std::vector<std::vector<Piece>> &pieces) {
 
 // By their numbers: in front the one that has taken the number, then those that have only read it.
 void Trace::put_in_order() {
-    const auto pieces = find_pieces();
+    const auto pieces = read_pieces();
+    munmap(const_cast<char *>(bytes_), length_);
+    bytes_ = nullptr;
     const u32 last = find_whole(pieces);
     auto each = [&](auto take) {
         for (const auto &own : pieces)

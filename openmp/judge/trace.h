@@ -3,11 +3,12 @@
 
 #include <cstddef>
 #include <cstdint>
+#include <memory>
 #include <stdexcept>
 #include <string>
 #include <vector>
 
-#include "../recorder/event.h"
+#include "../recorder/packing.h"
 
 namespace judge {
 
@@ -50,14 +51,17 @@ private:
     };
 
     void read_header();
-    std::vector<std::vector<Piece>> find_pieces();
+    std::size_t end_of_piece(std::size_t at) const;
+    bool is_whole(std::size_t at, std::size_t end) const;
+    u32 unpack(std::size_t at, event *to) const;
+    std::vector<std::size_t> find_begins() const;
+    std::vector<std::vector<Piece>> read_pieces();
     u32 find_whole(const std::vector<std::vector<Piece>> &pieces);
     void put_in_order();
 
     const char *bytes_ = nullptr;
     std::size_t length_ = 0;
-    const event *events_ = nullptr;
-    std::size_t count_ = 0;
+    std::unique_ptr<event[]> events_;
     std::vector<u32> order_;
     std::vector<u32> threads_;
     std::string program_, unseen_;

@@ -111,6 +111,10 @@ static inline struct touched *touched_at(struct own *own, uint64_t block, uint64
     return &own->touched[(block ^ place * 31) * 0x9E3779B97F4A7C15u >> (64 - TOUCHED_BITS)];
 }
 
+static inline struct row *row_at(struct own *own, uint64_t place) {
+    return &own->rows[(uint32_t)place * 0x9E3779B1u >> (32 - ROW_BITS)];
+}
+
 static inline uint64_t key_of(const struct own *own, uint64_t place) { return (uint64_t)own->epoch << 32 | (uint32_t)place; }
 
 /* What is no element of a block of its size stands alone: its block is its address, and no other block's number. */
@@ -126,10 +130,9 @@ __attribute__((always_inline)) static inline void touch_again(struct own *own, s
     own->unread = first;
 }
 
-/* Whether the element has been written down; in a part that isn't busy each element that is written has its own number. */
-__attribute__((always_inline)) static inline int is_known(struct own *own, const struct touched *touched, enum kind kind, uint64_t address, uint64_t bit) {
-    if (!(touched->bits & bit))
-        return 0;
+/* Whether an element that was touched isn't written down again; in a part that isn't busy each element that is written has
+   its own number. */
+__attribute__((always_inline)) static inline int is_known(struct own *own, const struct touched *touched, enum kind kind, uint64_t address) {
     if (touched->first->address == address) {
         touch_again(own, touched->first, kind, 1);
         return 1;
@@ -154,6 +157,38 @@ __attribute__((always_inline)) static inline struct event *note_touch(struct own
     return event;
 }
 
+/* The next element of a row is the last one of the same event; most calls in a loop end here. What has been touched of the
+   block is told by that event, too. */
+__attribute__((always_inline)) static inline int goes_on(struct own *own, uint64_t address, uint32_t shift, uint64_t place,
+                                                         const struct frame *frame) {
+    struct row *row = row_at(own, place);
+    if (row->next != address || row->key != key_of(own, place) || row->frame != (uint64_t)frame->outer
+        || row->caller != frame->outer->back)
+        return 0;
+    if ((address & ((64u << shift) - 1)) == 0)
+        return 0;
+    row->event->size = (uint16_t)(row->event->size + (1u << shift));
+    row->next = address + (1u << shift);
+    own->last = 0;
+    return 1;
+}
+
+/* The elements of the block that are told: those in a row by its event alone. */
+static inline uint64_t told_of(const struct touched *touched, uint32_t shift) {
+    const struct event *first = touched->first;
+    if (!(first->mark >> ROW_SHIFT))
+        return touched->bits;
+    return touched->bits | ~0ull >> (64 - (first->size >> shift)) << (first->address >> shift & 63);
+}
+
+/* What comes behind isn't the row's any more. */
+static void end_row(struct own *own, struct touched *touched, uint32_t shift) {
+    struct row *row = row_at(own, touched->key);
+    touched->bits = told_of(touched, shift);
+    if (row->event == touched->first)
+        row->next = 0;
+}
+
 /* One more element of a block that the place has touched, by one chain of callers: the next one behind the first is the
    same event. Where the part has much to tell, all others of the block are a second one. */
 enum { UNKNOWN, GROWS, STAYS };
@@ -166,14 +201,15 @@ __attribute__((always_inline)) static inline int joins(struct own *own, struct t
         return 0;
     if (touched->set) {
         touched->set->value |= bit;
+        touched->bits |= bit;
     } else if (address == first->address + first->size) {
         first->size = (uint16_t)(first->size + (1u << shift));
         first->mark = row_mark(shift);
+        *row_at(own, touched->key) = (struct row){address + (1u << shift), touched->key, touched->frame, touched->caller, first};
     } else {
         return 0;
     }
     own->last = 0;
-    touched->bits |= bit;
     return 1;
 }
 
@@ -182,6 +218,7 @@ static void begin_set(struct own *own, struct touched *touched, enum kind kind, 
                       uint64_t place) {
     if (touched->set || !is_busy(own) || own->next == own->end)
         return;
+    end_row(own, touched, shift);
     touched->set = write_down(own, kind, number_of_event(kind, 0), own->task, address >> (shift + 6) << (shift + 6), 0, offset_of(place), SET,
                               row_mark(shift));
 }
@@ -219,15 +256,18 @@ __attribute__((noinline)) static void touch_more(struct own *own, enum kind kind
     uint64_t bit = is_aligned ? 1ull << (address >> shift & 63) : 1;
     struct touched *touched = touched_at(own, block, place);
     int is_same = touched->key == key_of(own, place) && touched->block == block;
-    if (is_left_out(own, kind, address) || (is_same && is_known(own, touched, kind, address, bit)))
+    uint64_t told = is_same ? told_of(touched, shift) : 0;
+    if (is_left_out(own, kind, address) || (told & bit && is_known(own, touched, kind, address)))
         return;
     if (is_same && touched->growth == UNKNOWN)
         touched->growth = is_aligned && may_grow(own, kind, address, shift, frame) ? GROWS : STAYS;
-    if (is_same && touched->growth == GROWS && !(touched->bits & bit) && !(touched->first->mark & ATOMIC)) {
+    if (is_same && touched->growth == GROWS && !(told & bit) && !(touched->first->mark & ATOMIC)) {
         begin_set(own, touched, kind, address, shift, place);
         if (joins(own, touched, address, shift, bit, frame))
             return;
     }
+    if (is_same)
+        end_row(own, touched, shift);
     struct frame *user = outer_of(own, frame);
     struct event *event = note_touch(own, kind, address, 1u << shift, place, 0, user);
     uint64_t key = key_of(own, place);
@@ -341,6 +381,14 @@ void __tsan_func_exit(void) {
     taskback_pop_task(own, running->task);
 }
 
+/* By the pass: what stands below on the stack ends there, as arrays whose length the program computes do with their block. */
+void taskback_stack_restored(void *saved) {
+    struct own *own = own_state();
+    uint64_t top = (uint64_t)saved, low = (uint64_t)__builtin_frame_address(0) + 16;
+    if (top - own->stack_low > own->quiet_span && top > low)
+        taskback_access(WRITE, low, top - low, PLACE, FREED | FRAME);
+}
+
 /* What no other task can know of yet: what the function has on the stack, and what the task has in its record. */
 static inline int is_quiet(const struct own *own, const void *address) {
     return (uint64_t)address - own->stack_low < own->quiet_span || (uint64_t)address - own->quiet_record < own->quiet_size;
@@ -358,7 +406,7 @@ __attribute__((always_inline)) static inline void touch(struct own *own, enum ki
             load_first(own, address, shift, touched, place, frame);
         else
             store_first(own, address, shift, touched, place, frame);
-    } else if (!is_aligned || !(touched->bits & bit ? is_known(own, touched, kind, address, bit) : joins(own, touched, address, shift, bit, frame))) {
+    } else if (!is_aligned || !(told_of(touched, shift) & bit ? is_known(own, touched, kind, address) : joins(own, touched, address, shift, bit, frame))) {
         touch_more(own, kind, address, shift, place, frame);
     }
 }
@@ -367,7 +415,8 @@ __attribute__((always_inline)) static inline void touch(struct own *own, enum ki
 #define LOAD(bytes)                                                                           \
     void __sanitizer_cov_load##bytes(void *address) {                                         \
         struct own *own = own_state();                                                        \
-        if (!is_quiet(own, address) && !own->is_alone)                                        \
+        if (!goes_on(own, (uint64_t)address, __builtin_ctz(bytes), PLACE, FRAME_HERE)         \
+            && !is_quiet(own, address) && !own->is_alone)                                     \
             touch(own, READ, (uint64_t)address, __builtin_ctz(bytes), PLACE, FRAME_HERE);     \
     }
 #define STORE(bytes)                                                                          \
@@ -375,7 +424,8 @@ __attribute__((always_inline)) static inline void touch(struct own *own, enum ki
         struct own *own = own_state();                                                        \
         if (__builtin_expect(own->loop.is_on, 0))                                             \
             stored_in_loop(own, (uint64_t)address, bytes);                                    \
-        if (!is_quiet(own, address))                                                          \
+        if (!goes_on(own, (uint64_t)address, __builtin_ctz(bytes), PLACE, FRAME_HERE)         \
+            && !is_quiet(own, address))                                                       \
             touch(own, WRITE, (uint64_t)address, __builtin_ctz(bytes), PLACE, FRAME_HERE);    \
     }
 #define BOTH(bytes) LOAD(bytes) STORE(bytes)

@@ -1,7 +1,7 @@
 /* Each thread writes into a piece of the file of its own, which is mapped: what is written down is kept however the
-   program ends. Where it is full it is copied behind what the file has, and filled anew, so that its memory stays near.
-   So a thread's first piece is its newest, and ends where an event has no kind. The first page is text; then the pieces
-   follow, each begun by an event that names its thread. */
+   program ends. Where it is full it is packed and written behind what the file has, and filled anew, so that its memory
+   stays near. So a thread's first piece, which isn't packed, is its newest, and ends where an event has no kind. The first
+   page is text; then the pieces follow, each begun by an event that names its thread, with room between them. */
 #define _GNU_SOURCE
 #include <fcntl.h>
 #include <link.h>
@@ -15,7 +15,7 @@
 
 void *__real_mmap(void *, size_t, int, int, int, off_t);
 
-enum { HEADER = 4096, PIECE = BUFFER * sizeof(struct event) };
+enum { HEADER = 4096, PAGE = 4096, PIECE = BUFFER * sizeof(struct event) };
 
 __thread struct own *taskback_own;
 int taskback_is_recording;
@@ -56,25 +56,42 @@ static void use_piece(struct own *own, struct event *piece) {
     own->end = piece + BUFFER;
 }
 
-/* A thread's piece of the file, or nothing where there is no room for it. */
+/* A thread's piece of the file, at a page, or nothing where there is no room for it. */
 static struct event *map_piece(void) {
-    uint64_t at = __atomic_fetch_add(&file_end, PIECE, __ATOMIC_ACQ_REL);
+    uint64_t at = __atomic_fetch_add(&file_end, PIECE + PAGE, __ATOMIC_ACQ_REL);
+    at = (at + PAGE - 1) / PAGE * PAGE;
     if (posix_fallocate(file, (off_t)at, PIECE) != 0)
         return 0;
     void *piece = __real_mmap(0, PIECE, PROT_READ | PROT_WRITE, MAP_SHARED | MAP_POPULATE, file, (off_t)at);
     return piece == MAP_FAILED ? 0 : piece;
 }
 
+/* Packs the full piece, with the bytes that it takes in its first event and a mark at its end, by which the judge knows that
+   it is whole; how many bytes these are, which is a multiple of an event's. */
+static uint64_t pack_piece(struct own *own) {
+    const struct event *last[FAMILIES];
+    struct event *head = (struct event *)own->packed;
+    unsigned char *to = own->packed + sizeof *head;
+    for (int i = 0; i < FAMILIES; i++)
+        ((const struct event *volatile *)last)[i] = own->events;
+    for (const struct event *event = own->events + 1; event != own->end; event++)
+        to = pack_event(last, event, to);
+    *head = *own->events;
+    head->value = (uint64_t)(to - own->packed) - sizeof *head;
+    put_word(to, ~0ull);
+    to += END_MARK;
+    while ((to - own->packed) % (ptrdiff_t)sizeof *head != 0)
+        *to++ = 0;
+    return (uint64_t)(to - own->packed);
+}
+
 /* Whether the full piece is in the file a second time. */
-static int keep_piece(const struct own *own) {
-    uint64_t at = __atomic_fetch_add(&file_end, PIECE, __ATOMIC_ACQ_REL);
-    for (uint64_t done = 0; done < PIECE;) {
-        ssize_t put = pwrite(file, (const char *)own->events + done, PIECE - done, (off_t)(at + done));
-        if (put <= 0) {
-            static const struct event nothing;
-            /* A part of it would be there twice. */
-            return done > 0 && pwrite(file, &nothing, sizeof nothing, (off_t)at) < 0;
-        }
+static int keep_piece(struct own *own) {
+    uint64_t size = pack_piece(own), at = __atomic_fetch_add(&file_end, size, __ATOMIC_ACQ_REL);
+    for (uint64_t done = 0; done < size;) {
+        ssize_t put = pwrite(file, own->packed + done, size - done, (off_t)(at + done));
+        if (put <= 0)
+            return 0;
         done += (uint64_t)put;
     }
     return 1;
@@ -177,7 +194,7 @@ static int put_header(void) {
     path[length > 0 ? length : 0] = 0;
     for (int i = 0; i < HEADER; i++)
         page[i] = '\n';
-    int at = add(page, 0, HEADER - 2, "taskback trace 2 ");
+    int at = add(page, 0, HEADER - 2, "taskback trace 3 ");
     at = add(page, at, HEADER - 2, path) + 1;
     if (&taskback_unseen_objects != 0)
         add(page, at, HEADER - 2, taskback_unseen_objects);

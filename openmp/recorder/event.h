@@ -31,7 +31,8 @@ enum kind {
     UNLOCK,         /* task; address: the lock */
     NOTE,           /* task; value: one of enum note; place */
     COPY,           /* address: a thread's copy of a reduced variable; value: the variable; with a size, its own */
-    CHUNK,          /* the first of each piece of the file; address: the thread's number; it has no stamp */
+    CHUNK,          /* the first of each piece of the file; address: the thread's number; value: of a packed piece the
+                       bytes that follow; it has no stamp */
     ENDED,          /* the program has come to its end */
     LOOP_BEGIN,     /* task: an implicit task; address: how many iterations; value: the chunk's size, 0 for none; mark */
     ITERATION,      /* task; address: of the loop's number, or 0; value: the number; mark: HANDED_OUT */

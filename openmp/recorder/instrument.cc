@@ -54,6 +54,11 @@ public:
     }
 
 private:
+    // Which variables of a function others may know, and which hold the address of a copy that they can't.
+    struct Known {
+        DenseMap<const AllocaInst *, bool> elsewhere, hidden;
+    };
+
     // By this the recorder knows that the pass tells what falls to who did a loop's last iteration, as code that isn't
     // optimised has it.
     static void tell(Module &module) {
@@ -70,9 +75,10 @@ private:
     void take(Function &function) {
         std::vector<std::pair<Instruction *, Value *>> found;
         std::vector<Filling> fillings;
-        DenseMap<const AllocaInst *, bool> known;
+        Known known;
         const bool is_loop = has_loop(function);
         const auto lasts = is_loop && !is_optimised_ ? branches_of_last(function) : std::vector<BranchInst *>();
+        std::vector<Instruction *> restores;
         Simd simd(function, is_optimised_);
         for (BasicBlock &block : function) {
             DenseSet<const Value *> loaded;
@@ -84,6 +90,9 @@ private:
                 if (isa<StoreInst>(one))
                     loaded.erase(pointer);
                 auto is_told = [&](const Value *to) { return is_seen(one, to, known, is_loop, simd); };
+                if (const auto *call = dyn_cast<IntrinsicInst>(&one))
+                    if (call->getIntrinsicID() == Intrinsic::stackrestore)
+                        restores.push_back(&one);
                 if (pointer && is_told(pointer) && !(isa<LoadInst>(one) && !one.isAtomic() && !loaded.insert(pointer).second))
                     found.emplace_back(&one, pointer);
                 add_filling(one, is_told, fillings);
@@ -92,6 +101,8 @@ private:
         for (auto &access : found)
             put_call(*access.first, access.second);
         simd.put_calls();
+        for (Instruction *one : restores)
+            put_call_of_restore(*one);
         for (const Filling &filling : fillings)
             replace(filling);
         for (BranchInst *branch : lasts) {
@@ -113,10 +124,12 @@ private:
         return is_loop && variable && isa<StoreInst>(one) && variable->getAllocatedType()->isIntegerTy();
     }
 
-    bool is_seen(const Instruction &one, const Value *pointer, DenseMap<const AllocaInst *, bool> &known, bool is_loop, const Simd &simd) const {
-        if (!is_optimised_ && is_in_new_record(pointer))
-            return false;
+    bool is_seen(const Instruction &one, const Value *pointer, Known &known, bool is_loop, const Simd &simd) const {
         const Value *object = getUnderlyingObject(pointer, 0);
+        if (!is_optimised_ && (is_in_new_record(pointer) || (isa<LoadInst>(one) && is_of_record(cast<LoadInst>(one)))))
+            return false;
+        if (!is_optimised_ && !simd.is_lanes(one) && is_in_hidden_copy(object, known.hidden))
+            return false;
         if (const auto *constant = dyn_cast<GlobalVariable>(object))
             return !constant->isConstant();
         const auto *variable = dyn_cast<AllocaInst>(object);
@@ -124,9 +137,21 @@ private:
             return true;
         if (is_number(one, pointer, is_loop))
             return true;
-        auto added = known.try_emplace(variable, true);
+        auto added = known.elsewhere.try_emplace(variable, true);
         if (added.second)
             added.first->second = is_known_elsewhere(variable);
+        return added.first->second;
+    }
+
+    // Whether it is a copy in the task's record whose address nobody else has.
+    static bool is_in_hidden_copy(const Value *object, DenseMap<const AllocaInst *, bool> &hidden) {
+        const auto *load = dyn_cast<LoadInst>(object);
+        const auto *variable = load ? dyn_cast<AllocaInst>(load->getPointerOperand()) : nullptr;
+        if (!variable)
+            return false;
+        auto added = hidden.try_emplace(variable, false);
+        if (added.second)
+            added.first->second = is_of_hidden_copy(variable);
         return added.first->second;
     }
 
@@ -148,6 +173,13 @@ private:
         auto callee = one.getModule()->getOrInsertFunction(is_store ? "taskback_store" : "taskback_load", builder.getVoidTy(),
                                                            given->getType(), bytes->getType());
         builder.CreateCall(callee, {given, bytes});
+    }
+
+    // Arrays whose length the program computes end there, as what a function has on the stack does with the function.
+    static void put_call_of_restore(Instruction &one) {
+        IRBuilder<> builder(&one);
+        Value *saved = as_bytes(builder, cast<CallBase>(one).getArgOperand(0));
+        builder.CreateCall(one.getModule()->getOrInsertFunction("taskback_stack_restored", builder.getVoidTy(), saved->getType()), {saved});
     }
 
     static Value *as_bytes(IRBuilder<> &builder, Value *pointer) {

@@ -54,9 +54,9 @@ bool is_of_compiler(const User *user) {
            || (called && is_map(*called));
 }
 
-// Whether a variable's address may be known to anybody but the function's own loads and stores.
-bool is_known_elsewhere(const AllocaInst *variable) {
-    SmallVector<const Value *, 8> left(1, variable);
+// Whether an address may be known to anybody but the function's own loads and stores.
+bool is_known_elsewhere(const Value *address) {
+    SmallVector<const Value *, 8> left(1, address);
     while (!left.empty()) {
         const Value *pointer = left.pop_back_val();
         for (const User *user : pointer->users()) {
@@ -80,6 +80,54 @@ bool is_in_new_record(const Value *pointer) {
     const auto *call = dyn_cast<CallBase>(object);
     const Function *called = call ? call->getCalledFunction() : nullptr;
     return called && called->getName() == "__kmpc_omp_task_alloc";
+}
+
+// ---- what a task's function finds in the task's record, as code that isn't optimised has it
+
+// The variable from which a pointer comes, which is loaded from there and then moved by `offset` bytes at most.
+const AllocaInst *comes_from(const Value *pointer, const DataLayout &layout, int64_t &offset) {
+    APInt moved(layout.getIndexTypeSizeInBits(pointer->getType()), 0);
+    const Value *object = pointer->stripAndAccumulateConstantOffsets(layout, moved, true);
+    const auto *load = dyn_cast<LoadInst>(object);
+    offset = moved.getSExtValue();
+    return load ? dyn_cast<AllocaInst>(load->getPointerOperand()) : nullptr;
+}
+
+// How many bytes of a record, and of the pointers to what the task shares, nobody changes once the task is there; the
+// recorder leaves out their loads too.
+constexpr int64_t RECORD_HEAD = 40, SHARED_MOST = 64;
+
+// Whether the head of the record is loaded from, by which the compiler's code finds what the task shares.
+bool is_in_record_head(const Value *pointer, const Function &function, int64_t most) {
+    int64_t offset = 0;
+    const auto *variable = comes_from(pointer, function.getParent()->getDataLayout(), offset);
+    const Value *only = variable && begins(function.getName(), ".omp_task_entry.") ? only_stored_in(variable) : nullptr;
+    return only && function.arg_size() == 2 && only == function.getArg(1) && offset >= 0 && offset < most;
+}
+
+// Whether that, or one of the pointers to what the task shares.
+bool is_of_record(const LoadInst &one) {
+    const Function &function = *one.getFunction();
+    if (is_in_record_head(one.getPointerOperand(), function, RECORD_HEAD))
+        return true;
+    int64_t offset = 0;
+    const auto *variable = comes_from(one.getPointerOperand(), function.getParent()->getDataLayout(), offset);
+    const auto *shared = dyn_cast_or_null<LoadInst>(variable ? only_stored_in(variable) : nullptr);
+    return shared && offset >= 0 && offset < SHARED_MOST && is_in_record_head(shared->getPointerOperand(), function, 1);
+}
+
+// Whether the map leaves the address of one of the task's copies there, and nothing but loads and stores uses that.
+bool is_of_hidden_copy(const AllocaInst *variable) {
+    bool is_mapped = false;
+    for (const User *user : variable->users()) {
+        const auto *load = dyn_cast<LoadInst>(user);
+        const auto *call = dyn_cast<CallBase>(user);
+        const Function *called = call ? called_by(call) : nullptr;
+        if (load ? is_known_elsewhere(load) : !keeps_nothing(user) && !(called && is_map(*called)))
+            return false;
+        is_mapped = is_mapped || (called && is_map(*called));
+    }
+    return is_mapped;
 }
 
 // Whether the function takes its share of a loop: the recorder sees iterations by the number that is stored there.
@@ -184,6 +232,8 @@ public:
         if (!found_.empty())
             lines_ = declared_in(function);
     }
+
+    bool is_lanes(const Instruction &one) const { return around(one.getParent()) != nullptr; }
 
     // Whether the access is one of a lane to a local variable that the lanes share, and that one of them may change.
     bool is_lanes_shared(const Instruction &one, const AllocaInst *variable) const {

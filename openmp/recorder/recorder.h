@@ -7,6 +7,7 @@
 #include <stdint.h>
 
 #include "event.h"
+#include "packing.h"
 
 /* More is its value in place of a number. */
 static inline uint16_t size_told(uint64_t size) { return size <= LONGEST_NUMBER ? (uint16_t)size : LARGE; }
@@ -17,7 +18,7 @@ static inline void set_size(struct event *event, uint64_t size) {
         event->value = size;
 }
 
-enum { RUNNING_MOST = 1024, TOUCHED_BITS = 10, BUSY = 64, BUFFER = 2048, FENCED = 4, NESTED = 8 };
+enum { RUNNING_MOST = 1024, TOUCHED_BITS = 10, ROW_BITS = 6, BUSY = 64, BUFFER = 2048, FENCED = 4, NESTED = 8 };
 
 /* The function whose callers were written down last for a task. */
 struct chain {
@@ -45,6 +46,14 @@ struct touched {
     struct event *set;         /* the others; 0: there are none */
     uint64_t frame, caller;    /* of the function that touched them, and where it was called */
     uint64_t growth;           /* whether more of them may be told by these events */
+};
+
+/* Elements of one block in a row, which one place touches, by one chain of callers. */
+struct row {
+    uint64_t next;             /* the address at which it goes on */
+    uint64_t key;              /* as of what is touched */
+    uint64_t frame, caller;
+    struct event *event;
 };
 
 /* A worksharing loop that the thread is in: how its number is found, which unoptimised code keeps in memory. */
@@ -115,7 +124,9 @@ struct own {
     struct lanes lanes;
     int is_last;               /* it does what falls to who did a loop's last iteration */
     struct running running[RUNNING_MOST];
+    struct row rows[1 << ROW_BITS];
     struct touched touched[1 << TOUCHED_BITS];
+    unsigned char packed[sizeof(struct event) + (BUFFER - 1) * LONGEST_EVENT + END_MARK + sizeof(struct event)];
 };
 
 extern __thread struct own *taskback_own;

@@ -160,7 +160,7 @@ def folder_for(compiler: str) -> str:
 def recorder_objects(compiler: str, names: list[str]) -> list[str]:
     """The recorder's parts, compiled where they aren't or are older than their text."""
     folder = folder_for(compiler)
-    headers = [os.path.join(RECORDER, name) for name in ("recorder.h", "event.h", "writing.h")]
+    headers = [os.path.join(RECORDER, name) for name in ("recorder.h", "event.h", "packing.h", "writing.h")]
     objects = []
     for name in names:
         source = os.path.join(RECORDER, name)
@@ -177,7 +177,7 @@ def judge() -> str:
     compiler = need_clang()
     sources = [os.path.join(JUDGE, name) for name in sorted(os.listdir(JUDGE)) if name.endswith((".cc", ".h"))]
     made = os.path.join(folder_for(compiler), "judge")
-    parts = [os.path.join(RECORDER, "event.h"), *sources]
+    parts = [os.path.join(RECORDER, "event.h"), os.path.join(RECORDER, "packing.h"), *sources]
     if is_newer(made, *parts):
         return made
     with alone_at(made):

@@ -1,7 +1,6 @@
 """What the judge found in a trace, with the source lines of its places."""
 
 import json
-import os
 import re
 import subprocess
 from collections.abc import Mapping
@@ -9,9 +8,10 @@ from typing import Any
 
 from .building import CannotBuild, judge
 from .places import Sources
+from .trace import BadTrace, count_events
 
-# Of one event: bytes of the trace, seconds and bytes of memory of the judge; what is many, and how many its numbers allow.
-EVENT, SECONDS, MEMORY = 32, 4e-7, 100
+# Of one event: seconds and bytes of memory of the judge; what is many, and how many its numbers allow.
+SECONDS, MEMORY = 4e-7, 100
 MANY_EVENTS, MOST_EVENTS = 5_000_000, 4_000_000_000
 IS_PART, IS_UNDEFERRED, IS_FINAL, IS_COPIED, HAS_NUMBER, IS_DETACHED, IS_LOOPS = 1, 2, 4, 8, 16, 32, 64
 
@@ -175,8 +175,8 @@ def judge_trace(path: str) -> Finding:
 def foretell(path: str) -> str | None:
     """What judging the trace will take, where that is much; None where it isn't. CannotJudge where it is too much."""
     try:
-        events = os.path.getsize(path) // EVENT
-    except OSError:
+        events = count_events(path)
+    except BadTrace:
         return None
     if events > MOST_EVENTS:
         raise CannotJudge(f"{path} has {events:,} events, and the judge has room for {MOST_EVENTS:,}")

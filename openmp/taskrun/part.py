@@ -6,7 +6,7 @@ import tempfile
 from .finding import CannotJudge, run_judge
 from .places import Sources
 from .session import MOST_STEPS, Session, TooLarge
-from .trace import FORMAT, PAGE, BadTrace, Trace
+from .trace import HEADER, Trace, count_events
 
 MOST_EVENTS = 3 * MOST_STEPS    # some are no steps
 
@@ -14,7 +14,7 @@ MOST_EVENTS = 3 * MOST_STEPS    # some are no steps
 def places_at(trace: str, file: str, line: int) -> list[int]:
     """The places of the trace that are on this line."""
     with open(trace, "rb") as text:
-        program = text.readline().decode("utf-8", "surrogateescape").strip().removeprefix("taskback trace 2 ")
+        program = text.readline().decode("utf-8", "surrogateescape").strip().removeprefix(HEADER.decode())
     places = run_judge(trace, "places")
     sources = Sources(program, places)
     found = [place for place in places if sources.place(place).line == line
@@ -43,10 +43,7 @@ def session_of(trace: str, around: tuple[str, int] | None = None, tasks: tuple[s
         return part_session(trace, ["at", *map(str, places_at(trace, file, line))], f"those at {file}:{line}")
     if tasks:
         return part_session(trace, ["tasks", *tasks], f"{tasks[0]} to {tasks[1]}")
-    try:
-        events = (os.path.getsize(trace) - PAGE) // FORMAT.size
-    except OSError as fault:
-        raise BadTrace(f"can't read {trace}: {fault.strerror}") from fault
+    events = count_events(trace)
     if events > MOST_EVENTS:
         raise TooLarge(f"the run has {events:,} events, and the notation has room for {MOST_STEPS:,} steps: {which_part(trace)}")
     session = Session(Trace(trace))

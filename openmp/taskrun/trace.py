@@ -1,8 +1,10 @@
 """A trace as the recorder wrote it: one line, and then its events, thread by thread."""
 
+import mmap
 import os
 import re
 import struct
+from collections.abc import Iterator
 from typing import NamedTuple
 
 EVENTS = os.path.join(os.path.dirname(os.path.dirname(os.path.abspath(__file__))), "recorder", "event.h")
@@ -45,9 +47,10 @@ MARKS = (1 << ROW_SHIFT) - 1
 WRITES = 32      # of a step: the program writes there, be the step a load or a store
 UNDEFERRED, FINAL = 0x8000000, 0x20000000
 FORMAT = struct.Struct("<QqIIiHBB")
-HEADER = b"taskback trace 2 "
+HEADER = b"taskback trace 3 "
 PAGE = 4096     # bytes of text in front of the events
 PIECE = 2048    # events
+FAMILIES, CONTROL, END_MARK, SHIFTS = 128, 2, 8, (7, 9, 11, 13)    # of packed pieces (packing.h)
 
 
 class Event(NamedTuple):
@@ -87,25 +90,85 @@ class Trace:
             raise BadTrace(f"{path} is no whole trace")
         first, _, _ = data.partition(b"\n")
         self.program = first[len(HEADER):].decode("utf-8", "surrogateescape")
-        events = [Event._make(fields) for fields in FORMAT.iter_unpack(memoryview(data)[PAGE:])]
         # Of one number the event that has taken it comes first; then those that have only read it.
-        events = sorted(in_order(events), key=lambda event: (event.stamp, not takes_number(event)))
+        events = sorted(in_order(data), key=lambda event: (event.stamp, not takes_number(event)))
         # Where a number is missing, an event couldn't be written.
         self.is_cut = data[:PAGE].endswith(b"no room\n") or bool(events) and events[-1].stamp != sum(map(takes_number, events))
         self.events = [event._replace(stamp=number) for number, event in enumerate(events, 1)]
 
 
-def in_order(events: list[Event]) -> list[Event]:
+def pieces_of(data: bytes | memoryview) -> Iterator[tuple[Event, int, int]]:
+    """Of each piece that is whole: its first event, and where the rest begins and ends."""
+    at = PAGE
+    while at + FORMAT.size <= len(data):
+        head = Event._make(FORMAT.unpack_from(data, at))
+        begin, packed = at + FORMAT.size, head.value if head.kind == CHUNK else 0
+        if head.kind == 0:
+            at = begin      # between two pieces
+        elif packed:
+            end = begin + packed
+            if data[end:end + END_MARK] == b"\xff" * END_MARK:
+                yield head, begin, end
+            at = -(-(end + END_MARK) // FORMAT.size) * FORMAT.size
+        else:
+            at = min(at + PIECE * FORMAT.size, len(data))
+            yield head, begin, at
+
+
+def unpacked(head: Event, data: bytes | memoryview) -> Iterator[Event]:
+    """The events of a packed piece, behind its first one (packing.h)."""
+    last = [head._replace(value=0)] * FAMILIES
+    stamp, task, at = head.stamp, head.task, 0
+    while at < len(data):
+        control = int.from_bytes(data[at:at + CONTROL], "little")
+        at += CONTROL
+        words, lengths = [0] * 4, [control >> shift & 3 for shift in SHIFTS]
+        for number, length in enumerate(lengths):
+            words[number] = int.from_bytes(data[at:at + 4 * length], "little", signed=True)
+            at += 4 * length
+        address, value, order, rest = words
+        prior = last[control % FAMILIES]
+        step = order & 0xffff, order >> 16
+        stamp, task = (order % 2**32, order >> 32) if lengths[2] == 2 else (stamp + step[0], task + step[1])
+        stamp, task = stamp % 2**32, task % 2**32
+        place, size, kind, mark = prior.place, prior.size, prior.kind, prior.mark
+        if lengths[3]:
+            place = (rest + 2**31) % 2**32 - 2**31
+        if lengths[3] == 2:
+            size, kind, mark = rest >> 32 & 0xffff, rest >> 48 & 0xff, rest >> 56 & 0xff
+        event = Event((prior.address + address) % 2**64, (prior.value + value) % 2**64, stamp, task, place, size, kind, mark)
+        last[control % FAMILIES] = event
+        yield event
+
+
+def in_order(data: bytes) -> list[Event]:
     """The events of each thread in its order: its first piece, which it fills again and again, has its newest ones."""
     threads: dict[int | None, list[list[Event]]] = {}
-    for begin in range(0, len(events), PIECE):
-        piece = events[begin:begin + PIECE]
-        end = next((number for number, event in enumerate(piece) if event.kind == 0), len(piece))
-        thread = piece[0].address if piece[0].kind == CHUNK else None
-        threads.setdefault(thread, []).append(piece[:end])
+    for head, begin, end in pieces_of(data):
+        own = memoryview(data)[begin:end]
+        if head.kind == CHUNK and head.value:
+            piece = list(unpacked(head, own))
+        else:
+            piece = [Event._make(fields) for fields in FORMAT.iter_unpack(own)]
+            piece = piece[:next((number for number, event in enumerate(piece) if event.kind == 0), len(piece))]
+        threads.setdefault(head.address if head.kind == CHUNK else None, []).append(piece if head.kind == CHUNK else [head, *piece])
     for thread, pieces in threads.items():
         if thread is not None:
             pieces.append(pieces.pop(0))
-            if len(pieces) > 1 and len(pieces[-1]) == PIECE and pieces[-1] == pieces[-2]:
+            if len(pieces) > 1 and len(pieces[-1]) == PIECE - 1 and pieces[-1] == pieces[-2]:
                 pieces.pop()
-    return [event for pieces in threads.values() for piece in pieces for event in piece if event.kind not in (0, CHUNK)]
+    return [event for pieces in threads.values() for piece in pieces for event in piece]
+
+
+def count_events(path: str) -> int:
+    """How many events the trace has, at most; BadTrace where it can't be read."""
+    try:
+        with open(path, "rb") as file:
+            size = os.path.getsize(path)
+            if size <= PAGE:
+                return 0
+            with mmap.mmap(file.fileno(), size, access=mmap.ACCESS_READ) as data, memoryview(data) as bytes_of:
+                return sum(PIECE - 1 if head.kind == CHUNK and head.value else (end - begin) // FORMAT.size
+                           for head, begin, end in pieces_of(bytes_of))
+    except OSError as fault:
+        raise BadTrace(f"can't read {path}: {fault.strerror}") from fault

@@ -109,7 +109,7 @@ class Ends(support.Recorded):
                                     "for (int i = 0; i < 20000; i++) {\n#pragma omp task\n{\n#pragma omp atomic\nx++;\n}\n}\n"
                                     "return 0;\n}\n")
         trace = self.path("trace")
-        for room in (400000, 1000000):
+        for room in (200000, 400000):
             with self.subTest(room=room):
                 subprocess.run([program], check=True, restore_signals=False,
                                env={**os.environ, "OMP_NUM_THREADS": "2", "TASKBACK_TRACE": trace},

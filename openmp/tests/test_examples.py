@@ -18,8 +18,8 @@ GO_BY_NUMBERS = ("hidden", "number")
 
 # The coverage's calls have no loads and stores of ten bytes, and nothing tells there of the iterations of a `simd` loop, nor
 # what falls to who did the last iteration of a loop.
-BY_THE_PASS = ("long_double_race.c", "simd_race.c", "simd_sum_race.c", "simd_safelen_race.c", "simd_ordered_race.c",
-               "loop_nowait_race.c", "last_private_sections.c", "last_private_conditional.c")
+BY_THE_PASS = ("long_double_race.c", "simd_ordered.c", "simd_ordered_race.c", "simd_race.c", "simd_sum_race.c",
+               "simd_safelen_race.c", "loop_nowait_race.c", "last_private_sections.c", "last_private_conditional.c")
 
 
 def expected(name):

@@ -18,6 +18,8 @@ MAIN = os.path.join(TOP, "taskback-shell")
 PROGRAM = os.environ.get("TASKBACK_PROGRAM", os.path.join(TOP, "crates", "taskback", "out", "taskback"))
 needs_program = unittest.skipUnless(os.access(PROGRAM, os.X_OK),
                                     f"no program at {PROGRAM}; TASKBACK_PROGRAM names another")
+JUDGE = os.environ.get("TASKBACK_TASKCHECK", os.path.join(TOP, "crates", "taskcheck", "out", "taskcheck"))
+needs_judge = unittest.skipUnless(os.access(JUDGE, os.X_OK), f"no program at {JUDGE}; TASKBACK_TASKCHECK names another")
 
 PROMPT = "(taskback) "
 # How long what is awaited may take: long, since the machine may be busy.

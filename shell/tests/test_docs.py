@@ -68,10 +68,10 @@ class Pages(unittest.TestCase):
                 self.assertRegex(there, rf"`{name}\b", name)
 
     @unittest.skipUnless(shutil.which("groff"), "left out: no groff is here")
-    def test_the_man_page_is_well_formed(self) -> None:
-        done = subprocess.run(["groff", "-man", "-Tutf8", "-ww", os.path.join(TOP, "docs", "taskback.1")],
-                              capture_output=True, text=True, check=False)
-        self.assertEqual((done.returncode, done.stderr), (0, ""))
+    def test_the_man_pages_are_well_formed(self) -> None:
+        for page in ("taskback.1", "taskcheck.1"):
+            done = subprocess.run(["groff", "-man", "-Tutf8", "-ww", os.path.join(TOP, "docs", page)], capture_output=True, text=True, check=False)
+            self.assertEqual((done.returncode, done.stderr), (0, ""), page)
 
 
 if __name__ == "__main__":

@@ -22,11 +22,12 @@ def completed(words: list[str], folder: str = TOP) -> list[str]:
 
 class Bash(unittest.TestCase):
     def test_options(self) -> None:
-        self.assertEqual(completed(["./run", "--"]), ["--check", "--graph", "--help", "--json", "--lanes", "--limit", "--page", "--plain", "--prove", "--serve", "--version", "--workers"])
+        self.assertEqual(completed(["./run", "--"]), ["--check", "--graph", "--help", "--json", "--judge", "--lanes", "--limit", "--page", "--plain", "--prove", "--serve", "--version", "--workers"])
         self.assertEqual(completed(["./run", "--limit", "1"]), ["1000", "100000", "1000000"])
         self.assertEqual(completed(["./run", "--workers", "6"]), ["64"])
         self.assertEqual(completed(["taskback", "--v"]), ["--version"])
         self.assertEqual(completed(["taskback-dap", "--po"]), ["--port"])
+        self.assertEqual(completed(["taskcheck", "--"]), ["--help", "--version"])
 
     def test_files(self) -> None:
         self.assertEqual(completed(["./run", "examples/rac"]), ["examples/race.session", "examples/race.task"])
@@ -38,6 +39,9 @@ class Bash(unittest.TestCase):
         self.assertEqual(completed(["./run", "-x", "docs/taskback"]), ["docs/taskback.1"])
         folder = os.path.dirname(write_file(self, "", "a b.task"))
         self.assertEqual(completed(["./run", "a"], folder), ["a b.task"])
+        folder = os.path.dirname(write_file(self, "", "a.run"))
+        for words in (["taskcheck", ""], ["./run", "--judge", "a"]):
+            self.assertEqual(completed(words, folder), ["a.run"])
 
     @needs_program
     def test_each_option_is_one(self) -> None:
@@ -53,7 +57,7 @@ class Zsh(unittest.TestCase):
         shell.send(f"cd {TOP}; fpath=({TOP}/completions $fpath); autoload -Uz compinit; compinit -u -D; PS1='ready> '\n")
         shell.read_until("ready> ")
         shell.read_until("ready> ") if "ready> " in shell.seen else None
-        for typed, wanted in (("./run --vers\t", "--version"), ("./run examples/right_sum.s\t", "right_sum.session"), ("taskback-dap --po\t", "--port")):
+        for typed, wanted in (("./run --vers\t", "--version"), ("./run examples/right_sum.s\t", "right_sum.session"), ("taskback-dap --po\t", "--port"), ("taskcheck --vers\t", "--version")):
             shell.send(typed)
             shell.read_until(wanted)
             shell.send("\x15")

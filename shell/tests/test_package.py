@@ -11,10 +11,12 @@ import time
 import unittest
 from typing import Any
 
-from support import EXAMPLES, PROGRAM, PROMPT, TOP, Terminal, needs_program
+from support import EXAMPLES, JUDGE, PROGRAM, PROMPT, TOP, Terminal, needs_judge, needs_program
 from test_docs import PAGES, text_of
 
 BARE = {"PATH": "/usr/bin:/bin"}
+RUN = "cells 0\n0 start\n0 end\n"
+REPORT = "legal 2\nunended 0\nraces 0\n"
 
 
 class Copy:
@@ -28,8 +30,15 @@ class Copy:
             copy: Any = shutil.copytree if os.path.isdir(os.path.join(TOP, part)) else shutil.copy2
             os.makedirs(self.top, exist_ok=True)
             copy(os.path.join(TOP, part), os.path.join(self.top, part))
-        os.makedirs(os.path.join(self.top, "crates", "taskback", "out"))
-        self.built = os.path.join(self.top, "crates", "taskback", "out", "taskback")
+        self.built: list[str] = []
+        for name in ("taskback", "taskcheck"):
+            os.makedirs(os.path.join(self.top, "crates", name, "out"))
+            self.built.append(os.path.join(self.top, "crates", name, "out", name))
+
+    def build(self) -> None:
+        """Puts the programs into their places."""
+        for program, place in zip((PROGRAM, JUDGE), self.built):
+            shutil.copy2(program, place)
 
     def package(self) -> Any:
         """Runs the script that makes the archive and the package."""
@@ -40,7 +49,7 @@ class Copy:
 def made() -> tuple[Copy, list[str]]:
     """The archive, and the Debian package where one can be made, each unpacked; the copy that they were made of is gone."""
     copy = Copy()
-    shutil.copy2(PROGRAM, copy.built)
+    copy.build()
     done = copy.package()
     if (done.returncode, done.stderr) != (0, ""):
         raise AssertionError(done.stderr)
@@ -53,6 +62,7 @@ def made() -> tuple[Copy, list[str]]:
 
 
 @needs_program
+@needs_judge
 class Archive(unittest.TestCase):
     def unpacked(self) -> Any:
         """The archive's folder."""
@@ -62,13 +72,13 @@ class Archive(unittest.TestCase):
         copy = Copy()
         self.addCleanup(copy.kept.cleanup)
         self.assertIn("./run --prove makes it", copy.package().stderr)
-        shutil.copy2(PROGRAM, copy.built)
+        copy.build()
         source = os.path.join(copy.top, "crates", "taskback", "main.rt")
         with open(source, "w", encoding="ascii"):
             os.utime(source, (time.time() + 9, time.time() + 9))
         refused = copy.package()
         self.assertEqual((refused.returncode, refused.stdout), (2, ""))
-        self.assertIn("no proved program of these sources", refused.stderr)
+        self.assertIn("no proved program taskback of these sources", refused.stderr)
 
     def test_it_runs_alone(self) -> None:
         there = self.unpacked()
@@ -76,6 +86,8 @@ class Archive(unittest.TestCase):
             if name.endswith(".session"):
                 done = subprocess.run(["./run", "examples/" + name], cwd=there, env=BARE, stdin=subprocess.DEVNULL, capture_output=True, text=True, check=False)
                 self.assertEqual((done.returncode, done.stdout, done.stderr), (0, text_of("examples/" + name.replace(".session", ".out")), ""), name)
+        judged = subprocess.run(["./run", "--judge"], cwd=there, env=BARE, input=RUN, capture_output=True, text=True, check=False)
+        self.assertEqual((judged.stdout, judged.stderr, judged.returncode), (REPORT, "", 0))
         drawn = subprocess.run(["./run", "--graph", "examples/waits.session"], cwd=there, env=BARE, capture_output=True, text=True, check=False)
         self.assertEqual((drawn.returncode, drawn.stderr), (0, ""))
         self.assertIn("digraph tasks {", drawn.stdout)
@@ -96,6 +108,7 @@ class Archive(unittest.TestCase):
 
 
 @needs_program
+@needs_judge
 @unittest.skipUnless(shutil.which("dpkg-deb"), "left out: no dpkg-deb is here")
 class Debian(unittest.TestCase):
     def setUp(self) -> None:
@@ -123,16 +136,18 @@ class Debian(unittest.TestCase):
         examples = os.path.join(root, "usr", "share", "doc", "taskback", "examples")
         self.assertEqual(self.ran(root, "taskback", "--version"), (version, "", 0))
         self.assertEqual(self.ran(root, "taskback-dap", "--version"), (version, "", 0))
+        self.assertEqual(self.ran(root, "taskcheck", input=RUN), (REPORT, "", 0))
         self.assertEqual(self.ran(root, "taskback", os.path.join(examples, "race.session")), (text_of("examples/race.out"), "", 0))
         self.assertEqual(self.ran(root, "taskback", os.path.join(examples, "race.task"), input="step 0\npage race.html\n")[0],
                          "0#1 start\nwritten to race.html, 1 command and 1 step\n")
-        for name in ("taskback-record", "taskback-session", "taskback-check"):
+        for name in ("taskback-record", "taskback-session", "taskback-check", "taskback-merge"):
             self.assertIn("openmp/", "".join(self.ran(root, name)[:2]), name)
 
     def test_what_it_lays_where(self) -> None:
         root, package = self.unpacked()
         share = os.path.join(root, "usr", "share")
-        for name in ("bash-completion/completions/taskback", "bash-completion/completions/taskback-dap", "zsh/vendor-completions/_taskback",
+        for name in ("bash-completion/completions/taskback", "bash-completion/completions/taskback-dap", "bash-completion/completions/taskcheck",
+                     "man/man1/taskcheck.1.gz", "zsh/vendor-completions/_taskback",
                      "vim/vimfiles/syntax/taskback.vim", "doc/taskback/copyright", f"doc/taskback/taskback-{text_of('VERSION').strip()}.vsix"):
             self.assertTrue(os.path.exists(os.path.join(share, name)), name)
         with gzip.open(os.path.join(share, "man", "man1", "taskback.1.gz"), "rt", encoding="utf-8") as page:

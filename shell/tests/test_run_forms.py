@@ -60,6 +60,14 @@ class Forms(unittest.TestCase):
         for named, wanted in (("/bin/cat", (OK.encode(), b"", 0)), ("/no/program", (b"", b"run: can't run /no/program, which TASKBACK_PROGRAM names\n", 2))):
             self.assertEqual(ran(self.file("ok.task", OK), env=dict(os.environ, TASKBACK_PROGRAM=named)), wanted)
 
+    def test_judge_takes_a_run_text(self) -> None:
+        text, report = "cells 0\n0 start\n", b"legal 1\nunended 1\n0\nraces 0\n"
+        self.assertEqual(ran("--judge", self.file("a.run", text)), (report, b"", 3))
+        self.assertEqual(ran("--judge", input=text.encode()), (report, b"", 3))
+        self.assertEqual(ran("--judge", "a", "b")[2], 64)
+        named = dict(os.environ, TASKBACK_TASKCHECK="/no/program")
+        self.assertEqual(ran("--judge", env=named), (b"", b"run: can't run /no/program, which TASKBACK_TASKCHECK names\n", 2))
+
     def test_a_link_runs(self) -> None:
         link = os.path.join(self.folder, "linked")
         os.symlink(RUN, link)

@@ -12,7 +12,7 @@ use Rattle.tb_model.specs.Facts.{History, own, last, IsSpawned, is_spawned, is_o
 use Rattle.tb_model.specs.Legal.{Cells, first_number, spawn_count}
 use Rattle.tb_model.specs.Lines.{Departure, events_of}
 use Rattle.tb_model.proofs.TestLemmas.{same_true, same_refl}
-use Rattle.tb_undo.specs.State.{Seen as Tables, IsState}
+use Rattle.tb_undo.specs.State.{Seen as Tables, IsTaskState, IsState}
 use Rattle.tb_core.specs.Filling.{IsRunOf, IsNextSpawn, IsWhole, Fills, completed, spawn_in}
 
 pub same_spare : (spare name : Name) (b : Bool) → b ≡ same_name spare name → IsTrue b → spare ≡ name
@@ -46,13 +46,13 @@ few_children s t r = omega (arith, spawns_within (own t (events_of r.steps)), ow
 
 -- this is how many children the task has, whatever run that is
 abbrev pub IsCount : Tables → Name → Option ℕ → Type 0
-IsCount s t o = (first : Cells) (root_line : ℕ) (D : List Departure) → IsState first root_line D s → o ≡ (if is_spawned (events_of D) t then Some (spawn_count (own t (events_of D))) else None)
+IsCount s t o = (root_line : ℕ) (D : List Departure) → IsTaskState root_line D s → o ≡ (if is_spawned (events_of D) t then Some (spawn_count (own t (events_of D))) else None)
 
 -- the count as a number, and the name that comes next
 module _ (s : Tables) (t : Name) (o : Option ℕ) (n : ℕ) (c : IsCount s t o) (e : n ≡ unwrap_or o 0) where
   counted : (first : Cells) (root_line : ℕ) (D : List Departure) → IsState first root_line D s → IsSpawned (events_of D) t → n ≡ spawn_count (own t (events_of D))
   counted first root_line D k h =
-      e ∙ ap (λ m. unwrap_or m 0) (c first root_line D k ∙ ap (λ b. cond b (Some (spawn_count (own t (events_of D)))) None) h)
+      e ∙ ap (λ m. unwrap_or m 0) (c root_line D k.of_tasks ∙ ap (λ b. cond b (Some (spawn_count (own t (events_of D)))) None) h)
 
   pub few : IsRunOf s t → n ≤ 1000000
   few r = omega (arith, counted r.first r.root_line r.steps r.state r.spawned, few_children s t r)

@@ -51,7 +51,7 @@ pub named_next : (first : Cells) (root_line limit : ℕ) (es : List Entry) (tabl
 named_next first root_line limit es tables sound s is v may =
     let H = events_of (map departure (reverse es)) in
     let there : IsSpawned H v.task = may_spawned first H v sound.legal (subst (λ (x : Seen). MayFollow x.cells (history x) v) (sym is) may) in
-    kin_place tables.waits.tasks v.task _ (sound.state.waiting v.task ∙ kin_stands H v.task there)
+    kin_place tables.waits.tasks v.task _ (sound.state.of_tasks.waiting v.task ∙ kin_stands H v.task there)
 
 -- ---- numbers stay
 

@@ -81,7 +81,7 @@ tables_tell : (first : Cells) (root_line : ℕ) (D : List Departure) (tables : T
     → line_in tables t ≡ line_of (called_by root_line (spawn_of t (events_of D))).line t D
 tables_tell first root_line D tables legal state t acted =
     let there : is_spawned (events_of D) t ≡ true = acted_spawned first (events_of D) t legal acted in
-    ap (λ o. option_map_or (λ (k : Task). k.at) o 0) (state.tasks t ∙ ap (λ b. cond b (Some (known_task root_line D t)) None) there)
+    ap (λ o. option_map_or (λ (k : Task). k.at) o 0) (state.of_tasks.tasks t ∙ ap (λ b. cond b (Some (known_task root_line D t)) None) there)
 
 -- the lines are those of the history, for who has acted
 abbrev AreLines : (Name → ℕ) → (Name → ℕ) → List Departure → Type 0

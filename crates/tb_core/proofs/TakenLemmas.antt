@@ -46,7 +46,7 @@ settled s t (Load r c x) f g m n C D h j k p q =
     let within : c < length s.store.cells = grind (arith, nat_tests, parts.1) in
     ap (Load r c) (sym (j.cells.number c (omega (arith, within, j.cells.count))) ∙ k.cells.number c (omega (arith, within, k.cells.count)))
 settled s t (Spawn spawn) f g m n C D h j k p q =
-    let same = sym (kin_stands (events_of C) t p) ∙ sym (j.waiting t) ∙ k.waiting t ∙ kin_stands (events_of D) t q in
+    let same = sym (kin_stands (events_of C) t p) ∙ sym (j.of_tasks.waiting t) ∙ k.of_tasks.waiting t ∙ kin_stands (events_of D) t q in
     let kin = ap (λ o. unwrap_or o (kin_from [])) same in
     let count = sym (counted (own t (events_of C))) ∙ ap (λ x. x.children) kin ∙ counted (own t (events_of D)) in
     ap (λ i. Spawn (record spawn { child = child t (suc i) })) count

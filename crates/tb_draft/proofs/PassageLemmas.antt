@@ -13,6 +13,21 @@ passages_pushed : (ps : List Passage) (p : Passage) → passages_text (ps ++ p �
 passages_pushed [] p = append-nil (passage_text p)
 passages_pushed (q ∷ ps) p = ap (λ l. passage_text q ++ l) (passages_pushed ps p) ∙ sym (append_assoc (passage_text q) (passages_text ps) (passage_text p))
 
+passages_both : (ps qs : List Passage) → passages_text (ps ++ qs) ≡ passages_text ps ++ passages_text qs
+passages_both [] qs = refl
+passages_both (p ∷ ps) qs = ap (λ l. passage_text p ++ l) (passages_both ps qs) ∙ sym (append_assoc (passage_text p) (passages_text ps) (passages_text qs))
+
+-- a draft's last text is put in front of another, and then its passages
+pub draft_first : (ps qs all : List Passage) (last text front old new : List ℕ) → all ≡ ps ++ qs → passages_text ps ++ last ≡ front → new ≡ last ++ old → passages_text qs ++ text ≡ new
+    → passages_text all ++ text ≡ front ++ old
+draft_first ps qs all last text front old new both in_front put seen =
+    ap (λ l. passages_text l ++ text) both
+    ∙ ap (λ l. l ++ text) (passages_both ps qs)
+    ∙ append_assoc (passages_text ps) (passages_text qs) text
+    ∙ ap (λ l. passages_text ps ++ l) (seen ∙ put)
+    ∙ sym (append_assoc (passages_text ps) last old)
+    ∙ ap (λ l. l ++ old) in_front
+
 -- the last text of a draft, and a name after it, become one
 pub deep_pushed : (ps new : List Passage) (p : Passage) (text name last : List ℕ) → new ≡ ps ++ p ∷ [] → string_bytes p.text ≡ text → p.name ≡ name → last ≡ []
     → passages_text new ++ last ≡ (passages_text ps ++ text) ++ name_text name

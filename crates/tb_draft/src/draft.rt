@@ -135,6 +135,17 @@ impl Draft {
         }
     }
 
+    /// Puts another draft in front of all. Where memory runs out nothing is known of what stands.
+    pub fn prepend_draft(&mut self, front: Draft) -> Result<(), AllocError>
+        ensures { OnOk result (self.new ≡ front ++ self.old) }
+    {
+        self.prepend(front.text.as_str())?;
+        let mut passages = front.passages;
+        passages.append(&mut self.passages)?;
+        self.passages = passages;
+        Ok(())
+    }
+
     /// Writes the text, in one call where the sink takes it at once and it has no long name, or up to 65,536 bytes. At `Err` a
     /// beginning of it was written. Takes no memory.
     pub fn write<K: Sink>(&self, sink: &mut K) -> Result<(), Failed>

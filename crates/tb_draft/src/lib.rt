@@ -6,6 +6,7 @@ mod digit_levels;
 mod digits;
 mod draft;
 mod passage;
+mod races;
 mod short_text;
 mod spelling;
 mod waiting;

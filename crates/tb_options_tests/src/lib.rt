@@ -3,4 +3,6 @@
 #![tactic(auto)]
 
 #[cfg(test)]
+mod run_words;
+#[cfg(test)]
 mod words;

@@ -88,3 +88,26 @@ fn a_refused_growth_changes_nothing(rt: HostRuntime) {
     mem::forget(store);
     mem::forget(tables);
 }
+
+/// The root starts, among the tasks alone.
+fn begin(tables: &mut Tables, start: &Event) -> Result<(), AllocError>
+    requires state { IsState (ℤ.pos 5 ∷ []) 2 [] tables.old }
+    requires start { start.now ≡ record { task = []; action = Start } }
+{
+    tables.apply_tasks(start, 3)
+}
+
+#[test]
+fn a_step_among_the_tasks_alone(rt: HostRuntime) {
+    let mut tables = opened(rt.alloc()).expect(&rt, "there is memory");
+    let start = start(rt.alloc());
+    begin(&mut tables, &start).expect(&rt, "no memory is wanted");
+    let steps = match tables.standing(&start.task) {
+        Some(standing) => standing.steps(),
+        None => 0,
+    };
+    assert!(rt; steps == 1);
+    assert!(rt; tables.cells() == [5].as_slice());
+    mem::forget(start);
+    mem::forget(tables);
+}

@@ -1,4 +1,6 @@
 mod LineLemmas
+mod FoundLemmas
 mod ReadLemmas
 mod WalkLemmas
 mod ReportLemmas
+mod LegalLemmas

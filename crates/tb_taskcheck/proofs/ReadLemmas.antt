@@ -14,7 +14,10 @@ use Rattle.tb_lines.proofs.KnownLemmas.{consumes_nil, consumes_trans}
 use Rattle.tb_read.specs.Text.{lines_of, onto_first}
 use Rattle.tb_runs.specs.Lines.{longest}
 use Rattle.tb_runs.specs.declared.fault.Fault.TheVariants.{TooLarge}
+use Rattle.tb_taskcheck.specs.Races.{FoundAt, FoundIn, IsFound}
+use Rattle.tb_taskcheck.specs.declared.found.Found.{Found}
 use Rattle.tb_taskcheck.specs.Told.{IsCut, IsWhole, Reads, Taken, is_last, line_at}
+use Rattle.tb_taskcheck.proofs.FoundLemmas.{found_ended, found_first, found_whole}
 use Rattle.tb_taskcheck.proofs.LineLemmas.{all_more, lines_of_last, lines_of_spelled, spelled_append}
 use Rattle.tb_verdict.specs.Texts.{Sofar, Heading, Running, ended_after, ended_at, line_behind, lines_behind, start}
 use Rattle.tb_verdict.specs.Whole.{IsJudged, IsVerdict, has_ended}
@@ -145,23 +148,25 @@ open_at (Ended n ending) lines e j = absurd (false≢true (sym e))
 
 -- ---- the loop
 
--- these lines were read and judged, and the judgement goes on
-pub record Reading (first now : Option (List ℕ)) (judge : TextJudge) : Type 0 where
+-- these lines were read and judged, and their races found, and the judgement goes on
+pub record Reading (first now : Option (List ℕ)) (judge : TextJudge) (found : Found) : Type 0 where
   pub lines : List (List ℕ)
   pub bytes : Consumes first now (spelled lines)
   pub unbroken : AreUnbroken lines
   pub judged : IsJudged judge lines
   pub going : has_ended judge ≡ false
+  pub races : FoundAt lines found
 
 begins : (judge : TextJudge) → IsJudged judge [] → has_ended judge ≡ false
 begins (Open count judge) j = refl
 begins (Ended n ending) j = absurd (not_both start (n, ending) (sym j))
 
 -- the reader holds nothing at first
-pub reading_starts : (left : Option (List ℕ)) (held : List ℕ) (judge : TextJudge) → held ≡ [] → IsJudged judge [] → Reading (prepend_known [] left) (prepend_known held left) judge
-reading_starts left held judge none j =
-    subst (λ (h : List ℕ). Reading (prepend_known [] left) (prepend_known h left) judge) (sym none)
-    (record { lines = []; bytes = consumes_nil (prepend_known [] left); unbroken = tt; judged = j; going = begins judge j })
+pub reading_starts : (left : Option (List ℕ)) (held : List ℕ) (judge : TextJudge) (found : Found) → held ≡ [] → IsJudged judge [] → IsFound [] found
+    → Reading (prepend_known [] left) (prepend_known held left) judge found
+reading_starts left held judge found none j f =
+    subst (λ (h : List ℕ). Reading (prepend_known [] left) (prepend_known h left) judge found) (sym none)
+    (record { lines = []; bytes = consumes_nil (prepend_known [] left); unbroken = tt; judged = j; going = begins judge j; races = found_first found f })
 
 last_at : (line : List ℕ) → last_line line ≡ line_at Input line
 last_at [] = refl
@@ -182,16 +187,29 @@ taken_at now next line Long g = g.0
 abbrev pub Feeds : TextJudge → TextJudge → LineStop → List ℕ → Type 0
 Feeds old new stop line = (lines : List (List ℕ)) → IsJudged old lines → IsJudged new (lines ++ line_at stop line)
 
+-- what the races of the lines become after the line
+abbrev pub Finds : TextJudge → Found → Found → LineStop → List ℕ → Type 0
+Finds judge old new stop line = (lines : List (List ℕ)) → IsJudged judge lines → FoundAt lines old → FoundAt (lines ++ line_at stop line) new
+
 -- where memory doesn't fail
-pub fed_by : {E : Type 0} (old new : TextJudge) (stop : LineStop) (seen line : List ℕ) (r : Result (Unit {0}) E) → OnOk r (Feeds old new stop seen) → is_err r ≡ false → seen ≡ line → Feeds old new stop line
-fed_by old new stop seen line (Ok u) h e same = subst (Feeds old new stop) same h
-fed_by old new stop seen line (Err x) h e same = absurd (false≢true (sym e))
+pub fed_by : {E : Type 0} (Is : List ℕ → Type 0) (seen line : List ℕ) (r : Result (Unit {0}) E) → OnOk r (Is seen) → is_err r ≡ false → seen ≡ line → Is line
+fed_by Is seen line (Ok u) h e same = subst Is same h
+fed_by Is seen line (Err x) h e same = absurd (false≢true (sym e))
+
+-- what holds, or follows, wherever memory doesn't fail
+pub any_ok : {E P : Type 0} (r : Result (Unit {0}) E) → P → OnOk r P
+any_ok (Ok u) p = p
+any_ok (Err x) p = tt
+
+pub then_ok : {E P Q : Type 0} (r : Result (Unit {0}) E) → (P → Q) → OnOk r P → OnOk r Q
+then_ok (Ok u) f p = f p
+then_ok (Err x) f p = tt
 
 -- the verdict on what the judge has
 abbrev pub Closes : TextJudge → Verdict → Type 0
 Closes judge v = (lines : List (List ℕ)) → IsJudged judge lines → IsVerdict v lines
 
-module _ (left rest now : Option (List ℕ)) (held : List ℕ) (old : TextJudge) (r : Reading (prepend_known [] left) now old) where
+module _ (left rest now : Option (List ℕ)) (held : List ℕ) (old : TextJudge) (before : Found) (r : Reading (prepend_known [] left) now old before) where
   -- a read failed
   cut_off : (line : List ℕ) → GaveFront longest now (prepend_known held rest) line (Err unread.Read) → held ≡ [] → IsCut left rest
   cut_off line g none =
@@ -219,34 +237,45 @@ module _ (left rest now : Option (List ℕ)) (held : List ℕ) (old : TextJudge)
   no_memory line stop g = some_read (bytes_at stop line) (taken_at now (prepend_known held rest) line stop g)
 
   -- the judgement ended there
-  stopped : (new : TextJudge) (bytes : List ℕ) (v : Verdict) → Consumes now (prepend_known held rest) bytes → has_ended new ≡ true → EndsAfter new (spelled r.lines ++ bytes) → Closes new v → Taken left rest (Ok v)
-  stopped new bytes v g ended after closes =
+  stopped : (new : TextJudge) (found : Found) (bytes : List ℕ) (v : Verdict) → Consumes now (prepend_known held rest) bytes → has_ended new ≡ true
+      → EndsAfter new (spelled r.lines ++ bytes) → Closes new v → Taken left rest (Ok (v, found))
+  stopped new found bytes v g ended after closes =
       let s = some_read bytes g in
       let judged = after held in
       let e = ending_of new (lines_of s.0) ended judged in
       let verdict = closes (lines_of s.0) judged in
-      (s.0, s.1, verdict, whole_by v (lines_of s.0) rest e.0 e.1 verdict)
+      (s.0, s.1, verdict, found_ended (lines_of s.0) found e.0 e.1, whole_by v (lines_of s.0) rest e.0 e.1 verdict)
 
-  pub read_whole : (line : List ℕ) (stop : LineStop) (new : TextJudge) (v : Verdict) → GaveFront longest now (prepend_known held rest) line (Ok stop) → Feeds old new stop line → is_last (has_ended new) stop ≡ true → Closes new v → Taken left rest (Ok v)
-  read_whole line Feed new v g feeds last closes =
-      stopped new (line ++ 10 ∷ []) v g.0 last (fed new r.lines line r.unbroken g.1 last (feeds r.lines r.judged)) closes
-  read_whole line Long new v g feeds last closes =
+  pub read_whole : (line : List ℕ) (stop : LineStop) (new : TextJudge) (found : Found) (v : Verdict) → GaveFront longest now (prepend_known held rest) line (Ok stop)
+      → Feeds old new stop line → Finds old before found stop line → is_last (has_ended new) stop ≡ true → Closes new v → Taken left rest (Ok (v, found))
+  read_whole line Feed new found v g feeds finds last closes =
+      stopped new found (line ++ 10 ∷ []) v g.0 last (fed new r.lines line r.unbroken g.1 last (feeds r.lines r.judged)) closes
+  read_whole line Long new found v g feeds finds last closes =
       let o = open_at old r.lines r.going r.judged in
       let judged = feeds r.lines r.judged in
-      stopped new line v g.0 (long_ended new r.lines line o.0 o.1 g.2 judged) (cut new r.lines line o.0 o.1 r.unbroken g.1 g.2 judged) closes
-  read_whole line Input new v g feeds last closes =
+      stopped new found line v g.0 (long_ended new r.lines line o.0 o.1 g.2 judged) (cut new r.lines line o.0 o.1 r.unbroken g.1 g.2 judged) closes
+  read_whole line Input new found v g feeds finds end closes =
       let bytes = spelled r.lines ++ line in
-      let read = from_unread_end left rest held bytes (consumes_trans (prepend_known [] left) now (prepend_known held rest) (spelled r.lines) line r.bytes g.0) g.2 in
-      let split : lines_of bytes ≡ r.lines ++ line_at Input line = lines_of_spelled r.lines line r.unbroken ∙ ap (λ l. r.lines ++ l) (lines_of_last line g.1 ∙ last_at line) in
-      (bytes, read.0, closes (lines_of bytes) (subst (IsJudged new) (sym split) (feeds r.lines r.judged)), at_end v rest read.1)
+      let all = consumes_trans (prepend_known [] left) now (prepend_known held rest) (spelled r.lines) line r.bytes g.0 in
+      let read = from_unread_end left rest held bytes all g.2 in
+      let last : lines_of line ≡ line_at Input line = lines_of_last line g.1 ∙ last_at line in
+      let split : lines_of bytes ≡ r.lines ++ line_at Input line = lines_of_spelled r.lines line r.unbroken ∙ ap (λ l. r.lines ++ l) last in
+      let races = found_whole (r.lines ++ line_at Input line) found (finds r.lines r.judged r.races) in
+      let verdict = closes (lines_of bytes) (subst (IsJudged new) (sym split) (feeds r.lines r.judged)) in
+      (bytes, read.0, verdict, subst (λ l. FoundIn l found) (sym split) races, at_end v rest read.1)
 
-pub reading_on : (first now next : Option (List ℕ)) (old new : TextJudge) (line : List ℕ) (stop : LineStop) → Reading first now old → GaveFront longest now next line (Ok stop) → Feeds old new stop line → is_last (has_ended new) stop ≡ false → Reading first next new
-reading_on first now next old new line Feed r g feeds last = record {
-  lines = r.lines ++ line ∷ [];
-  bytes = subst (Consumes first next) (sym (spelled_append r.lines (line ∷ []))) (consumes_trans first now next (spelled r.lines) (line ++ 10 ∷ []) r.bytes g.0);
-  unbroken = all_more IsUnbroken r.lines line r.unbroken g.1;
-  judged = feeds r.lines r.judged;
-  going = last;
-}
-reading_on first now next old new line Input r g feeds last = absurd (false≢true (sym last))
-reading_on first now next old new line Long r g feeds last = absurd (false≢true (sym last))
+module _ (first now next : Option (List ℕ)) (old new : TextJudge) (before found : Found) (line : List ℕ) where
+  pub reading_on : (stop : LineStop) → Reading first now old before → GaveFront longest now next line (Ok stop) → Feeds old new stop line
+      → Finds old before found stop line → is_last (has_ended new) stop ≡ false → Reading first next new found
+  reading_on Feed r g feeds finds last = record {
+    lines = r.lines ++ line ∷ [];
+    bytes =
+        subst (Consumes first next) (sym (spelled_append r.lines (line ∷ [])))
+        (consumes_trans first now next (spelled r.lines) (line ++ 10 ∷ []) r.bytes g.0);
+    unbroken = all_more IsUnbroken r.lines line r.unbroken g.1;
+    judged = feeds r.lines r.judged;
+    going = last;
+    races = finds r.lines r.judged r.races;
+  }
+  reading_on Input r g feeds finds last = absurd (false≢true (sym last))
+  reading_on Long r g feeds finds last = absurd (false≢true (sym last))

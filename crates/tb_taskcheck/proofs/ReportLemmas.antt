@@ -9,7 +9,9 @@ use Rattle.tb_model.specs.Names.{Name, same_name, name_cmp}
 use Rattle.tb_model.specs.NameLaws.{name_cmp_total}
 use Rattle.tb_model.specs.State.{is_unended}
 use Rattle.tb_model.proofs.TestLemmas.{same_refl, same_true}
+use Rattle.tb_races.specs.Racing.{races}
 use Rattle.tb_ready.specs.Tasks.{IsBehind}
+use Rattle.tb_taskcheck.specs.Races.{listed, some_unordered}
 use Rattle.tb_taskcheck.specs.Report.{IsEndingReport, IsLegalReport, IsReport, Reports, legal_text, outcome_of}
 use Rattle.tb_taskcheck.specs.Unended.{AreUnended, Rises}
 use Rattle.tb_taskcheck.specs.declared.outcome.Outcome.{Outcome}
@@ -65,7 +67,7 @@ one_list H ts us a b =
 one_legal : (H : History) (o p : Outcome) (out more : List ℕ) → IsLegalReport H o out → IsLegalReport H p more → (o ≡ p) × (out ≡ more)
 one_legal H o p out more a b =
     let same = one_list H a.unended b.unended a.all b.all in
-    (a.outcome ∙ ap outcome_of same ∙ sym b.outcome, a.text ∙ ap (legal_text (length H)) same ∙ sym b.text)
+    (a.outcome ∙ ap (outcome_of (some_unordered (races H))) same ∙ sym b.outcome, a.text ∙ ap (λ ts. legal_text (length H) ts (listed H)) same ∙ sym b.text)
 
 one_ending : (n : ℕ) (e : Ending) (o p : Outcome) (out more : List ℕ) → IsEndingReport n e o out → IsEndingReport n e p more → (o ≡ p) × (out ≡ more)
 one_ending n (ending.Refused r) o p out more a b = (a.0 ∙ sym b.0, a.1 ∙ sym b.1)

@@ -1,4 +1,5 @@
 pub mod Unended
+pub mod Races
 pub mod Report
 pub mod Listing
 pub mod Told

@@ -1,10 +1,14 @@
 -- The report of a run text.
-use Rattle.std.specs.Prelude.{◌≡◌, ℕ, List, [], ◌∷◌, ◌++◌, length, codes, decimal, Result, Ok, Err}
+use Rattle.std.specs.Prelude.{◌≡◌, ℕ, Bool, if◌then◌else◌, List, [], ◌∷◌, ◌++◌, length, codes, decimal, Result, Ok, Err}
 use Rattle.std.specs.Fmt.{signed_decimal}
+use Rattle.tb_draft.specs.Races.{races_text}
 use Rattle.tb_model.specs.Facts.{History}
 use Rattle.tb_model.specs.Legal.{Cells}
 use Rattle.tb_model.specs.Names.{Name}
 use Rattle.tb_model.specs.Spelling.{name_text}
+use Rattle.tb_races.specs.declared.race.Race.{Race}
+use Rattle.tb_races.specs.Racing.{races}
+use Rattle.tb_taskcheck.specs.Races.{listed, some_unordered}
 use Rattle.tb_taskcheck.specs.Unended.{AreUnended}
 use Rattle.tb_taskcheck.specs.declared.outcome.Outcome.{Outcome}
 use Rattle.tb_taskcheck.specs.declared.outcome.Outcome.TheVariants as outcome
@@ -18,6 +22,7 @@ use Rattle.tb_verdict.specs.declared.refusal.Refusal.TheVariants.{NoSuchTask, En
 abbrev pub status_of : Outcome → ℕ
 status_of outcome.Over = 0
 status_of outcome.Refused = 1
+status_of outcome.Racing = 2
 status_of outcome.Unended = 3
 
 -- ---- an event that may not follow
@@ -70,18 +75,23 @@ names_text (t ∷ ts) = name_text t ++ codes "\n" ++ names_text ts
 abbrev pub head_text : ℕ → ℕ → List ℕ
 head_text events count = codes "legal " ++ decimal events ++ codes "\nunended " ++ decimal count ++ codes "\n"
 
-abbrev pub legal_text : ℕ → List Name → List ℕ
-legal_text events ts = head_text events (length ts) ++ names_text ts
+-- with the races, by the order of their later steps
+abbrev pub legal_text : ℕ → List Name → List Race → List ℕ
+legal_text events ts found = head_text events (length ts) ++ names_text ts ++ races_text found
 
-abbrev pub outcome_of : List Name → Outcome
-outcome_of [] = outcome.Over
-outcome_of (t ∷ ts) = outcome.Unended
+abbrev pub by_names : List Name → Outcome
+by_names [] = outcome.Over
+by_names (t ∷ ts) = outcome.Unended
+
+-- by whether two of its steps race that exclusion doesn't keep apart, and by its unended tasks
+abbrev pub outcome_of : Bool → List Name → Outcome
+outcome_of unordered ts = if unordered then outcome.Racing else by_names ts
 
 pub record IsLegalReport (H : History) (o : Outcome) (out : List ℕ) : Type 0 where
   pub unended : List Name
   pub all : AreUnended H unended
-  pub outcome : o ≡ outcome_of unended
-  pub text : out ≡ legal_text (length H) unended
+  pub outcome : o ≡ outcome_of (some_unordered (races H)) unended
+  pub text : out ≡ legal_text (length H) unended (listed H)
 
 -- ---- the report
 

@@ -8,7 +8,9 @@ use Rattle.tb_lines.specs.declared.line_stop.LineStop.{LineStop}
 use Rattle.tb_lines.specs.declared.line_stop.LineStop.TheVariants as stop
 use Rattle.tb_read.specs.Text.{lines_of}
 use Rattle.tb_runs.specs.declared.fault.Fault.{Fault}
+use Rattle.tb_taskcheck.specs.Races.{FoundIn}
 use Rattle.tb_taskcheck.specs.Report.{IsReport}
+use Rattle.tb_taskcheck.specs.declared.found.Found.{Found}
 use Rattle.tb_taskcheck.specs.declared.halt.Halt.{Halt}
 use Rattle.tb_taskcheck.specs.declared.halt.Halt.TheVariants.{Faulty, Read, Write, Memory}
 use Rattle.tb_taskcheck.specs.declared.outcome.Outcome.{Outcome}
@@ -66,9 +68,9 @@ pub record IsCut (left rest : Option (List ℕ)) : Type 0 where
 abbrev pub Reads : Option (List ℕ) → Option (List ℕ) → Type 0
 Reads left rest = (bytes : List ℕ) × Consumes left rest bytes
 
--- the text was read as far as its judgement goes, and this is its verdict
-abbrev pub Taken : Option (List ℕ) → Option (List ℕ) → Result Verdict LineFault → Type 0
-Taken left rest (Ok v) = (bytes : List ℕ) × Consumes left rest bytes × IsVerdict v (lines_of bytes) × IsWhole v rest
+-- the text was read as far as its judgement goes, and this is its verdict, with its races
+abbrev pub Taken : Option (List ℕ) → Option (List ℕ) → Result (Verdict × Found) LineFault → Type 0
+Taken left rest (Ok t) = (bytes : List ℕ) × Consumes left rest bytes × IsVerdict t.0 (lines_of bytes) × FoundIn (lines_of bytes) t.1 × IsWhole t.0 rest
 Taken left rest (Err unread.Read) = IsCut left rest
 Taken left rest (Err unread.Memory) = Reads left rest
 
@@ -78,6 +80,7 @@ abbrev pub IsWholeFor : Outcome → Option (List ℕ) → Type 0
 IsWholeFor outcome.Refused rest = ⊤
 IsWholeFor outcome.Over rest = IsAtEnd rest
 IsWholeFor outcome.Unended rest = IsAtEnd rest
+IsWholeFor outcome.Racing rest = IsAtEnd rest
 
 -- what was read and written, by how it ended
 abbrev pub Judged : (left rest before after : Option (List ℕ)) → Result Outcome Halt → Type 0

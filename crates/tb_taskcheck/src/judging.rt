@@ -28,12 +28,12 @@ pub fn judge<R: Wait, S: Source, K: Sink>(
     ensures read { IsErrOf result Halt.Read ↔ (S.failures source.old < S.failures source.new) }
     ensures write { IsErrOf result Halt.Write ↔ (K.failures sink.old < K.failures sink.new) }
 {
-    let verdict = match read_text(rt, alloc, source) {
-        Ok(verdict) => verdict,
+    let (verdict, found) = match read_text(rt, alloc, source) {
+        Ok(taken) => taken,
         Err(LineFault::Read) => return Err(Halt::Read),
         Err(LineFault::Memory) => return Err(Halt::Memory),
     };
-    let told = report(alloc, &verdict);
+    let told = report(alloc, &verdict, found);
     forget(verdict);
     let (text, outcome) = match told {
         Ok(told) => told,

@@ -1,6 +1,7 @@
 //! Reads a recorded run from any source, judges it, and writes the report.
 #![tactic(auto)]
 
+mod found;
 mod halt;
 mod judging;
 pub mod laws;

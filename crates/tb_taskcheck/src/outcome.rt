@@ -6,10 +6,13 @@ ghost use Rattle.tb_taskcheck.specs.Report.{status_of};
 /// What a report says of a run.
 #[derive(Clone, Copy, Debug, PartialEq, Eq, Drop)]
 pub enum Outcome {
-    /// A legal run, all of whose tasks have ended.
+    /// A legal run, all of whose tasks have ended, and which isn't racing.
     Over,
-    /// A legal run, some of whose tasks haven't ended.
+    /// A legal run, some of whose tasks haven't ended, and which isn't racing.
     Unended,
+    /// A legal run, whether or not it is over, of which two steps race that exclusion doesn't keep
+    /// apart.
+    Racing,
     /// A run with an event that may not follow those in front of it.
     Refused,
 }
@@ -22,6 +25,7 @@ impl Outcome {
         match self {
             Outcome::Over => 0,
             Outcome::Refused => 1,
+            Outcome::Racing => 2,
             Outcome::Unended => 3,
         }
     }

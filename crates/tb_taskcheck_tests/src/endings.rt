@@ -8,7 +8,7 @@ use tb_taskcheck::{Halt, Outcome, judge};
 
 const TEXT: &[u8] = b"cells 1\r\n# c\n\n0 start\n0 spawn 0.1 t\n0#3 end";
 
-const REPORT: &str = "legal 3\nunended 1\n0.1\n";
+const REPORT: &str = "legal 3\nunended 1\n0.1\nraces 0\n";
 
 fn in_pieces(piece: usize, fails_at: u64) -> FailsAt<'static>
     ensures { result.failed ≡ 0 }
@@ -101,6 +101,7 @@ fn a_line_without_an_end(rt: HostRuntime) {
 fn statuses(rt: HostRuntime) {
     assert!(rt; Outcome::Over.status() == 0);
     assert!(rt; Outcome::Refused.status() == 1);
+    assert!(rt; Outcome::Racing.status() == 2);
     assert!(rt; Outcome::Unended.status() == 3);
     assert!(rt; Halt::Memory.status() == 3);
 }

@@ -7,3 +7,5 @@
 mod endings;
 #[cfg(test)]
 mod fakes;
+#[cfg(test)]
+mod races;

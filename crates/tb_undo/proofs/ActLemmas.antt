@@ -7,6 +7,7 @@ use Rattle.tb_model.specs.declared.event.Event.{Event}
 use Rattle.tb_model.specs.declared.spawn.Spawn.{Spawn as TheSpawn}
 use Rattle.tb_model.specs.Names.{Name, same_name}
 use Rattle.tb_model.specs.Facts.{is_of}
+use Rattle.tb_store.specs.Contents.{Contents}
 use Rattle.tb_store.specs.declared.replaced.Replaced.{Replaced}
 use Rattle.tb_model.proofs.TestLemmas.{same_true}
 use Rattle.tb_ready.specs.Tasks.{with_name, with_mark}
@@ -16,7 +17,7 @@ use Rattle.tb_ready.specs.Histories.{MarkedBy, MarkedBackBy}
 use Rattle.tb_undo.specs.Tasks.{Task, Rows, task, holders_of, advanced, retreated, fresh_task}
 use Rattle.tb_undo.specs.Sets.{number_of, Holds, Sets, Comes}
 use Rattle.tb_undo.specs.State.{Seen}
-use Rattle.tb_undo.specs.Changes.{IsRest, Changed, ChangedBack, Acted, ActedBack, CanChange, HasRoomFor, HasSpawnRoom, IsNextSpawn, HoldersFor, HoldersBack, cells_by, output_by, cells_back, output_back, cell_over, number_over, replaced_in}
+use Rattle.tb_undo.specs.Changes.{IsRest, ChangedTasks, ChangedBack, Acted, ActedBack, CanChangeTasks, HasTaskRoomFor, HasSpawnRoom, IsNextSpawn, HoldersFor, HoldersBack, cells_by, output_by, cells_back, output_back, cell_over, number_over, replaced_in}
 use Rattle.tb_undo.specs.Tasks.{register_over, register_by}
 
 -- the event with another action
@@ -56,13 +57,13 @@ not_own_child n p = at (same_name (n ∷ p) p) refl
     at true e = let same = ap length (same_true (n ∷ p) p e) in absurd (omega (arith, same))
 
 pub acted_spawn : (v : Event) (old new : Seen) (s : TheSpawn) → v.action ≡ Spawn s
-    → CanChange old v → HasRoomFor old v
+    → CanChangeTasks old v → HasTaskRoomFor old v
     → new.store ≡ old.store → Adds old.waits.tasks v.task s.child new.waits.tasks → new.marks.tasks ≡ with_mark (with_name old.marks.tasks s.child) s.child true
     → Comes old.rows s.child (fresh_task v.task s.body s.args) new.rows
     → Acted v old new
 acted_spawn v old new s q can room store waits marks comes =
     let next : IsNextSpawn old v.task (Spawn s) = subst (IsNextSpawn old v.task) q can.spawn in
-    let has : HasSpawnRoom old v.task s.child s.items s.deferred = subst (λ a. HasRoomFor old (as_by v.task a)) q room in
+    let has : HasSpawnRoom old v.task s.child s.items s.deferred = subst (λ a. HasTaskRoomFor old (as_by v.task a)) q room in
     let other : same_name s.child v.task ≡ false = ap (λ x. same_name x v.task) next.0.2 ∙ not_own_child (suc next.0.0.children) v.task in
     subst (λ a. Acted (as_by v.task a) old new) (sym q) (record {
       store = store;
@@ -125,23 +126,23 @@ module _ (old mid new : Rows) (same : (p : Name) → holders_of new p ≡ holder
   holders_back_on t Close g = λ p. same p ∙ g p
   holders_back_on t (Test b) g = λ p. same p ∙ g p
 
--- the event acted, its number was written, and its task advanced
-pub changed : (v : Event) (to : ℕ) (old acted stored front : Seen) → Acted v old acted
-    → stored.store.cells ≡ cells_by v.action acted.store.cells → stored.store.output ≡ output_by v.action acted.store.output → stored ≡ record acted { store = stored.store }
-    → front ≡ stored → (new : Seen) → IsRest front new → ((u : Name) → task new.rows u ≡ cond (is_of u v) (option_map (advanced v.action to) (task front.rows u)) (task front.rows u))
+-- the event acted, and its task advanced
+pub changed_tasks : (v : Event) (to : ℕ) (old acted front : Seen) → Acted v old acted
+    → front ≡ acted → (new : Seen) → IsRest front new → ((u : Name) → task new.rows u ≡ cond (is_of u v) (option_map (advanced v.action to) (task front.rows u)) (task front.rows u))
     → ((p : Name) → holders_of new.rows p ≡ holders_of front.rows p)
-    → Changed v to old new
-changed v to old acted stored front a cells output same is new rest tasks holders =
-    let all : front ≡ record acted { store = stored.store } = is ∙ same in
-    let rows : front.rows ≡ acted.rows = ap (λ s. s.rows) all in
+    → ChangedTasks v to old new
+changed_tasks v to old acted front a is new rest tasks holders =
+    let rows : front.rows ≡ acted.rows = ap (λ s. s.rows) is in
     record {
-      cells = ap (λ s. s.cells) (rest.store ∙ ap (λ s. s.store) is) ∙ cells ∙ ap (λ s. cells_by v.action s.cells) a.store;
-      output = ap (λ s. s.output) (rest.store ∙ ap (λ s. s.store) is) ∙ output ∙ ap (λ s. output_by v.action s.output) a.store;
-      waits = subst (λ w. ChangesBy v.task v.action old.waits.tasks w.tasks) (sym (rest.waits ∙ ap (λ s. s.waits) all)) a.waits;
-      marks = subst (λ w. MarkedBy v.task v.action old.marks.tasks w.tasks) (sym (rest.marks ∙ ap (λ s. s.marks) all)) a.marks;
+      waits = subst (λ w. ChangesBy v.task v.action old.waits.tasks w.tasks) (sym (rest.waits ∙ ap (λ s. s.waits) is)) a.waits;
+      marks = subst (λ w. MarkedBy v.task v.action old.marks.tasks w.tasks) (sym (rest.marks ∙ ap (λ s. s.marks) is)) a.marks;
       tasks = λ u. tasks u ∙ ap (λ o. cond (is_of u v) (option_map (advanced v.action to) o) o) (ap (λ r. task r u) rows ∙ a.tasks u);
       holders = holders_on old.rows acted.rows new.rows (λ p. holders p ∙ ap (λ r. holders_of r p) rows) v.task v.action a.holders;
     }
+
+-- where the cells and the output alone have changed since
+pub tasks_kept : (v : Event) (to : ℕ) (old mid : Seen) (store : Contents) → ChangedTasks v to old mid → ChangedTasks v to old (record mid { store = store })
+tasks_kept v to old mid store k = record { waits = k.waits; marks = k.marks; tasks = k.tasks; holders = k.holders }
 
 pub changed_back : (v : Event) (replaced : Replaced) (old acted stored front : Seen) → ActedBack v old acted
     → stored.store.cells ≡ cells_back v.action replaced.number acted.store.cells → stored.store.output ≡ output_back v.action acted.store.output → stored ≡ record acted { store = stored.store }

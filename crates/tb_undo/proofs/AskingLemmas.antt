@@ -17,7 +17,7 @@ use Rattle.tb_wait.specs.Kin.{IsUnendedMember}
 use Rattle.tb_wait.specs.Histories.{AreKin}
 use Rattle.tb_undo.specs.declared.row.Row.{Row}
 use Rattle.tb_undo.specs.Tasks.{row, seen_row}
-use Rattle.tb_undo.specs.State.{Seen, IsState, ForUnended}
+use Rattle.tb_undo.specs.State.{Seen, IsTaskState, ForUnended}
 use Rattle.tb_undo.specs.Obstacles.{IsUnendedWhere, is_child_over, IsKnown, sibling}
 use Rattle.tb_undo.proofs.OverLemmas.{over_closed}
 use Rattle.tb_undo.proofs.ObstacleLemmas.{covered_least, member_least}
@@ -30,7 +30,7 @@ module _ (s seen : Seen) (same : s ≡ seen) (t : Name) (r : Row) (mine : row s.
     (held : (cells : Cells) (H : History) → Legal cells H → AreKin H s.waits.tasks → IsSpawned H t → IsKnown (own t H) (seen_row r) → IsLeast (is_unended_undeferred H t) (option_map (child t) u)) where
   by_known : (P : History → Type 0) → ((cells : Cells) (H : History) → Legal cells H → AreKin H s.waits.tasks → IsKnown (own t H) (seen_row r) → IsLeast (is_unended_undeferred H t) (option_map (child t) u) → P H) → ForUnended seen t P
   by_known P f first root_line D legal state unended =
-      let st = subst (IsState first root_line D) (sym same) state in
+      let st = subst (IsTaskState root_line D) (sym same) state in
       let here = was_spawned first root_line D seen legal state t unended in
       let known = is_known first root_line D s legal st t r here mine in
       f first (events_of D) legal st.waiting known (held first (events_of D) legal st.waiting here known)
@@ -83,9 +83,9 @@ module _ (s seen : Seen) (same : s ≡ seen) (t : Name) (n : ℕ) (r q : Row) (m
   own_row : row s.rows t ≡ Some r
   own_row = ap (λ s. row s.rows t) same ∙ mine
 
-  module _ (first : Cells) (root_line : ℕ) (D : List Departure) (legal : Legal first (events_of D)) (state : IsState first root_line D seen) (unended : is_unended (events_of D) t ≡ true) where
-    st : IsState first root_line D s
-    st = subst (IsState first root_line D) (sym same) state
+  module _ (first : Cells) (root_line : ℕ) (D : List Departure) (legal : Legal first (events_of D)) (state : IsTaskState root_line D seen) (unended : is_unended (events_of D) t ≡ true) where
+    st : IsTaskState root_line D s
+    st = subst (IsTaskState root_line D) (sym same) state
 
     earlier : IsLeastNumber (IsUnendedWhere s.waits.tasks r.parent (depends q.children.siblings n)) o
     earlier = searched (siblings_closed first root_line D s legal st t n r q unended own_row number found)

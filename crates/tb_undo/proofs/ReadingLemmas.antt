@@ -28,7 +28,7 @@ use Rattle.tb_wait.proofs.HistoryLemmas.{counted, depth, over_from}
 use Rattle.tb_wait.proofs.UnendedLemmas.{unended_child}
 use Rattle.tb_undo.specs.declared.row.Row.{Row}
 use Rattle.tb_undo.specs.Tasks.{Task, row, seen_row}
-use Rattle.tb_undo.specs.State.{Seen, IsState, known_task, task_of}
+use Rattle.tb_undo.specs.State.{Seen, IsTaskState, known_task, task_of}
 use Rattle.tb_undo.specs.Obstacles.{sibling}
 use Rattle.tb_undo.specs.Readings.{IsNthOf, IsNextChild, IsUnendedBehind}
 use Rattle.tb_undo.proofs.ObstacleLemmas.{none_meet, least_name_by}
@@ -147,7 +147,7 @@ module _ (cells : Cells) (H : History) (t : Name) (legal : Legal cells H) where
 
 -- ---- where a task's parent is looked up
 
-module _ (first : Cells) (root_line : ℕ) (D : List Departure) (s : Seen) (legal : Legal first (events_of D)) (state : IsState first root_line D s) (t : Name) where
+module _ (first : Cells) (root_line : ℕ) (D : List Departure) (s : Seen) (legal : Legal first (events_of D)) (state : IsTaskState root_line D s) (t : Name) where
   abbrev H : History
   H = events_of D
 

@@ -11,7 +11,7 @@ use Rattle.tb_model.specs.Needs.{step_of}
 use Rattle.tb_model.specs.Reordering.{IsUnneeded}
 use Rattle.tb_store.specs.declared.replaced.Replaced.{Replaced}
 use Rattle.tb_undo.specs.State.{Seen, IsState}
-use Rattle.tb_undo.specs.Steps.{Follows, IsAhead, IsBehind, IsRecord, Precedes, Stands, IsWithout}
+use Rattle.tb_undo.specs.Steps.{Follows, IsAhead, IsAheadOfTasks, IsBehind, IsRecord, Precedes, Stands, IsWithout}
 
 abbrev start : Event
 start = record { task = []; action = Start }
@@ -63,6 +63,11 @@ follows_store s v e state = record { legal = subst (λ x. Legal cells (x ∷ sta
 
 pub ahead_start : (s : Seen) (v : Event) → v ≡ start → IsState cells 2 [] s → IsAhead s v
 ahead_start s v e state = (cells, 2, [], follows_start s v e state)
+
+pub ahead_of_tasks : (s : Seen) (v : Event) → v ≡ start → IsState cells 2 [] s → IsAheadOfTasks s v
+ahead_of_tasks s v e state =
+    let follows = follows_start s v e state in
+    (cells, 2, [], record { legal = follows.legal; state = state.of_tasks; few = first_few })
 
 pub state_begun : (s n : Seen) (v : Event) → v ≡ start → IsState cells 2 [] s → IsBehind s v 3 n → IsState cells 2 begun n
 state_begun s n v e state b = subst (λ x. IsState cells 2 (record { event = x; to = 3 } ∷ []) n) e (b cells 2 [] (follows_start s v e state))

@@ -18,7 +18,7 @@ use Rattle.tb_depend.specs.Nearness.{IsClosed}
 use Rattle.tb_excl.specs.Holders.{IsLeastNumber, Excludes}
 use Rattle.tb_undo.specs.declared.row.Row.{Row}
 use Rattle.tb_undo.specs.Tasks.{Task, row, seen_row}
-use Rattle.tb_undo.specs.State.{Seen, IsState, known_task}
+use Rattle.tb_undo.specs.State.{Seen, IsTaskState, known_task}
 use Rattle.tb_undo.specs.Obstacles.{IsUnendedWhere, is_child_over, IsKnown, sibling}
 use Rattle.tb_undo.proofs.OverLemmas.{over_closed}
 use Rattle.tb_undo.proofs.ObstacleLemmas.{waited_least, under_way, none_excluding, excluding_least}
@@ -32,7 +32,7 @@ pub unheaded : (t : Name) → slice_get t 0 ≡ None → t ≡ []
 unheaded [] e = refl
 unheaded (m ∷ t) e = cc
 
-module _ (first : Cells) (root_line : ℕ) (D : List Departure) (s : Seen) (legal : Legal first (events_of D)) (state : IsState first root_line D s) where
+module _ (first : Cells) (root_line : ℕ) (D : List Departure) (s : Seen) (legal : Legal first (events_of D)) (state : IsTaskState root_line D s) where
   abbrev H : History
   H = events_of D
 

@@ -29,9 +29,9 @@ use Rattle.tb_wait.specs.Histories.{AreKin}
 use Rattle.tb_wait.proofs.HistoryLemmas as waits
 use Rattle.tb_undo.specs.Tasks.{Task, task, IsRegister}
 use Rattle.tb_undo.specs.Sets.{items_in, IsLinked, HasSetRoom}
-use Rattle.tb_undo.specs.State.{Seen, AreLast, known_task, task_of, IsState}
-use Rattle.tb_undo.specs.Changes.{Changed, ChangedBack, CanChange, CanChangeBack, IsCell, IsNextSpawn, IsLastSpawn, HasEndRoom, output_by, output_back, task_by, task_back}
-use Rattle.tb_undo.specs.Steps.{replaced_for, Follows, Precedes}
+use Rattle.tb_undo.specs.State.{Seen, AreLast, known_task, task_of, IsTaskState, IsState}
+use Rattle.tb_undo.specs.Changes.{Changed, ChangedTasks, ChangedBack, CanChange, CanChangeTasks, CanChangeBack, IsCell, IsNextSpawn, IsLastSpawn, HasEndRoom, output_by, output_back, task_by, task_back}
+use Rattle.tb_undo.specs.Steps.{replaced_for, Follows, FollowsTasks, Precedes}
 use Rattle.tb_undo.proofs.StoreLemmas.{cells_more, output_more, cells_less, output_less}
 use Rattle.tb_undo.proofs.TaskLemmas.{task_more, task_less}
 use Rattle.tb_undo.proofs.HolderLemmas.{items_kept, holders_more, holders_less}
@@ -44,6 +44,18 @@ task_by_same v to f g e u = ap (λ (h : Name → Option Task). task_by v to h u)
 task_back_same : (v : Event) (r : Replaced) (f g : Name → Option Task) → ((u : Name) → f u ≡ g u) → (u : Name) → task_back v r f u ≡ task_back v r g u
 task_back_same v r f g e u = ap (λ (h : Name → Option Task). task_back v r h u) (λ i x. e x i)
 
+pub applied_tasks : (first : Cells) (root_line : ℕ) (D : List Departure) (d : Departure) (old new : Seen) → Legal first (d.event ∷ events_of D) → IsTaskState root_line D old
+    → ChangedTasks d.event d.to old new → IsTaskState root_line (d ∷ D) new
+applied_tasks first root_line D d old new legal s k =
+    let H = events_of D in
+    let v = d.event in
+    record {
+      waiting = waits.stepped first H v old.waits.tasks new.waits.tasks legal s.waiting k.waits;
+      marked = marks.stepped first H v old.marks.tasks new.marks.tasks legal s.marked k.marks;
+      tasks = λ u. k.tasks u ∙ task_by_same v d.to (task old.rows) (task_of root_line D) s.tasks u ∙ sym (task_more first root_line D d legal u);
+      holders = holders_more first root_line D v.task old.rows new.rows v.action legal s.tasks s.holders k.holders;
+    }
+
 pub applied : (first : Cells) (root_line : ℕ) (D : List Departure) (d : Departure) (old new : Seen) → Legal first (d.event ∷ events_of D) → IsState first root_line D old → Changed d.event d.to old new → IsState first root_line (d ∷ D) new
 applied first root_line D d old new legal s k =
     let H = events_of D in
@@ -51,10 +63,7 @@ applied first root_line D d old new legal s k =
     record {
       cells = subst (AreLast first (v ∷ H)) (sym k.cells) (cells_more first H v.task v.action old.store.cells s.cells);
       output = k.output ∙ ap (output_by v.action) s.output ∙ output_more H v.task v.action;
-      waiting = waits.stepped first H v old.waits.tasks new.waits.tasks legal s.waiting k.waits;
-      marked = marks.stepped first H v old.marks.tasks new.marks.tasks legal s.marked k.marks;
-      tasks = λ u. k.tasks u ∙ task_by_same v d.to (task old.rows) (task_of root_line D) s.tasks u ∙ sym (task_more first root_line D d legal u);
-      holders = holders_more first root_line D v.task old.rows new.rows v.action legal s.tasks s.holders k.holders;
+      of_tasks = applied_tasks first root_line D d old new legal s.of_tasks k.of_tasks;
     }
 
 -- ---- and one less, where it is the newest
@@ -66,13 +75,16 @@ reverted_newest first root_line D d r old new legal e s k =
     let v = d.event in
     let number = ap (λ (x : Replaced). x.number) e in
     let line = ap (λ (x : Replaced). x.at) e in
+    let t = s.of_tasks in
     record {
       cells = subst (AreLast first H) (sym k.cells) (cells_less first H v.task v.action r.number old.store.cells s.cells number);
       output = k.output ∙ ap (output_back v.action) s.output ∙ output_less H v.task v.action;
-      waiting = waits.taken_back first H v old.waits.tasks new.waits.tasks legal s.waiting k.waits;
-      marked = marks.taken_back first H v old.marks.tasks new.marks.tasks legal s.marked k.marks;
-      tasks = λ u. k.tasks u ∙ task_back_same v r (task old.rows) (task_of root_line (d ∷ D)) s.tasks u ∙ task_less first root_line D d legal r number line u;
-      holders = holders_less first root_line D v.task old.rows new.rows d.to v.action legal s.tasks s.holders k.holders;
+      of_tasks = record {
+        waiting = waits.taken_back first H v old.waits.tasks new.waits.tasks legal t.waiting k.waits;
+        marked = marks.taken_back first H v old.marks.tasks new.marks.tasks legal t.marked k.marks;
+        tasks = λ u. k.tasks u ∙ task_back_same v r (task old.rows) (task_of root_line (d ∷ D)) t.tasks u ∙ task_less first root_line D d legal r number line u;
+        holders = holders_less first root_line D v.task old.rows new.rows d.to v.action legal t.tasks t.holders k.holders;
+      };
     }
 
 -- ---- histories that say the same, with the same lines
@@ -82,10 +94,12 @@ pub kept_alike : (first : Cells) (root_line : ℕ) (C D : List Departure) (s : S
 kept_alike first root_line C D s a lines k = record {
   cells = record { count = k.cells.count; number = λ c h. k.cells.number c h ∙ a.number (first_number first c) c };
   output = k.output ∙ ap reverse a.prints;
-  waiting = waits.kept_alike (events_of C) (events_of D) s.waits.tasks a k.waiting;
-  marked = marks.kept_alike (events_of C) (events_of D) s.marks.tasks a k.marked;
-  tasks = λ t. k.tasks t ∙ same t;
-  holders = λ p h e. sets.alike (events_of C) (events_of D) p h a (k.holders p h e);
+  of_tasks = record {
+    waiting = waits.kept_alike (events_of C) (events_of D) s.waits.tasks a k.of_tasks.waiting;
+    marked = marks.kept_alike (events_of C) (events_of D) s.marks.tasks a k.of_tasks.marked;
+    tasks = λ t. k.of_tasks.tasks t ∙ same t;
+    holders = λ p h e. sets.alike (events_of C) (events_of D) p h a (k.of_tasks.holders p h e);
+  };
 }
   where
     made : Name → Option Action → ℕ → List Action → Task
@@ -123,7 +137,7 @@ own_within t (v ∷ H) = at (is_of t v) (own_within t H)
     at true h = omega arith
     at false h = omega arith
 
-linked : (first : Cells) (root_line : ℕ) (D : List Departure) (s : Seen) → Legal first (events_of D) → IsState first root_line D s → (t : Name) → IsSpawned (events_of D) t → IsLinked s.rows t
+linked : (first : Cells) (root_line : ℕ) (D : List Departure) (s : Seen) → Legal first (events_of D) → IsTaskState root_line D s → (t : Name) → IsSpawned (events_of D) t → IsLinked s.rows t
 linked first root_line D s l k [] h = tt
 linked first root_line D s l k (n ∷ p) h =
     let bound = (children_numbered first (events_of D) p n l).0 h in
@@ -199,7 +213,7 @@ last_spawn first H s t End l k = tt
 last_spawn first H s t Fault l k = tt
 
 -- what an end freed has its room
-end_room : (first : Cells) (root_line : ℕ) (D : List Departure) (d : Departure) (s : Seen) → Legal first (d.event ∷ events_of D) → IsState first root_line (d ∷ D) s → IsTrue (ends d.event.task d.event) → HasSetRoom s.rows d.event.task
+end_room : (first : Cells) (root_line : ℕ) (D : List Departure) (d : Departure) (s : Seen) → Legal first (d.event ∷ events_of D) → IsTaskState root_line (d ∷ D) s → IsTrue (ends d.event.task d.event) → HasSetRoom s.rows d.event.task
 end_room first root_line D d s l k e p h c g = at d.event.task refl c
   where
     at : (t : Name) → d.event.task ≡ t → is_child p t ≡ true → HasRoomFor h (items_in s.rows t)
@@ -213,7 +227,7 @@ end_room first root_line D d s l k e p h c g = at d.event.task refl c
         (subst (HasRoomFor h) (sym (kept ∙ ap (λ is. is ++ items_of (n ∷ p) (events_of D)) (sets.end_items (n ∷ p) d.event.action (and_parts (is_of (n ∷ p) d.event) (is_end d.event.action) ended).1))) (sets.end_room first (events_of D) d.event p n h l ended (k.holders p h g)))
 
 end_room_for : (first : Cells) (root_line : ℕ) (D : List Departure) (to : ℕ) (t : Name) (a : Action) (s : Seen) → Legal first (record { task = t; action = a } ∷ events_of D)
-    → IsState first root_line (record { event = record { task = t; action = a }; to = to } ∷ D) s → HasEndRoom s t a
+    → IsTaskState root_line (record { event = record { task = t; action = a }; to = to } ∷ D) s → HasEndRoom s t a
 end_room_for first root_line D to t End s l k = end_room first root_line D (record { event = record { task = t; action = End }; to = to }) s l k (and_from (same_name t t) true (same_refl t) refl)
 end_room_for first root_line D to t Fault s l k = end_room first root_line D (record { event = record { task = t; action = Fault }; to = to }) s l k (and_from (same_name t t) true (same_refl t) refl)
 end_room_for first root_line D to t Start s l k = tt
@@ -228,13 +242,12 @@ end_room_for first root_line D to t Close s l k = tt
 end_room_for first root_line D to t (Test b) s l k = tt
 
 -- what the tables ask for where the event may follow
-pub can_change : (first : Cells) (root_line : ℕ) (D : List Departure) (v : Event) (s : Seen) → Follows first root_line D v s → CanChange s v
-can_change first root_line D v s f =
+pub can_change_tasks : (first : Cells) (root_line : ℕ) (D : List Departure) (v : Event) (s : Seen) → FollowsTasks first root_line D v s → CanChangeTasks s v
+can_change_tasks first root_line D v s f =
     let H = events_of D in
     let k = f.state in
     record {
       register = register first v.task (own v.task H) v.action f.legal.1.own;
-      cell = cell first v.task (own v.task H) v.action (length s.store.cells) k.cells.count f.legal.1.own;
       few = λ x e. few x e;
       linked = linked first root_line D s f.legal.0 k v.task (acting first H v f.legal);
       spawn = next_spawn first H s v.task v.action f.legal k.waiting k.marked;
@@ -246,6 +259,12 @@ can_change first root_line D v s f =
         let same : known_task root_line D v.task ≡ x = ap (λ o. unwrap_or o x) (known ∙ sym (f.state.tasks v.task) ∙ e) in
         omega (arith, ap (λ (y : Task). y.steps) same, own_within v.task (events_of D), length-map D (λ (d : Departure). d.event), f.few)
 
+pub can_change : (first : Cells) (root_line : ℕ) (D : List Departure) (v : Event) (s : Seen) → Follows first root_line D v s → CanChange s v
+can_change first root_line D v s f = record {
+  cell = cell first v.task (own v.task (events_of D)) v.action (length s.store.cells) f.state.cells.count f.legal.1.own;
+  of_tasks = can_change_tasks first root_line D v s (record { legal = f.legal; state = f.state.of_tasks; few = f.few });
+}
+
 -- what the tables ask for where the newest event is taken back
 pub can_change_back : (first : Cells) (root_line : ℕ) (D : List Departure) (d : Departure) (s : Seen) → Legal first (d.event ∷ events_of D) → IsState first root_line (d ∷ D) s → CanChangeBack s d.event
 can_change_back first root_line D d s l k =
@@ -254,9 +273,9 @@ can_change_back first root_line D d s l k =
     record {
       register = register first v.task (own v.task H) v.action l.1.own;
       cell = cell first v.task (own v.task H) v.action (length s.store.cells) k.cells.count l.1.own;
-      linked = linked first root_line (d ∷ D) s l k v.task (grown v.task v H (acting first H v l));
-      spawn = last_spawn first H s v.task v.action l k.waiting;
-      room = end_room_for first root_line D d.to v.task v.action s l k;
+      linked = linked first root_line (d ∷ D) s l k.of_tasks v.task (grown v.task v H (acting first H v l));
+      spawn = last_spawn first H s v.task v.action l k.of_tasks.waiting;
+      room = end_room_for first root_line D d.to v.task v.action s l k.of_tasks;
     }
 
 -- ---- anywhere in the history

@@ -107,14 +107,18 @@ pub record IsRest (old new : Seen) : Type 0 where
   pub waits : new.waits ≡ old.waits
   pub marks : new.marks ≡ old.marks
 
--- the tables behind the event, which leaves its task at this line
-pub record Changed (v : Event) (to : ℕ) (old new : Seen) : Type 0 where
-  pub cells : new.store.cells ≡ cells_by v.action old.store.cells
-  pub output : new.store.output ≡ output_by v.action old.store.output
+-- what the tables keep of the tasks behind the event, which leaves its task at this line
+pub record ChangedTasks (v : Event) (to : ℕ) (old new : Seen) : Type 0 where
   pub waits : ChangesBy v.task v.action old.waits.tasks new.waits.tasks
   pub marks : MarkedBy v.task v.action old.marks.tasks new.marks.tasks
   pub tasks : (u : Name) → task new.rows u ≡ task_by v to (task old.rows) u
   pub holders : HoldersFor v.task v.action old.rows new.rows
+
+-- the tables behind the event, which leaves its task at this line
+pub record Changed (v : Event) (to : ℕ) (old new : Seen) : Type 0 where
+  pub cells : new.store.cells ≡ cells_by v.action old.store.cells
+  pub output : new.store.output ≡ output_by v.action old.store.output
+  pub of_tasks : ChangedTasks v to old new
 
 -- the tables behind the event but for the cells, the output and the task's own step
 pub record Acted (v : Event) (old new : Seen) : Type 0 where
@@ -176,6 +180,17 @@ HasRoomOf s t (Spawn spawn) = HasSpawnRoom s t spawn.child spawn.items spawn.def
 HasRoomOf s t Open = HasGroupRoom s.waits.tasks t
 HasRoomOf s t _ = ⊤
 
+-- for what the action of t changes of the tasks
+abbrev pub HasTaskRoomOf : Seen → Name → Action → Type 0
+HasTaskRoomOf s t Start = HasSetRoom s.rows t
+HasTaskRoomOf s t (Spawn spawn) = HasSpawnRoom s t spawn.child spawn.items spawn.deferred
+HasTaskRoomOf s t Open = HasGroupRoom s.waits.tasks t
+HasTaskRoomOf s t _ = ⊤
+
+-- the event takes no memory where cells and output are left out
+abbrev pub HasTaskRoomFor : Seen → Event → Type 0
+HasTaskRoomFor s v = HasTaskRoomOf s v.task v.action
+
 -- the event takes no memory
 abbrev pub HasRoomFor : Seen → Event → Type 0
 HasRoomFor s v = HasRoomOf s v.task v.action
@@ -201,13 +216,17 @@ abbrev pub IsNextSpawn : Seen → Name → Action → Type 0
 IsNextSpawn s p (Spawn spawn) = IsNext s.waits.tasks p spawn.child × (p ≡ drop 1 spawn.child) × (length spawn.args ≤ 16) × (mark_of s.marks.tasks spawn.child ≡ None)
 IsNextSpawn s p _ = ⊤
 
--- what the tables ask for where the event is taken
-pub record CanChange (s : Seen) (v : Event) : Type 0 where
+-- what the tables ask for where the event is taken, but for the cell
+pub record CanChangeTasks (s : Seen) (v : Event) : Type 0 where
   pub register : IsRegister v.action
-  pub cell : IsCell (length s.store.cells) v.action
   pub few : (k : Task) → task s.rows v.task ≡ Some k → k.steps < 4294967295
   pub linked : IsLinked s.rows v.task
   pub spawn : IsNextSpawn s v.task v.action
+
+-- what the tables ask for where the event is taken
+pub record CanChange (s : Seen) (v : Event) : Type 0 where
+  pub cell : IsCell (length s.store.cells) v.action
+  pub of_tasks : CanChangeTasks s v
 
 -- the spawn that is taken back was the task's last
 abbrev pub IsLastSpawn : Seen → Name → Action → Type 0

@@ -60,14 +60,18 @@ known_task root_line D t = record {
 abbrev pub task_of : ℕ → List Departure → Name → Option Task
 task_of root_line D t = if is_spawned (events_of D) t then Some (known_task root_line D t) else None
 
--- the tables are those of the history, with these first numbers, and the root's body at this line
-pub record IsState (first : Cells) (root_line : ℕ) (D : List Departure) (s : Seen) : Type 0 where
-  pub cells : AreLast first (events_of D) s.store.cells
-  pub output : s.store.output ≡ reverse (printed (events_of D))
+-- what the tables keep of the tasks is that of the history, with the root's body at this line; of cells and output it says nothing
+pub record IsTaskState (root_line : ℕ) (D : List Departure) (s : Seen) : Type 0 where
   pub waiting : AreKin (events_of D) s.waits.tasks
   pub marked : AreMarks (events_of D) s.marks.tasks
   pub tasks : (t : Name) → task s.rows t ≡ task_of root_line D t
   pub holders : (p : Name) (h : Holders) → holders_of s.rows p ≡ Some h → AreHolders (events_of D) p h
+
+-- the tables are those of the history, with these first numbers, and the root's body at this line
+pub record IsState (first : Cells) (root_line : ℕ) (D : List Departure) (s : Seen) : Type 0 where
+  pub cells : AreLast first (events_of D) s.store.cells
+  pub output : s.store.output ≡ reverse (printed (events_of D))
+  pub of_tasks : IsTaskState root_line D s
 
 -- ---- whatever history the tables are of
 
@@ -75,9 +79,13 @@ pub record IsState (first : Cells) (root_line : ℕ) (D : List Departure) (s : S
 abbrev pub ForState : Seen → (Cells → ℕ → List Departure → Type 0) → Type 0
 ForState s P = (first : Cells) (root_line : ℕ) (D : List Departure) → IsState first root_line D s → P first root_line D
 
+-- this holds of the line of the root's body, and of the history with the lines of its steps
+abbrev pub ForTasks : Seen → (ℕ → List Departure → Type 0) → Type 0
+ForTasks s P = (root_line : ℕ) (D : List Departure) → IsTaskState root_line D s → P root_line D
+
 -- this holds of its events, where it is legal
 abbrev pub ForHistory : Seen → (History → Type 0) → Type 0
-ForHistory s P = (first : Cells) (root_line : ℕ) (D : List Departure) → Legal first (events_of D) → IsState first root_line D s → P (events_of D)
+ForHistory s P = (first : Cells) (root_line : ℕ) (D : List Departure) → Legal first (events_of D) → IsTaskState root_line D s → P (events_of D)
 
 -- this holds of its events, where it is legal, and t was generated and hasn't ended
 abbrev pub ForUnended : Seen → Name → (History → Type 0) → Type 0

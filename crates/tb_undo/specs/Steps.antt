@@ -9,7 +9,7 @@ use Rattle.tb_model.specs.Reordering.{IsUnneeded}
 use Rattle.tb_model.specs.Needs.{step_of}
 use Rattle.tb_store.specs.declared.replaced.Replaced.{Replaced}
 use Rattle.tb_undo.specs.Tasks.{register_by}
-use Rattle.tb_undo.specs.State.{Seen, IsState}
+use Rattle.tb_undo.specs.State.{Seen, IsTaskState, IsState}
 
 -- what the event replaces behind this history: a number, of a register or a cell, and the line at which its task stood
 abbrev pub replaced_for : Cells → ℕ → List Departure → Event → Replaced
@@ -23,6 +23,12 @@ replaced_for first root_line D v = record {
 pub record Follows (first : Cells) (root_line : ℕ) (D : List Departure) (v : Event) (s : Seen) : Type 0 where
   pub legal : Legal first (v ∷ events_of D)
   pub state : IsState first root_line D s
+  pub few : length D < 4294967295
+
+-- what the tables keep of the tasks is that of a history that the event may follow
+pub record FollowsTasks (first : Cells) (root_line : ℕ) (D : List Departure) (v : Event) (s : Seen) : Type 0 where
+  pub legal : Legal first (v ∷ events_of D)
+  pub state : IsTaskState root_line D s
   pub few : length D < 4294967295
 
 -- the tables are those of a history in which the event stands between these, nothing needs it, and this is what it replaced
@@ -43,6 +49,16 @@ abbrev pub IsBehind : Seen → Event → ℕ → Seen → Type 0
 IsBehind old v to new =
     (first : Cells) (root_line : ℕ) (D : List Departure) → Follows first root_line D v old
     → IsState first root_line (record { event = v; to = to } ∷ D) new
+
+-- the event may follow a history of whose tasks the tables are
+abbrev pub IsAheadOfTasks : Seen → Event → Type 0
+IsAheadOfTasks s v = (first : Cells) × (root_line : ℕ) × (D : List Departure) × FollowsTasks first root_line D v s
+
+-- whatever history that is, the tables are now those of the tasks of it with the event, which leaves its task at this line
+abbrev pub IsBehindTasks : Seen → Event → ℕ → Seen → Type 0
+IsBehindTasks old v to new =
+    (first : Cells) (root_line : ℕ) (D : List Departure) → FollowsTasks first root_line D v old
+    → IsTaskState root_line (record { event = v; to = to } ∷ D) new
 
 -- whatever history that is, this is what the event replaced
 abbrev pub IsRecord : Seen → Event → Replaced → Type 0

@@ -1,6 +1,7 @@
 //! The state that a history leaves, in five tables: a step on all of them, and back.
 #![tactic(auto)]
 
+mod among_tasks;
 mod asking;
 mod copies;
 pub mod laws;

@@ -11,7 +11,7 @@ ghost use Rattle.tb_model.specs.State.{called_by, open_groups, printed, spawn_of
 ghost use Rattle.tb_model.specs.Legal.{first_number, spawn_count};
 ghost use Rattle.tb_model.specs.Lines.{events_of};
 ghost use Rattle.tb_wait.specs.Kin.{place};
-ghost use Rattle.tb_undo.specs.State.{AreLast, task_of, ForState, ForHistory};
+ghost use Rattle.tb_undo.specs.State.{AreLast, task_of, ForState, ForTasks, ForHistory};
 ghost use Rattle.tb_undo.specs.Obstacles.{sibling};
 ghost use Rattle.tb_undo.specs.Readings.{IsNthOf, IsNextChild, IsUnendedBehind};
 ghost use Rattle.tb_undo.specs.Standings.{standing_of};
@@ -43,7 +43,7 @@ impl Tables {
 
     /// Whether the task was generated.
     pub fn is_there(&self, name: &TaskName) -> bool
-        ensures { ForState self.now (λ first root_line D. result ≡ is_spawned (events_of D) name.now) }
+        ensures { ForTasks self.now (λ root_line D. result ≡ is_spawned (events_of D) name.now) }
     {
         get(&self.rows, &self.waits, self.near, name).is_some()
     }
@@ -70,7 +70,7 @@ impl Tables {
     /// The least unended task behind this one, or the least of all where none is given. So the
     /// unended tasks can be listed in order, each found by a binary search.
     pub fn next_unended(&self, after: Option<&TaskName>) -> Option<&TaskName>
-        ensures { ForState self.now (λ first root_line D.
+        ensures { ForTasks self.now (λ root_line D.
             IsLeastName (IsUnendedBehind (events_of D) (option_copied after.entry)) (option_copied result)) }
     {
         self.marks.next_marked(after)
@@ -84,7 +84,7 @@ impl Tables {
         near: &mut Option<usize>,
         after: Option<&TaskName>,
     ) -> Option<&TaskName>
-        ensures { ForState self.now (λ first root_line D.
+        ensures { ForTasks self.now (λ root_line D.
             IsLeastName (IsUnendedBehind (events_of D) (option_copied after.entry)) (option_copied result)) }
     {
         let found = self.marks.walk_marked(walk, after);
@@ -96,7 +96,7 @@ impl Tables {
     /// Where the task stands.
     #[inline(always)]
     pub fn standing(&self, name: &TaskName) -> Option<Standing<'_>>
-        ensures { ForState self.now (λ first root_line D. result ≡ option_map standing_of (task_of root_line D name.now)) }
+        ensures { ForTasks self.now (λ root_line D. result ≡ option_map standing_of (task_of root_line D name.now)) }
     {
         standing(&self.rows, &self.waits, self.near, name)
     }
@@ -104,7 +104,7 @@ impl Tables {
     /// Where the task stands, in a walk over tasks: `near` hands on where the last one's row is, at
     /// first none.
     pub fn walk_standing(&self, near: &mut Option<usize>, name: &TaskName) -> Option<Standing<'_>>
-        ensures { ForState self.now (λ first root_line D. result ≡ option_map standing_of (task_of root_line D name.now)) }
+        ensures { ForTasks self.now (λ root_line D. result ≡ option_map standing_of (task_of root_line D name.now)) }
     {
         let found = standing(&self.rows, &self.waits, near.unwrap_or(self.near), name);
         if let Some(standing) = &found {
@@ -115,7 +115,7 @@ impl Tables {
 
     /// The line that begins the body of a task that was generated.
     pub fn body(&self, name: &TaskName) -> Option<u32>
-        ensures { ForState self.now (λ first root_line D.
+        ensures { ForTasks self.now (λ root_line D.
             result ≡ (if is_spawned (events_of D) name.now then Some (called_by root_line (spawn_of name.now (events_of D))).line else None)) }
     {
         match get(&self.rows, &self.waits, self.near, name) {
@@ -126,7 +126,7 @@ impl Tables {
 
     /// How many children the task generated.
     pub fn children(&self, name: &TaskName) -> Option<u32>
-        ensures { ForState self.now (λ first root_line D.
+        ensures { ForTasks self.now (λ root_line D.
             result ≡ (if is_spawned (events_of D) name.now then Some (spawn_count (own name.now (events_of D))) else None)) }
     {
         self.waits.children(name)
@@ -135,7 +135,7 @@ impl Tables {
     /// The least number above `low` of a child of the task that hasn't ended. So its unended
     /// children can be listed in order, from 0 on. Takes no memory.
     pub fn next_child(&self, name: &TaskName, low: u32) -> Option<u32>
-        ensures { ForState self.now (λ first root_line D. IsNextChild (events_of D) name.now low result) }
+        ensures { ForTasks self.now (λ root_line D. IsNextChild (events_of D) name.now low result) }
     {
         self.waits.next_unended(name, low)
     }

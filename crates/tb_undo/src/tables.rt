@@ -9,7 +9,7 @@ ghost use Rattle.tb_undo.specs.Places.{HasPlaceOrRoom};
 ghost use Rattle.tb_undo.specs.Sets.{Reserves, IsLinked, HasSetRoom, Sets, Comes, Goes, number_of};
 ghost use Rattle.tb_undo.specs.State.{IsState};
 ghost use Rattle.tb_undo.specs.Steps.{IsAhead, IsBehind, IsRecord, Stands, IsWithout};
-ghost use Rattle.tb_undo.specs.Changes.{IsRest, KeepsRoom, HasFamilyRoom, Changed, ChangedBack, Acted, ActedBack, AreSame, HasRoomFor, HasSpawnRoom, CanChange, CanChangeBack, replaced_in, cell_over, IsCell, cells_by, output_by, cells_back, output_back};
+ghost use Rattle.tb_undo.specs.Changes.{IsRest, KeepsRoom, HasFamilyRoom, Changed, ChangedTasks, ChangedBack, Acted, ActedBack, AreSame, HasRoomFor, HasTaskRoomFor, HasSpawnRoom, CanChange, CanChangeTasks, CanChangeBack, replaced_in, cell_over, IsCell, cells_by, output_by, cells_back, output_back};
 
 use crate::copies::Copies;
 use crate::row::Row;
@@ -76,16 +76,9 @@ impl Tables {
         ensures ok { OnOk result (HasRoomFor self.new event.now) }
         ensures succeeds { HasRoomFor self.old event.now → IsOk result }
     {
-        let name = &event.task;
         match &event.action {
-            Action::Start => self.reserve_start(name),
             Action::Print { .. } => self.store.reserve_say(),
-            Action::Spawn(spawned) => {
-                let spawn = spawned.get();
-                self.reserve_spawn(name, &spawn.child, spawn.items.as_slice(), spawn.deferred)
-            }
-            Action::Open => self.waits.reserve_opened(name),
-            _ => Ok(()),
+            _ => self.reserve_tasks(event),
         }
     }
 
@@ -136,7 +129,7 @@ impl Tables {
 
     /// Turns to the task, which takes a step, where the place of its row is known.
     #[inline(always)]
-    fn turn_to_place(&mut self, at: usize, name: &TaskName)
+    pub(crate) fn turn_to_place(&mut self, at: usize, name: &TaskName)
         ensures { self.new ≡ self.old }
     {
         if at != self.near {
@@ -146,7 +139,7 @@ impl Tables {
 
     /// Makes the room for the spawn of a child. The names that are copied for another are given up last, so not where
     /// memory is wanted.
-    fn reserve_spawn(
+    pub(crate) fn reserve_spawn(
         &mut self,
         parent: &TaskName,
         child: &TaskName,
@@ -213,7 +206,7 @@ impl Tables {
     }
 
     /// Makes the room for what a start takes.
-    fn reserve_start(&mut self, name: &TaskName) -> Result<(), AllocError>
+    pub(crate) fn reserve_start(&mut self, name: &TaskName) -> Result<(), AllocError>
         requires { IsLinked self.old.rows name.now }
         ensures same { AreSame self.old self.new }
         ensures names { KeepsNames self.old.waits.tasks self.new.waits.tasks }
@@ -260,17 +253,8 @@ impl Tables {
         ensures replaced { (k : Task) → task self.old.rows event.now.task ≡ Some k →
             result ≡ replaced_in event.now.action self.old.store.cells k }
     {
-        self.act(event);
+        let (over, at) = self.change_tasks(event, to);
         let number = self.write(&event.action);
-        let (place, over, at) = rows::advance(
-            &mut self.rows,
-            &self.waits,
-            self.near,
-            &event.task,
-            &event.action,
-            to,
-        );
-        self.turn_to_place(place, &event.task);
         Replaced {
             number: number.or(over),
             reg: register(&event.action),
@@ -280,9 +264,9 @@ impl Tables {
 
     /// What the event changes for other tasks.
     #[inline(always)]
-    fn act(&mut self, event: &Event)
-        requires can { CanChange self.old event.now }
-        requires room { HasRoomFor self.old event.now }
+    pub(crate) fn act(&mut self, event: &Event)
+        requires can { CanChangeTasks self.old event.now }
+        requires room { HasTaskRoomFor self.old event.now }
         ensures acted { Acted event.now self.old self.new }
         ensures names { KeepsNames self.old.waits.tasks self.new.waits.tasks }
     {

@@ -17,8 +17,7 @@ use Rattle.tb_model.specs.State.{open_groups, children_since}
 use Rattle.tb_model.specs.Legal.{Cells, IsPlace, IsRunning, Continues, MayFollow, first_number, spawn_count}
 use Rattle.tb_model.specs.Hindrances.{Hindrance, in_the_way, number_read}
 use Rattle.tb_model.specs.Lines.{Departure, events_of}
-use Rattle.tb_undo.specs.State.{Seen}
-use Rattle.tb_undo.specs.Steps.{Follows}
+use Rattle.tb_undo.specs.Steps.{FollowsTasks}
 use Rattle.tb_verdict.specs.Judged.{IsRun}
 use Rattle.tb_model.specs.Program.{loaded}
 use Rattle.tb_model.proofs.GroupsLemmas.{groups_since}
@@ -26,6 +25,7 @@ use Rattle.tb_model.proofs.HindranceLemmas.{nothing_in_the_way}
 use Rattle.tb_plan.specs.Plans.{names_allowed, is_placed, is_place}
 use Rattle.tb_verdict.specs.Refusals.{refusal_of, kept_by, out_of_turn, started_by, is_due, misread, unopened, unfit}
 use Rattle.tb_verdict.specs.declared.refusal.Refusal.{Refusal}
+use Rattle.tb_verdict.specs.declared.run_state.RunState.{RunState}
 use Rattle.tb_verdict.specs.declared.refusal.Refusal.TheVariants.{NoSuchTask, Ended, NotStarted, Started, Reads, Child, NoGroup, Step}
 
 pub some_none : {A : Type 0} (x : A) → ◌≡◌ {A = Option A} (Some x) None → ⊥
@@ -210,10 +210,10 @@ may_follow_unrefused first H k v p none =
     let c = cleared first H k v none in
     may_follow first H v.task k v.action p c.spawned c.going c.turn c.way c.fit
 
-pub follows : (first : Cells) (root_line : ℕ) (D : List Departure) (s : Seen) (k : Option ℕ) (v : Event) → IsRun first root_line D s →
-    names_allowed (length s.store.cells) v.action ≡ true → refusal_of first (events_of D) k v ≡ None → Follows first root_line D v s
+pub follows : (first : Cells) (root_line : ℕ) (D : List Departure) (s : RunState) (k : Option ℕ) (v : Event) → IsRun first root_line D s →
+    names_allowed s.cells v.action ≡ true → refusal_of first (events_of D) k v ≡ None → FollowsTasks first root_line D v s.tables
 follows first root_line D s k v run allowed none = record {
-  legal = (run.legal, may_follow_unrefused first (events_of D) k v (ap (λ n. names_allowed n v.action) (sym run.state.cells.count) ∙ allowed) none);
+  legal = (run.legal, may_follow_unrefused first (events_of D) k v (ap (λ n. names_allowed n v.action) (sym run.cells) ∙ allowed) none);
   state = run.state;
   few = run.few;
 }

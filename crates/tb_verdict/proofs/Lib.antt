@@ -2,7 +2,8 @@ mod NumberedLemmas
 mod RefusalLemmas
 mod FollowLemmas
 mod UnrefusedLemmas
+mod ValueLemmas
 mod HeldLemmas
 pub mod WholeLemmas
 mod UnendedLemmas
-mod RecordedLemmas
+pub mod RecordedLemmas

@@ -16,7 +16,7 @@ use Rattle.tb_verdict.specs.Texts.{Sofar, Heading, Running, start, first_numbers
 use Rattle.tb_verdict.specs.declared.ending.Ending.{Ending}
 use Rattle.tb_verdict.specs.declared.ending.Ending.TheVariants.{Faulty, Refused}
 use Rattle.tb_verdict.specs.declared.refusal.Refusal.{Refusal}
-use Rattle.tb_verdict.proofs.HeldLemmas.{firsts_count}
+use Rattle.tb_verdict.proofs.ValueLemmas.{firsts_count}
 use Rattle.tb_verdict.proofs.UnrefusedLemmas.{longer, unrefused}
 
 not_both : {A E : Type 0} (x : A) (e : E) → ◌≡◌ {A = Result A E} (Err e) (Ok x) → ⊥

@@ -7,14 +7,14 @@ use Rattle.std.proofs.lemmas.Bool.{false≢true}
 use Rattle.tb_model.specs.LeastNames.{IsLeastName}
 use Rattle.tb_model.specs.Names.{Name, name_cmp}
 use Rattle.tb_model.specs.Facts.{History}
-use Rattle.tb_model.specs.Legal.{Cells}
 use Rattle.tb_model.specs.Lines.{Departure, events_of}
 use Rattle.tb_runs.specs.Lines.{Firsts}
 use Rattle.tb_runs.specs.declared.said.Stage.{Stage}
 use Rattle.tb_undo.specs.Readings.{IsUnendedBehind}
-use Rattle.tb_undo.specs.State.{Seen, IsState}
+use Rattle.tb_undo.specs.State.{IsTaskState}
 use Rattle.tb_verdict.specs.Held.{departures, IsHead, IsRunning}
 use Rattle.tb_verdict.specs.Texts.{Sofar, Heading, Running, history_in}
+use Rattle.tb_verdict.specs.declared.run_state.RunState.{RunState}
 use Rattle.tb_verdict.proofs.HeldLemmas.{its_events}
 
 not_less : (xs : List ℕ) → slice_cmp nat_cmp xs [] ≡ Less → ⊥
@@ -40,10 +40,10 @@ none_behind after = record {
 abbrev IsNext : Option Name → Option Name → History → Type 0
 IsNext after o H = IsLeastName (IsUnendedBehind H after) o
 
-pub unended_running : (cells count : ℕ) (tables : Seen) (after o : Option Name) → ((first : Cells) (root_line : ℕ) (D : List Departure) → IsState first root_line D tables → IsNext after o (events_of D)) →
-    (s : Sofar) → IsRunning cells count tables s → IsNext after o (history_in s)
-unended_running cells count tables after o next (Heading at firsts) b = absurd b
-unended_running cells count tables after o next (Running first H) b = subst (IsNext after o) (its_events H) (next first 0 (departures H) b.1.run.state)
+pub unended_running : (count : ℕ) (state : RunState) (after o : Option Name) → ((root_line : ℕ) (D : List Departure) → IsTaskState root_line D state.tables → IsNext after o (events_of D)) →
+    (s : Sofar) → IsRunning count state s → IsNext after o (history_in s)
+unended_running count state after o next (Heading at firsts) b = absurd b
+unended_running count state after o next (Running first H) b = subst (IsNext after o) (its_events H) (next 0 (departures H) b.run.state)
 
 -- in front of the first event the root alone is unended
 pub unended_heading : (at : Stage) (firsts : Firsts) (root : Name) (after o : Option Name) → (root ≡ [] → IsNext after o []) → (s : Sofar) → IsHead at firsts root s → IsNext after o (history_in s)

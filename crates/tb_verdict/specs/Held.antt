@@ -5,7 +5,6 @@ use Rattle.tb_model.specs.Facts.{History}
 use Rattle.tb_model.specs.Legal.{Cells}
 use Rattle.tb_model.specs.Names.{Name}
 use Rattle.tb_model.specs.Lines.{Departure}
-use Rattle.tb_undo.specs.State.{Seen}
 use Rattle.tb_verdict.specs.Judged.{IsRun}
 use Rattle.tb_verdict.specs.Refusals.{refusal_of}
 use Rattle.tb_verdict.specs.Texts.{Sofar, Heading, Running, first_numbers, history_in, with_event, said_behind, line_behind}
@@ -19,6 +18,7 @@ use Rattle.tb_verdict.specs.declared.judge.Headed.{Headed}
 use Rattle.tb_verdict.specs.declared.judge.Headed.TheVariants as headed
 use Rattle.tb_verdict.specs.declared.judge.Judge.{Judge}
 use Rattle.tb_verdict.specs.declared.line_verdict.LineVerdict.{LineVerdict}
+use Rattle.tb_verdict.specs.declared.run_state.RunState.{RunState}
 use Rattle.tb_verdict.specs.declared.line_verdict.LineVerdict.TheVariants.{Taken, Ends}
 use Rattle.tb_verdict.specs.declared.judge.Judge.TheVariants as judge
 
@@ -26,8 +26,8 @@ use Rattle.tb_verdict.specs.declared.judge.Judge.TheVariants as judge
 abbrev pub departures : History → List Departure
 departures H = map (λ (v : Event). record { event = v; to = 0 }) H
 
--- the tables are those of so many events
-pub record Holds (first : Cells) (H : History) (count : ℕ) (s : Seen) : Type 0 where
+-- this is kept of so many events
+pub record Holds (first : Cells) (H : History) (count : ℕ) (s : RunState) : Type 0 where
   pub counted : count ≡ length H
   pub run : IsRun first 0 (departures H) s
 
@@ -36,20 +36,20 @@ abbrev pub IsHead : Stage → Firsts → Name → Sofar → Type 0
 IsHead at firsts root (Heading stage numbers) = (at ≡ stage) × (firsts ≡ numbers) × (root ≡ [])
 IsHead at firsts root (Running first H) = ⊥
 
--- these tables are those of the run
-abbrev pub IsRunning : ℕ → ℕ → Seen → Sofar → Type 0
-IsRunning cells count s (Heading stage numbers) = ⊥
-IsRunning cells count s (Running first H) = (cells ≡ length first) × Holds first H count s
+-- this is kept of the run
+abbrev pub IsRunning : ℕ → RunState → Sofar → Type 0
+IsRunning count s (Heading stage numbers) = ⊥
+IsRunning count s (Running first H) = Holds first H count s
 
 -- the judge is behind these lines
 abbrev pub IsBehind : Judge → Sofar → Type 0
 IsBehind (judge.Heading at firsts root) s = IsHead at firsts.entries root s
-IsBehind (judge.Running cells count tables) s = IsRunning cells count tables s
+IsBehind (judge.Running count state) s = IsRunning count state s
 
 -- ---- an event
 
 -- it is counted where it is taken; else nothing changes
-abbrev pub Counts : Cells → History → Option ℕ → Event → LineVerdict → ℕ → Seen → Type 0
+abbrev pub Counts : Cells → History → Option ℕ → Event → LineVerdict → ℕ → RunState → Type 0
 Counts first H k v (Taken event) count s = (event ≡ Some v) × (refusal_of first H k v ≡ None) × Holds first (v ∷ H) count s
 Counts first H k v (Ends (Refused r)) count s = (refusal_of first H k v ≡ Some r) × Holds first H count s
 Counts first H k v (Ends (Faulty fault)) count s = ⊥
@@ -57,7 +57,7 @@ Counts first H k v (Ends (Faulty fault)) count s = ⊥
 -- ---- a line
 
 -- behind the first event: the run goes on, or the judgement ends there
-abbrev pub Runs : Cells → History → List ℕ → LineVerdict → ℕ → Seen → Type 0
+abbrev pub Runs : Cells → History → List ℕ → LineVerdict → ℕ → RunState → Type 0
 Runs first H line (Taken event) count s = (line_behind (Running first H) line ≡ Ok (Running first (with_event event H))) × Holds first (with_event event H) count s
 Runs first H line (Ends ending) count s = (line_behind (Running first H) line ≡ Err ending) × Holds first H count s
 
@@ -73,27 +73,27 @@ Judges s line new v = Goes s line v (IsBehind new)
 -- ---- the first event
 
 -- it begins the run, or the judgement ends there
-abbrev pub Begins : ℕ → Cells → Option ℕ → Event → Headed → Type 0
-Begins n first k v headed.Stays = ⊥
-Begins n first k v (headed.Runs cells count tables event) = (event ≡ Some v) × (refusal_of first [] k v ≡ None) × (cells ≡ n) × Holds first (v ∷ []) count tables
-Begins n first k v (headed.Ends (Refused r)) = refusal_of first [] k v ≡ Some r
-Begins n first k v (headed.Ends (Faulty fault)) = ⊥
+abbrev pub Begins : Cells → Option ℕ → Event → Headed → Type 0
+Begins first k v headed.Stays = ⊥
+Begins first k v (headed.Runs count state event) = (event ≡ Some v) × (refusal_of first [] k v ≡ None) × Holds first (v ∷ []) count state
+Begins first k v (headed.Ends (Refused r)) = refusal_of first [] k v ≡ Some r
+Begins first k v (headed.Ends (Faulty fault)) = ⊥
 
 -- ---- what a line in front of the events comes to
 
 -- by what it says: no event came yet, or the run begins, or the judgement ends there
 abbrev pub HeadsOn : Stage → Firsts → Said → Stage → Firsts → Headed → Type 0
 HeadsOn at firsts said stage numbers headed.Stays = said_behind (Heading at firsts) said ≡ Ok (Heading stage numbers)
-HeadsOn at firsts said stage numbers (headed.Runs cells count tables event) =
-    (said_behind (Heading at firsts) said ≡ Ok (Running (first_numbers (cells_at at) firsts) (with_event event []))) × (cells ≡ cells_at at)
-    × Holds (first_numbers (cells_at at) firsts) (with_event event []) count tables
+HeadsOn at firsts said stage numbers (headed.Runs count state event) =
+    (said_behind (Heading at firsts) said ≡ Ok (Running (first_numbers (cells_at at) firsts) (with_event event [])))
+    × Holds (first_numbers (cells_at at) firsts) (with_event event []) count state
 HeadsOn at firsts said stage numbers (headed.Ends ending) = (said_behind (Heading at firsts) said ≡ Err ending) × (stage ≡ at) × (numbers ≡ firsts)
 
 abbrev pub HeadsBy : Stage → Firsts → List ℕ → Stage → Firsts → Headed → Type 0
 HeadsBy at firsts line stage numbers headed.Stays = line_behind (Heading at firsts) line ≡ Ok (Heading stage numbers)
-HeadsBy at firsts line stage numbers (headed.Runs cells count tables event) =
-    (line_behind (Heading at firsts) line ≡ Ok (Running (first_numbers (cells_at at) firsts) (with_event event []))) × (cells ≡ cells_at at)
-    × Holds (first_numbers (cells_at at) firsts) (with_event event []) count tables
+HeadsBy at firsts line stage numbers (headed.Runs count state event) =
+    (line_behind (Heading at firsts) line ≡ Ok (Running (first_numbers (cells_at at) firsts) (with_event event [])))
+    × Holds (first_numbers (cells_at at) firsts) (with_event event []) count state
 HeadsBy at firsts line stage numbers (headed.Ends ending) = (line_behind (Heading at firsts) line ≡ Err ending) × (stage ≡ at) × (numbers ≡ firsts)
 
 -- what it says is in range

@@ -4,27 +4,45 @@ use Rattle.tb_model.specs.declared.event.Event.{Event}
 use Rattle.tb_model.specs.Facts.{History}
 use Rattle.tb_model.specs.Legal.{Cells, Legal}
 use Rattle.tb_model.specs.Lines.{Departure, events_of}
-use Rattle.tb_undo.specs.State.{Seen, IsState}
+use Rattle.tb_undo.specs.State.{IsTaskState}
 use Rattle.tb_verdict.specs.Refusals.{refusal_of}
+use Rattle.tb_verdict.specs.Values.{AreValues, AreSameValues}
 use Rattle.tb_verdict.specs.declared.refusal.Refusal.{Refusal}
+use Rattle.tb_verdict.specs.declared.run_state.RunState.{RunState}
+use Rattle.tb_undo.specs.Changes.{AreSame}
 
--- the tables are those of a legal history, with these first numbers; a run has no lines, so they may be any
-pub record IsRun (first : Cells) (root_line : ℕ) (D : List Departure) (s : Seen) : Type 0 where
+-- this is kept of a legal history, with these first numbers; a run has no lines, so they may be any
+pub record IsRun (first : Cells) (root_line : ℕ) (D : List Departure) (s : RunState) : Type 0 where
   pub legal : Legal first (events_of D)
-  pub state : IsState first root_line D s
+  pub cells : s.cells ≡ length first
+  pub state : IsTaskState root_line D s.tables
+  pub values : AreValues first (events_of D) s.values.entries
   pub few : length D < 4294967295
 
--- they are those of some run
-abbrev pub AreOfRun : Seen → Type 0
+-- it is kept of some run
+abbrev pub AreOfRun : RunState → Type 0
 AreOfRun s = (first : Cells) × (root_line : ℕ) × (D : List Departure) × IsRun first root_line D s
 
 -- whatever run that is, this holds of its first numbers and of its history
-abbrev pub ForRun : Seen → (Cells → History → Type 0) → Type 0
+abbrev pub ForRun : RunState → (Cells → History → Type 0) → Type 0
 ForRun s P = (first : Cells) (root_line : ℕ) (D : List Departure) → IsRun first root_line D s → P first (events_of D)
 
+-- it says what it said
+pub record IsSame (old new : RunState) : Type 0 where
+  pub cells : new.cells ≡ old.cells
+  pub tables : AreSame old.tables new.tables
+  pub values : AreSameValues old.values.entries new.values.entries
+
+-- this is kept of a history with one event more
+pub record IsBehind (first : Cells) (root_line : ℕ) (D : List Departure) (v : Event) (s : RunState) : Type 0 where
+  pub legal : Legal first (v ∷ events_of D)
+  pub cells : s.cells ≡ length first
+  pub state : IsTaskState root_line (record { event = v; to = 0 } ∷ D) s.tables
+  pub values : AreValues first (v ∷ events_of D) s.values.entries
+
 -- the event is taken, where nothing refuses it; else nothing changes
-abbrev pub Takes : Option ℕ → Event → Seen → Seen → Option Refusal → Type 0
+abbrev pub Takes : Option ℕ → Event → RunState → RunState → Option Refusal → Type 0
 Takes k v old new None =
     (first : Cells) (root_line : ℕ) (D : List Departure) → IsRun first root_line D old
-    → (refusal_of first (events_of D) k v ≡ None) × Legal first (v ∷ events_of D) × IsState first root_line (record { event = v; to = 0 } ∷ D) new
+    → (refusal_of first (events_of D) k v ≡ None) × IsBehind first root_line D v new
 Takes k v old new (Some r) = (new ≡ old) × ForRun old (λ first H. refusal_of first H k v ≡ Some r)

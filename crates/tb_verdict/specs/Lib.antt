@@ -6,3 +6,4 @@ pub mod Memory
 pub mod Held
 pub mod Whole
 pub mod Recorded
+pub mod Values

@@ -21,7 +21,7 @@ use Rattle.tb_verdict.specs.declared.ending.Ending.TheVariants.{Faulty, Refused}
 
 abbrev pub with_firsts : Firsts → Cells → Cells
 with_firsts [] cells = cells
-with_firsts (first ∷ firsts) cells = with_firsts firsts (slice_set cells first.0 first.1)
+with_firsts (first ∷ firsts) cells = slice_set (with_firsts firsts cells) first.0 first.1
 
 -- a cell without one begins at 0
 abbrev pub first_numbers : ℕ → Firsts → Cells

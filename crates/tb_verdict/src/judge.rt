@@ -1,6 +1,6 @@
 //! Judges a run text line by line.
 
-ghost use Rattle.std.specs.Prelude.{◌≡◌, ◌<◌, ℕ, [], IfOk, IsTrue, OnErr, List, Option, None, length};
+ghost use Rattle.std.specs.Prelude.{◌≡◌, ◌<◌, ℕ, [], IfOk, IsTrue, OnErr, List, Option, None};
 ghost use Rattle.std.specs.Option.{option_copied};
 ghost use Rattle.tb_model.specs.Facts.{History};
 ghost use Rattle.tb_model.specs.LeastNames.{IsLeastName};
@@ -15,49 +15,49 @@ ghost use Rattle.tb_verdict.specs.Refusals.{refusal_of};
 ghost use Rattle.tb_verdict.specs.Texts.{Sofar, Heading, Running, events_in, first_numbers, heading_events, history_in, start};
 
 use crate::ending::Ending;
-use crate::firsts::first_numbers;
 use crate::line_verdict::LineVerdict;
+use crate::run_state::RunState;
 use crate::taking::{refusal_for, take};
+use crate::values::Values;
 use indexmap::IndexMap;
 use std::alloc::{AllocError, Global};
 use tb_model::{Event, TaskName};
 use tb_runs::{Said, Stage, Unread, read_event, read_line};
-use tb_undo::Tables;
 
 /// The most events of a run; one more wants memory.
 const MOST: u32 = 4_294_967_294;
 
-/// Judges a run text line by line. It keeps no events: what it keeps goes by tasks and cells.
+/// Judges a run text line by line. It keeps no events: what it keeps goes by the tasks, and by the
+/// cells that were given a value.
 #[derive(Drop)]
 pub enum Judge {
     /// No event came yet; the cells that have a first number, and the task that there is.
     Heading {
         stage: Stage,
-        firsts: IndexMap<u32, i64>,
+        firsts: Values,
         root: TaskName,
     },
-    /// The number of cells, that of the events so far, and their tables.
+    /// The number of the events so far, and what is kept of them.
     Running {
-        cells: u32,
         count: u32,
-        tables: Tables,
+        state: RunState,
     },
 }
 
 /// Judges an event where no more are counted: one that may follow wants memory.
 fn refuse_event(
-    tables: &Tables,
+    state: &RunState,
     step: Option<u64>,
     event: &Event,
 ) -> Result<LineVerdict, AllocError>
-    requires run { AreOfRun tables.now }
-    requires allowed { IsTrue (names_allowed (length tables.now.store.cells) event.now.action) }
-    ensures ok { IfOk result (λ v. (first : Cells) (H : History) (count : ℕ) → Holds first H count tables.now →
-        Counts first H step event.now v count tables.now) }
-    ensures memory { OnErr result ((first : Cells) (H : History) (count : ℕ) → Holds first H count tables.now →
+    requires run { AreOfRun state.now }
+    requires allowed { IsTrue (names_allowed state.now.cells event.now.action) }
+    ensures ok { IfOk result (λ v. (first : Cells) (H : History) (count : ℕ) → Holds first H count state.now →
+        Counts first H step event.now v count state.now) }
+    ensures memory { OnErr result ((first : Cells) (H : History) (count : ℕ) → Holds first H count state.now →
         MayTake (refusal_of first H step event.now)) }
 {
-    match refusal_for(tables, step, event)? {
+    match refusal_for(state, step, event)? {
         Some(refusal) => Ok(LineVerdict::Ends {
             ending: Ending::Refused { refusal },
         }),
@@ -65,26 +65,26 @@ fn refuse_event(
     }
 }
 
-/// Counts an event and feeds it to the tables, where it may follow.
+/// Counts an event and takes it, where it may follow.
 fn count_event(
-    tables: &mut Tables,
+    state: &mut RunState,
     count: &mut u32,
     step: Option<u64>,
     event: Event,
 ) -> Result<LineVerdict, AllocError>
-    requires run { (first : Cells) × (H : History) × Holds first H count.old tables.old }
-    requires allowed { IsTrue (names_allowed (length tables.old.store.cells) event.action) }
-    ensures ok { IfOk result (λ v. (first : Cells) (H : History) → Holds first H count.old tables.old →
-        Counts first H step event v count.new tables.new) }
-    ensures err { OnErr result ((first : Cells) (H : History) → Holds first H count.old tables.old →
-        Holds first H count.new tables.new) }
-    ensures memory { OnErr result ((first : Cells) (H : History) → Holds first H count.old tables.old →
+    requires run { (first : Cells) × (H : History) × Holds first H count.old state.old }
+    requires allowed { IsTrue (names_allowed state.old.cells event.action) }
+    ensures ok { IfOk result (λ v. (first : Cells) (H : History) → Holds first H count.old state.old →
+        Counts first H step event v count.new state.new) }
+    ensures err { OnErr result ((first : Cells) (H : History) → Holds first H count.old state.old →
+        Holds first H count.new state.new) }
+    ensures memory { OnErr result ((first : Cells) (H : History) → Holds first H count.old state.old →
         MayTake (refusal_of first H step event)) }
 {
     if *count >= MOST {
-        return refuse_event(tables, step, &event);
+        return refuse_event(state, step, &event);
     }
-    match take(tables, step, &event)? {
+    match take(state, step, &event)? {
         None => {
             *count += 1;
             Ok(LineVerdict::Taken { event: Some(event) })
@@ -98,21 +98,20 @@ fn count_event(
 /// Judges a line after the first event.
 fn run_line(
     alloc: Global,
-    cells: u32,
-    tables: &mut Tables,
+    state: &mut RunState,
     count: &mut u32,
     line: &[u8],
 ) -> Result<LineVerdict, AllocError>
-    requires run { (first : Cells) × (H : History) × (cells ≡ length first) × Holds first H count.old tables.old }
-    ensures ok { IfOk result (λ v. (first : Cells) (H : History) → cells ≡ length first → Holds first H count.old tables.old →
-        Runs first H line.now v count.new tables.new) }
-    ensures err { OnErr result ((first : Cells) (H : History) → Holds first H count.old tables.old →
-        Holds first H count.new tables.new) }
-    ensures memory { OnErr result ((first : Cells) (H : History) → cells ≡ length first → Holds first H count.old tables.old →
+    requires run { (first : Cells) × (H : History) × Holds first H count.old state.old }
+    ensures ok { IfOk result (λ v. (first : Cells) (H : History) → Holds first H count.old state.old →
+        Runs first H line.now v count.new state.new) }
+    ensures err { OnErr result ((first : Cells) (H : History) → Holds first H count.old state.old →
+        Holds first H count.new state.new) }
+    ensures memory { OnErr result ((first : Cells) (H : History) → Holds first H count.old state.old →
         LineTakes (Running first H) line.now) }
 {
-    match read_event(alloc, cells, line) {
-        Ok(Some(Said::Event { step, event })) => count_event(tables, count, step, event),
+    match read_event(alloc, state.cells, line) {
+        Ok(Some(Said::Event { step, event })) => count_event(state, count, step, event),
         Ok(_) => Ok(LineVerdict::Taken { event: None }),
         Err(Unread::Faulty(fault)) => Ok(LineVerdict::Ends {
             ending: Ending::Faulty { fault },
@@ -126,12 +125,11 @@ fn run_line(
 pub enum Headed {
     /// No event came yet.
     Stays,
-    /// The number of cells, that of the events, and their tables; and the event that the line says,
-    /// if it says one.
+    /// The number of the events, and what is kept of them; and the event that the line says, if it
+    /// says one.
     Runs {
-        cells: u32,
         count: u32,
-        tables: Tables,
+        state: RunState,
         event: Option<Event>,
     },
     Ends {
@@ -159,33 +157,23 @@ fn heading_events(stage: Stage) -> Option<u32>
     }
 }
 
-/// The tables of a run without events.
-fn open(alloc: Global, cells: u32, firsts: &IndexMap<u32, i64>) -> Result<Tables, AllocError>
-    ensures { IfOk result (Holds (first_numbers cells firsts.now.entries) [] 0) }
-{
-    let cells = first_numbers(alloc, cells, firsts)?;
-    Tables::open(alloc, &cells, 0)
-}
-
 /// Begins a run with its first event.
 fn begin(
     alloc: Global,
     stage: Stage,
-    firsts: &IndexMap<u32, i64>,
+    firsts: &Values,
     step: Option<u64>,
     event: Event,
 ) -> Result<Headed, AllocError>
     requires { IsTrue (names_allowed (cells_at stage) event.action) }
-    ensures { IfOk result (Begins (cells_at stage) (first_numbers (cells_at stage) firsts.now.entries) step event) }
+    ensures { IfOk result (Begins (first_numbers (cells_at stage) firsts.now.entries) step event) }
 {
-    let cells = cells_at(stage);
-    let mut tables = open(alloc, cells, firsts)?;
+    let mut state = RunState::new(alloc, cells_at(stage), firsts)?;
     let mut count = 0;
-    match count_event(&mut tables, &mut count, step, event)? {
+    match count_event(&mut state, &mut count, step, event)? {
         LineVerdict::Taken { event } => Ok(Headed::Runs {
-            cells,
             count,
-            tables,
+            state,
             event,
         }),
         LineVerdict::Ends { ending } => Ok(Headed::Ends { ending }),
@@ -196,7 +184,7 @@ fn begin(
 fn head_said(
     alloc: Global,
     stage: &mut Stage,
-    firsts: &mut IndexMap<u32, i64>,
+    firsts: &mut Values,
     said: Said,
 ) -> Result<Headed, AllocError>
     requires { IsAllowed stage.old said }
@@ -213,16 +201,11 @@ fn head_said(
             Ok(_) => Ok(Headed::Stays),
             Err(_) => Err(AllocError),
         },
-        Said::Hist => {
-            let cells = cells_at(*stage);
-            let tables = open(alloc, cells, firsts)?;
-            Ok(Headed::Runs {
-                cells,
-                count: 0,
-                tables,
-                event: None,
-            })
-        }
+        Said::Hist => Ok(Headed::Runs {
+            count: 0,
+            state: RunState::new(alloc, cells_at(*stage), firsts)?,
+            event: None,
+        }),
         Said::Event { step, event } => begin(alloc, *stage, firsts, step, event),
     }
 }
@@ -231,7 +214,7 @@ fn head_said(
 fn head_line(
     alloc: Global,
     stage: &mut Stage,
-    firsts: &mut IndexMap<u32, i64>,
+    firsts: &mut Values,
     line: &[u8],
 ) -> Result<Headed, AllocError>
     ensures ok { IfOk result (HeadsBy stage.old firsts.old.entries line.now stage.new firsts.new.entries) }
@@ -269,25 +252,16 @@ impl Judge {
         ensures memory { OnErr result ((s : Sofar) → IsBehind self.old s → LineTakes s line.now) }
     {
         match self {
-            Judge::Running {
-                cells,
-                count,
-                tables,
-            } => run_line(alloc, *cells, tables, count, line),
+            Judge::Running { count, state } => run_line(alloc, state, count, line),
             Judge::Heading { stage, firsts, .. } => match head_line(alloc, stage, firsts, line)? {
                 Headed::Stays => Ok(LineVerdict::Taken { event: None }),
                 Headed::Ends { ending } => Ok(LineVerdict::Ends { ending }),
                 Headed::Runs {
-                    cells,
                     count,
-                    tables,
+                    state,
                     event,
                 } => {
-                    *self = Judge::Running {
-                        cells,
-                        count,
-                        tables,
-                    };
+                    *self = Judge::Running { count, state };
                     Ok(LineVerdict::Taken { event })
                 }
             },
@@ -311,7 +285,7 @@ impl Judge {
             IsLeastName (IsUnendedBehind (history_in s) (option_copied after.entry)) (option_copied result) }
     {
         match (self, after) {
-            (Judge::Running { tables, .. }, _) => tables.next_unended(after),
+            (Judge::Running { state, .. }, _) => state.tables.next_unended(after),
             (Judge::Heading { root, .. }, None) => Some(root),
             (Judge::Heading { .. }, Some(_)) => None,
         }

@@ -2,16 +2,17 @@
 #![tactic(auto)]
 
 mod ending;
-mod firsts;
 mod judge;
 pub mod laws;
 mod line_verdict;
 mod named;
 mod refusal;
+mod run_state;
 mod taking;
 mod text_judge;
 mod turn;
 mod unfit;
+mod values;
 mod verdict;
 
 pub use ending::Ending;

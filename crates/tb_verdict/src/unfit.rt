@@ -1,6 +1,6 @@
 //! What an action says that isn't so.
 
-ghost use Rattle.std.specs.Prelude.{◌≡◌, ◌<◌, IfOk, IsTrue, OnErr, length, suc};
+ghost use Rattle.std.specs.Prelude.{◌≡◌, ◌<◌, IfOk, IsTrue, OnErr, suc};
 ghost use Rattle.tb_model.specs.Names.{child, same_name};
 ghost use Rattle.tb_model.specs.Facts.{is_spawned};
 ghost use Rattle.tb_plan.specs.Plans.{names_allowed};
@@ -9,9 +9,10 @@ ghost use Rattle.tb_verdict.specs.Memory.{IsLongRefusal};
 ghost use Rattle.tb_verdict.specs.Refusals.{misnamed, misread, unfit, unopened};
 
 use crate::refusal::Refusal;
+use crate::run_state::RunState;
+use crate::values::value_of;
 use std::alloc::AllocError;
 use tb_model::{Action, TaskName};
-use tb_undo::Tables;
 
 /// Why a load may not have this number, where its cell has that one.
 #[inline(always)]
@@ -62,23 +63,23 @@ fn unopened(groups: usize) -> Option<Refusal>
 /// What the action of a task says that isn't so.
 #[inline(always)]
 pub fn unfit(
-    tables: &Tables,
+    state: &RunState,
     task: &TaskName,
     action: &Action,
 ) -> Result<Option<Refusal>, AllocError>
-    requires run { AreOfRun tables.now }
-    requires there { ForRun tables.now (λ first H. IsTrue (is_spawned H task.now)) }
-    requires allowed { IsTrue (names_allowed (length tables.now.store.cells) action.now) }
-    ensures ok { IfOk result (λ r. ForRun tables.now (λ first H. r ≡ unfit first H task.now action.now)) }
-    ensures memory { OnErr result (ForRun tables.now (λ first H. IsLongRefusal (unfit first H task.now action.now))) }
+    requires run { AreOfRun state.now }
+    requires there { ForRun state.now (λ first H. IsTrue (is_spawned H task.now)) }
+    requires allowed { IsTrue (names_allowed state.now.cells action.now) }
+    ensures ok { IfOk result (λ r. ForRun state.now (λ first H. r ≡ unfit first H task.now action.now)) }
+    ensures memory { OnErr result (ForRun state.now (λ first H. IsLongRefusal (unfit first H task.now action.now))) }
 {
     match action {
-        Action::Load { cell, value, .. } => Ok(misread(*value, tables.get(*cell))),
+        Action::Load { cell, value, .. } => Ok(misread(*value, value_of(&state.values, *cell))),
         Action::Spawn(spawned) => {
-            let children = tables.children(task).unwrap_or(0);
+            let children = state.tables.children(task).unwrap_or(0);
             misnamed(task, &spawned.get().child, children)
         }
-        Action::Close => Ok(unopened(tables.groups(task))),
+        Action::Close => Ok(unopened(state.tables.groups(task))),
         _ => Ok(None),
     }
 }

@@ -1,24 +1,17 @@
 -- Immediate needs and races, as text.
-use Rattle.std.specs.Prelude.{ℕ, List, [], ◌∷◌, ◌++◌, Bool, true, false, length, codes, if◌then◌else◌}
+use Rattle.std.specs.Prelude.{ℕ, List, [], ◌∷◌, ◌++◌, length, codes, if◌then◌else◌}
 use Rattle.std.specs.Fmt.{decimal}
+use Rattle.tb_draft.specs.Races.{conflict_text}
 use Rattle.tb_model.specs.declared.step_id.StepId.{StepId}
 use Rattle.tb_model.specs.Facts.{History}
 use Rattle.tb_model.specs.Needs.{is_step}
 use Rattle.tb_model.specs.Program.{Program}
 use Rattle.tb_model.specs.Spelling.{step_id_text}
 use Rattle.tb_races.specs.declared.cause.Cause.{Cause}
-use Rattle.tb_races.specs.declared.conflict.Conflict.{Conflict}
-use Rattle.tb_races.specs.declared.conflict.Conflict.TheVariants.{Cell, Print}
 use Rattle.tb_races.specs.declared.need_kind.NeedKind.{NeedKind}
 use Rattle.tb_races.specs.declared.need_kind.NeedKind.TheVariants.{Task, Spawn, Conflict as Conflicts, Before, Apart, Wait, Group, Undeferred}
-use Rattle.tb_races.specs.declared.race.Race.{Race}
 use Rattle.tb_order.specs.declared.edge.Edge.{Edge}
 use Rattle.tb_view.specs.Lines.{line, event_line}
-
--- the cell, or the output
-abbrev pub conflict_text : Conflict → List ℕ
-conflict_text (Cell c) = codes "cell " ++ decimal c
-conflict_text Print = codes "print"
 
 -- the kind of a need
 abbrev pub need_text : NeedKind → List ℕ
@@ -47,24 +40,6 @@ cause_lines P H (c ∷ causes) = cause_line P H c ++ cause_lines P H causes
 -- how many these are, and the line of each
 abbrev pub causes_text : Program → History → List Cause → List ℕ
 causes_text P H causes = line (codes "causes " ++ decimal (length causes)) ++ cause_lines P H causes
-
--- exclusion keeps the two from being under way at once
-abbrev pub apart_text : Bool → List ℕ
-apart_text true = codes " apart"
-apart_text false = []
-
--- the earlier step, the later one, and what they race over
-abbrev pub race_line : Race → List ℕ
-race_line r =
-    line (step_id_text r.earlier ++ codes " " ++ step_id_text r.later ++ codes " " ++ conflict_text r.conflict ++ apart_text r.apart)
-
-abbrev pub race_lines : List Race → List ℕ
-race_lines [] = []
-race_lines (r ∷ races) = race_line r ++ race_lines races
-
--- how many these are, and the line of each
-abbrev pub races_text : List Race → List ℕ
-races_text races = line (codes "races " ++ decimal (length races)) ++ race_lines races
 
 -- the earlier step, the later one, and the kind of the need
 abbrev pub edge_line : Edge → List ℕ

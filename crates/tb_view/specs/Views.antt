@@ -9,6 +9,7 @@ use Rattle.tb_cause.specs.Chains.{needers, causes_of}
 use Rattle.tb_races.specs.Immediate.{immediate_of}
 use Rattle.tb_races.specs.Racing.{races}
 use Rattle.tb_order.specs.Edges.{edges}
+use Rattle.tb_draft.specs.Races.{races_text}
 use Rattle.tb_live.specs.Session.{Session, history, cell_numbers}
 use Rattle.tb_view.specs.declared.view.View.{View}
 use Rattle.tb_view.specs.declared.view.View.TheVariants.{Cells, Out, Hist, Why, Causes, Who, Races, Edges, Tasks, Task, Ready, Waits, Deps, Breaks}
@@ -16,7 +17,7 @@ use Rattle.tb_view.specs.declared.view_refusal.ViewRefusal.{ViewRefusal}
 use Rattle.tb_view.specs.declared.view_refusal.ViewRefusal.TheVariants.{Memory, NoSuchStep, NoSuchTask}
 use Rattle.tb_view.specs.Numbers.{cells_text, out_text}
 use Rattle.tb_view.specs.Steps.{history_text, chosen_text}
-use Rattle.tb_view.specs.Reasons.{causes_text, races_text, edges_text}
+use Rattle.tb_view.specs.Reasons.{causes_text, edges_text}
 use Rattle.tb_view.specs.Tasks.{tasks_text, task_text}
 use Rattle.tb_view.specs.Waits.{ready_text, waits_text}
 use Rattle.tb_view.specs.Relations.{deps_text}

@@ -1,8 +1,8 @@
 //! Immediate needs and races, as text.
 
-ghost use Rattle.std.specs.Prelude.{◌≡◌, ◌++◌, IfOk, OnOk, codes};
-ghost use Rattle.tb_model.specs.Spelling.{step_id_text};
+ghost use Rattle.std.specs.Prelude.{◌≡◌, ◌++◌, IfOk, OnOk};
 ghost use Rattle.tb_core.specs.Scans.{history_of};
+ghost use Rattle.tb_draft.specs.Races.{races_text};
 ghost use Rattle.tb_view.specs.Reasons;
 
 use crate::step_line::append_line;
@@ -11,21 +11,8 @@ use tb_core::{History, place_of};
 use tb_draft::Draft;
 use tb_model::StepId;
 use tb_order::Edge;
-use tb_races::{Cause, Conflict, NeedKind, Race};
+use tb_races::{Cause, NeedKind, Race};
 use tb_read::Program;
-
-/// Appends what two steps share.
-fn append_conflict(text: &mut Draft, conflict: Conflict) -> Result<(), AllocError>
-    ensures { OnOk result (text.new ≡ text.old ++ Reasons.conflict_text conflict) }
-{
-    match conflict {
-        Conflict::Cell { cell } => {
-            text.push_str("cell ")?;
-            text.push_number(cell)
-        }
-        Conflict::Print => text.push_str("print"),
-    }
-}
 
 /// Appends the kind of a need.
 fn append_kind(text: &mut Draft, kind: NeedKind) -> Result<(), AllocError>
@@ -34,7 +21,7 @@ fn append_kind(text: &mut Draft, kind: NeedKind) -> Result<(), AllocError>
     match kind {
         NeedKind::Task => text.push_str("task"),
         NeedKind::Spawn => text.push_str("spawn"),
-        NeedKind::Conflict(conflict) => append_conflict(text, conflict),
+        NeedKind::Conflict(conflict) => text.push_conflict(conflict),
         NeedKind::Before => text.push_str("before"),
         NeedKind::Apart => text.push_str("apart"),
         NeedKind::Wait => text.push_str("wait"),
@@ -93,55 +80,15 @@ pub(crate) fn causes_text(
     Ok(text)
 }
 
-/// Appends that exclusion keeps two steps from being under way at once, where it does.
-fn append_apart(text: &mut Draft, apart: bool) -> Result<(), AllocError>
-    ensures { OnOk result (text.new ≡ text.old ++ Reasons.apart_text apart) }
-{
-    if apart {
-        text.push_str(" apart")
-    } else {
-        Ok(())
-    }
-}
-
-/// Appends what the two race over, and whether exclusion keeps them apart.
-fn append_subject(text: &mut Draft, race: &Race) -> Result<(), AllocError>
-    ensures { OnOk result (text.new ≡ text.old
-        ++ (Reasons.conflict_text race.now.conflict ++ Reasons.apart_text race.now.apart)) }
-{
-    append_conflict(text, race.conflict)?;
-    append_apart(text, race.apart)
-}
-
-/// Appends the names of two steps.
-fn append_pair(text: &mut Draft, first: &StepId, second: &StepId) -> Result<(), AllocError>
-    ensures { OnOk result (text.new ≡ text.old
-        ++ (step_id_text first.now ++ codes " " ++ step_id_text second.now)) }
-{
-    text.push_step(&first.task, first.k)?;
-    text.push(' ')?;
-    text.push_step(&second.task, second.k)
-}
-
-/// Appends the line of a race.
-fn append_race(text: &mut Draft, race: &Race) -> Result<(), AllocError>
-    ensures { OnOk result (text.new ≡ text.old ++ Reasons.race_line race.now) }
-{
-    append_pair(text, &race.earlier, &race.later)?;
-    text.push(' ')?;
-    append_subject(text, race)?;
-    text.push('\n')
-}
-
 /// How many races these are, and the line of each.
 pub(crate) fn races_text(alloc: Global, races: &[Race]) -> Result<Draft, AllocError>
-    ensures { IfOk result (λ text. text ≡ Reasons.races_text races.now) }
+    ensures { IfOk result (λ text. text ≡ races_text races.now) }
 {
     let count = races.len();
     let head = format!(in alloc; "races {count}\n")?;
     let mut text = Draft::of(alloc, head);
     'races: for race in races {
-        append_race(&mut text, race)?;
+        text.push_race(race)?;
     }
     Ok(text)
 }
@@ -150,7 +97,7 @@ pub(crate) fn races_text(alloc: Global, races: &[Race]) -> Result<Draft, AllocEr
 fn append_edge(text: &mut Draft, edge: &Edge) -> Result<(), AllocError>
     ensures { OnOk result (text.new ≡ text.old ++ Reasons.edge_line edge.now) }
 {
-    append_pair(text, &edge.earlier, &edge.later)?;
+    text.push_pair(&edge.earlier, &edge.later)?;
     text.push(' ')?;
     append_kind(text, edge.kind)?;
     text.push('\n')

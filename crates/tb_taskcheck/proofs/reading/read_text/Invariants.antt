@@ -8,6 +8,6 @@ abbrev pub invariant-lines : goal.invariant-lines
 invariant-lines g l = record {
   can : (goal.iterator-lines g).can_next l.iterator';
   ends : (goal.iterator-lines g).is_finite l.iterator';
-  reading : Reading (prepend_known [] (g.S.Source.left l.initial.source)) (prepend_known l.reader (g.S.Source.left l.source)) l.judge;
+  reading : Reading (prepend_known [] (g.S.Source.left l.initial.source)) (prepend_known l.reader (g.S.Source.left l.source)) l.judge l.found;
   failures : g.S.Source.failures l.source ≡ g.S.Source.failures l.initial.source;
 }

@@ -8,16 +8,16 @@ use Rattle.tb_verdict.proofs.judge.refuse_event.Goals as goal
 
 pub returns-in-Some-clause-ok : goal.returns-in-Some-clause-ok
 returns-in-Some-clause-ok c first H count holds =
-    refused first H count c.args.step c.args.event.now c.args.tables.now c.args.tables.now holds c.in-Some.refusal
+    refused first H count c.args.step c.args.event.now c.args.state.now c.args.state.now holds c.in-Some.refusal
     (refl, λ first root_line D run. c.in_ok-refusal.ensures.ok first root_line D run ∙ c.in-Some.is)
 
 pub returns-in_err-refusal-clause-memory : goal.returns-in_err-refusal-clause-memory
 returns-in_err-refusal-clause-memory c =
     on_err c.from_residual.result (λ first H count holds.
-    may_take first H count c.args.step c.args.event.now c.args.tables.now c.args.tables.now holds (λ first root_line D run.
+    may_take first H count c.args.step c.args.event.now c.args.state.now c.args.state.now holds (λ first root_line D run.
     may_if_long (refusal_of first (events_of D) c.args.step c.args.event.now) (c.in_err-refusal.ensures.memory first root_line D run)))
 
 pub returns-in-None-clause-memory : goal.returns-in-None-clause-memory
 returns-in-None-clause-memory c first H count holds =
-    may_take first H count c.args.step c.args.event.now c.args.tables.now c.args.tables.now holds (λ first root_line D run.
+    may_take first H count c.args.step c.args.event.now c.args.state.now c.args.state.now holds (λ first root_line D run.
     subst MayTake (sym (c.in_ok-refusal.ensures.ok first root_line D run ∙ c.in-None.is)) tt)

@@ -1,5 +1,5 @@
 use Rattle.std.proofs.Common.{◌≡◌, ◌++◌, drop}
-use Rattle.tb_view.specs.Reasons.{race_lines, races_text}
+use Rattle.tb_draft.specs.Races.{race_lines, races_text}
 use Rattle.tb_view.proofs.reasons.races_text.Given as goal
 
 -- the text so far, and the lines of the races that are left, are the whole text

@@ -1,6 +1,6 @@
 use Rattle.std.proofs.Common.{◌∙◌, ap, refl, reverse}
+use Rattle.tb_draft.specs.Races.{races_text}
 use Rattle.tb_races.specs.Racing.{races}
-use Rattle.tb_view.specs.Reasons.{races_text}
 use Rattle.tb_view.proofs.ShownLemmas.{ok_then}
 use Rattle.tb_view.proofs.showing.raced.Goals as goal
 

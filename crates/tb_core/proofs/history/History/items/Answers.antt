@@ -9,5 +9,5 @@ returns c spawned =
     let i = c.self.inside in
     let all = entries_in i.tables.now i.entries.now in
     let left = c.self.invariant.2 in
-    c.items.ensures left.cells left.root_line (map departure (reverse all)) left.legal left.state
+    c.items.ensures left.cells left.root_line (map departure (reverse all)) left.legal left.state.of_tasks
     ∙ items_left i.tables.now i.places.now all c.args.self.now i.count c.args.task.now left c.self.view_is spawned

@@ -7,5 +7,5 @@ use Rattle.tb_core.proofs.run.Core.body.Goals as goal
 pub returns : goal.returns
 returns c =
     let i = c.self.inside in
-    c.body.ensures i.first.items i.root_line _ c.self.invariant.0.state
+    c.body.ensures i.root_line _ c.self.invariant.0.state.of_tasks
     ∙ ap (λ (h : Held). if is_spawned (history h.run) c.args.task.now then Some (called_by h.run.root_line (spawn_of c.args.task.now (history h.run))).line else None) c.self.view_is

@@ -7,5 +7,5 @@ use Rattle.tb_core.proofs.run.Core.children.Goals as goal
 pub returns : goal.returns
 returns c =
     let i = c.self.inside in
-    c.children.ensures i.first.items i.root_line _ c.self.invariant.0.state
+    c.children.ensures i.root_line _ c.self.invariant.0.state.of_tasks
     ∙ ap (λ (h : Held). if is_spawned (history h.run) c.args.task.now then Some (spawn_count (own c.args.task.now (history h.run))) else None) c.self.view_is

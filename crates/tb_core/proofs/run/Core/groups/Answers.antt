@@ -8,4 +8,4 @@ pub returns : goal.returns
 returns c =
     let i = c.self.inside in
     let sound = c.self.invariant.0 in
-    c.groups.ensures i.first.items i.root_line _ sound.legal sound.state ∙ ap (λ (h : Held). length (open_groups (own c.args.task.now (history h.run)))) c.self.view_is
+    c.groups.ensures i.first.items i.root_line _ sound.legal sound.state.of_tasks ∙ ap (λ (h : Held). length (open_groups (own c.args.task.now (history h.run)))) c.self.view_is

@@ -13,7 +13,7 @@ named-requires c =
     let legal = subst (λ (h : Held). Legal h.run.cells (history h.run)) c.self.view_is c.self.invariant.0.legal in
     let state = subst (λ (h : Held). IsState h.run.cells h.run.root_line h.run.steps c.self.inside.tables) c.self.view_is c.self.invariant.0.state in
     let going = unended (history s) t c.requires.there c.requires.going in
-    let found = c.in_the_way.ensures s.cells s.root_line s.steps legal state going ∙ ap (option_map (hindrance_by t)) c.in-Some.is in
+    let found = c.in_the_way.ensures s.cells s.root_line s.steps legal state.of_tasks going ∙ ap (option_map (hindrance_by t)) c.in-Some.is in
     numbered s.cells (history s) t legal c.args.action.now c.in-Some.obstacle found
 
 pub returns-in-Some-clause-some : goal.returns-in-Some-clause-some
@@ -25,7 +25,7 @@ returns-in-Some-clause-some c =
     let going = unended (history s) t c.requires.there c.requires.going in
     record {
       hindrance = hindrance_by t c.in-Some.obstacle;
-      found = c.in_the_way.ensures s.cells s.root_line s.steps legal state going ∙ ap (option_map (hindrance_by t)) c.in-Some.is;
+      found = c.in_the_way.ensures s.cells s.root_line s.steps legal state.of_tasks going ∙ ap (option_map (hindrance_by t)) c.in-Some.is;
       named = c.named.ensures;
     }
 
@@ -36,4 +36,4 @@ returns-clause-none c =
     let legal = subst (λ (h : Held). Legal h.run.cells (history h.run)) c.self.view_is c.self.invariant.0.legal in
     let state = subst (λ (h : Held). IsState h.run.cells h.run.root_line h.run.steps c.self.inside.tables) c.self.view_is c.self.invariant.0.state in
     let going = unended (history s) t c.requires.there c.requires.going in
-    c.in_the_way.ensures s.cells s.root_line s.steps legal state going ∙ ap (option_map (hindrance_by t)) c.in_default.is
+    c.in_the_way.ensures s.cells s.root_line s.steps legal state.of_tasks going ∙ ap (option_map (hindrance_by t)) c.in_default.is

@@ -8,4 +8,4 @@ pub returns : goal.returns
 returns c =
     let i = c.self.inside in
     let sound = c.self.invariant.0 in
-    c.is_before.ensures i.first.items i.root_line _ sound.legal sound.state ∙ ap (λ (h : Held). before (history h.run) (sibling c.args.task.now c.args.number) c.args.task.now) c.self.view_is
+    c.is_before.ensures i.first.items i.root_line _ sound.legal sound.state.of_tasks ∙ ap (λ (h : Held). before (history h.run) (sibling c.args.task.now c.args.number) c.args.task.now) c.self.view_is

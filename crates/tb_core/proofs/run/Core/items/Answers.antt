@@ -7,4 +7,4 @@ pub returns : goal.returns
 returns c =
     let i = c.self.inside in
     let sound = c.self.invariant.0 in
-    c.items.ensures i.first.items i.root_line _ sound.legal sound.state ∙ ap (λ (h : Held). items_of c.args.task.now (history h.run)) c.self.view_is
+    c.items.ensures i.first.items i.root_line _ sound.legal sound.state.of_tasks ∙ ap (λ (h : Held). items_of c.args.task.now (history h.run)) c.self.view_is

@@ -9,4 +9,4 @@ pub returns : goal.returns
 returns c =
     let i = c.self.inside in
     subst (λ (h : Held). IsLeastName (IsUnendedBehind (history h.run) (option_copied c.args.after)) (option_copied c.next_unended.result)) c.self.view_is
-    (c.next_unended.ensures i.first.items i.root_line _ c.self.invariant.0.state)
+    (c.next_unended.ensures i.root_line _ c.self.invariant.0.state.of_tasks)

@@ -9,10 +9,10 @@ use Rattle.tb_core.proofs.run.Core.walk_standing.Goals as goal
 
 pub returns-clause-some : goal.returns-clause-some
 returns-clause-some c =
-    let here = c.walk_standing.ensures c.self.inside.first.items c.self.inside.root_line (map departure (reverse (entries_in c.self.inside.tables c.self.inside.entries.items))) c.self.invariant.0.state in
+    let here = c.walk_standing.ensures c.self.inside.root_line (map departure (reverse (entries_in c.self.inside.tables c.self.inside.entries.items))) c.self.invariant.0.state.of_tasks in
     some_stands c.args.self.now.run c.args.task.now c.walk_standing.result (subst (λ (h : Held). c.walk_standing.result ≡ option_map standing_of (task_of h.run.root_line h.run.steps c.args.task.now)) c.self.view_is here)
 
 pub returns-clause-none : goal.returns-clause-none
 returns-clause-none c =
-    let here = c.walk_standing.ensures c.self.inside.first.items c.self.inside.root_line (map departure (reverse (entries_in c.self.inside.tables c.self.inside.entries.items))) c.self.invariant.0.state in
+    let here = c.walk_standing.ensures c.self.inside.root_line (map departure (reverse (entries_in c.self.inside.tables c.self.inside.entries.items))) c.self.invariant.0.state.of_tasks in
     none_stands c.args.self.now.run c.args.task.now c.walk_standing.result (subst (λ (h : Held). c.walk_standing.result ≡ option_map standing_of (task_of h.run.root_line h.run.steps c.args.task.now)) c.self.view_is here)

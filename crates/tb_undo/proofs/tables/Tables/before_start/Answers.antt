@@ -1,7 +1,7 @@
 use Rattle.std.proofs.Common.{option_map, sym, ap, ◌∙◌, subst}
 use Rattle.std.specs.Option.{option_copied}
 use Rattle.tb_undo.specs.Tasks.{row}
-use Rattle.tb_undo.specs.State.{IsState}
+use Rattle.tb_undo.specs.State.{IsTaskState}
 use Rattle.tb_undo.specs.Obstacles.{hindrance_by}
 use Rattle.tb_undo.proofs.StartLemmas.{parent_kept, root_starts}
 use Rattle.tb_undo.proofs.AskingLemmas.{by_waiting, by_started, by_excluded, by_nobody}
@@ -14,7 +14,7 @@ returns-in_err-n c first root_line D legal state unended free =
 
 pub returns-in_err-parent : goal.returns-in_err-parent
 returns-in_err-parent c first root_line D legal state unended free =
-    let st = subst (IsState first root_line D) (sym c.self.view_is) state in
+    let st = subst (IsTaskState root_line D) (sym c.self.view_is) state in
     let mine = ap (λ s. row s.rows c.args.name.now) c.self.view_is ∙ c.requires in
     absurd (parent_kept first root_line D _ legal st c.args.name.now c.in_ok-n.n c.args.own.now unended mine (sym c.ordinal.ensures ∙ c.in_ok-n.was) (sym c.get.ensures.value ∙ ap option_copied c.in_err-parent.was))
 

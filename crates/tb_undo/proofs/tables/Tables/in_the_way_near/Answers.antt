@@ -2,7 +2,7 @@ use Rattle.std.proofs.Common.{option_map, refl, sym, ap, ◌∙◌, subst}
 use Rattle.std.specs.Option.{option_copied}
 use Rattle.tb_model.specs.Names.{child}
 use Rattle.tb_model.specs.Hindrances.{Children, Group}
-use Rattle.tb_undo.specs.State.{IsState}
+use Rattle.tb_undo.specs.State.{IsTaskState}
 use Rattle.tb_undo.specs.Obstacles.{hindrance_by}
 use Rattle.tb_undo.proofs.StartLemmas.{kept, was_spawned}
 use Rattle.tb_undo.proofs.AskingLemmas.{by_undeferred, by_start, by_wait, by_close, by_none}
@@ -10,7 +10,7 @@ use Rattle.tb_undo.proofs.tables.Tables.in_the_way_near.Goals as goal
 
 pub returns-in_err-row : goal.returns-in_err-row
 returns-in_err-row c first root_line D legal state unended =
-    let st = subst (IsState first root_line D) (sym c.self.view_is) state in
+    let st = subst (IsTaskState root_line D) (sym c.self.view_is) state in
     absurd (kept first root_line D _ legal st c.args.name.now (was_spawned first root_line D c.args.self.now legal state c.args.name.now unended) (sym c.get.ensures.value ∙ ap option_copied c.in_err-row.was))
 
 pub returns-in-Some : goal.returns-in-Some

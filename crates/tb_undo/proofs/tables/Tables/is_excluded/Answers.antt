@@ -3,13 +3,13 @@ use Rattle.std.specs.Option.{option_copied}
 use Rattle.tb_model.specs.Lines.{events_of}
 use Rattle.tb_model.specs.Hindrances.{in_the_way}
 use Rattle.tb_excl.specs.Holders.{IsLeastNumber, Excludes}
-use Rattle.tb_undo.specs.State.{IsState}
+use Rattle.tb_undo.specs.State.{IsTaskState}
 use Rattle.tb_undo.proofs.StartLemmas.{keeps_excluded}
 use Rattle.tb_undo.proofs.tables.Tables.is_excluded.Goals as goal
 
 pub returns-then-own-eq0 : goal.returns-then-own-eq0
 returns-then-own-eq0 c first root_line D legal state unended some none =
-    let st = subst (IsState first root_line D) (sym c.self.view_is) state in
+    let st = subst (IsTaskState root_line D) (sym c.self.view_is) state in
     let mine = sym c.get.ensures.value ∙ ap option_copied c.in-Some.is in
     let number = sym c.ordinal.ensures ∙ c.in-Some-ordinal.is in
     let found = sym c.get-2.ensures.value ∙ ap option_copied c.in-Some-get.is in

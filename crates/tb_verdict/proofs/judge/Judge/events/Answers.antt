@@ -8,4 +8,4 @@ returns-in-Heading c s behind =
     c.heading_events.ensures ∙ heading_count c.in-Heading.stage c.in-Heading.firsts.entries c.in-Heading.root s (subst (λ j. IsBehind j s) c.in-Heading.is behind)
 
 pub returns-in-Running : goal.returns-in-Running
-returns-in-Running c s behind = running_count c.in-Running.cells c.in-Running.count c.in-Running.tables s (subst (λ j. IsBehind j s) c.in-Running.is behind)
+returns-in-Running c s behind = running_count c.in-Running.count c.in-Running.state s (subst (λ j. IsBehind j s) c.in-Running.is behind)

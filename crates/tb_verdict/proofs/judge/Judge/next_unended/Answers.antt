@@ -6,7 +6,7 @@ use Rattle.tb_verdict.proofs.judge.Judge.next_unended.Goals as goal
 
 pub returns-in-Running-default : goal.returns-in-Running-default
 returns-in-Running-default c s behind =
-    unended_running c.in-Running-default.cells-0 c.in-Running-default.count-0 c.in-Running-default.tables (option_copied c.args.after) (option_copied c.next_unended.result) c.next_unended.ensures s
+    unended_running c.in-Running-default.count-0 c.in-Running-default.state (option_copied c.args.after) (option_copied c.next_unended.result) c.next_unended.ensures s
     (subst (λ j. IsBehind j s) c.in-Running-default.is-0 behind)
 
 pub returns-in-Heading-None : goal.returns-in-Heading-None
