@@ -5,6 +5,7 @@ ghost use Rattle.tb_work.specs.Answering.{IsRun};
 ghost use Rattle.tb_work.specs.Changes.{entries};
 ghost use Rattle.tb_work.specs.Receipts.{Seated, HaveNumbers};
 ghost use Rattle.tb_journal.specs.Journals.{all_below};
+ghost use Rattle.tb_live.specs.Session.{with_limit};
 ghost use Rattle.tb_team.specs.Gone.{HasSeats};
 ghost use Rattle.tb_team.specs.Lending.{IsBack};
 ghost use Rattle.tb_team.specs.Losing.{lost_by, IsLostBy, IsUnlent};
@@ -131,7 +132,31 @@ fn lend_as<N: Team + Send + Sync, R: Threads + Wait + Sync>(
     }
 }
 
-/// Lends the run to so many workers for up to so many steps.
+/// How many entries the journal may have while it is lent for up to so many steps: none is needed for
+/// more, and each has a cell.
+fn lent_limit(live: &Live, most: u32) -> u32
+    ensures enough { length live.now.session.journal ≤ result }
+    ensures within { result ≤ live.now.session.limit }
+    ensures bound { live.now.session.limit ≤ 1000000 }
+{
+    live.journal_is_sound();
+    let entries = live.journal().len() as u32;
+    entries + most.min(live.limit() - entries)
+}
+
+/// The run, where the journal may have so many entries again.
+fn with_limit(live: Live, limit: u32) -> Live
+    requires within { length live.session.journal ≤ limit }
+    requires bound { limit ≤ 1000000 }
+    ensures { result.session ≡ with_limit limit live.session }
+{
+    let mut live = live;
+    live.set_limit(limit);
+    live
+}
+
+/// Lends the run to so many workers for up to so many steps. Meanwhile its journal may have no more entries than these
+/// can make, so that no other slot has a cell.
 pub fn lend<R: Threads + Wait + Sync>(
     rt: &R,
     alloc: Global,
@@ -148,11 +173,18 @@ pub fn lend<R: Threads + Wait + Sync>(
     if !is_seated(&live) {
         return Err(lose(live, Lost::Unseated));
     }
-    match Places::new(alloc, live.limit()) {
-        Ok(places) => {
-            let blank = Blank::new(u64::from(live.seats()));
-            lend_as::<Brand, R>(rt, alloc, live, places, blank, workers, most)
-        },
-        Err(_) => Err(lose(live, Lost::Memory)),
+    let limit = live.limit();
+    let lent = lent_limit(&live, most);
+    let live = with_limit(live, lent);
+    let Ok(places) = Places::new(alloc, lent) else {
+        return Err(lose(live, Lost::Memory));
+    };
+    let blank = Blank::new(u64::from(live.seats()));
+    match lend_as::<Brand, R>(rt, alloc, live, places, blank, workers, most) {
+        Ok(back) => {
+            back.journal_is_sound();
+            Ok(with_limit(back, limit))
+        }
+        Err(why) => Err(why),
     }
 }
