@@ -111,7 +111,8 @@ fn lend_as<N: Team + Send + Sync, R: Threads + Wait + Sync>(
 ) -> Result<Live, Lost>
     requires name { (blank.name ≡ N.name) × (blank.parts ≡ N.parts) }
     requires one_each { blank.parts ≡ N.seats }
-    requires places { (places ≡ N.cells) × (N.limit ≤ length places) }
+    requires places { (places ≡ N.slots) × (N.limit ≤ length places.cells) }
+    requires from { N.slots.first ≡ length N.begun }
     requires live { (live.session.program ≡ N.program) × (live.session.limit ≡ N.limit) × (live.session.control.breakpoints ≡ N.breakpoints) × (length live.session.control.claims ≡ N.seats) }
     requires begun { entries live.session ≡ N.begun }
     requires own { all_below N.seats (entries live.session) ≡ true }
@@ -132,16 +133,15 @@ fn lend_as<N: Team + Send + Sync, R: Threads + Wait + Sync>(
     }
 }
 
-/// How many entries the journal may have while it is lent for up to so many steps: none is needed for
-/// more, and each has a cell.
-fn lent_limit(live: &Live, most: u32) -> u32
-    ensures enough { length live.now.session.journal ≤ result }
+/// How many entries the journal has.
+fn entries_of(live: &Live) -> u32
+    ensures count { result ≡ length live.now.session.journal }
+    ensures some { 1 ≤ result }
     ensures within { result ≤ live.now.session.limit }
     ensures bound { live.now.session.limit ≤ 1000000 }
 {
     live.journal_is_sound();
-    let entries = live.journal().len() as u32;
-    entries + most.min(live.limit() - entries)
+    live.journal().len() as u32
 }
 
 /// The run, where the journal may have so many entries again.
@@ -155,8 +155,8 @@ fn with_limit(live: Live, limit: u32) -> Live
     live
 }
 
-/// Lends the run to so many workers for up to so many steps. Meanwhile its journal may have no more entries than these
-/// can make, so that no other slot has a cell.
+/// Lends the run to so many workers for up to so many steps. Meanwhile its journal may have no more entries than there
+/// are and these can make, so that the slots of those alone have cells.
 pub fn lend<R: Threads + Wait + Sync>(
     rt: &R,
     alloc: Global,
@@ -174,9 +174,10 @@ pub fn lend<R: Threads + Wait + Sync>(
         return Err(lose(live, Lost::Unseated));
     }
     let limit = live.limit();
-    let lent = lent_limit(&live, most);
+    let entries = entries_of(&live);
+    let lent = entries + most.min(limit - entries);
     let live = with_limit(live, lent);
-    let Ok(places) = Places::new(alloc, lent) else {
+    let Ok(places) = Places::after(alloc, entries, lent) else {
         return Err(lose(live, Lost::Memory));
     };
     let blank = Blank::new(u64::from(live.seats()));
