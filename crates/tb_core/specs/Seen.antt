@@ -15,6 +15,10 @@ pub record Seen : Type 0 where
 abbrev pub history : Seen → History
 history s = events_of s.steps
 
+-- the run where the history may have so many events
+abbrev pub with_limit : ℕ → Seen → Seen
+with_limit limit s = record { cells = s.cells; root_line = s.root_line; limit = limit; steps = s.steps }
+
 -- a core: its run, and the event for which all room is made: its step takes no memory
 pub record Held : Type 0 where
   pub run : Seen

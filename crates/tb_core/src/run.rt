@@ -14,7 +14,7 @@ ghost use Rattle.tb_model.specs.Legal.{Legal, MayFollow};
 ghost use Rattle.tb_model.specs.Hindrances.{in_the_way};
 ghost use Rattle.tb_core.specs.Soundness.{departure};
 ghost use Rattle.tb_core.specs.Naming.{config_with};
-ghost use Rattle.tb_core.specs.Seen.{history};
+ghost use Rattle.tb_core.specs.Seen.{history, with_limit};
 ghost use Rattle.tb_core.specs.Situation.{config_of};
 ghost use Rattle.tb_core.specs.Outcomes.{event_of, has_ended, Fits, IsOpen, IsKept, IsKeptBy, Takes, grown_by, Refuses, Steps, Stepped};
 ghost use Rattle.tb_core.specs.Soundness.{AreRecords, seen};
@@ -100,6 +100,17 @@ impl Core {
     {
         // for the proof: what the type keeps is known where a field is read
         let _limit = self.limit;
+    }
+
+    /// Sets how many events the history may have: at least as many as it has. What is reserved stays
+    /// so.
+    pub fn set_limit(&mut self, limit: u32)
+        requires within { length self.old.run.steps ≤ limit }
+        requires bound { limit ≤ 1000000 }
+        ensures run { self.new.run ≡ with_limit limit self.old.run }
+        ensures reserved { self.new.reserved ≡ self.old.reserved }
+    {
+        self.limit = limit;
     }
 
     /// How many events the history has.

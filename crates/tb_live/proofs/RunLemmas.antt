@@ -66,6 +66,24 @@ has_place P limit J run s h =
     let room : length J < limit = grind (arith, nat_tests) in
     omega (arith, shorter P J s.sound, ap length s.leaves, length-map run.steps (λ (d : Departure). d.event), s.limits, room)
 
+-- ---- where the journal may have another number of entries
+
+pub steps_within : (P : Program) (limit more : ℕ) (J : List Entry) (run : Seen) → IsSound P limit J run → length J ≤ more → length run.steps ≤ more
+steps_within P limit more J run s within =
+    omega (arith, shorter P J s.sound, ap length s.leaves, length-map run.steps (λ (d : Departure). d.event), within)
+
+pub limited : (P : Program) (limit more : ℕ) (J : List Entry) (run new : Seen) → IsSound P limit J run → length J ≤ more → more ≤ 1000000 → new ≡ core.with_limit more run → IsSound P more J new
+limited P limit more J run new s within bound is =
+    let f = s.fits in
+    subst (λ (z : Seen). IsSound P more J z) (sym is) (record {
+      fits = record { well_formed = f.well_formed; followed = f.followed; cells = f.cells; root_line = f.root_line; lines = f.lines; legal = f.legal };
+      sound = s.sound;
+      leaves = s.leaves;
+      limits = refl;
+      within = within;
+      bound = bound;
+    })
+
 -- ---- behind a step
 
 pub record Stepped' (seat : ℕ) (P : Program) (limit : ℕ) (J : List Entry) (run : Seen) (p : Plan) (new : Seen) (i : StepId) : Type 0 where

@@ -62,6 +62,10 @@ with_seat s seat claim = record {
   control = record { claims = with_claim s.control.claims seat claim; breakpoints = s.control.breakpoints; mode = s.control.mode };
 }
 
+-- the session where the journal may have so many entries
+abbrev pub with_limit : ℕ → Session → Session
+with_limit limit s = record { program = s.program; limit = limit; journal = s.journal; control = s.control }
+
 -- the cells' numbers from cell c on, where these are their first numbers
 abbrev pub numbers_from : ℕ → Cells → History → List ℤ
 numbers_from c [] H = []

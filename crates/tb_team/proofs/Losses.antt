@@ -9,7 +9,7 @@ use Rattle.tb_model.specs.Journal.{Sound}
 use Rattle.tb_model.specs.Program.{Program}
 use Rattle.tb_live.specs.Breaks.{Points}
 use Rattle.tb_live.specs.Runs.{unclaimed}
-use Rattle.tb_live.specs.Session.{Session}
+use Rattle.tb_live.specs.Session.{Session, with_limit}
 use Rattle.tb_work.specs.declared.adopt_refusal.AdoptRefusal.{AdoptRefusal}
 use Rattle.tb_work.specs.declared.adopt_refusal.AdoptRefusal.TheVariants.{Memory as NoMemory, CellTaken}
 use Rattle.tb_work.specs.declared.ended.Ended.TheVariants.{CellTaken as MetTakenCell}
@@ -46,15 +46,16 @@ module _ (P : Program) (limit : ℕ) (points : Points) (seats : ℕ) (begun : Li
       }
 
 -- whose the entries are was asked first
-pub unlent : (workers : ℕ) (s : Session) (why : Lost) → IsTrue (is_seated s) → IsLostBy s.program s.limit s.control.breakpoints (length s.control.claims) (entries s) workers why → IsUnlent workers s why
-unlent workers s Memory seated lost = (seated, lost)
-unlent workers s Unseated seated lost = absurd lost
-unlent workers s Written seated lost = (seated, lost)
-unlent workers s Taken seated lost = (seated, lost)
-unlent workers s Gap seated lost = (seated, lost)
-unlent workers s Course seated lost = (seated, lost)
-unlent workers s Many seated lost = (seated, lost)
-unlent workers s Unstopped seated lost = (seated, lost)
+pub unlent : (workers : ℕ) (s : Session) (limit : ℕ) (why : Lost) → IsTrue (is_seated s) → limit ≤ s.limit → IsLostBy s.program limit s.control.breakpoints (length s.control.claims) (entries s) workers why
+    → IsUnlent workers s why
+unlent workers s limit Memory seated less lost = (seated, limit, less, lost)
+unlent workers s limit Unseated seated less lost = absurd lost
+unlent workers s limit Written seated less lost = (seated, limit, less, lost)
+unlent workers s limit Taken seated less lost = (seated, limit, less, lost)
+unlent workers s limit Gap seated less lost = (seated, limit, less, lost)
+unlent workers s limit Course seated less lost = (seated, limit, less, lost)
+unlent workers s limit Many seated less lost = (seated, limit, less, lost)
+unlent workers s limit Unstopped seated less lost = (seated, limit, less, lost)
 
 -- the seats from 1 on count from 1
 pub numbers_on : (seats : List Seated) (n : ℕ) → HaveNumbers seats → (i : ℕ) (d : Seated) → i < length (take n (drop 1 seats)) → (get_or (take n (drop 1 seats)) i d).number ≡ i + 1
@@ -86,7 +87,13 @@ unstopped workers most from s Course course within why = absurd why
 unstopped workers most from s Many course within why = absurd why
 unstopped workers most from s Unstopped course within why = (course, within, why)
 
-pub lent : {A : Type 0} (workers : ℕ) (s : Session) (r : Result A Lost) → IsTrue (is_seated s) → IfErr r (IsLostBy s.program s.limit s.control.breakpoints (length s.control.claims) (entries s) workers)
-    → IfErr r (IsUnlent workers s)
-lent workers s (Ok a) seated lost = tt
-lent workers s (Err why) seated lost = unlent workers s why seated lost
+pub lent : {A : Type 0} (workers : ℕ) (s : Session) (limit : ℕ) (r : Result A Lost) → IsTrue (is_seated s) → limit ≤ s.limit
+    → IfErr r (IsLostBy s.program limit s.control.breakpoints (length s.control.claims) (entries s) workers) → IfErr r (IsUnlent workers s)
+lent workers s limit (Ok a) seated less lost = tt
+lent workers s limit (Err why) seated less lost = unlent workers s limit why seated less lost
+
+-- the run was lent under this limit
+pub lent_under : {A : Type 0} (workers : ℕ) (s given : Session) (limit : ℕ) (r : Result A Lost) → given ≡ with_limit limit s → IsTrue (is_seated s) → limit ≤ s.limit
+    → IfErr r (IsLostBy given.program given.limit given.control.breakpoints (length given.control.claims) (entries given) workers) → IfErr r (IsUnlent workers s)
+lent_under workers s given limit r is seated less lost =
+    lent workers s limit r seated less (subst (λ (z : Session). IfErr r (IsLostBy z.program z.limit z.control.breakpoints (length z.control.claims) (entries z) workers)) is lost)

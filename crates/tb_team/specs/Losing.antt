@@ -35,13 +35,13 @@ pub record HasMet (P : Program) (limit : ℕ) (points : Points) (seats : ℕ) (b
   pub last : seat ≤ workers
   pub ended : IsAnswer P limit points seats begun (IsEnding seat MetTakenCell)
 
--- the run of the team that was left has as many entries as its seats have receipts, but not the place of this one
+-- the run of the team that was left has as many new entries as its seats have receipts, but not the place of this one
 pub record HasGap (P : Program) (limit : ℕ) (points : Points) (seats : ℕ) (begun : List Entry) : Type 0 where
   pub left : Session
   pub team : IsOfTeam P limit points seats begun left
   pub free : IsUnclaimed seats left
   pub held : List Seated
-  pub counted : receipts_in held + 1 ≡ length left.journal
+  pub counted : receipts_in held + length begun ≡ length left.journal
   pub rows : All IsRow held
   pub stand : All (Stands (entries left)) (all_receipts held)
   pub place : ℕ
@@ -59,10 +59,13 @@ IsLostBy P limit points seats begun workers _ = ⊥
 abbrev pub is_seated : Session → Bool
 is_seated s = all_below (length s.control.claims) (entries s)
 
--- a run that was to be lent to so many workers and doesn't come back; whose the entries are is asked first
+-- a run that was to be lent to so many workers and doesn't come back; whose the entries are is asked first. While it is lent,
+-- its journal may have so many entries and no more
 abbrev pub IsUnlent : ℕ → Session → Lost → Type 0
 IsUnlent workers s Unseated = IsFalse (is_seated s)
-IsUnlent workers s why = IsTrue (is_seated s) × IsLostBy s.program s.limit s.control.breakpoints (length s.control.claims) (entries s) workers why
+IsUnlent workers s why =
+    IsTrue (is_seated s)
+    × ((limit : ℕ) × (limit ≤ s.limit) × IsLostBy s.program limit s.control.breakpoints (length s.control.claims) (entries s) workers why)
 
 -- ---- as it comes back
 

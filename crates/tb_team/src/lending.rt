@@ -5,6 +5,7 @@ ghost use Rattle.tb_work.specs.Answering.{IsRun};
 ghost use Rattle.tb_work.specs.Changes.{entries};
 ghost use Rattle.tb_work.specs.Receipts.{Seated, HaveNumbers};
 ghost use Rattle.tb_journal.specs.Journals.{all_below};
+ghost use Rattle.tb_live.specs.Session.{with_limit};
 ghost use Rattle.tb_team.specs.Gone.{HasSeats};
 ghost use Rattle.tb_team.specs.Lending.{IsBack};
 ghost use Rattle.tb_team.specs.Losing.{lost_by, IsLostBy, IsUnlent};
@@ -110,7 +111,8 @@ fn lend_as<N: Team + Send + Sync, R: Threads + Wait + Sync>(
 ) -> Result<Live, Lost>
     requires name { (blank.name ≡ N.name) × (blank.parts ≡ N.parts) }
     requires one_each { blank.parts ≡ N.seats }
-    requires places { (places ≡ N.cells) × (N.limit ≤ length places) }
+    requires places { (places ≡ N.slots) × (N.limit ≤ length places.cells) }
+    requires from { N.slots.first ≡ length N.begun }
     requires live { (live.session.program ≡ N.program) × (live.session.limit ≡ N.limit) × (live.session.control.breakpoints ≡ N.breakpoints) × (length live.session.control.claims ≡ N.seats) }
     requires begun { entries live.session ≡ N.begun }
     requires own { all_below N.seats (entries live.session) ≡ true }
@@ -131,7 +133,30 @@ fn lend_as<N: Team + Send + Sync, R: Threads + Wait + Sync>(
     }
 }
 
-/// Lends the run to so many workers for up to so many steps.
+/// How many entries the journal has.
+fn entries_of(live: &Live) -> u32
+    ensures count { result ≡ length live.now.session.journal }
+    ensures some { 1 ≤ result }
+    ensures within { result ≤ live.now.session.limit }
+    ensures bound { live.now.session.limit ≤ 1000000 }
+{
+    live.journal_is_sound();
+    live.journal().len() as u32
+}
+
+/// The run, where the journal may have so many entries again.
+fn with_limit(live: Live, limit: u32) -> Live
+    requires within { length live.session.journal ≤ limit }
+    requires bound { limit ≤ 1000000 }
+    ensures { result.session ≡ with_limit limit live.session }
+{
+    let mut live = live;
+    live.set_limit(limit);
+    live
+}
+
+/// Lends the run to so many workers for up to so many steps. Meanwhile its journal may have no more entries than there
+/// are and these can make, so that the slots of those alone have cells.
 pub fn lend<R: Threads + Wait + Sync>(
     rt: &R,
     alloc: Global,
@@ -148,11 +173,19 @@ pub fn lend<R: Threads + Wait + Sync>(
     if !is_seated(&live) {
         return Err(lose(live, Lost::Unseated));
     }
-    match Places::new(alloc, live.limit()) {
-        Ok(places) => {
-            let blank = Blank::new(u64::from(live.seats()));
-            lend_as::<Brand, R>(rt, alloc, live, places, blank, workers, most)
-        },
-        Err(_) => Err(lose(live, Lost::Memory)),
+    let limit = live.limit();
+    let entries = entries_of(&live);
+    let lent = entries + most.min(limit - entries);
+    let live = with_limit(live, lent);
+    let Ok(places) = Places::after(alloc, entries, lent) else {
+        return Err(lose(live, Lost::Memory));
+    };
+    let blank = Blank::new(u64::from(live.seats()));
+    match lend_as::<Brand, R>(rt, alloc, live, places, blank, workers, most) {
+        Ok(back) => {
+            back.journal_is_sound();
+            Ok(with_limit(back, limit))
+        }
+        Err(why) => Err(why),
     }
 }

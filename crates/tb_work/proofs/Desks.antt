@@ -1,7 +1,7 @@
 -- What a desk keeps, and what an entry more leaves of it.
-use Rattle.std.proofs.Common.{ℕ, ◌+◌, ◌<◌, ◌≤◌, ◌≡◌, suc, List, [], ◌∷◌, ◌++◌, Some, Option, map, take, length, get_or, refl, ap, sym, subst, ◌∙◌, arith, length-set}
+use Rattle.std.proofs.Common.{ℕ, ◌+◌, ◌<◌, ◌≤◌, ◌≡◌, suc, List, [], ◌∷◌, ◌++◌, Some, Option, map, take, drop, length, get_or, refl, ap, sym, subst, ◌∙◌, arith, length-set}
 use Rattle.std.specs.Prelude.{slice_index}
-use Rattle.std.proofs.lemmas.List.{map-append, reverse-append, length-map, length-take, take-append-le}
+use Rattle.std.proofs.lemmas.List.{map-append, reverse-append, length-map, length-reverse, length-take, take-append-le, drop-append-le}
 use Rattle.std.proofs.Math.Seq.{take-suc, take-length}
 use Rattle.tb_model.specs.declared.entry.Entry.{Entry}
 use Rattle.tb_model.specs.declared.entry.Entry.TheVariants.{Opened, Stepped, Rolled}
@@ -11,6 +11,7 @@ use Rattle.tb_live.specs.Breaks.{Points}
 use Rattle.tb_control.specs.declared.control.Control.{Control}
 use Rattle.tb_live.specs.Session.{Session, with_entry, with_seat, control_behind}
 use Rattle.tb_work.specs.Changes.{entries}
+use Rattle.tb_work.specs.Slots.{Slots}
 
 -- an entry leaves the breakpoints, and as many seats as there were
 pub points_stay : (P : Program) (J : List Entry) (c : Control) (e : Entry) → (control_behind P J c e).breakpoints ≡ c.breakpoints
@@ -34,28 +35,34 @@ begins_more es begun e begins =
     rw take-append-le begins
 
 -- what is told of the run, its notes and its book
-pub record Agrees (P : Program) (limit : ℕ) (points : Points) (seats : ℕ) (all : List ℕ) (begun : List Entry) (s : Session) (total : ℕ) (cells : List ℕ) (known : List (Option Entry)) : Type 0 where
+pub record Agrees (P : Program) (limit : ℕ) (points : Points) (seats : ℕ) (slots : Slots) (begun : List Entry) (s : Session) (total : ℕ) (cells : List ℕ) (known : List (Option Entry)) : Type 0 where
   pub program : s.program ≡ P
   pub limited : s.limit ≡ limit
   pub breakpoints : s.control.breakpoints ≡ points
   pub seated : length s.control.claims ≡ seats
   pub begins : take (length begun) (entries s) ≡ begun
-  pub counted : total + 1 ≡ length s.journal
-  pub named : cells ≡ take (length s.journal) all
-  pub noted : known ≡ map (λ e. Some e) (entries s)
+  pub counted : total + slots.first ≡ length s.journal
+  pub named : cells ≡ drop slots.first (take (length s.journal) slots.cells)
+  pub noted : known ≡ map (λ e. Some e) (drop slots.first (entries s))
 
 -- one entry more
-pub agrees_more : (P : Program) (limit : ℕ) (points : Points) (seats : ℕ) (all : List ℕ) (begun : List Entry) (old mid new : Session) (e : Entry)
+pub agrees_more : (P : Program) (limit : ℕ) (points : Points) (seats : ℕ) (slots : Slots) (begun : List Entry) (old mid new : Session) (e : Entry)
     (total later : ℕ) (cells more : List ℕ) (known told : List (Option Entry)) (place : ℕ)
-    → Agrees P limit points seats all begun old total cells known
-    → mid ≡ old → new ≡ with_entry mid e → place ≡ length old.journal → place < length all
-    → later ≡ total + 1 → more ≡ cells ++ slice_index all place ∷ [] → told ≡ known ++ Some e ∷ []
-    → Agrees P limit points seats all begun new later more told
-agrees_more P limit points seats all begun old mid new e total later cells more known told place a same now at lt one cell note =
+    → Agrees P limit points seats slots begun old total cells known
+    → mid ≡ old → new ≡ with_entry mid e → place ≡ length old.journal → place < length slots.cells
+    → later ≡ total + 1 → more ≡ cells ++ slice_index slots.cells place ∷ [] → told ≡ known ++ Some e ∷ []
+    → Agrees P limit points seats slots begun new later more told
+agrees_more P limit points seats slots begun old mid new e total later cells more known told place a same now at lt one cell note =
     let is : new ≡ with_entry old e = now ∙ ap (λ s. with_entry s e) same in
     let J = old.journal in
     let longer : length new.journal ≡ suc (length J) = ap (λ s. length s.journal) is in
-    let taken : take (suc (length J)) all ≡ take (length J) all ++ get_or all (length J) 0 ∷ [] = take-suc all (length J) 0 (omega (arith, at, lt)) in
+    let f = slots.first in
+    let all = slots.cells in
+    let within : length J < length all = omega (arith, at, lt) in
+    let taken : take (suc (length J)) all ≡ take (length J) all ++ get_or all (length J) 0 ∷ [] = take-suc all (length J) 0 within in
+    let first : f ≤ length J = omega (arith, a.counted) in
+    let before : f ≤ length (take (length J) all) = omega (arith, first, within, length-take (length J) all) in
+    let behind : f ≤ length (entries old) = omega (arith, first, length-reverse J) in
     let listed : entries new ≡ entries old ++ e ∷ [] = ap entries is ∙ reverse-append (e ∷ []) J in
     record {
       program = ap (λ s. s.program) is ∙ a.program;
@@ -64,14 +71,16 @@ agrees_more P limit points seats all begun old mid new e total later cells more 
       seated = ap (λ s. length s.control.claims) is ∙ seats_stay old.program J old.control e ∙ a.seated;
       begins = ap (take (length begun)) listed ∙ begins_more (entries old) begun e a.begins;
       counted = omega (arith, a.counted, one, longer);
-      named = cell ∙ ap (λ l. l ++ get_or all place 0 ∷ []) a.named ∙ ap (λ k. take (length J) all ++ get_or all k 0 ∷ []) at ∙ sym taken ∙ ap (λ n. take n all) (sym longer);
-      noted = note ∙ ap (λ l. l ++ Some e ∷ []) a.noted ∙ sym (map-append (λ x. Some x) (entries old) (e ∷ [])) ∙ ap (map (λ x. Some x)) (sym listed);
+      named = cell ∙ ap (λ l. l ++ get_or all place 0 ∷ []) a.named ∙ ap (λ k. drop f (take (length J) all) ++ get_or all k 0 ∷ []) at
+          ∙ sym (drop-append-le f (take (length J) all) (get_or all (length J) 0 ∷ []) before) ∙ ap (drop f) (sym taken) ∙ ap (λ n. drop f (take n all)) (sym longer);
+      noted = note ∙ ap (λ l. l ++ Some e ∷ []) a.noted ∙ sym (map-append (λ x. Some x) (drop f (entries old)) (e ∷ []))
+          ∙ ap (map (λ x. Some x)) (sym (drop-append-le f (entries old) (e ∷ []) behind) ∙ ap (drop f) (sym listed));
     }
 
 -- a claim changes nothing of it
-pub agrees_claimed : (P : Program) (limit : ℕ) (points : Points) (seats : ℕ) (all : List ℕ) (begun : List Entry) (s new : Session) (total seat : ℕ) (o : Option Name) (cells : List ℕ) (known : List (Option Entry))
-    → Agrees P limit points seats all begun s total cells known → new ≡ with_seat s seat o → Agrees P limit points seats all begun new total cells known
-agrees_claimed P limit points seats all begun s new total seat o cells known a is = subst (λ (z : Session). Agrees P limit points seats all begun z total cells known) (sym is) (record {
+pub agrees_claimed : (P : Program) (limit : ℕ) (points : Points) (seats : ℕ) (slots : Slots) (begun : List Entry) (s new : Session) (total seat : ℕ) (o : Option Name) (cells : List ℕ) (known : List (Option Entry))
+    → Agrees P limit points seats slots begun s total cells known → new ≡ with_seat s seat o → Agrees P limit points seats slots begun new total cells known
+agrees_claimed P limit points seats slots begun s new total seat o cells known a is = subst (λ (z : Session). Agrees P limit points seats slots begun z total cells known) (sym is) (record {
   program = a.program;
   limited = a.limited;
   breakpoints = a.breakpoints;

@@ -1,7 +1,7 @@
--- Receipts of all seats that stand in the journal, and are as many as its entries after the first, are all of these by place.
-use Rattle.std.proofs.Common.{ℕ, ◌+◌, ◌<◌, ◌≤◌, ◌≡◌, ◌≢◌, zero, suc, List, [], ◌∷◌, ◌++◌, Bool, true, false, cond, nat_eq, nat_lt, map, drop, length, get_or, refl, ap, sym, subst, ◌∙◌, arith, All, None, Some, length-append, append_assoc}
+-- Receipts of all seats that stand in the journal from a place on, and are as many as its entries from there, are all of these by place.
+use Rattle.std.proofs.Common.{ℕ, ◌+◌, ◌<◌, ◌≤◌, ◌≡◌, ◌≢◌, zero, suc, List, [], ◌∷◌, ◌++◌, Bool, true, false, cond, nat_eq, nat_lt, map, take, drop, length, length-drop, get_or, refl, ap, sym, subst, ◌∙◌, arith, All, None, Some, length-append, append_assoc}
 use Rattle.std.proofs.lemmas.Bool.Decides.{nat_tests}
-use Rattle.std.proofs.lemmas.List.{length-map, get_or-map}
+use Rattle.std.proofs.lemmas.List.{length-map, length-take, take-append-drop, get_or-map}
 use Rattle.std.proofs.lemmas.List.Sums.{sum_by-cons, sum_by-append}
 use Rattle.std.proofs.lemmas.List.Sorted.{All-permutation, sum_by-IsPermutation, IsNonDecreasingBy-from_sort}
 use Rattle.std.specs.Prelude.{IsPermutation, IsSortedByKey}
@@ -13,8 +13,8 @@ use Rattle.tb_model.specs.declared.entry.Entry.TheVariants.{Opened}
 use Rattle.tb_work.specs.declared.receipt.Receipt.{Receipt}
 use Rattle.tb_journal.specs.Journals.{seat_of}
 use Rattle.tb_work.specs.Receipts.{Seated, HaveOwnNumbers, receipt, rises_from, all_of, IsRow, Stands, first_gap, all_receipts, receipts_in, receipts_from}
-use Rattle.tb_work.proofs.Numbered.{Rises, AllAtMost, all_places, from}
-use Rattle.tb_work.proofs.Distinct.{hit, hits, above, hits-append, hit_same, Owned, concat, Apart, Good, once, strict}
+use Rattle.tb_work.proofs.Numbered.{Rises, AllAtMost, all_places, from as run_from}
+use Rattle.tb_work.proofs.Distinct.{hit, hits, hits-append, Owned, concat, Apart, Good, once, strict}
 
 -- a receipt's place
 abbrev pub place_of : Receipt → ℕ
@@ -136,14 +136,14 @@ get_at (x ∷ xs) y ys d = get_at xs y ys d
 
 -- receipts at places that follow one another are the entries there
 spelled : (J front back : List Entry) (rs : List Receipt) (a : ℕ) → J ≡ front ++ back → length front ≡ a + 1 → length back ≡ length rs
-    → places rs ≡ from a (length rs) → All (IsAt J) rs → rs ≡ receipts_from (a + 1) back
+    → places rs ≡ run_from a (length rs) → All (IsAt J) rs → rs ≡ receipts_from (a + 1) back
 spelled J front [] [] a is long same ps at = refl
 spelled J front (e ∷ back) [] a is long same ps at = absurd (omega (arith, same))
 spelled J front [] (r ∷ rs) a is long same ps at = absurd (omega (arith, same))
 spelled J front (e ∷ back) (r ∷ rs) a is long same ps at =
     let here = all_head (IsAt J) r rs at in
     let place : r.place ≡ a + 1 = ap (λ l. get_or l 0 0) ps in
-    let later : places rs ≡ from (a + 1) (length rs) = ap (drop 1) ps in
+    let later : places rs ≡ run_from (a + 1) (length rs) = ap (drop 1) ps in
     let found : get_or J r.place r.entry ≡ e = ap (λ l. get_or l r.place r.entry) is ∙ ap (λ k. get_or (front ++ e ∷ back) k r.entry) (place ∙ sym long) ∙ get_at front e back r.entry in
     let entry : r.entry ≡ e = sym here.1 ∙ found in
     let next : J ≡ (front ++ e ∷ []) ++ back = is ∙ sym (append_assoc front (e ∷ []) back) in
@@ -152,20 +152,10 @@ spelled J front (e ∷ back) (r ∷ rs) a is long same ps at =
     let others : rs ≡ receipts_from (suc (a + 1)) back = rest ∙ ap (λ k. receipts_from k back) (omega arith) in
     ap (λ x. x ∷ rs) first ∙ ap (λ l. receipt (a + 1) e ∷ l) others
 
--- the first entry, and those after it
-behind : (J : List Entry) (n : ℕ) → length J ≡ n + 1 → (e : Entry) × (J ≡ e ∷ drop 1 J) × (length (drop 1 J) ≡ n)
-behind [] n is = absurd (omega (arith, is))
-behind (e ∷ J) n is = (e, refl, omega (arith, is))
-
-lowest : (ps : List ℕ) → hits 0 ps ≡ 0 → 0 < length ps → 0 < get_or ps 0 0
-lowest [] none lt = absurd (omega (arith, lt))
-lowest (zero ∷ ps) none lt = absurd (omega (arith, none, hit_same 0))
-lowest (suc p ∷ ps) none lt = omega arith
-
--- nothing stands at place 0
-none_at_0 : (J : List Entry) (seats : List Seated) → Good (own J) (rows_of seats) → hits 0 (concat (rows_of seats)) ≡ 0
-none_at_0 J [] good = refl
-none_at_0 J (s ∷ ss) good = omega (arith, hits-append 0 (places s.receipts) (concat (rows_of ss)), above 0 0 (places s.receipts) good.0 (omega arith), none_at_0 J ss good.3)
+-- the places are all above it
+lowest : (a : ℕ) (xs : List Receipt) → All (λ r. a + 1 ≤ r.place) xs → 0 < length (places xs) → a < get_or (places xs) 0 0
+lowest a [] from lt = absurd (omega (arith, lt))
+lowest a (r ∷ rs) from lt = let first = all_head (λ x. a + 1 ≤ x.place) r rs from in omega (arith, first)
 
 not_less : (a b : ℕ) → a ≤ b → nat_lt b a ≡ false
 not_less a b le = grind (arith, nat_tests)
@@ -181,24 +171,29 @@ length_counted : (rs : List Receipt) → length rs ≡ sum_by (λ r. 1) rs
 length_counted [] = refl
 length_counted (r ∷ rs) = omega (arith, length_counted rs, sum_by-cons (λ (x : Receipt). 1) r rs)
 
-pub whole : (J : List Entry) (seats : List Seated) (xs : List Receipt)
+pub whole : (J : List Entry) (f : ℕ) (seats : List Seated) (xs : List Receipt)
     → HaveOwnNumbers seats → All IsRow seats → All (Stands J) (all_receipts seats) → first_gap (length J) (all_receipts seats) ≡ None
-    → receipts_in seats + 1 ≡ length J → IsPermutation (all_receipts seats) xs → IsSortedByKey place_of nat_cmp xs
-    → xs ≡ receipts_from 1 (drop 1 J)
-whole J seats xs numbers rows stand gap count same sorted =
+    → 1 ≤ f → All (λ r. f ≤ r.place) (all_receipts seats) → receipts_in seats + f ≡ length J → IsPermutation (all_receipts seats) xs → IsSortedByKey place_of nat_cmp xs
+    → xs ≡ receipts_from f (drop f J)
+whole J zero seats xs numbers rows stand gap some from count same sorted = absurd (omega (arith, some))
+whole J (suc a) seats xs numbers rows stand gap some from count same sorted =
     let at_all = at_their_places J (all_receipts seats) gap stand in
     let at = All-permutation (IsAt J) (all_receipts seats) xs same at_all in
+    let on : suc a ≡ a + 1 = omega arith in
+    let later = subst (λ n. All (λ r. n ≤ r.place) xs) on (All-permutation (λ r. suc a ≤ r.place) (all_receipts seats) xs same from) in
     let good = good_rows J seats numbers rows at_all in
     let ps = places xs in
     let many : length ps ≡ length xs = length-map xs place_of in
     let one : Receipt → ℕ = λ r. 1 in
     let total : length xs ≡ receipts_in seats = length_counted xs ∙ sum_by-IsPermutation one (all_receipts seats) xs same ∙ sym (length_counted (all_receipts seats)) ∙ count_all seats in
-    let long : length J ≡ length xs + 1 = omega (arith, total, count) in
+    let long : length J ≡ (a + length xs) + 1 = omega (arith, total, count) in
     let hit_as : (q : ℕ) → hits q ps ≡ hits q (concat (rows_of seats)) = λ q. hits_summed q xs ∙ sum_by-IsPermutation (λ r. hit q r.place) (all_receipts seats) xs same ∙ sym (hits_rows q seats) in
     let rising = IsNonDecreasingBy-from_sort place_of xs sorted in
     let low : (k : ℕ) (d : ℕ) → suc k < length ps → nat_lt (get_or ps (suc k) d) (get_or ps k d) ≡ false = λ k d lt. falls_not xs rising k d (omega (arith, lt, many)) in
-    let rises = strict 0 ps low (λ q. omega (arith, hit_as q, once (own J) q (rows_of seats) good)) (lowest ps (hit_as 0 ∙ none_at_0 J seats good)) in
-    let bound : AllAtMost (0 + length ps) ps = subst (λ n. AllAtMost n ps) (omega (arith, many)) (at_most J (length xs) xs long at) in
-    let spelt : ps ≡ from 0 (length xs) = all_places 0 ps rises bound ∙ ap (from 0) many in
-    let parts = behind J (length xs) long in
-    spelled J (parts.0 ∷ []) (drop 1 J) xs 0 parts.1 refl parts.2 spelt at
+    let rises = strict a ps low (λ q. omega (arith, hit_as q, once (own J) q (rows_of seats) good)) (lowest a xs later) in
+    let bound : AllAtMost (a + length ps) ps = subst (λ n. AllAtMost n ps) (ap (λ n. a + n) (sym many)) (at_most J (a + length xs) xs long at) in
+    let spelt : ps ≡ run_from a (length xs) = all_places a ps rises bound ∙ ap (run_from a) many in
+    let front : length (take (suc a) J) ≡ a + 1 = omega (arith, length-take (suc a) J, long) in
+    let back : length (drop (suc a) J) ≡ length xs = omega (arith, length-drop (suc a) J, long) in
+    let said : xs ≡ receipts_from (a + 1) (drop (suc a) J) = spelled J (take (suc a) J) (drop (suc a) J) xs a (sym (take-append-drop (suc a) J)) front back spelt at in
+    said ∙ ap (λ n. receipts_from n (drop (suc a) J)) (sym on)

@@ -9,3 +9,4 @@ pub mod Bursts
 pub mod Going
 pub mod Ending
 pub mod Numbers
+pub mod Slots

@@ -1,14 +1,14 @@
-//! A run is taken in: its entries are written to the places' cells, and each seat gets the receipts of
-//! its own.
+//! A run is taken in: its entries are written to the cells of the slots that have one, and each seat
+//! gets the receipts of its own.
 
-ghost use Rattle.std.specs.Prelude.{◌≡◌, ◌+◌, ◌<◌, ◌≤◌, ◌^◌, ◌++◌, [], ◌∷◌, Some, true, length, slice_index, vec_len, vec_capacity, map, take, IfOk, OnOk, IfErr};
+ghost use Rattle.std.specs.Prelude.{◌≡◌, ◌+◌, ◌<◌, ◌≤◌, ◌^◌, ◌++◌, [], ◌∷◌, Some, true, length, slice_index, vec_len, vec_capacity, map, take, drop, IfOk, OnOk, IfErr};
 ghost use Rattle.tb_work.specs.Changes.{entries};
 ghost use Rattle.tb_journal.specs.Journals.{seat_of, all_below};
 ghost use Rattle.tb_work.specs.Receipts.{HaveNumbers, AreBelow, receipts_in};
 
 use crate::adopt_refusal::AdoptRefusal;
 use crate::desk::Desk;
-use crate::entering::{enter, write};
+use crate::entering::enter;
 use crate::places::Places;
 use crate::receipt::Receipt;
 use crate::seat::Seat;
@@ -37,9 +37,8 @@ pub fn journal_of(live: &Live) -> &Journal
     live.journal()
 }
 
-/// The journal has begun and is within its limit.
-fn has_begun(live: &Live)
-    ensures begun { 0 < length live.now.session.journal }
+/// The journal is within its limit.
+fn is_within(live: &Live)
     ensures within { length live.now.session.journal ≤ live.now.session.limit }
     ensures fits { length live.now.session.journal < 2 ^ 32 }
 {
@@ -86,8 +85,9 @@ fn give<N: Team>(
     place: u32,
     entry: Entry,
 ) -> Result<(), AdoptRefusal>
-    requires cells { places.now ≡ N.cells }
-    requires place { place < length places.now }
+    requires cells { places.now ≡ N.slots }
+    requires from { places.now.first ≤ place }
+    requires place { place < length places.now.cells }
     requires seat { seat_of entry < length seats.old }
     requires numbers { HaveNumbers seats.old }
     requires above { AreBelow place seats.old }
@@ -95,7 +95,7 @@ fn give<N: Team>(
     ensures above { OnOk result (AreBelow (place + 1) seats.new) }
     ensures total { OnOk result (book.new.total ≡ book.old.total + 1) }
     ensures receipts { OnOk result (receipts_in seats.new ≡ receipts_in seats.old + 1) }
-    ensures cells { OnOk result (map (λ t. t.note.cell) told.new.items ≡ map (λ t. t.note.cell) told.old.items ++ slice_index N.cells place ∷ []) }
+    ensures cells { OnOk result (map (λ t. t.note.cell) told.new.items ≡ map (λ t. t.note.cell) told.old.items ++ slice_index N.slots.cells place ∷ []) }
     ensures known { OnOk result (map (λ t. t.note.known) told.new.items ≡ map (λ t. t.note.known) told.old.items ++ Some entry ∷ []) }
 {
     let seat = &mut seats[seat_of(&entry) as usize];
@@ -103,7 +103,7 @@ fn give<N: Team>(
     Ok(())
 }
 
-/// Writes all entries to their places' cells, and gives the seats their receipts.
+/// Writes the entries of all slots that have a cell to these, and gives the seats their receipts.
 fn tell_all<N: Team>(
     alloc: Global,
     journal: &Journal,
@@ -111,32 +111,32 @@ fn tell_all<N: Team>(
     book: &mut Book<N>,
     seats: &mut [Seat<N>],
 ) -> Result<Vec<Told>, AdoptRefusal>
-    requires cells { places.now ≡ N.cells }
-    requires enough { length journal.now.items ≤ length places.now }
+    requires cells { places.now ≡ N.slots }
+    requires some { 1 ≤ N.slots.first }
+    requires from { N.slots.first ≤ length journal.now.items }
+    requires enough { length journal.now.items ≤ length N.slots.cells }
     requires fits { length journal.now.items < 2 ^ 32 }
-    requires begun { 0 < length journal.now.items }
     requires total { book.old.total ≡ 0 }
     requires own { all_below (length seats.old) journal.now.items ≡ true }
     requires numbers { HaveNumbers seats.old }
     requires above { AreBelow 1 seats.old }
     requires none { receipts_in seats.old ≡ 0 }
-    ensures receipts { OnOk result (receipts_in seats.new + 1 ≡ length journal.now.items) }
-    ensures total { OnOk result (book.new.total + 1 ≡ length journal.now.items) }
-    ensures cells { IfOk result (λ t. map (λ t. t.note.cell) t.items ≡ take (length journal.now.items) N.cells) }
-    ensures known { IfOk result (λ t. map (λ t. t.note.known) t.items ≡ map (λ e. Some e) journal.now.items) }
+    ensures receipts { OnOk result (receipts_in seats.new + N.slots.first ≡ length journal.now.items) }
+    ensures total { OnOk result (book.new.total + N.slots.first ≡ length journal.now.items) }
+    ensures cells { IfOk result (λ t. map (λ t. t.note.cell) t.items ≡ drop N.slots.first (take (length journal.now.items) N.slots.cells)) }
+    ensures known { IfOk result (λ t. map (λ t. t.note.known) t.items ≡ map (λ e. Some e) (drop N.slots.first journal.now.items)) }
     ensures numbers { OnOk result (HaveNumbers seats.new) }
 {
     let mut told = Vec::new(alloc);
-    let opening = journal.entry(0)?;
-    write(alloc, places, &mut told, 0, opening)?;
-    for place in 1..journal.len() {
+    let first = places.first() as usize;
+    for place in first..journal.len() {
         let entry = journal.entry(place)?;
         give(alloc, places, &mut told, book, seats, place as u32, entry)?;
     }
     Ok(told)
 }
 
-/// Writes all entries of the run to their places' cells, and gives the seats their receipts.
+/// Writes the entries of all slots that have a cell to these, and gives the seats their receipts.
 // for the proof: the clauses of `tell_all`, in words of the run
 fn tell_run<N: Team>(
     alloc: Global,
@@ -145,19 +145,20 @@ fn tell_run<N: Team>(
     book: &mut Book<N>,
     seats: &mut Vec<Seat<N>>,
 ) -> Result<Vec<Told>, AdoptRefusal>
-    requires cells { places.now ≡ N.cells }
-    requires enough { length live.now.session.journal ≤ length places.now }
+    requires cells { places.now ≡ N.slots }
+    requires some { 1 ≤ N.slots.first }
+    requires from { N.slots.first ≤ length live.now.session.journal }
+    requires enough { length live.now.session.journal ≤ length N.slots.cells }
     requires fits { length live.now.session.journal < 2 ^ 32 }
-    requires begun { 0 < length live.now.session.journal }
     requires total { book.old.total ≡ 0 }
     requires own { all_below (vec_len seats.old) (entries live.now.session) ≡ true }
     requires numbers { HaveNumbers seats.old.items }
     requires above { AreBelow 1 seats.old.items }
     requires none { receipts_in seats.old.items ≡ 0 }
-    ensures receipts { OnOk result (receipts_in seats.new.items + 1 ≡ length live.now.session.journal) }
-    ensures total { OnOk result (book.new.total + 1 ≡ length live.now.session.journal) }
-    ensures cells { IfOk result (λ t. map (λ t. t.note.cell) t.items ≡ take (length live.now.session.journal) N.cells) }
-    ensures known { IfOk result (λ t. map (λ t. t.note.known) t.items ≡ map (λ e. Some e) (entries live.now.session)) }
+    ensures receipts { OnOk result (receipts_in seats.new.items + N.slots.first ≡ length live.now.session.journal) }
+    ensures total { OnOk result (book.new.total + N.slots.first ≡ length live.now.session.journal) }
+    ensures cells { IfOk result (λ t. map (λ t. t.note.cell) t.items ≡ drop N.slots.first (take (length live.now.session.journal) N.slots.cells)) }
+    ensures known { IfOk result (λ t. map (λ t. t.note.known) t.items ≡ map (λ e. Some e) (drop N.slots.first (entries live.now.session))) }
     ensures numbers { OnOk result (HaveNumbers seats.new.items) }
     ensures len { vec_len seats.new ≡ vec_len seats.old }
 {
@@ -165,8 +166,8 @@ fn tell_run<N: Team>(
 }
 
 impl<N: Team> Shared<N> {
-    /// Takes a run in, and gives its seats, each with the receipts of its own entries. A refusal hands the
-    /// run back.
+    /// Takes a run in, and gives its seats, each with the receipts of its own entries at slots that have
+    /// a cell. A refusal hands the run back.
     pub fn adopt(
         alloc: Global,
         live: Live,
@@ -175,16 +176,19 @@ impl<N: Team> Shared<N> {
     ) -> Result<(Shared<N>, Vec<Seat<N>>), (Live, AdoptRefusal)>
         requires name { (blank.name ≡ N.name) × (blank.parts ≡ N.parts) }
         requires one_each { blank.parts ≡ N.seats }
-        requires places { (places ≡ N.cells) × (N.limit ≤ length places) }
+        requires places { (places ≡ N.slots) × (N.limit ≤ length places.cells) }
+        requires from { N.slots.first ≤ length live.session.journal }
         requires live { (live.session.program ≡ N.program) × (live.session.limit ≡ N.limit) × (live.session.control.breakpoints ≡ N.breakpoints) × (length live.session.control.claims ≡ N.seats) }
         requires begun { entries live.session ≡ N.begun }
         requires own { all_below N.seats (entries live.session) ≡ true }
         ensures seats { IfOk result (λ r. (vec_len r.1 ≡ N.seats) × HaveNumbers r.1.items) }
-        ensures receipts { IfOk result (λ r. receipts_in r.1.items + 1 ≡ length live.session.journal) }
+        ensures receipts { IfOk result (λ r. receipts_in r.1.items + N.slots.first ≡ length live.session.journal) }
         ensures err { IfErr result (λ e. e.0 ≡ live) }
     {
         let (mut book, mut spare) = blank.open::<N>();
-        has_begun(&live);
+        is_within(&live);
+        // for the proof: some slot has no cell
+        let _first = places.first();
         let Ok(room) = room_for(alloc, live.limit()) else {
             return Err((live, AdoptRefusal::Memory));
         };

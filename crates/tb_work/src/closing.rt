@@ -42,15 +42,17 @@ fn take_in<N: Team>(
     receipts: &mut Vec<Receipt>,
     gap: &mut Option<u32>,
 )
-    requires cells { map (λ t. t.note.cell) told.old ≡ take (length journal.now.items) N.cells }
-    requires known { map (λ t. t.note.known) told.old ≡ map (λ e. Some e) journal.now.items }
-    requires enough { length journal.now.items ≤ length N.cells }
+    requires cells { map (λ t. t.note.cell) told.old ≡ drop N.slots.first (take (length journal.now.items) N.slots.cells) }
+    requires known { map (λ t. t.note.known) told.old ≡ map (λ e. Some e) (drop N.slots.first journal.now.items) }
+    requires from { N.slots.first ≤ length journal.now.items }
+    requires enough { length journal.now.items ≤ length N.slots.cells }
     requires room { vec_len receipts.old < vec_capacity receipts.old }
     ensures told { told.new ≡ told.old }
     ensures receipts { receipts.new.items ≡ receipts.old.items ++ kept.receipt ∷ [] }
     ensures len { vec_len receipts.new ≡ vec_len receipts.old + 1 }
     ensures capacity { vec_capacity receipts.new ≡ vec_capacity receipts.old }
     ensures stands { Stands journal.now.items kept.receipt }
+    ensures at { N.slots.first ≤ kept.receipt.place }
     ensures gap { MatchOption gap.old (gap.new ≡ first_gap (length journal.now.items) (kept.receipt ∷ [])) (λ n. gap.new ≡ Some n) }
 {
     let Kept {
@@ -60,7 +62,8 @@ fn take_in<N: Team>(
     } = kept;
     let place = receipt.place;
     if (place as usize) < journal.len() {
-        compare(told, place as usize, note);
+        let index = place as usize + told.len() - journal.len();
+        compare(told, index, note);
     } else if gap.is_none() {
         *gap = Some(place);
     }
@@ -75,15 +78,17 @@ fn take_all<N: Team>(
     receipts: &mut Vec<Receipt>,
     gap: &mut Option<u32>,
 )
-    requires cells { map (λ t. t.note.cell) told.old ≡ take (length journal.now.items) N.cells }
-    requires known { map (λ t. t.note.known) told.old ≡ map (λ e. Some e) journal.now.items }
-    requires enough { length journal.now.items ≤ length N.cells }
+    requires cells { map (λ t. t.note.cell) told.old ≡ drop N.slots.first (take (length journal.now.items) N.slots.cells) }
+    requires known { map (λ t. t.note.known) told.old ≡ map (λ e. Some e) (drop N.slots.first journal.now.items) }
+    requires from { N.slots.first ≤ length journal.now.items }
+    requires enough { length journal.now.items ≤ length N.slots.cells }
     requires room { vec_len receipts.old + vec_len kept ≤ vec_capacity receipts.old }
     ensures told { told.new ≡ told.old }
     ensures receipts { receipts.new.items ≡ receipts.old.items ++ map (λ k. k.receipt) kept.items }
     ensures len { vec_len receipts.new ≡ vec_len receipts.old + vec_len kept }
     ensures capacity { vec_capacity receipts.new ≡ vec_capacity receipts.old }
     ensures stands { All (Stands journal.now.items) (map (λ k. k.receipt) kept.items) }
+    ensures at { All (λ r. N.slots.first ≤ r.place) (map (λ k. k.receipt) kept.items) }
     ensures gap { MatchOption gap.old (gap.new ≡ first_gap (length journal.now.items) (map (λ k. k.receipt) kept.items)) (λ n. gap.new ≡ Some n) }
 {
     for one in kept {
@@ -101,10 +106,11 @@ fn take_seats<N: Team>(
     receipts: &mut Vec<Receipt>,
     gap: &mut Option<u32>,
 )
-    requires cells { map (λ t. t.note.cell) told.old ≡ take (length journal.now.items) N.cells }
-    requires known { map (λ t. t.note.known) told.old ≡ map (λ e. Some e) journal.now.items }
-    requires enough { length journal.now.items ≤ length N.cells }
-    requires total { book.old.total + 1 ≡ length journal.now.items }
+    requires cells { map (λ t. t.note.cell) told.old ≡ drop N.slots.first (take (length journal.now.items) N.slots.cells) }
+    requires known { map (λ t. t.note.known) told.old ≡ map (λ e. Some e) (drop N.slots.first journal.now.items) }
+    requires from { N.slots.first ≤ length journal.now.items }
+    requires enough { length journal.now.items ≤ length N.slots.cells }
+    requires total { book.old.total + N.slots.first ≡ length journal.now.items }
     requires none { (all.old.parts ≡ 0) × (all.old.amount ≡ 0) }
     requires empty { receipts.old.items ≡ [] }
     requires room { length journal.now.items ≤ vec_capacity receipts.old }
@@ -114,6 +120,7 @@ fn take_seats<N: Team>(
     ensures total { book.new.total ≡ book.old.total }
     ensures receipts { receipts.new.items ≡ all_receipts seats.items }
     ensures stands { All (Stands journal.now.items) (all_receipts seats.items) }
+    ensures at { All (λ r. N.slots.first ≤ r.place) (all_receipts seats.items) }
     ensures gap { gap.new ≡ first_gap (length journal.now.items) (all_receipts seats.items) }
     ensures rows { All IsRow seats.items }
 {
@@ -146,11 +153,12 @@ impl<N: Team> Shared<N> {
         ensures begins { MatchResult result (λ c. take (length N.begun) (entries c.live.session) ≡ N.begun) (λ g. take (length N.begun) (entries g.closed.live.session) ≡ N.begun) }
         ensures seats { MatchResult result (λ c. length c.live.session.control.claims ≡ N.seats) (λ g. length g.closed.live.session.control.claims ≡ N.seats) }
         ensures released { MatchResult result (λ c. IsUnclaimed N.seats c.live.session) (λ g. IsUnclaimed N.seats g.closed.live.session) }
-        ensures count { MatchResult result (λ c. receipts_in seats.items + 1 ≡ length c.live.session.journal) (λ g. receipts_in seats.items + 1 ≡ length g.closed.live.session.journal) }
+        ensures count { MatchResult result (λ c. receipts_in seats.items + N.slots.first ≡ length c.live.session.journal) (λ g. receipts_in seats.items + N.slots.first ≡ length g.closed.live.session.journal) }
         ensures receipts { MatchResult result (λ c. IsPermutation (all_receipts seats.items) c.receipts.items) (λ g. IsPermutation (all_receipts seats.items) g.closed.receipts.items) }
         ensures sorted { IfOk result (λ c. IsSortedByKey (λ r. r.place) nat_cmp c.receipts.items) }
-        ensures whole { HaveOwnNumbers seats.items → IfOk result (λ c. c.receipts.items ≡ receipts_from 1 (drop 1 (entries c.live.session))) }
+        ensures whole { HaveOwnNumbers seats.items → IfOk result (λ c. c.receipts.items ≡ receipts_from N.slots.first (drop N.slots.first (entries c.live.session))) }
         ensures rows { All IsRow seats.items }
+        ensures at { All (λ r. N.slots.first ≤ r.place) (all_receipts seats.items) }
         ensures stands { MatchResult result (λ c. All (Stands (entries c.live.session)) (all_receipts seats.items)) (λ g. All (Stands (entries g.closed.live.session)) (all_receipts seats.items)) }
         ensures exact { MatchResult result (λ c. first_gap (length c.live.session.journal) (all_receipts seats.items) ≡ None) (λ g. first_gap (length g.closed.live.session.journal) (all_receipts seats.items) ≡ Some g.place) }
     {

@@ -1,6 +1,6 @@
 //! What lies under the lock.
 
-ghost use Rattle.std.specs.Prelude.{◌≡◌, ◌+◌, ◌<◌, ◌≤◌, ◌↔◌, Some, None, reverse, length, vec_len, vec_capacity, map, take, IfOk, IfErr, OnOk, OnErr};
+ghost use Rattle.std.specs.Prelude.{◌≡◌, ◌+◌, ◌<◌, ◌≤◌, ◌↔◌, Some, None, reverse, length, vec_len, vec_capacity, map, take, drop, IfOk, IfErr, OnOk, OnErr};
 ghost use Rattle.tb_model.specs.declared.entry.Entry.TheVariants.{Rolled};
 ghost use Rattle.tb_control.specs.declared.mode.Mode.TheVariants.{Resumed};
 ghost use Rattle.tb_live.specs.Commits.{MayCommit};
@@ -42,7 +42,7 @@ use tb_model::{StepId, TaskName};
 use tb_next::strip_at;
 use tb_plan::{Plan, Strip};
 
-/// The run, with a note for each place of its journal, and the book of the team's ledger.
+/// The run, with a note for each slot of its journal that has a cell, and the book of the team's ledger.
 #[derive(Drop)]
 pub struct Desk<N: Team> {
     pub alloc: Global,
@@ -60,9 +60,10 @@ pub struct Desk<N: Team> {
     pub ghost begins: { take (length N.begun) (entries live.session) ≡ N.begun },
     pub ghost none_spare: { (spare.parts ≡ 0) × (spare.amount ≡ 0) },
     pub ghost room_for_all: { (vec_len room ≡ 0) × (length live.session.journal ≤ vec_capacity room) × (N.limit ≤ vec_capacity room) },
-    pub ghost counted: { book.total + 1 ≡ length live.session.journal },
-    pub ghost cells: { map (λ t. t.note.cell) told.items ≡ take (length live.session.journal) N.cells },
-    pub ghost known: { map (λ t. t.note.known) told.items ≡ map (λ e. Some e) (entries live.session) },
+    pub ghost some: { 1 ≤ N.slots.first },
+    pub ghost counted: { book.total + N.slots.first ≡ length live.session.journal },
+    pub ghost cells: { map (λ t. t.note.cell) told.items ≡ drop N.slots.first (take (length live.session.journal) N.slots.cells) },
+    pub ghost known: { map (λ t. t.note.known) told.items ≡ map (λ e. Some e) (drop N.slots.first (entries live.session)) },
 }
 
 impl<N: Team> Desk<N> {
@@ -80,8 +81,8 @@ impl<N: Team> Desk<N> {
         seat: &mut Seat<N>,
         plan: Plan,
     ) -> Result<u32, Refused<CommitRefusal>>
-        requires places { places.now ≡ N.cells }
-        requires enough { N.limit ≤ length N.cells }
+        requires places { places.now ≡ N.slots }
+        requires enough { N.limit ≤ length N.slots.cells }
         ensures ok { IfOk result (Commits N.program plan seat.old seat.new) }
         ensures err { OnErr result (seat.new ≡ seat.old) }
 
@@ -98,8 +99,8 @@ impl<N: Team> Desk<N> {
         seat: &mut Seat<N>,
         plan: Plan,
     ) -> Result<u32, Refused<CommitRefusal>>
-        requires places { places.now ≡ N.cells }
-        requires enough { N.limit ≤ length N.cells }
+        requires places { places.now ≡ N.slots }
+        requires enough { N.limit ≤ length N.slots.cells }
         ensures ok { IfOk result (Commits N.program plan seat.old seat.new) }
         ensures err { OnErr result (seat.new ≡ seat.old) }
         ensures run { CommitsBy seat.old seat.new plan result self.old.live.session self.new.live.session }
@@ -132,8 +133,8 @@ impl<N: Team> Desk<N> {
 
     /// Commits the plans one after another, until one is refused. The claim ends.
     pub fn commit_burst(&mut self, places: &Places, seat: &mut Seat<N>, plans: Vec<Plan>) -> Burst
-        requires places { places.now ≡ N.cells }
-        requires enough { N.limit ≤ length N.cells }
+        requires places { places.now ≡ N.slots }
+        requires enough { N.limit ≤ length N.slots.cells }
         ensures seat { CommitsBurst N.program plans.items seat.old seat.new result }
         ensures run { BurstsBy N.program seat.old seat.new plans.items result self.old.live.session self.new.live.session }
         ensures answer { IsAnswer N.program N.limit N.breakpoints N.seats N.begun (BurstsBy N.program seat.old seat.new plans.items result) }
@@ -145,8 +146,8 @@ impl<N: Team> Desk<N> {
     }
 
     fn commit_each(&mut self, places: &Places, seat: &mut Seat<N>, plans: Vec<Plan>) -> Burst
-        requires places { places.now ≡ N.cells }
-        requires enough { N.limit ≤ length N.cells }
+        requires places { places.now ≡ N.slots }
+        requires enough { N.limit ≤ length N.slots.cells }
         ensures each { CommitsEach N.program result.taken (length self.old.live.session.journal) plans.items seat.old seat.new }
         ensures whole { (result.refusal ≡ None) ↔ (result.taken ≡ length plans.items) }
         ensures run { TakesEach seat.old.number result.taken plans.items result.refusal self.old.live.session self.new.live.session }
@@ -176,8 +177,8 @@ impl<N: Team> Desk<N> {
         seat: &mut Seat<N>,
         plan: Plan,
     ) -> Result<u32, Refused<CommitRefusal>>
-        requires places { places.now ≡ N.cells }
-        requires enough { N.limit ≤ length N.cells }
+        requires places { places.now ≡ N.slots }
+        requires enough { N.limit ≤ length N.slots.cells }
         ensures ok { IfOk result (Commits N.program plan seat.old seat.new) }
         ensures place { IfOk result (λ at. (at ≡ length self.old.live.session.journal) × (length self.new.live.session.journal ≡ at + 1)) }
         ensures err { OnErr result (seat.new ≡ seat.old) }
@@ -219,8 +220,8 @@ impl<N: Team> Desk<N> {
         seat: &mut Seat<N>,
         id: &StepId,
     ) -> Result<Vec<Removed>, Refused<RollRefusal>>
-        requires places { places.now ≡ N.cells }
-        requires enough { N.limit ≤ length N.cells }
+        requires places { places.now ≡ N.slots }
+        requires enough { N.limit ≤ length N.slots.cells }
         ensures ok { OnOk result (RollsBack id.now seat.old seat.new) }
         ensures err { OnErr result (seat.new ≡ seat.old) }
 
@@ -237,8 +238,8 @@ impl<N: Team> Desk<N> {
         seat: &mut Seat<N>,
         id: &StepId,
     ) -> Result<Vec<Removed>, Refused<RollRefusal>>
-        requires places { places.now ≡ N.cells }
-        requires enough { N.limit ≤ length N.cells }
+        requires places { places.now ≡ N.slots }
+        requires enough { N.limit ≤ length N.slots.cells }
         ensures ok { OnOk result (RollsBack id.now seat.old seat.new) }
         ensures err { OnErr result (seat.new ≡ seat.old) }
         ensures rolled { IfOk result (λ removed. RollsFor seat.old.number self.old.live.session id.now self.new.live.session removed.items) }
@@ -280,8 +281,8 @@ impl<N: Team> Desk<N> {
         seat: &mut Seat<N>,
         id: &StepId,
     ) -> Result<Removed, Refused<UndoRefusal>>
-        requires places { places.now ≡ N.cells }
-        requires enough { N.limit ≤ length N.cells }
+        requires places { places.now ≡ N.slots }
+        requires enough { N.limit ≤ length N.slots.cells }
         ensures ok { OnOk result (RollsBack id.now seat.old seat.new) }
         ensures err { OnErr result (seat.new ≡ seat.old) }
 
@@ -298,8 +299,8 @@ impl<N: Team> Desk<N> {
         seat: &mut Seat<N>,
         id: &StepId,
     ) -> Result<Removed, Refused<UndoRefusal>>
-        requires places { places.now ≡ N.cells }
-        requires enough { N.limit ≤ length N.cells }
+        requires places { places.now ≡ N.slots }
+        requires enough { N.limit ≤ length N.slots.cells }
         ensures ok { OnOk result (RollsBack id.now seat.old seat.new) }
         ensures err { OnErr result (seat.new ≡ seat.old) }
         ensures undone { IfOk result (UndoesFor seat.old.number self.old.live.session id.now self.new.live.session) }

@@ -1,6 +1,6 @@
 //! An entry is written to its place's cell, and its seat gets a receipt.
 
-ghost use Rattle.std.specs.Prelude.{◌≡◌, ◌<◌, ◌+◌, ◌++◌, [], ◌∷◌, slice_index, Some, length, map, IfOk, OnOk, OnErr};
+ghost use Rattle.std.specs.Prelude.{◌≡◌, ◌<◌, ◌≤◌, ◌+◌, ◌++◌, [], ◌∷◌, slice_index, Some, length, map, IfOk, OnOk, OnErr};
 ghost use Rattle.tb_journal.specs.Journals.{seat_of};
 ghost use Rattle.tb_work.specs.Receipts.{Grew};
 
@@ -30,10 +30,11 @@ pub fn write(
     place: u32,
     entry: Entry,
 ) -> Result<Note<Entry>, Unmade>
-    requires { place < length places.now }
-    ensures cell { IfOk result (λ n. n.cell ≡ slice_index places.now place) }
+    requires from { places.now.first ≤ place }
+    requires within { place < length places.now.cells }
+    ensures cell { IfOk result (λ n. n.cell ≡ slice_index places.now.cells place) }
     ensures entry { IfOk result (λ n. n.known ≡ Some entry) }
-    ensures cells { OnOk result (map (λ t. t.note.cell) told.new.items ≡ map (λ t. t.note.cell) told.old.items ++ slice_index places.now place ∷ []) }
+    ensures cells { OnOk result (map (λ t. t.note.cell) told.new.items ≡ map (λ t. t.note.cell) told.old.items ++ slice_index places.now.cells place ∷ []) }
     ensures known { OnOk result (map (λ t. t.note.known) told.new.items ≡ map (λ t. t.note.known) told.old.items ++ Some entry ∷ []) }
     ensures refused { OnErr result (told.new.items ≡ told.old.items) }
 {
@@ -61,10 +62,11 @@ fn tell(
     place: u32,
     entry: &Entry,
 ) -> Result<Note<Entry>, Unmade>
-    requires { place < length places.now }
-    ensures cell { IfOk result (λ n. n.cell ≡ slice_index places.now place) }
+    requires from { places.now.first ≤ place }
+    requires within { place < length places.now.cells }
+    ensures cell { IfOk result (λ n. n.cell ≡ slice_index places.now.cells place) }
     ensures entry { IfOk result (λ n. n.known ≡ Some entry.now) }
-    ensures cells { OnOk result (map (λ t. t.note.cell) told.new.items ≡ map (λ t. t.note.cell) told.old.items ++ slice_index places.now place ∷ []) }
+    ensures cells { OnOk result (map (λ t. t.note.cell) told.new.items ≡ map (λ t. t.note.cell) told.old.items ++ slice_index places.now.cells place ∷ []) }
     ensures known { OnOk result (map (λ t. t.note.known) told.new.items ≡ map (λ t. t.note.known) told.old.items ++ Some entry.now ∷ []) }
     ensures refused { OnErr result (told.new.items ≡ told.old.items) }
 {
@@ -82,12 +84,13 @@ pub fn enter<N: Team>(
     place: u32,
     entry: Entry,
 ) -> Result<(), Unmade>
-    requires cells { places.now ≡ N.cells }
-    requires place { place < length places.now }
+    requires cells { places.now ≡ N.slots }
+    requires from { places.now.first ≤ place }
+    requires within { place < length places.now.cells }
     requires own { seat_of entry ≡ seat.old.number }
     ensures grew { OnOk result (Grew seat.old seat.new place entry) }
     ensures total { OnOk result (book.new.total ≡ book.old.total + 1) }
-    ensures cells { OnOk result (map (λ t. t.note.cell) told.new.items ≡ map (λ t. t.note.cell) told.old.items ++ slice_index N.cells place ∷ []) }
+    ensures cells { OnOk result (map (λ t. t.note.cell) told.new.items ≡ map (λ t. t.note.cell) told.old.items ++ slice_index N.slots.cells place ∷ []) }
     ensures known { OnOk result (map (λ t. t.note.known) told.new.items ≡ map (λ t. t.note.known) told.old.items ++ Some entry ∷ []) }
     ensures refused { OnErr result ((seat.new ≡ seat.old) × (book.new.total ≡ book.old.total) × (told.new.items ≡ told.old.items)) }
 {

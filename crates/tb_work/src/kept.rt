@@ -1,6 +1,6 @@
 //! A receipt with what is known of its place's cell.
 
-ghost use Rattle.std.specs.Prelude.{◌≡◌, slice_index, Some};
+ghost use Rattle.std.specs.Prelude.{◌≡◌, ◌≤◌, slice_index, Some};
 
 use crate::receipt::Receipt;
 use crate::team::Team;
@@ -14,6 +14,7 @@ pub struct Kept<N: Team> {
     pub receipt: Receipt,
     pub note: Note<Entry>,
     pub team: PhantomData<N>,
-    pub ghost at: { note.cell ≡ slice_index N.cells receipt.place },
+    pub ghost from: { N.slots.first ≤ receipt.place },
+    pub ghost at: { note.cell ≡ slice_index N.slots.cells receipt.place },
     pub ghost known: { note.known ≡ Some receipt.entry },
 }

@@ -14,6 +14,6 @@ pub struct Shared<N: Team> {
     pub(crate) alloc: Global,
     pub(crate) places: Places,
     pub(crate) desk: Mutex<Desk<N>>,
-    pub(crate) ghost named: { places ≡ N.cells },
-    pub(crate) ghost enough: { N.limit ≤ length N.cells },
+    pub(crate) ghost named: { places ≡ N.slots },
+    pub(crate) ghost enough: { N.limit ≤ length N.slots.cells },
 }

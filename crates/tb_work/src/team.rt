@@ -3,17 +3,18 @@
 use std::marker::Brand;
 use std::sync::ledger::Ledger;
 
-/// Names one team: how many seats it has, the cells of its journal's places, and the program, the limit,
+/// Names one team: how many seats it has, its journal's slots that have a cell, with these cells, and the program, the limit,
 /// the breakpoints and the journal of the run that it was handed.
 pub trait Team: Ledger {
     ghost use Rattle.std.specs.Prelude.{ℕ, List};
     ghost use Rattle.tb_model.specs.declared.entry.Entry.{Entry};
     ghost use Rattle.tb_model.specs.Program.{Program};
     ghost use Rattle.tb_live.specs.Breaks.{Points};
+    ghost use Rattle.tb_work.specs.Slots.{Slots};
 
     ghost seats: { ℕ };
 
-    ghost cells: { List ℕ };
+    ghost slots: { Slots };
 
     ghost program: { Program };
 
@@ -30,7 +31,7 @@ impl Team for Brand {
 
     ghost seats = { 0 };
 
-    ghost cells = { [] };
+    ghost slots = { record { first = 1; cells = [] } };
 
     ghost program = { record { cells = []; lines = []; bodies = []; root_line = 0 } };
 

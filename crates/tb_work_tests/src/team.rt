@@ -101,11 +101,13 @@ fn play_named<N: Team + Send + Sync, R: Threads + Wait + Abort + AllocGlobal + S
 ) -> Option<Live>
     requires name { (blank.name ≡ N.name) × (blank.parts ≡ N.parts) }
     requires one_each { blank.parts ≡ N.seats }
-    requires places { (places ≡ N.cells) × (N.limit ≤ length places) }
+    requires places { (places ≡ N.slots) × (N.limit ≤ length places.cells) }
+    requires from { N.slots.first ≡ 1 }
     requires live { (live.session.program ≡ N.program) × (live.session.limit ≡ N.limit) × (live.session.control.breakpoints ≡ N.breakpoints) × (length live.session.control.claims ≡ N.seats) }
     requires begun { entries live.session ≡ N.begun }
     requires own { all_below N.seats (entries live.session) ≡ true }
 {
+    live.journal_is_sound();
     let (shared, mut seats) = match Shared::<N>::adopt(rt.alloc(), live, places, blank) {
         Ok(team) => team,
         Err((live, refusal)) => {
@@ -127,9 +129,10 @@ fn play_named<N: Team + Send + Sync, R: Threads + Wait + Abort + AllocGlobal + S
     None
 }
 
-/// One place for each entry that the run may have.
+/// A cell for each entry that the run may have.
 fn places_of(rt: &(impl Abort + AllocGlobal), limit: u32) -> Places
-    ensures { length result ≡ limit }
+    ensures first { result.first ≡ 1 }
+    ensures enough { limit ≤ length result.cells }
 {
     match Places::new(rt.alloc(), limit) {
         Ok(places) => places,

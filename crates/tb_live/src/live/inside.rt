@@ -28,11 +28,12 @@ impl Live {
         &self.journal
     }
 
-    /// What always holds, for a caller to cite: the journal is sound and within its limit, and the
-    /// history that it leaves, which is the core's, is legal for the program.
+    /// What always holds, for a caller to cite: the journal is sound, has begun and is within its limit,
+    /// and the history that it leaves, which is the core's, is legal for the program.
     pub fn journal_is_sound(&self)
         ensures sound { Sound self.now.session.program self.now.session.journal }
         ensures legal { LegalFor self.now.session.program (history self.now.session) }
+        ensures begun { 1 ≤ length self.now.session.journal }
         ensures within { length self.now.session.journal ≤ self.now.session.limit }
         ensures bound { self.now.session.limit ≤ 1000000 }
     {

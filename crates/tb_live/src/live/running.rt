@@ -1,12 +1,14 @@
 //! A list of moves, one after another.
 
-ghost use Rattle.std.specs.Prelude.{◌≡◌, IfOk, OnErr};
+ghost use Rattle.std.specs.Prelude.{◌≡◌, ◌≤◌, IfOk, OnErr, length};
 ghost use Rattle.tb_live.specs.Runs.{Answers, Makes, Runs, StepsAt, unclaimed};
+ghost use Rattle.tb_live.specs.Session.{with_limit};
 
 use super::Live;
 use crate::answer::Answer;
 use crate::commit_refusal::CommitRefusal;
 use crate::moves::Move;
+use crate::prepared::forget;
 use std::alloc::AllocError;
 use tb_model::TaskName;
 
@@ -31,6 +33,18 @@ impl Live {
         ensures { self.new.session ≡ unclaimed self.old.session }
     {
         self.control.claims.withdraw_all();
+    }
+
+    /// Sets how many entries the journal may have: at least as many as it has. What is prepared is
+    /// forgotten.
+    pub fn set_limit(&mut self, limit: u32)
+        requires within { length self.old.session.journal ≤ limit }
+        requires bound { limit ≤ 1000000 }
+        ensures { self.new.session ≡ with_limit limit self.old.session }
+    {
+        forget(&mut self.prepared);
+        self.core.set_limit(limit);
+        self.limit = limit;
     }
 
     /// Makes a move, behind a resume.

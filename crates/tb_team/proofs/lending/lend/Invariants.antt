@@ -6,7 +6,7 @@ use Rattle.tb_team.proofs.lending.lend.Given as goal
 abbrev pub ghosts-lend_as-N-Team : goal.ghosts-lend_as-N-Team
 ghosts-lend_as-N-Team g a = record {
   seats = length a.live.session.control.claims;
-  cells = a.places;
+  slots = a.places;
   program = a.live.session.program;
   limit = a.live.session.limit;
   breakpoints = a.live.session.control.breakpoints;

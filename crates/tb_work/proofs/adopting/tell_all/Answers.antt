@@ -1,6 +1,6 @@
-use Rattle.std.proofs.Common.{rules, ◌<◌, [], ◌∷◌, ◌++◌, Some, map, length, slice_index, arith, ap, ◌∙◌}
+use Rattle.std.proofs.Common.{rules, ◌≡◌, ◌<◌, ◌≤◌, [], ◌∷◌, ◌++◌, Some, map, length, slice_index, arith, ap, sym, ◌∙◌}
 use Rattle.tb_work.proofs.Seats.{below_at}
-use Rattle.tb_work.proofs.Telling.{told_more, cells_more}
+use Rattle.tb_work.proofs.Telling.{none_told, told_more, cells_more}
 use Rattle.tb_work.proofs.adopting.tell_all.Goals as goal
 
 pub give-requires-clause-seat : goal.give-requires-clause-seat
@@ -11,28 +11,34 @@ give-requires-clause-seat g c =
 
 pub loop-place-init : goal.loop-place-init
 loop-place-init g c =
-    let es = c.args.journal.now.items in (
+    let f = g.N.Team.slots.first in
+    let at : c.first-first.result ≡ f = c.first-first.ensures.first ∙ ap (λ p. p.first) c.requires.cells in
+    let none = ap (map (λ t. t.note.cell)) c.new-told.ensures.items in (
+      omega (arith, at),
+      none ∙ sym (none_told f c.first-first.result g.N.Team.slots.cells (omega (arith, at))),
+      ap (map (λ t. t.note.known)) c.new-told.ensures.items ∙ ap (map (λ e. Some e)) (sym (none_told f c.first-first.result c.args.journal.now.items (omega (arith, at)))),
+      omega (arith, at, c.requires.total),
       search rules,
-      c.in_ok-write.ensures.known ∙ ap (λ ts. map (λ t. t.note.known) ts ++ Some c.in_ok-opening.opening ∷ []) c.new-told.ensures.items ∙ told_more es 0 c.in_ok-opening.opening c.requires.begun c.in_ok-opening.ensures,
       search rules,
-      search rules,
-      search rules,
-      search rules,
-      search rules,
+      (λ i d lt. omega (arith, at, c.requires.some, c.requires.above i d lt)),
+      omega (arith, at, c.requires.none),
     )
 
 pub loop-place-preserved : goal.loop-place-preserved
 loop-place-preserved g c =
     let es = c.args.journal.now.items in
+    let f = g.N.Team.slots.first in
     let place = c.loop-place.place in
-    let cells = g.N.Team.cells in
+    let cells = g.N.Team.slots.cells in
+    let i = c.loop-place.invariant in
     let lt : place < length es = search rules in
-    let within : place < length cells = omega (arith, lt, c.requires.enough, ap length c.requires.cells) in (
-      c.in_ok-give.ensures.cells ∙ ap (λ l. l ++ slice_index cells place ∷ []) c.loop-place.invariant.0 ∙ cells_more cells place within,
-      c.in_ok-give.ensures.known ∙ ap (λ l. l ++ Some c.in_ok-entry.entry ∷ []) c.loop-place.invariant.1 ∙ told_more es place c.in_ok-entry.entry lt c.in_ok-entry.ensures,
+    let within : place < length cells = omega (arith, lt, c.requires.enough) in (
+      omega (arith, i.0),
+      c.in_ok-give.ensures.cells ∙ ap (λ l. l ++ slice_index cells place ∷ []) i.1 ∙ cells_more f cells place i.0 within,
+      c.in_ok-give.ensures.known ∙ ap (λ l. l ++ Some c.in_ok-entry.entry ∷ []) i.2 ∙ told_more f es place c.in_ok-entry.entry i.0 lt c.in_ok-entry.ensures,
+      omega (arith, c.in_ok-give.ensures.total, i.3),
       search rules,
       search rules,
       search rules,
-      search rules,
-      search rules,
+      omega (arith, c.in_ok-give.ensures.receipts, i.7),
     )

@@ -1,4 +1,4 @@
-use Rattle.std.proofs.Common.{◌≡◌, [], ◌∷◌, ◌++◌, length, map, ap, ◌∙◌, arith, append_assoc, length-append}
+use Rattle.std.proofs.Common.{◌≡◌, ◌≤◌, [], ◌∷◌, ◌++◌, length, map, ap, ◌∙◌, arith, append_assoc, length-append}
 use Rattle.std.proofs.lemmas.List.{map-append}
 use Rattle.std.specs.Vec.Iter.{into_iter_items}
 use Rattle.tb_work.specs.declared.kept.Kept.{Kept}
@@ -29,5 +29,6 @@ loop-one-preserved g c =
       omega (arith, e.len, i.4, length-append at.yielded (x ∷ [])),
       e.capacity ∙ i.5,
       rw more (all_append (Stands c.args.journal.now.items) had (r ∷ []) i.6 (all_one (Stands c.args.journal.now.items) r e.stands)),
-      rw more (gap_append n had (r ∷ []) c.args.gap.now at.gap c.take_in.new.gap i.7 e.gap),
+      rw more (all_append (λ x. g.N.Team.slots.first ≤ x.place) had (r ∷ []) i.7 (all_one (λ x. g.N.Team.slots.first ≤ x.place) r e.at)),
+      rw more (gap_append n had (r ∷ []) c.args.gap.now at.gap c.take_in.new.gap i.8 e.gap),
     )

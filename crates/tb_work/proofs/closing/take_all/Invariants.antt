@@ -1,4 +1,4 @@
-use Rattle.std.proofs.Common.{◌≡◌, ◌+◌, ◌++◌, length, map, All, Some, vec_len, vec_capacity}
+use Rattle.std.proofs.Common.{◌≡◌, ◌≤◌, ◌+◌, ◌++◌, length, map, All, Some, vec_len, vec_capacity}
 use Rattle.std.specs.Option.{MatchOption}
 use Rattle.std.specs.Vec.Iter.{into_iter_items, into_iter_len}
 use Rattle.tb_work.specs.Receipts.{first_gap, Stands}
@@ -14,4 +14,5 @@ invariant-loop-one g l =
     × (vec_len l.receipts ≡ vec_len l.initial.receipts + length l.yielded)
     × (vec_capacity l.receipts ≡ vec_capacity l.initial.receipts)
     × All (Stands l.journal.items) (map (λ k. k.receipt) l.yielded)
+    × All (λ r. g.N.Team.slots.first ≤ r.place) (map (λ k. k.receipt) l.yielded)
     × MatchOption l.initial.gap (l.gap ≡ first_gap (length l.journal.items) (map (λ k. k.receipt) l.yielded)) (λ n. l.gap ≡ Some n)

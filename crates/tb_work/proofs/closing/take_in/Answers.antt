@@ -1,5 +1,5 @@
-use Rattle.std.proofs.Common.{get_or, slice_get, arith, ap, ◌∙◌}
-use Rattle.tb_work.proofs.Standing.{told_at}
+use Rattle.std.proofs.Common.{◌≡◌, ◌+◌, get_or, slice_get, length, arith, ap, ◌∙◌}
+use Rattle.tb_work.proofs.Slotted.{known_told}
 use Rattle.tb_work.proofs.closing.take_in.Goals as goal
 use Rattle.tb_work.proofs.closing.take_in.Goals.{then-place-len, else-place-len}
 
@@ -10,7 +10,7 @@ returns-clause-stands g c lt =
     elim c.if-place-len.branch [
       | then-place-len w ↦
           w.compare.ensures.agrees (get_or journal receipt.place receipt.entry) receipt.entry
-          (ap (λ l. slice_get l receipt.place) c.requires.known ∙ told_at journal receipt.place receipt.entry lt)
+          (ap (λ l. slice_get l receipt.place) c.requires.known ∙ known_told journal g.N.Team.slots.first receipt.place receipt.place receipt.entry (omega arith) lt)
           c.args.kept.known
       | else-place-len w ↦ absurd (omega arith)
     ]

@@ -4,7 +4,7 @@ use Rattle.tb_work_tests.proofs.team.attempt.Given as goal
 abbrev pub ghosts-play_named-N-Team : goal.ghosts-play_named-N-Team
 ghosts-play_named-N-Team g a = record {
   seats = a.blank.parts;
-  cells = a.places;
+  slots = a.places;
   program = a.live.session.program;
   limit = a.live.session.limit;
   breakpoints = a.live.session.control.breakpoints;

@@ -15,7 +15,7 @@ invariant_of-self-2 g c =
     let e = c.in-Ok-enter.ensures in
     let prepared = c.in-Ok.ensures.prepared in
     let s = with_entry c.prepare.new.self.session c.in-Ok.entry in
-    let a = agrees_more g.N.Team.program g.N.Team.limit g.N.Team.breakpoints g.N.Team.seats g.N.Team.cells g.N.Team.begun d.live.session c.prepare.new.self.session s c.in-Ok.entry
+    let a = agrees_more g.N.Team.program g.N.Team.limit g.N.Team.breakpoints g.N.Team.seats g.N.Team.slots g.N.Team.begun d.live.session c.prepare.new.self.session s c.in-Ok.entry
     d.book.total c.enter.new.book.total _ _ _ _ c.next_place-place.result
     (record { program = d.program; limited = d.limit; breakpoints = d.breakpoints; seated = d.seats; begins = d.begins; counted = d.counted; named = d.cells; noted = d.known })
     c.in-Ok.ensures.session refl (search rules) (search rules) e.total (search rules) (search rules) in
@@ -23,7 +23,7 @@ invariant_of-self-2 g c =
     let claims : c.take_more.new.live.session ≡ with_seat s c.number-2.result (Some c.args.plan.config.task) =
     c.take_more.ensures.session ∙ ap (λ (n : ℕ). with_seat (with_entry c.prepare.new.self.session (entry_to_come n c.prepare.new.self.session c.args.plan)) c.number-2.result (Some c.args.plan.config.task)) same
     ∙ ap (λ (x : Entry). with_seat (with_entry c.prepare.new.self.session x) c.number-2.result (Some c.args.plan.config.task)) (sym prepared.entry) in
-    let k = agrees_claimed g.N.Team.program g.N.Team.limit g.N.Team.breakpoints g.N.Team.seats g.N.Team.cells g.N.Team.begun s c.take_more.new.live.session _ _ _ _ _ a claims in
+    let k = agrees_claimed g.N.Team.program g.N.Team.limit g.N.Team.breakpoints g.N.Team.seats g.N.Team.slots g.N.Team.begun s c.take_more.new.live.session _ _ _ _ _ a claims in
     record {
       program = k.program;
       limit = k.limited;
@@ -32,6 +32,7 @@ invariant_of-self-2 g c =
       begins = k.begins;
       none_spare = d.none_spare;
       room_for_all = (d.room_for_all.0, search rules, d.room_for_all.2);
+      some = d.some;
       counted = k.counted;
       cells = k.named;
       known = k.noted;

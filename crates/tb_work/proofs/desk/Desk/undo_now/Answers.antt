@@ -11,7 +11,7 @@ invariant_of-self-2 g c =
     let d = c.args.self.now in
     let e = c.in-Ok-enter.ensures in
     let prepared = c.in-Ok.ensures.prepared in
-    let a = agrees_more g.N.Team.program g.N.Team.limit g.N.Team.breakpoints g.N.Team.seats g.N.Team.cells g.N.Team.begun d.live.session c.ready_undo.new.live.session c.take_back.new.live.session c.in-Ok.entry
+    let a = agrees_more g.N.Team.program g.N.Team.limit g.N.Team.breakpoints g.N.Team.seats g.N.Team.slots g.N.Team.begun d.live.session c.ready_undo.new.live.session c.take_back.new.live.session c.in-Ok.entry
     d.book.total c.enter.new.book.total _ _ _ _ c.next_place-place.result
     (record { program = d.program; limited = d.limit; breakpoints = d.breakpoints; seated = d.seats; begins = d.begins; counted = d.counted; named = d.cells; noted = d.known })
     c.in-Ok.ensures.session (search rules) (search rules) (search rules) e.total (search rules) (search rules) in
@@ -23,6 +23,7 @@ invariant_of-self-2 g c =
       begins = a.begins;
       none_spare = d.none_spare;
       room_for_all = (d.room_for_all.0, search rules, d.room_for_all.2);
+      some = d.some;
       counted = a.counted;
       cells = a.named;
       known = a.noted;

@@ -8,7 +8,7 @@ invariant_of-new g c =
     let told = c.in-Ok-tell_run.ensures in
     let live = c.requires.live in
     let room = c.in-Ok.ensures in
-    let within : length c.args.live.session.journal ≤ c.args.live.session.limit = c.has_begun.ensures.within in
+    let within : length c.args.live.session.journal ≤ c.args.live.session.limit = c.is_within.ensures.within in
     record {
       program = live.0;
       limit = live.1;
@@ -17,6 +17,7 @@ invariant_of-new g c =
       begins = all_begun (entries c.args.live.session) g.N.Team.begun c.requires.begun;
       none_spare = search rules;
       room_for_all = (room.none, omega (arith, within, room.room, c.limit.ensures), omega (arith, live.1, room.room, c.limit.ensures));
+      some = search rules;
       counted = told.total;
       cells = told.cells;
       known = told.known;
