@@ -61,16 +61,17 @@ fn a_read_that_fails(rt: HostRuntime) {
 #[test]
 fn a_write_that_fails(rt: HostRuntime) {
     for room in 0..REPORT.len() {
-        let (want, _) = REPORT.split_at(room);
+        let mut source = in_pieces(100, 0);
+        let mut sink = Taken {
+            bytes: Vec::new(rt.alloc()),
+            room,
+            failed: 0,
+        };
+        let judged = judge(&rt, rt.alloc(), &mut source, &mut sink);
+        assert!(rt; judged == Err(Halt::Write), "{room}");
+        assert!(rt; sink.bytes.len() == room, "{room}");
         assert!(rt;
-            is_judged(
-                &rt,
-                rt.alloc(),
-                in_pieces(100, 0),
-                room,
-                want,
-                Err(Halt::Write)
-            ),
+            REPORT.as_bytes().starts_with(sink.bytes.as_slice()),
             "{room}"
         );
     }

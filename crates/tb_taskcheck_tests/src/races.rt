@@ -1,66 +1,13 @@
 //! The races that a report tells. The reports are those of the definitions, worked out apart.
 
 use crate::fakes::{FailsAt, is_judged};
-use std::alloc::Global;
+use std::alloc::{AllocError, Global};
 use std::sync::Wait;
+use std::test::Fail;
 use tb_taskcheck::Outcome;
 
-/// Two children store to one cell, and nothing orders them.
-const RACE: &[u8] = b"\
-    cells 2\n\
-    0 start\n\
-    0 spawn 0.1 t\n\
-    0 spawn 0.2 t\n\
-    0.1 start\n\
-    0.1 store 0 1\n\
-    0.1 end\n\
-    0.2 start\n\
-    0.2 store 0 2\n\
-    0.2 end\n\
-    0 end\n";
-
-/// `mutexinoutset` keeps the two from being under way at once.
-const EXCLUDED: &[u8] = b"\
-    cells 2\n\
-    0 start\n\
-    0 spawn 0.1 t depend mutexinoutset 0\n\
-    0 spawn 0.2 t depend mutexinoutset 0\n\
-    0.1 start\n\
-    0.1 store 0 1\n\
-    0.1 end\n\
-    0.2 start\n\
-    0.2 store 0 2\n\
-    0.2 end\n\
-    0 end\n";
-
-/// A dependence puts the one in front of the other.
-const ORDERED: &[u8] = b"\
-    cells 2\n\
-    0 start\n\
-    0 spawn 0.1 t depend out 0\n\
-    0 spawn 0.2 t depend in 0\n\
-    0.1 start\n\
-    0.1 store 0 1\n\
-    0.1 end\n\
-    0.2 start\n\
-    0.2 store 0 2\n\
-    0.2 end\n\
-    0 end\n";
-
-/// Two stores that exclusion keeps apart, and then a load that nothing orders with them.
-const EXCLUDED_FIRST: &[u8] = b"\
-    cells 2\n\
-    0 start\n\
-    0 spawn 0.1 t depend mutexinoutset 0\n\
-    0 spawn 0.2 t depend mutexinoutset 0\n\
-    0.1 start\n\
-    0.1 store 0 1\n\
-    0.1 end\n\
-    0.2 start\n\
-    0.2 store 0 2\n\
-    0.2 end\n\
-    0 load r0 0 2\n\
-    0 end\n";
+/// The clause of tasks that aren't under way at once.
+const EXCLUDED: &str = " depend mutexinoutset 0";
 
 /// A store and a load that nothing orders, and then two stores that exclusion keeps apart.
 const EXCLUDED_LAST: &[u8] = b"\
@@ -77,6 +24,13 @@ const EXCLUDED_LAST: &[u8] = b"\
     0.2 store 0 2\n\
     0.2 end\n\
     0 end\n";
+
+/// Two children store to one cell, spawned with these clauses. The root's end is left out.
+fn two_stores(alloc: Global, first: &str, second: &str) -> Result<String, AllocError> {
+    format!(in alloc;
+        "cells 2\n0 start\n0 spawn 0.1 t{first}\n0 spawn 0.2 t{second}\n0.1 start\n0.1 store 0 1\n0.1 end\n0.2 start\n0.2 store 0 2\n0.2 end\n"
+    )
+}
 
 /// Whether the report of the text is this one, and says this.
 fn is_reported<R: Wait>(
@@ -96,46 +50,54 @@ fn is_reported<R: Wait>(
     is_judged(rt, alloc, source, 1000, report, Ok(outcome))
 }
 
-/// The text without its last line, at which the root ends.
-fn unended(text: &[u8]) -> &[u8] {
-    let (front, _last) = text.split_at(text.len().saturating_sub("0 end\n".len()));
-    front
-}
-
 /// A race is told before it is that a task hasn't ended.
 #[test]
-fn a_race(rt: HostRuntime) {
+fn a_race(rt: HostRuntime) -> Result<(), Fail> {
     let alloc = rt.alloc();
-    let report = "legal 10\nunended 0\nraces 1\n0.1#2 0.2#2 cell 0\n";
-    assert!(rt; is_reported(&rt, alloc, RACE, report, Outcome::Racing));
+    let mut text = two_stores(alloc, "", "")?;
     let report = "legal 9\nunended 1\n0\nraces 1\n0.1#2 0.2#2 cell 0\n";
-    assert!(rt; is_reported(&rt, alloc, unended(RACE), report, Outcome::Racing));
+    assert!(rt; is_reported(&rt, alloc, text.as_bytes(), report, Outcome::Racing));
+    text.push_str("0 end\n")?;
+    let report = "legal 10\nunended 0\nraces 1\n0.1#2 0.2#2 cell 0\n";
+    assert!(rt; is_reported(&rt, alloc, text.as_bytes(), report, Outcome::Racing));
+    Ok(())
 }
 
+/// Two tasks that exclude each other race apart.
 #[test]
-fn a_race_under_exclusion(rt: HostRuntime) {
+fn a_race_under_exclusion(rt: HostRuntime) -> Result<(), Fail> {
     let alloc = rt.alloc();
-    let report = "legal 10\nunended 0\nraces 1\n0.1#2 0.2#2 cell 0 apart\n";
-    assert!(rt; is_reported(&rt, alloc, EXCLUDED, report, Outcome::Over));
+    let mut text = two_stores(alloc, EXCLUDED, EXCLUDED)?;
     let report = "legal 9\nunended 1\n0\nraces 1\n0.1#2 0.2#2 cell 0 apart\n";
-    assert!(rt; is_reported(&rt, alloc, unended(EXCLUDED), report, Outcome::Unended));
+    assert!(rt; is_reported(&rt, alloc, text.as_bytes(), report, Outcome::Unended));
+    text.push_str("0 end\n")?;
+    let report = "legal 10\nunended 0\nraces 1\n0.1#2 0.2#2 cell 0 apart\n";
+    assert!(rt; is_reported(&rt, alloc, text.as_bytes(), report, Outcome::Over));
+    Ok(())
 }
 
+/// A dependence puts the one in front of the other.
 #[test]
-fn no_race(rt: HostRuntime) {
+fn no_race(rt: HostRuntime) -> Result<(), Fail> {
     let alloc = rt.alloc();
-    let report = "legal 10\nunended 0\nraces 0\n";
-    assert!(rt; is_reported(&rt, alloc, ORDERED, report, Outcome::Over));
+    let mut text = two_stores(alloc, " depend out 0", " depend in 0")?;
     let report = "legal 9\nunended 1\n0\nraces 0\n";
-    assert!(rt; is_reported(&rt, alloc, unended(ORDERED), report, Outcome::Unended));
+    assert!(rt; is_reported(&rt, alloc, text.as_bytes(), report, Outcome::Unended));
+    text.push_str("0 end\n")?;
+    let report = "legal 10\nunended 0\nraces 0\n";
+    assert!(rt; is_reported(&rt, alloc, text.as_bytes(), report, Outcome::Over));
+    Ok(())
 }
 
 /// Of two races the one that exclusion doesn't keep apart decides, whichever comes first.
 #[test]
-fn two_races(rt: HostRuntime) {
+fn two_races(rt: HostRuntime) -> Result<(), Fail> {
     let alloc = rt.alloc();
+    let mut text = two_stores(alloc, EXCLUDED, EXCLUDED)?;
+    text.push_str("0 load r0 0 2\n0 end\n")?;
     let report = "legal 11\nunended 0\nraces 2\n0.1#2 0.2#2 cell 0 apart\n0.2#2 0#4 cell 0\n";
-    assert!(rt; is_reported(&rt, alloc, EXCLUDED_FIRST, report, Outcome::Racing));
+    assert!(rt; is_reported(&rt, alloc, text.as_bytes(), report, Outcome::Racing));
     let report = "legal 12\nunended 0\nraces 2\n0#4 0.1#2 cell 1\n0.1#3 0.2#2 cell 0 apart\n";
     assert!(rt; is_reported(&rt, alloc, EXCLUDED_LAST, report, Outcome::Racing));
+    Ok(())
 }
