@@ -1,5 +1,7 @@
 pub mod NameLemmas
+pub mod ParsedLemmas
 pub mod WordsLemmas
+pub mod TextLemmas
 pub mod OrdinalLemmas
 pub mod ListedLemmas
 pub mod RangeLemmas

@@ -101,10 +101,10 @@ without_hash word at e within =
 
 -- ---- dots
 
-abbrev tick : ℕ → ℕ
+abbrev pub tick : ℕ → ℕ
 tick b = cond (is_dot b) 1 0
 
-with_first : (b : ℕ) (bytes : List ℕ) → count_by is_dot (b ∷ bytes) ≡ tick b + count_by is_dot bytes
+pub with_first : (b : ℕ) (bytes : List ℕ) → count_by is_dot (b ∷ bytes) ≡ tick b + count_by is_dot bytes
 with_first b bytes = sum_by-cons tick b bytes
 
 dots_by : (b : ℕ) (bytes : List ℕ) (dot : Bool) → is_dot b ≡ dot → count_by is_dot (drop (position_or_len is_dot bytes) bytes) ≡ count_by is_dot bytes →

@@ -109,7 +109,7 @@ fn take_spawn(alloc: Global, words: &mut Words<'_>, cells: u32) -> Result<Action
 }
 
 /// What the words after the verb say.
-fn take_behind(
+fn behind_verb(
     alloc: Global,
     words: &mut Words<'_>,
     cells: u32,
@@ -142,5 +142,5 @@ pub fn take_action(alloc: Global, words: &mut Words<'_>, cells: u32) -> Result<A
     ensures memory { result ≡ Err Memory → IsTrue (action_takes words.old) }
 {
     let verb = take_verb(words)?;
-    take_behind(alloc, words, cells, verb)
+    behind_verb(alloc, words, cells, verb)
 }

@@ -9,6 +9,7 @@ mod line;
 mod name;
 mod said;
 mod taking;
+mod text;
 mod verb;
 mod words;
 

@@ -12,11 +12,11 @@ use crate::action::take_action;
 use crate::fault::{Fault, Unread};
 use crate::said::{Said, Stage};
 use crate::taking::{take_cell, take_end, take_id, take_if, take_number};
+use crate::text::is_text_line;
 use crate::words::Words;
 use indexmap::IndexMap;
 use std::alloc::Global;
 use tb_model::Event;
-use tb_read::{before_comment, is_text};
 
 /// The most bytes of a line, without its line feed.
 const LONGEST: usize = 65_535;
@@ -189,7 +189,7 @@ pub fn read_line(
     if is_long(line) {
         return Err(Unread::Faulty(Fault::TooLarge));
     }
-    if !is_text(before_comment(line)) {
+    if !is_text_line(line) {
         return Err(Unread::Faulty(Fault::NotText));
     }
     let mut words = Words::of(line);
@@ -209,7 +209,7 @@ pub fn read_event(alloc: Global, cells: u32, line: &[u8]) -> Result<Option<Said>
     if is_long(line) {
         return Err(Unread::Faulty(Fault::TooLarge));
     }
-    if !is_text(before_comment(line)) {
+    if !is_text_line(line) {
         return Err(Unread::Faulty(Fault::NotText));
     }
     let mut words = Words::of(line);

@@ -8,11 +8,15 @@ ghost use Rattle.tb_runs.specs.Names.{ordinal_of, last_child, last_step, task_of
 
 use crate::words::{behind, from};
 use std::alloc::{AllocError, Global};
-use tb_model::TaskName;
+use tb_model::{NameRefusal, TaskName};
 use tb_read::word::magnitude;
 
 /// The greatest number of a child.
 const LAST_CHILD: u64 = 4_294_967_295;
+
+/// The most bytes of a word that is read level by level. The time for a longer one would go by the
+/// square of its levels.
+const SHORT: usize = 64;
 
 /// The greatest number of a step.
 const LAST_STEP: u64 = 9_999_999_999;
@@ -59,9 +63,9 @@ fn level_len(bytes: &[u8]) -> usize
     bytes.iter().take_while(|b| **b != b'.').count()
 }
 
-/// The task that the word names. Memory is wanted at most for a name of more than three numbers.
+/// The task that the word names, read level by level: each takes a copy of those in front.
 #[tactic(auto, using(crate::proofs::NameLemmas::level_led, crate::proofs::NameLemmas::level_lost, crate::proofs::NameLemmas::undotted))]
-pub fn read_task(alloc: Global, word: &[u8]) -> Result<Option<TaskName>, AllocError>
+fn read_levels(alloc: Global, word: &[u8]) -> Result<Option<TaskName>, AllocError>
     ensures ok { IfOk result (λ task. task ≡ task_of word.now) }
     ensures memory { OnErr result (IsTrue (is_long word.now)) }
 {
@@ -83,6 +87,22 @@ pub fn read_task(alloc: Global, word: &[u8]) -> Result<Option<TaskName>, AllocEr
         left = from(digits, at);
     }
     Ok(Some(name))
+}
+
+/// The task that the word names. Memory is wanted at most for a name of more than three numbers.
+pub fn read_task(alloc: Global, word: &[u8]) -> Result<Option<TaskName>, AllocError>
+    ensures ok { IfOk result (λ task. task ≡ task_of word.now) }
+    ensures memory { OnErr result (IsTrue (is_long word.now)) }
+{
+    if word.len() <= SHORT {
+        return read_levels(alloc, word);
+    }
+    match TaskName::parse(alloc, word) {
+        Ok(name) => Ok(Some(name)),
+        Err(NameRefusal::Memory) => Err(AllocError),
+        // A number may be above 1,000,000.
+        Err(NameRefusal::BadName) => read_levels(alloc, word),
+    }
 }
 
 /// How many bytes come before the first `#`.

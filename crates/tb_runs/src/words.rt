@@ -23,7 +23,7 @@ impl<'a> Model for Words<'a> {
 }
 
 #[inline(always)]
-fn is_blank(b: u8) -> bool
+pub fn is_blank(b: u8) -> bool
     ensures { result ≡ is_blank b }
 {
     b == b' ' || b == b'\t' || b == b'\r'

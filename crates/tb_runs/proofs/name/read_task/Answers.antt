@@ -1,11 +1,8 @@
-use Rattle.std.proofs.Common.{length, sym, ◌∙◌, arith}
-use Rattle.tb_runs.proofs.NameLemmas.{level_dots, level_led}
+use Rattle.tb_runs.proofs.ParsedLemmas.{parsed, long_spelled}
 use Rattle.tb_runs.proofs.name.read_task.Goals as goal
 
-pub loop-left-preserved : goal.loop-left-preserved
-loop-left-preserved c = record {
-  led = rw (c.in_ok-name.ensures.child, c.from-left.ensures)
-      (level_led c.loop-left.name c.loop-left.left.now c.behind-digits.result.now c.level_len-at.result c.in-Some.n _ (omega arith) (omega arith) c.behind-digits.ensures c.level_len-at.ensures.len (sym c.child_number.ensures.number ∙ c.in-Some.is) c.loop-left.invariant.led);
-  dots = rw (c.in_ok-name.ensures.child, c.from-left.ensures)
-      (level_dots c.loop-left.left.now c.behind-digits.result.now c.level_len-at.result (length c.loop-left.name) _ (omega arith) (omega arith) c.behind-digits.ensures c.level_len-at.ensures.len c.loop-left.invariant.dots);
-}
+pub returns-in-Ok-clause-ok : goal.returns-in-Ok-clause-ok
+returns-in-Ok-clause-ok c = parsed c.args.word.now c.in-Ok.name (λ unspelled. let clash = c.in-Ok.ensures.bad.1 unspelled in cc) c.in-Ok.ensures.name
+
+pub returns-in-Err-Memory-clause-memory : goal.returns-in-Err-Memory-clause-memory
+returns-in-Err-Memory-clause-memory c = long_spelled c.args.word.now (c.in-Err-Memory.ensures.memory (let is = c.in-Err-Memory.field-0-is in cc))

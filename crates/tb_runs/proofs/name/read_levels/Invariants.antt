@@ -2,7 +2,7 @@ use Rattle.std.proofs.Common.{◌≡◌, ◌+◌, ◌≤◌, count_by, length}
 use Rattle.tb_model.specs.Spelling.{is_dot}
 use Rattle.tb_runs.specs.Names.{task_of}
 use Rattle.tb_runs.proofs.NameLemmas.{led_by}
-use Rattle.tb_runs.proofs.name.read_task.Given as goal
+use Rattle.tb_runs.proofs.name.read_levels.Given as goal
 
 -- what is left leads on from the name so far, which has a number for each dot in front
 abbrev pub invariant-loop-left : goal.invariant-loop-left
