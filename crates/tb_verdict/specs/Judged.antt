@@ -34,7 +34,7 @@ pub record IsSame (old new : RunState) : Type 0 where
   pub values : AreSameValues old.values.entries new.values.entries
 
 -- this is kept of a history with one event more
-pub record IsBehind (first : Cells) (root_line : ℕ) (D : List Departure) (v : Event) (s : RunState) : Type 0 where
+pub record HasTaken (first : Cells) (root_line : ℕ) (D : List Departure) (v : Event) (s : RunState) : Type 0 where
   pub legal : Legal first (v ∷ events_of D)
   pub cells : s.cells ≡ length first
   pub state : IsTaskState root_line (record { event = v; to = 0 } ∷ D) s.tables
@@ -44,5 +44,5 @@ pub record IsBehind (first : Cells) (root_line : ℕ) (D : List Departure) (v : 
 abbrev pub Takes : Option ℕ → Event → RunState → RunState → Option Refusal → Type 0
 Takes k v old new None =
     (first : Cells) (root_line : ℕ) (D : List Departure) → IsRun first root_line D old
-    → (refusal_of first (events_of D) k v ≡ None) × IsBehind first root_line D v new
+    → (refusal_of first (events_of D) k v ≡ None) × HasTaken first root_line D v new
 Takes k v old new (Some r) = (new ≡ old) × ForRun old (λ first H. refusal_of first H k v ≡ Some r)

@@ -1,10 +1,9 @@
 -- The last values of the cells, where only those are kept that were given one.
-use Rattle.std.specs.Prelude.{◌≡◌, ◌<◌, ℕ, ℤ, List, Option, length, nat_eq, unwrap_or, ⊤}
+use Rattle.std.specs.Prelude.{◌≡◌, ◌<◌, ℕ, ℤ, List, length, nat_eq, unwrap_or, ⊤}
 use Rattle.std.specs.Map.{lookup}
-use Rattle.indexmap.specs.IndexMap.{insert_entry}
 use Rattle.tb_model.specs.declared.action.Action.{Action}
 use Rattle.tb_model.specs.declared.action.Action.TheVariants.{Store}
-use Rattle.tb_model.specs.Facts.{History, last}
+use Rattle.tb_model.specs.Facts.{History, last, stored_or}
 use Rattle.tb_model.specs.Legal.{Cells, first_number}
 use Rattle.tb_model.specs.Program.{zero_ℤ}
 
@@ -20,10 +19,9 @@ AreValues first H values = (c : ℕ) → c < length first → value_in values c 
 abbrev pub AreSameValues : List (ℕ × ℤ) → List (ℕ × ℤ) → Type 0
 AreSameValues old new = (c : ℕ) → value_in new c ≡ value_in old c
 
--- the values after the action
-abbrev pub values_by : Action → List (ℕ × ℤ) → List (ℕ × ℤ)
-values_by (Store c x) values = insert_entry nat_eq values c x
-values_by _ values = values
+-- each cell has what the action stored there, or what it had
+abbrev pub Stores : Action → List (ℕ × ℤ) → List (ℕ × ℤ) → Type 0
+Stores a old new = (c : ℕ) → value_in new c ≡ stored_or c a (value_in old c)
 
 -- the action's value takes no memory
 abbrev pub HasRoomFor : Action → ℕ → Type 0

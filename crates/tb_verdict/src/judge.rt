@@ -247,7 +247,24 @@ impl Judge {
     /// memory is wanted.
     pub fn take_line(&mut self, alloc: Global, line: &[u8]) -> Result<LineVerdict, AllocError>
         requires { (s : Sofar) × IsBehind self.old s }
-        ensures ok { IfOk result (λ v. (s : Sofar) → IsBehind self.old s → Judges s line.now self.new v) }
+        ensures ok { IfOk result (λ v. (s : Sofar) → IsBehind self.old s →
+            Judges s line.now self.new v) }
+        ensures err { OnErr result ((s : Sofar) → IsBehind self.old s → IsBehind self.new s) }
+        ensures memory { OnErr result ((s : Sofar) → IsBehind self.old s → LineTakes s line.now) }
+    {
+        match self {
+            Judge::Running { count, state } => run_line(alloc, state, count, line),
+            Judge::Heading { .. } => self.judge_in_general(alloc, line),
+        }
+    }
+
+    /// Judges the next line, whether an event came or not.
+    // out of line: the lines after the first event don't pay for its stack frame
+    #[inline(never)]
+    fn judge_in_general(&mut self, alloc: Global, line: &[u8]) -> Result<LineVerdict, AllocError>
+        requires { (s : Sofar) × IsBehind self.old s }
+        ensures ok { IfOk result (λ v. (s : Sofar) → IsBehind self.old s →
+            Judges s line.now self.new v) }
         ensures err { OnErr result ((s : Sofar) → IsBehind self.old s → IsBehind self.new s) }
         ensures memory { OnErr result ((s : Sofar) → IsBehind self.old s → LineTakes s line.now) }
     {

@@ -19,6 +19,8 @@ pub use ending::Ending;
 pub use judge::Judge;
 pub use line_verdict::LineVerdict;
 pub use refusal::Refusal;
+pub use run_state::RunState;
 pub use taking::{refusal_for, take};
 pub use text_judge::TextJudge;
+pub use values::Values;
 pub use verdict::Verdict;

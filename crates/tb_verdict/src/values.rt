@@ -2,7 +2,7 @@
 
 ghost use Rattle.std.specs.Prelude.{◌≡◌, OnOk};
 ghost use Rattle.indexmap.specs.IndexMap.{spare};
-ghost use Rattle.tb_verdict.specs.Values.{HasRoomFor, value_in, values_by};
+ghost use Rattle.tb_verdict.specs.Values.{HasRoomFor, Stores, value_in};
 
 use indexmap::IndexMap;
 use std::alloc::AllocError;
@@ -35,9 +35,12 @@ pub fn reserve_value(values: &mut Values, action: &Action) -> Result<(), AllocEr
 /// Sets the value that the action stores, if it stores one, in the room that is there.
 pub fn set_value(values: &mut Values, action: &Action)
     requires { HasRoomFor action.now (spare values.old) }
-    ensures { values.new.entries ≡ values_by action.now values.old.entries }
+    ensures { Stores action.now values.old.entries values.new.entries }
 {
-    if let Action::Store { cell, value } = action {
-        let _old = values.insert(*cell, *value).unwrap();
+    match action {
+        Action::Store { cell, value } => {
+            values.insert(*cell, *value).unwrap();
+        }
+        _ => {}
     }
 }

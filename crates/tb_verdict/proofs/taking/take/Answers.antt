@@ -2,10 +2,10 @@ use Rattle.std.proofs.Common.{refl, sym, ap, ◌∙◌, subst}
 use Rattle.tb_model.specs.Lines.{events_of}
 use Rattle.tb_verdict.specs.Memory.{MayTake}
 use Rattle.tb_verdict.specs.Refusals.{refusal_of}
-use Rattle.tb_verdict.specs.Values.{value_in}
+use Rattle.tb_verdict.specs.Values.{AreValues, value_in}
 use Rattle.tb_verdict.proofs.FollowLemmas.{follows}
 use Rattle.tb_verdict.proofs.RefusalLemmas.{may_if_long, on_err}
-use Rattle.tb_verdict.proofs.ValueLemmas.{values_by_same}
+use Rattle.tb_verdict.proofs.ValueLemmas.{values_more}
 use Rattle.tb_verdict.proofs.HeldLemmas.{is_same}
 use Rattle.tb_verdict.proofs.taking.take.Goals as goal
 
@@ -30,8 +30,8 @@ returns-clause-ok c first root_line D run =
         legal = behind.legal;
         cells = run.cells;
         state = c.in_ok-apply_tasks.ensures.applied first root_line D behind;
-        values = values_by_same first (events_of D) c.args.event.now c.args.state.now.values.entries c.reserve_value.new.values.entries c.set_value.new.values.entries
-            c.reserve_value.ensures.same c.set_value.ensures run.values;
+        values = values_more first (events_of D) c.args.event.now c.reserve_value.new.values.entries c.set_value.new.values.entries c.set_value.ensures
+            (subst (AreValues first (events_of D)) (sym c.reserve_value.ensures.same) run.values);
       },
     )
 
