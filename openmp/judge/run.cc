@@ -59,7 +59,7 @@ void Run::split(State &s, u32 also) {
 
 void Run::refuse(const char *rule, const char *step, const State &s, u32 other, const event &e) {
     if (fault.rule.empty())
-        fault = Fault{rule, step, s.actor, other, e.place, static_cast<u32>(now_ + 1)};
+        fault = Fault{rule, step, s.actor, other, e.kind == END ? 0 : e.place, static_cast<u32>(now_ + 1)};
 }
 
 void Run::take(std::size_t at) {
@@ -122,8 +122,8 @@ void Run::take_sync(std::size_t at, const event &e) {
         if (e.mark == STACK)
             forget_released(e);
         return;
-    case END:
-        segment_of[at] = state_of(e).segment;
+    case END:   // the stack is the other one's from here on
+        segment_of[at] = state(static_cast<u32>(e.place)).segment;
         return end(e);
     case RESUME: actors[state_of(e).actor].thread = trace.thread(at); return;
     case FULFIL: return fulfil(e);
@@ -242,7 +242,18 @@ void Run::finish() {
     for (const Region &region : regions)
         open_regions += region.is_ended ? 0 : 1;
     states_.clear();
+    find_outlived();
     graph_.finish();
+}
+
+// Who comes from an actor stands behind it.
+void Run::find_outlived() {
+    std::vector<std::size_t> last(actors.size(), 0);
+    for (std::size_t i = actors.size(); i-- > 1;) {
+        const std::size_t ended = actors[i].ended;
+        actors[i].is_outlived = last[i] > ended;
+        last[actors[i].parent] = std::max({last[actors[i].parent], last[i], actors[i].flags & Actor::IS_PART ? 0 : ended});
+    }
 }
 
 u32 Run::begin_of(u32 segment) const {

@@ -38,8 +38,10 @@ struct Actor {
     u32 start = NONE, end = NONE;   // nodes
     u32 unit = NONE;        // of a thread's share, in which it was made
     std::size_t made = 0;   // the event by which it was, or the region
+    std::size_t ended = ~std::size_t{0};    // the event at which it did
     std::size_t parted = ~std::size_t{0};   // the event from which on the threads of its team may go different ways
     bool is_started = false, is_ended = false, is_joined = false;
+    bool is_outlived = false;       // by some task of those that come from it
     std::vector<Item> items;
     std::vector<u32> waits;         // the siblings that its items make it wait for
 };
@@ -278,6 +280,7 @@ private:
     void part_ways(const State &s, std::size_t at);
     Shared *next_shared(State &s);
     void finish();
+    void find_outlived();
 
     Graph graph_;
     std::vector<std::shared_ptr<State>> states_;   // 0 is the program's first thread, which others may stand for too

@@ -140,6 +140,7 @@ void Run::end(const event &e) {
     settle_items(s);
     Actor &actor = actors[s.actor];
     actor.is_ended = true;
+    actor.ended = now_;
     actor.end = node_of(s);
     if (s.fulfilled != NONE) {
         actor.end = graph_.add(actor.end);
