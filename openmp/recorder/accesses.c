@@ -340,10 +340,9 @@ void __tsan_ignore_thread_begin(void) {}
 void __tsan_ignore_thread_end(void) {}
 
 /* A task that shares what stands where its own stack begins has it of a function that has returned: it counts as a load, since
-   the task's own variables hide what it does there. Its pointers are the last in its record, whose size is told with eight
-   bytes more than it has. */
+   the task's own variables hide what it does there. Its pointers are the last in its record. */
 static void note_lost(struct own *own, const struct running *running, uint64_t top, uint64_t place) {
-    uint64_t end = running->record + running->size - sizeof(uint64_t);
+    uint64_t end = running->record + running->size;
     if (running->shared - running->record >= running->size)
         return;
     for (uint64_t at = running->shared; at < end; at += sizeof at) {
@@ -390,8 +389,6 @@ void __tsan_func_exit(void) {
         own->task = running->task;
     if (top - own->stack_low > own->quiet_span && top > low)
         taskback_access(WRITE, low, top - low, PLACE, FREED | FRAME | (is_outermost ? OUTERMOST : 0));
-    if (is_outermost && !own->quiet_size && running->size > RECORD_HEAD)
-        taskback_access(WRITE, running->record + RECORD_HEAD, running->size - RECORD_HEAD, PLACE, FREED | FRAME | OUTERMOST);
     if (!is_outermost || !running->is_untied)
         return;
     own->task = running->prior;

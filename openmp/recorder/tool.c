@@ -118,6 +118,14 @@ static void on_create(ompt_data_t *creator, const ompt_frame_t *frame, ompt_data
     own->item_count = own->more_count = 0;
 }
 
+/* What the task has in its record ends with it. */
+static void end_record(struct own *own, const ompt_data_t *data) {
+    uint64_t size = data->value >> SIZE_SHIFT, kept = size > RECORD_HEAD ? size - RECORD_HEAD : 0;
+    if (kept && record_distance)
+        write_down(own, WRITE, number_of_event(WRITE, FREED | FRAME), number_of(data), (uint64_t)data + record_distance + RECORD_HEAD,
+                   kept, 0, LARGE, FREED | FRAME | OUTERMOST);
+}
+
 static void finish(struct own *own, uint32_t task, struct left left) {
     begin_part(own);
     write_down(own, END, number_of_event(END, 0), task, left.size ? own->stack_low : 0, left.size, (int32_t)left.prior, 0,
@@ -150,11 +158,14 @@ static void go_on(struct own *own, ompt_data_t *next, uint32_t before) {
 
 static void on_schedule(ompt_data_t *prior, ompt_task_status_t status, ompt_data_t *next) {
     struct own *own = own_state();
+    int is_known = !own->quiet_size;    /* others may know of what is in the task's record */
     begin_loud_part(own);
     uint32_t before = number_of(prior), met = own->task;
     switch (status) {
     case ompt_task_complete:
     case ompt_task_cancel:
+        if (is_known)
+            end_record(own, prior);
         finish(own, before, drop_task(own, before));
         break;
     case ompt_task_detach:
