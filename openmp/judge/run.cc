@@ -84,7 +84,7 @@ void Run::access(std::size_t at, const event &e) {
     if (s.pending != NONE)
         return refuse("Undeferred", e.kind == READ ? "reads" : "writes", s, s.pending, e);
     segment_of[at] = s.segment;
-    locks_of[at] = region_copies_.empty() ? s.locks : locks_with_copy(s, e);
+    locks_of[at] = !s.reduced.empty() ? locks_with_reduced(s, e) : region_copies_.empty() ? s.locks : locks_with_copy(s, e);
     chain_of[at] = s.callers;
     if (s.reduction != NONE && e.kind == WRITE && !(e.mark & FREED)) {
         reductions[s.reduction].actor = s.actor;
@@ -103,6 +103,15 @@ u32 Run::locks_with_copy(const State &s, const event &e) {
     --copy;
     bool is_in = e.address - copy->first < copy->second.size && actors[s.actor].region == copy->second.region;
     return is_in ? locks.with(s.locks, copy->first, false) : s.locks;
+}
+
+// Where the runtime gives tasks no copies, the reduction keeps apart what they do to the variable itself, and nothing else.
+u32 Run::locks_with_reduced(const State &s, const event &e) {
+    u32 found = s.locks;
+    for (const auto &variable : s.reduced)
+        if (e.address - variable.first < variable.second)
+            found = locks.with(found, variable.first, false);
+    return found;
 }
 
 // What is read under a lock or by an atomic operation may be another value for each thread.

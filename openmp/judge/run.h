@@ -152,6 +152,7 @@ struct State {
     u32 masked_unit = NONE; // its first masked block
     std::map<std::array<u64, 3>, u32> static_units;     // in which it made tasks
     u32 unsettled = NONE;   // the last child, while its items come
+    std::vector<std::pair<u64, u64>> reduced;   // of what its group reduces it has no copies: address, size
     bool is_next_team_one = false;
     bool is_next_one = false;   // the next region has one thread by a clause
     bool is_one = false;        // so have those that no clause gives more, by the program's words
@@ -276,6 +277,7 @@ private:
     void note(const event &e);
     void copy(std::size_t at, const event &e);
     u32 locks_with_copy(const State &s, const event &e);
+    u32 locks_with_reduced(const State &s, const event &e);
     void access(std::size_t at, const event &e);
     void part_ways(const State &s, std::size_t at);
     Shared *next_shared(State &s);

@@ -29,7 +29,8 @@ enum kind {
     MEMORY,         /* task; address, value: from here on this many bytes are new; place: who took them; mark: STACK, or BACK
                        where they are a part of the stack that another task has left to this one */
     LOCK,           /* task; address: the lock; value: 1 where it is a reduction's; mark: SHARED, or REDUCES where the
-                       team's threads put their parts together there */
+                       team's threads put their parts together there; without that it is a reduction's for the variable
+                       at that address alone */
     UNLOCK,         /* task; address: the lock */
     NOTE,           /* task; value: one of enum note; place */
     COPY,           /* address: a thread's copy of a reduced variable; value: the variable; with a size, its own */
