@@ -118,10 +118,10 @@ static void on_create(ompt_data_t *creator, const ompt_frame_t *frame, ompt_data
     own->item_count = own->more_count = 0;
 }
 
-/* What the task has in its record ends with it. */
+/* What a task that has started has in its record ends with it. */
 static void end_record(struct own *own, const ompt_data_t *data) {
     uint64_t size = data->value >> SIZE_SHIFT, kept = size > RECORD_HEAD ? size - RECORD_HEAD : 0;
-    if (kept && record_distance)
+    if (kept && record_distance && data->value & STARTED)
         write_down(own, WRITE, number_of_event(WRITE, FREED | FRAME), number_of(data), (uint64_t)data + record_distance + RECORD_HEAD,
                    kept, 0, LARGE, FREED | FRAME | OUTERMOST);
 }
