@@ -45,17 +45,21 @@ module _ (P : Program) (limit : ℕ) (points : Points) (seats : ℕ) (begun : Li
         ended = subst (λ n. IsAnswer P limit points seats begun (IsEnding n MetTakenCell)) number any.4;
       }
 
--- whose the entries are was asked first
-pub unlent : (workers : ℕ) (s : Session) (limit : ℕ) (why : Lost) → IsTrue (is_seated s) → limit ≤ s.limit → IsLostBy s.program limit s.control.breakpoints (length s.control.claims) (entries s) workers why
-    → IsUnlent workers s why
-unlent workers s limit Memory seated less lost = (seated, limit, less, lost)
-unlent workers s limit Unseated seated less lost = absurd lost
-unlent workers s limit Written seated less lost = (seated, limit, less, lost)
-unlent workers s limit Taken seated less lost = (seated, limit, less, lost)
-unlent workers s limit Gap seated less lost = (seated, limit, less, lost)
-unlent workers s limit Course seated less lost = (seated, limit, less, lost)
-unlent workers s limit Many seated less lost = (seated, limit, less, lost)
-unlent workers s limit Unstopped seated less lost = (seated, limit, less, lost)
+-- whose the entries are was asked first, and it was lent under this limit
+pub unlent : (workers : ℕ) (s given : Session) (limit : ℕ) (why : Lost) → given ≡ with_limit limit s → IsTrue (is_seated s) → limit ≤ s.limit
+    → IsLostBy given.program given.limit given.control.breakpoints (length given.control.claims) (entries given) workers why → IsUnlent workers s why
+unlent workers s given limit why is seated less lost =
+    by why (subst (λ (z : Session). IsLostBy z.program z.limit z.control.breakpoints (length z.control.claims) (entries z) workers why) is lost)
+  where
+    by : (why : Lost) → IsLostBy s.program limit s.control.breakpoints (length s.control.claims) (entries s) workers why → IsUnlent workers s why
+    by Memory lost = (seated, (limit, less, lost))
+    by Unseated lost = absurd lost
+    by Written lost = (seated, (limit, less, lost))
+    by Taken lost = (seated, (limit, less, lost))
+    by Gap lost = (seated, (limit, less, lost))
+    by Course lost = (seated, (limit, less, lost))
+    by Many lost = (seated, (limit, less, lost))
+    by Unstopped lost = (seated, (limit, less, lost))
 
 -- the seats from 1 on count from 1
 pub numbers_on : (seats : List Seated) (n : ℕ) → HaveNumbers seats → (i : ℕ) (d : Seated) → i < length (take n (drop 1 seats)) → (get_or (take n (drop 1 seats)) i d).number ≡ i + 1
@@ -86,14 +90,3 @@ unstopped workers most from s Gap course within why = absurd why
 unstopped workers most from s Course course within why = absurd why
 unstopped workers most from s Many course within why = absurd why
 unstopped workers most from s Unstopped course within why = (course, within, why)
-
-pub lent : {A : Type 0} (workers : ℕ) (s : Session) (limit : ℕ) (r : Result A Lost) → IsTrue (is_seated s) → limit ≤ s.limit
-    → IfErr r (IsLostBy s.program limit s.control.breakpoints (length s.control.claims) (entries s) workers) → IfErr r (IsUnlent workers s)
-lent workers s limit (Ok a) seated less lost = tt
-lent workers s limit (Err why) seated less lost = unlent workers s limit why seated less lost
-
--- the run was lent under this limit
-pub lent_under : {A : Type 0} (workers : ℕ) (s given : Session) (limit : ℕ) (r : Result A Lost) → given ≡ with_limit limit s → IsTrue (is_seated s) → limit ≤ s.limit
-    → IfErr r (IsLostBy given.program given.limit given.control.breakpoints (length given.control.claims) (entries given) workers) → IfErr r (IsUnlent workers s)
-lent_under workers s given limit r is seated less lost =
-    lent workers s limit r seated less (subst (λ (z : Session). IfErr r (IsLostBy z.program z.limit z.control.breakpoints (length z.control.claims) (entries z) workers)) is lost)

@@ -1,9 +1,9 @@
 -- What comes back has new entries on the journal that was handed over.
-use Rattle.std.proofs.Common.{◌≡◌, ◌≤◌, ℕ, List, refl, subst, ◌++◌, length, take, drop, reverse, sym, ap, ◌∙◌, arith}
+use Rattle.std.proofs.Common.{◌≡◌, ◌≤◌, ℕ, List, subst, ◌++◌, length, take, drop, reverse, sym, ap, ◌∙◌, arith}
 use Rattle.std.proofs.lemmas.List.{reverse-append, reverse-reverse, length-reverse, length-take, take-append-drop}
 use Rattle.tb_team.proofs.Counting.{long_take}
 use Rattle.tb_model.specs.declared.entry.Entry.{Entry}
-use Rattle.tb_live.specs.Session.{Session, with_limit}
+use Rattle.tb_live.specs.Session.{Session}
 use Rattle.tb_team.specs.Lending.{IsBack}
 use Rattle.tb_work.specs.Changes.{entries}
 
@@ -27,15 +27,3 @@ begins_as old new begun is begins =
 
 pub back_as : (old new same : Session) → IsBack old new → same ≡ new → IsBack old same
 back_as old new same is e = subst (λ (z : Session). IsBack old z) (sym e) is
-
--- a run that was lent under another limit, and has its own again
-pub back_under : (old given back same : Session) (limit : ℕ) → given ≡ with_limit limit old → IsBack given back → same ≡ with_limit old.limit back → IsBack old same
-back_under old given back same limit is came e =
-    let b = subst (λ (z : Session). IsBack z back) is came in
-    subst (λ (z : Session). IsBack old z) (sym e) (record { program = b.program; limit = refl; breakpoints = b.breakpoints; seats = b.seats; begins = b.begins })
-
--- what came back has no more entries than it could have while it was lent
-pub fits_under : (old given back : Session) (limit : ℕ) → given ≡ with_limit limit old → IsBack given back → limit ≤ old.limit → length back.journal ≤ back.limit → length back.journal ≤ old.limit
-fits_under old given back limit is came less within =
-    let b = subst (λ (z : Session). IsBack z back) is came in
-    omega (arith, b.limit, less, within)

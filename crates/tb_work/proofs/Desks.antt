@@ -78,15 +78,17 @@ agrees_more P limit points seats slots begun old mid new e total later cells mor
     }
 
 -- a claim changes nothing of it
-pub agrees_claimed : (P : Program) (limit : ℕ) (points : Points) (seats : ℕ) (slots : Slots) (begun : List Entry) (s new : Session) (total seat : ℕ) (o : Option Name) (cells : List ℕ) (known : List (Option Entry))
+pub agrees_claimed : (P : Program) (limit : ℕ) (points : Points) (seats : ℕ) (slots : Slots) (begun : List Entry) (s new : Session)
+    (total seat : ℕ) (o : Option Name) (cells : List ℕ) (known : List (Option Entry))
     → Agrees P limit points seats slots begun s total cells known → new ≡ with_seat s seat o → Agrees P limit points seats slots begun new total cells known
-agrees_claimed P limit points seats slots begun s new total seat o cells known a is = subst (λ (z : Session). Agrees P limit points seats slots begun z total cells known) (sym is) (record {
-  program = a.program;
-  limited = a.limited;
-  breakpoints = a.breakpoints;
-  seated = length-set s.control.claims seat o ∙ a.seated;
-  begins = a.begins;
-  counted = a.counted;
-  named = a.named;
-  noted = a.noted;
-})
+agrees_claimed P limit points seats slots begun s new total seat o cells known a is =
+    subst (λ (z : Session). Agrees P limit points seats slots begun z total cells known) (sym is) (record {
+      program = a.program;
+      limited = a.limited;
+      breakpoints = a.breakpoints;
+      seated = length-set s.control.claims seat o ∙ a.seated;
+      begins = a.begins;
+      counted = a.counted;
+      named = a.named;
+      noted = a.noted;
+    })

@@ -16,3 +16,4 @@ pub mod Over
 pub mod Whys
 pub mod Telling
 pub mod Plans
+pub mod Slotted

@@ -13,12 +13,12 @@ one_more f xs n d from lt =
     sym (drop-append-le f (take n xs) (get_or xs n d ∷ []) long) ∙ ap (drop f) (sym (take-suc xs n d lt) ∙ ap (λ k. take k xs) on)
 
 -- none is told at first
-pub none_told : {X : Type 0} (f n : ℕ) (xs : List X) → n ≤ f → drop f (take n xs) ≡ []
-none_told zero zero xs le = refl
-none_told zero (suc n) xs le = absurd (omega (arith, le))
-none_told (suc f) zero xs le = refl
-none_told (suc f) (suc n) [] le = refl
-none_told (suc f) (suc n) (x ∷ xs) le = none_told f n xs (omega (arith, le))
+pub none_yet : {X : Type 0} (f n : ℕ) (xs : List X) → n ≤ f → drop f (take n xs) ≡ []
+none_yet zero zero xs le = refl
+none_yet zero (suc n) xs le = absurd (omega (arith, le))
+none_yet (suc f) zero xs le = refl
+none_yet (suc f) (suc n) [] le = refl
+none_yet (suc f) (suc n) (x ∷ xs) le = none_yet f n xs (omega (arith, le))
 
 pub told_more : (f : ℕ) (es : List Entry) (n : ℕ) (e : Entry) → f ≤ n → n < length es → ((d : Entry) → get_or es n d ≡ e)
     → map (λ x. Some x) (drop f (take n es)) ++ Some e ∷ [] ≡ map (λ x. Some x) (drop f (take (n + 1) es))

@@ -173,7 +173,8 @@ length_counted (r ∷ rs) = omega (arith, length_counted rs, sum_by-cons (λ (x 
 
 pub whole : (J : List Entry) (f : ℕ) (seats : List Seated) (xs : List Receipt)
     → HaveOwnNumbers seats → All IsRow seats → All (Stands J) (all_receipts seats) → first_gap (length J) (all_receipts seats) ≡ None
-    → 1 ≤ f → All (λ r. f ≤ r.place) (all_receipts seats) → receipts_in seats + f ≡ length J → IsPermutation (all_receipts seats) xs → IsSortedByKey place_of nat_cmp xs
+    → 1 ≤ f → All (λ r. f ≤ r.place) (all_receipts seats) → receipts_in seats + f ≡ length J
+    → IsPermutation (all_receipts seats) xs → IsSortedByKey place_of nat_cmp xs
     → xs ≡ receipts_from f (drop f J)
 whole J zero seats xs numbers rows stand gap some from count same sorted = absurd (omega (arith, some))
 whole J (suc a) seats xs numbers rows stand gap some from count same sorted =
@@ -195,5 +196,6 @@ whole J (suc a) seats xs numbers rows stand gap some from count same sorted =
     let spelt : ps ≡ run_from a (length xs) = all_places a ps rises bound ∙ ap (run_from a) many in
     let front : length (take (suc a) J) ≡ a + 1 = omega (arith, length-take (suc a) J, long) in
     let back : length (drop (suc a) J) ≡ length xs = omega (arith, length-drop (suc a) J, long) in
-    let said : xs ≡ receipts_from (a + 1) (drop (suc a) J) = spelled J (take (suc a) J) (drop (suc a) J) xs a (sym (take-append-drop (suc a) J)) front back spelt at in
+    let said : xs ≡ receipts_from (a + 1) (drop (suc a) J) =
+    spelled J (take (suc a) J) (drop (suc a) J) xs a (sym (take-append-drop (suc a) J)) front back spelt at in
     said ∙ ap (λ n. receipts_from n (drop (suc a) J)) (sym on)

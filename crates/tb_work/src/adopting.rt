@@ -1,10 +1,11 @@
 //! A run is taken in: its entries are written to the cells of the slots that have one, and each seat
 //! gets the receipts of its own.
 
-ghost use Rattle.std.specs.Prelude.{◌≡◌, ◌+◌, ◌<◌, ◌≤◌, ◌^◌, ◌++◌, [], ◌∷◌, Some, true, length, slice_index, vec_len, vec_capacity, map, take, drop, IfOk, OnOk, IfErr};
+ghost use Rattle.std.specs.Prelude.{◌≡◌, ◌+◌, ◌<◌, ◌≤◌, ◌^◌, ◌++◌, [], ◌∷◌, Some, true, length, slice_index, vec_len, vec_capacity, IfOk, OnOk, IfErr};
 ghost use Rattle.tb_work.specs.Changes.{entries};
 ghost use Rattle.tb_journal.specs.Journals.{seat_of, all_below};
 ghost use Rattle.tb_work.specs.Receipts.{HaveNumbers, AreBelow, receipts_in};
+ghost use Rattle.tb_work.specs.Slots.{cells_of, known_of, cells_in, entries_in};
 
 use crate::adopt_refusal::AdoptRefusal;
 use crate::desk::Desk;
@@ -95,8 +96,8 @@ fn give<N: Team>(
     ensures above { OnOk result (AreBelow (place + 1) seats.new) }
     ensures total { OnOk result (book.new.total ≡ book.old.total + 1) }
     ensures receipts { OnOk result (receipts_in seats.new ≡ receipts_in seats.old + 1) }
-    ensures cells { OnOk result (map (λ t. t.note.cell) told.new.items ≡ map (λ t. t.note.cell) told.old.items ++ slice_index N.slots.cells place ∷ []) }
-    ensures known { OnOk result (map (λ t. t.note.known) told.new.items ≡ map (λ t. t.note.known) told.old.items ++ Some entry ∷ []) }
+    ensures cells { OnOk result (cells_of told.new.items ≡ cells_of told.old.items ++ slice_index N.slots.cells place ∷ []) }
+    ensures known { OnOk result (known_of told.new.items ≡ known_of told.old.items ++ Some entry ∷ []) }
 {
     let seat = &mut seats[seat_of(&entry) as usize];
     enter(alloc, places, told, book, seat, place, entry)?;
@@ -123,8 +124,8 @@ fn tell_all<N: Team>(
     requires none { receipts_in seats.old ≡ 0 }
     ensures receipts { OnOk result (receipts_in seats.new + N.slots.first ≡ length journal.now.items) }
     ensures total { OnOk result (book.new.total + N.slots.first ≡ length journal.now.items) }
-    ensures cells { IfOk result (λ t. map (λ t. t.note.cell) t.items ≡ drop N.slots.first (take (length journal.now.items) N.slots.cells)) }
-    ensures known { IfOk result (λ t. map (λ t. t.note.known) t.items ≡ map (λ e. Some e) (drop N.slots.first journal.now.items)) }
+    ensures cells { IfOk result (λ t. cells_of t.items ≡ cells_in N.slots (length journal.now.items)) }
+    ensures known { IfOk result (λ t. known_of t.items ≡ entries_in N.slots journal.now.items) }
     ensures numbers { OnOk result (HaveNumbers seats.new) }
 {
     let mut told = Vec::new(alloc);
@@ -157,8 +158,8 @@ fn tell_run<N: Team>(
     requires none { receipts_in seats.old.items ≡ 0 }
     ensures receipts { OnOk result (receipts_in seats.new.items + N.slots.first ≡ length live.now.session.journal) }
     ensures total { OnOk result (book.new.total + N.slots.first ≡ length live.now.session.journal) }
-    ensures cells { IfOk result (λ t. map (λ t. t.note.cell) t.items ≡ drop N.slots.first (take (length live.now.session.journal) N.slots.cells)) }
-    ensures known { IfOk result (λ t. map (λ t. t.note.known) t.items ≡ map (λ e. Some e) (drop N.slots.first (entries live.now.session))) }
+    ensures cells { IfOk result (λ t. cells_of t.items ≡ cells_in N.slots (length live.now.session.journal)) }
+    ensures known { IfOk result (λ t. known_of t.items ≡ entries_in N.slots (entries live.now.session)) }
     ensures numbers { OnOk result (HaveNumbers seats.new.items) }
     ensures len { vec_len seats.new ≡ vec_len seats.old }
 {

@@ -6,6 +6,7 @@ ghost use Rattle.tb_model.specs.declared.entry.Entry.{Entry as AnEntry};
 ghost use Rattle.tb_work.specs.Changes.{entries};
 ghost use Rattle.tb_work.specs.Receipts.{first_gap, all_receipts, receipts_in, Stands, HaveOwnNumbers, IsRow, receipts_from};
 ghost use Rattle.tb_work.specs.Closing.{IsReleased, IsUnclaimed};
+ghost use Rattle.tb_work.specs.Slots.{cells_of, known_of, cells_in, entries_in};
 
 use crate::adopting::journal_of;
 use crate::closed::Closed;
@@ -26,9 +27,9 @@ use tb_model::Entry;
 /// Two notes of one cell agree.
 fn compare(told: &mut [Told], place: usize, note: Note<Entry>)
     requires place { place < length told.old }
-    requires cell { note.cell ≡ slice_index (map (λ t. t.note.cell) told.old) place }
+    requires cell { note.cell ≡ slice_index (cells_of told.old) place }
     ensures same { told.new ≡ told.old }
-    ensures agrees { (x : AnEntry) (y : AnEntry) → slice_get (map (λ t. t.note.known) told.old) place ≡ Some (Some x) → note.known ≡ Some y → x ≡ y }
+    ensures agrees { (x : AnEntry) (y : AnEntry) → slice_get (known_of told.old) place ≡ Some (Some x) → note.known ≡ Some y → x ≡ y }
 {
     let seen = &mut told[place].note;
     seen.compare(note);
@@ -42,8 +43,8 @@ fn take_in<N: Team>(
     receipts: &mut Vec<Receipt>,
     gap: &mut Option<u32>,
 )
-    requires cells { map (λ t. t.note.cell) told.old ≡ drop N.slots.first (take (length journal.now.items) N.slots.cells) }
-    requires known { map (λ t. t.note.known) told.old ≡ map (λ e. Some e) (drop N.slots.first journal.now.items) }
+    requires cells { cells_of told.old ≡ cells_in N.slots (length journal.now.items) }
+    requires known { known_of told.old ≡ entries_in N.slots journal.now.items }
     requires from { N.slots.first ≤ length journal.now.items }
     requires enough { length journal.now.items ≤ length N.slots.cells }
     requires room { vec_len receipts.old < vec_capacity receipts.old }
@@ -78,8 +79,8 @@ fn take_all<N: Team>(
     receipts: &mut Vec<Receipt>,
     gap: &mut Option<u32>,
 )
-    requires cells { map (λ t. t.note.cell) told.old ≡ drop N.slots.first (take (length journal.now.items) N.slots.cells) }
-    requires known { map (λ t. t.note.known) told.old ≡ map (λ e. Some e) (drop N.slots.first journal.now.items) }
+    requires cells { cells_of told.old ≡ cells_in N.slots (length journal.now.items) }
+    requires known { known_of told.old ≡ entries_in N.slots journal.now.items }
     requires from { N.slots.first ≤ length journal.now.items }
     requires enough { length journal.now.items ≤ length N.slots.cells }
     requires room { vec_len receipts.old + vec_len kept ≤ vec_capacity receipts.old }
@@ -106,8 +107,8 @@ fn take_seats<N: Team>(
     receipts: &mut Vec<Receipt>,
     gap: &mut Option<u32>,
 )
-    requires cells { map (λ t. t.note.cell) told.old ≡ drop N.slots.first (take (length journal.now.items) N.slots.cells) }
-    requires known { map (λ t. t.note.known) told.old ≡ map (λ e. Some e) (drop N.slots.first journal.now.items) }
+    requires cells { cells_of told.old ≡ cells_in N.slots (length journal.now.items) }
+    requires known { known_of told.old ≡ entries_in N.slots journal.now.items }
     requires from { N.slots.first ≤ length journal.now.items }
     requires enough { length journal.now.items ≤ length N.slots.cells }
     requires total { book.old.total + N.slots.first ≡ length journal.now.items }

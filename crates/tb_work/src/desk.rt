@@ -1,6 +1,6 @@
 //! What lies under the lock.
 
-ghost use Rattle.std.specs.Prelude.{◌≡◌, ◌+◌, ◌<◌, ◌≤◌, ◌↔◌, Some, None, reverse, length, vec_len, vec_capacity, map, take, drop, IfOk, IfErr, OnOk, OnErr};
+ghost use Rattle.std.specs.Prelude.{◌≡◌, ◌+◌, ◌<◌, ◌≤◌, ◌↔◌, Some, None, reverse, length, vec_len, vec_capacity, take, IfOk, IfErr, OnOk, OnErr};
 ghost use Rattle.tb_model.specs.declared.entry.Entry.TheVariants.{Rolled};
 ghost use Rattle.tb_control.specs.declared.mode.Mode.TheVariants.{Resumed};
 ghost use Rattle.tb_live.specs.Commits.{MayCommit};
@@ -17,6 +17,7 @@ ghost use Rattle.tb_work.specs.Going.{IsWhy};
 ghost use Rattle.tb_work.specs.Refusing.{RefusesPlan, RefusesRoll, RefusesUndo};
 ghost use Rattle.tb_work.specs.Changes.{Commits, RollsBack, entries};
 ghost use Rattle.tb_work.specs.Claiming.{IsClaim, IsOffer, IsWorkFor};
+ghost use Rattle.tb_work.specs.Slots.{cells_of, known_of, cells_in, entries_in};
 
 use crate::asking::{claim_offer, claim_one, claim_work, leave, pause, resume, resume_for};
 use crate::burst::Burst;
@@ -62,8 +63,8 @@ pub struct Desk<N: Team> {
     pub ghost room_for_all: { (vec_len room ≡ 0) × (length live.session.journal ≤ vec_capacity room) × (N.limit ≤ vec_capacity room) },
     pub ghost some: { 1 ≤ N.slots.first },
     pub ghost counted: { book.total + N.slots.first ≡ length live.session.journal },
-    pub ghost cells: { map (λ t. t.note.cell) told.items ≡ drop N.slots.first (take (length live.session.journal) N.slots.cells) },
-    pub ghost known: { map (λ t. t.note.known) told.items ≡ map (λ e. Some e) (drop N.slots.first (entries live.session)) },
+    pub ghost cells: { cells_of told.items ≡ cells_in N.slots (length live.session.journal) },
+    pub ghost known: { known_of told.items ≡ entries_in N.slots (entries live.session) },
 }
 
 impl<N: Team> Desk<N> {

@@ -1,8 +1,9 @@
 //! An entry is written to its place's cell, and its seat gets a receipt.
 
-ghost use Rattle.std.specs.Prelude.{◌≡◌, ◌<◌, ◌≤◌, ◌+◌, ◌++◌, [], ◌∷◌, slice_index, Some, length, map, IfOk, OnOk, OnErr};
+ghost use Rattle.std.specs.Prelude.{◌≡◌, ◌<◌, ◌≤◌, ◌+◌, ◌++◌, [], ◌∷◌, slice_index, Some, length, IfOk, OnOk, OnErr};
 ghost use Rattle.tb_journal.specs.Journals.{seat_of};
 ghost use Rattle.tb_work.specs.Receipts.{Grew};
+ghost use Rattle.tb_work.specs.Slots.{cells_of, known_of};
 
 use crate::kept::Kept;
 use crate::places::Places;
@@ -34,8 +35,8 @@ pub fn write(
     requires within { place < length places.now.cells }
     ensures cell { IfOk result (λ n. n.cell ≡ slice_index places.now.cells place) }
     ensures entry { IfOk result (λ n. n.known ≡ Some entry) }
-    ensures cells { OnOk result (map (λ t. t.note.cell) told.new.items ≡ map (λ t. t.note.cell) told.old.items ++ slice_index places.now.cells place ∷ []) }
-    ensures known { OnOk result (map (λ t. t.note.known) told.new.items ≡ map (λ t. t.note.known) told.old.items ++ Some entry ∷ []) }
+    ensures cells { OnOk result (cells_of told.new.items ≡ cells_of told.old.items ++ slice_index places.now.cells place ∷ []) }
+    ensures known { OnOk result (known_of told.new.items ≡ known_of told.old.items ++ Some entry ∷ []) }
     ensures refused { OnErr result (told.new.items ≡ told.old.items) }
 {
     if told.reserve(1).is_err() {
@@ -66,8 +67,8 @@ fn tell(
     requires within { place < length places.now.cells }
     ensures cell { IfOk result (λ n. n.cell ≡ slice_index places.now.cells place) }
     ensures entry { IfOk result (λ n. n.known ≡ Some entry.now) }
-    ensures cells { OnOk result (map (λ t. t.note.cell) told.new.items ≡ map (λ t. t.note.cell) told.old.items ++ slice_index places.now.cells place ∷ []) }
-    ensures known { OnOk result (map (λ t. t.note.known) told.new.items ≡ map (λ t. t.note.known) told.old.items ++ Some entry.now ∷ []) }
+    ensures cells { OnOk result (cells_of told.new.items ≡ cells_of told.old.items ++ slice_index places.now.cells place ∷ []) }
+    ensures known { OnOk result (known_of told.new.items ≡ known_of told.old.items ++ Some entry.now ∷ []) }
     ensures refused { OnErr result (told.new.items ≡ told.old.items) }
 {
     let copy = copy_of(entry)?;
@@ -90,8 +91,8 @@ pub fn enter<N: Team>(
     requires own { seat_of entry ≡ seat.old.number }
     ensures grew { OnOk result (Grew seat.old seat.new place entry) }
     ensures total { OnOk result (book.new.total ≡ book.old.total + 1) }
-    ensures cells { OnOk result (map (λ t. t.note.cell) told.new.items ≡ map (λ t. t.note.cell) told.old.items ++ slice_index N.slots.cells place ∷ []) }
-    ensures known { OnOk result (map (λ t. t.note.known) told.new.items ≡ map (λ t. t.note.known) told.old.items ++ Some entry ∷ []) }
+    ensures cells { OnOk result (cells_of told.new.items ≡ cells_of told.old.items ++ slice_index N.slots.cells place ∷ []) }
+    ensures known { OnOk result (known_of told.new.items ≡ known_of told.old.items ++ Some entry ∷ []) }
     ensures refused { OnErr result ((seat.new ≡ seat.old) × (book.new.total ≡ book.old.total) × (told.new.items ≡ told.old.items)) }
 {
     if place <= seat.last {

@@ -39,6 +39,7 @@ impl Places {
 
     /// A cell for each slot of a journal of so many, but for the first ones, of which there is one at
     /// least. None is written.
+    #[tactic(auto, using(crate::proofs::Slotted::slots_length))]
     pub fn after(alloc: Global, first: u32, limit: u32) -> Result<Places, AllocError>
         requires { 1 ≤ first }
         ensures first { IfOk result (λ p. p.first ≡ first) }

@@ -1,4 +1,5 @@
-use Rattle.std.proofs.Common.{◌≡◌, sym, ap, ◌∙◌}
+use Rattle.std.proofs.Common.{◌≡◌, length, arith, sym, ap, ◌∙◌}
+use Rattle.std.proofs.lemmas.List.{length-reverse}
 use Rattle.std.proofs.lemmas.Result.{IfOk-weaker}
 use Rattle.tb_team.specs.Lending.{IsBack}
 use Rattle.tb_team.specs.Losing.{HasGap, IsLostBy}
@@ -31,6 +32,7 @@ adopt-requires g c = record {
   name = c.requires.name;
   one_each = c.requires.one_each;
   places = c.requires.places;
+  from = omega (arith, c.requires.from, ap length c.requires.begun, length-reverse c.args.live.session.journal);
   live = c.requires.live;
   begun = c.requires.begun;
   own = c.requires.own;

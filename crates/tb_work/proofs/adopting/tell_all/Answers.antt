@@ -1,6 +1,6 @@
 use Rattle.std.proofs.Common.{rules, ◌≡◌, ◌<◌, ◌≤◌, [], ◌∷◌, ◌++◌, Some, map, length, slice_index, arith, ap, sym, ◌∙◌}
 use Rattle.tb_work.proofs.Seats.{below_at}
-use Rattle.tb_work.proofs.Telling.{none_told, told_more, cells_more}
+use Rattle.tb_work.proofs.Telling.{none_yet, told_more, cells_more}
 use Rattle.tb_work.proofs.adopting.tell_all.Goals as goal
 
 pub give-requires-clause-seat : goal.give-requires-clause-seat
@@ -15,8 +15,8 @@ loop-place-init g c =
     let at : c.first-first.result ≡ f = c.first-first.ensures.first ∙ ap (λ p. p.first) c.requires.cells in
     let none = ap (map (λ t. t.note.cell)) c.new-told.ensures.items in (
       omega (arith, at),
-      none ∙ sym (none_told f c.first-first.result g.N.Team.slots.cells (omega (arith, at))),
-      ap (map (λ t. t.note.known)) c.new-told.ensures.items ∙ ap (map (λ e. Some e)) (sym (none_told f c.first-first.result c.args.journal.now.items (omega (arith, at)))),
+      none ∙ sym (none_yet f c.first-first.result g.N.Team.slots.cells (omega (arith, at))),
+      ap (map (λ t. t.note.known)) c.new-told.ensures.items ∙ ap (map (λ e. Some e)) (sym (none_yet f c.first-first.result c.args.journal.now.items (omega (arith, at)))),
       omega (arith, at, c.requires.total),
       search rules,
       search rules,

@@ -1,4 +1,4 @@
-use Rattle.std.proofs.Common.{arith, ap, length, reverse, subst, sym}
+use Rattle.std.proofs.Common.{◌≤◌, arith, ap, length, reverse, subst, sym}
 use Rattle.tb_core.specs.Seen.{Seen, history}
 use Rattle.tb_next.specs.Floor.{IsFloor}
 use Rattle.tb_live.specs.Session.{Held, with_limit}
