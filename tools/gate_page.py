@@ -42,11 +42,11 @@ def said(*words: str) -> str:
 
 
 def without_small(table: str) -> str:
-    """The table with the crates that take less than a minute in one row."""
+    """The table with the crates that take less than four minutes in one row."""
     rows, small = [], []
     for row in table.split("\n"):
         taken = re.fullmatch(r"\| (tb_)?\w+ \|.* ([\d.]+) \|", row)
-        if taken and float(taken[2]) < 1:
+        if taken and float(taken[2]) < 4:
             small.append(float(taken[2]))
         else:
             rows.append(row)
