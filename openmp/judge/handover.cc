@@ -19,7 +19,7 @@ u64 Handover::block_of(u64 pointer) const {
         return 0;
     const auto &found = *std::prev(after);
     const event &taken = run_.trace[found.second.at];
-    bool is_block = taken.kind == MEMORY && taken.mark == 0 && pointer - found.first < found.second.size;
+    bool is_block = taken.kind == MEMORY && taken.mark != STACK && pointer - found.first < found.second.size;
     return is_block ? found.first : 0;
 }
 

@@ -126,7 +126,7 @@ void Memory::touch(std::size_t at, u64 address, u64 size, bool is_write, u8 mark
             last_page_ = page->second.get();
         }
         u32 &place = (*last_page_)[now.granule % PAGE];
-        if (place == NONE && !is_freed)
+        if (place == NONE && !is_freed && !freed_.empty())
             find_freed(now, place);
         if (place == DEAD || (is_freed && place == NONE))
             continue;
@@ -147,7 +147,6 @@ void Memory::keep_freed(const Now &now) {
 }
 
 void Memory::find_freed(const Now &now, u32 &place) {
-    find_ended(now, place);
     auto after = freed_.upper_bound(now.granule * GRANULE + GRANULE - 1);
     if (after == freed_.begin())
         return;
@@ -157,20 +156,6 @@ void Memory::find_freed(const Now &now, u32 &place) {
     given.mask = mask_of(now.granule, given.address, given.size);
     keep(given, place);
 }
-
-// What a function had there that has ended, in a task that has left the stack: nobody may use it who doesn't come after the
-// step by which the memory became somebody else's.
-void Memory::find_ended(const Now &now, u32 &place) {
-    u32 segment = NONE;
-    const Lives::Ended *ended = lives_.find(now.granule * GRANULE, segment);
-    if (!ended)
-        return;
-    Now given{ended->at, segment, run_.locks_of[ended->at], 0, 0, now.granule, true, false, 0xff};
-    keep(given, place);
-}
-
-// Whether the touch stands for the end of an earlier life: then its segment isn't that of its event.
-bool Memory::is_ended(const Touch &touch) const { return touch.segment != run_.segment_of[touch.at]; }
 
 void Memory::touch_place(Now &now, u32 &place) {
     bool is_known = false;
@@ -199,7 +184,7 @@ bool Memory::compare(const Now &now, Bucket &bucket) {
     for (u32 *link = &bucket.head; *link != NONE;) {
         u32 here = *link;
         Touch touch = touches_[here];
-        if (!is_plain_ && touch.segment == now.segment && is_alike && (touch.mask & now.mask) == now.mask && !is_ended(touch)
+        if (!is_plain_ && touch.segment == now.segment && is_alike && (touch.mask & now.mask) == now.mask
             && !handover_.is_offered(now.segment, touch.at, now.at, now.granule * GRANULE))
             return true;
         if (!conflicts && (is_plain_ || ++seen > FEW))
@@ -208,10 +193,10 @@ bool Memory::compare(const Now &now, Bucket &bucket) {
         bool is_ordered = meets && (run_.is_before(touch.segment, now.segment)
                                     || (!run_.are_lanes(touch.segment, now.segment)
                                         && (is_own(now, touch) || (conflicts && (is_in_turn(now, touch) || is_handed_over(now, touch))))));
-        if (meets && !is_ordered && conflicts && !(is_ended(touch) && run_.is_before(run_.segment_of[touch.at], now.segment)))
-            add_race(now, touch.at, run_.segment_of[touch.at], run_.are_apart(touch.segment, now.segment), false);
+        if (meets && !is_ordered && conflicts)
+            add_race(now, touch.at, touch.segment, run_.are_apart(touch.segment, now.segment), false);
         is_passed = is_passed && is_ordered;
-        if (!is_plain_ && is_ordered && covers && (touch.mask & ~now.mask) == 0 && !is_ended(touch)) {
+        if (!is_plain_ && is_ordered && covers && (touch.mask & ~now.mask) == 0) {
             *link = touch.next;
             touches_[here].next = free_touch_;
             free_touch_ = here;
@@ -287,21 +272,7 @@ void Memory::keep(const Now &now, u32 &place) {
     buckets_[at].passed = NONE;
 }
 
-// A part of a stack goes from one task to another: what functions had there has ended.
-void Memory::change_hands(std::size_t at, const event &e) {
-    for (auto freed = freed_.lower_bound(e.address); freed != freed_.end() && freed->first < e.address + e.value; ++freed) {
-        const Now &now = freed->second;
-        if (run_.trace[now.at].mark & FRAME)
-            lives_.keep(now.address, Lives::Ended{now.size, now.at, run_.actors[run_.segments[now.segment].actor].is_outlived});
-    }
-    lives_.begin(e.address, e.value, run_.segment_of[at]);
-}
-
 void Memory::is_new(std::size_t at, const event &e) {
-    if (e.kind != LANE && e.mark & (STACK | BACK) && run_.segment_of[at] != NONE)
-        change_hands(at, e);
-    else
-        lives_.forget(e.address, e.value);
     clear(e.address, e.value);
     freed_.erase(freed_.lower_bound(e.address), freed_.lower_bound(e.address + e.value));
     auto last = blocks.lower_bound(e.address + e.value);

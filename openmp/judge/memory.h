@@ -8,7 +8,6 @@
 #include <vector>
 
 #include "handover.h"
-#include "lives.h"
 #include "run.h"
 
 namespace judge {
@@ -89,9 +88,6 @@ private:
     Race *add_race(const Now &now, u32 at, u32 segment, bool is_apart, bool is_copied);
     void keep_freed(const Now &now);
     void find_freed(const Now &now, u32 &place);
-    void find_ended(const Now &now, u32 &place);
-    bool is_ended(const Touch &touch) const;
-    void change_hands(std::size_t at, const event &e);
     const Block *block_at(u64 address, u64 *begin = nullptr) const;
 
     Run &run_;
@@ -112,7 +108,6 @@ private:
     };
     std::unordered_map<Key, u32, Hash> known_;
     std::map<u64, Now> freed_;               // what was given back last, by where it begins
-    Lives lives_;
     // What each thread of a larger team would do, by who does it and where.
     struct Copied {
         Now now;

@@ -12,11 +12,6 @@ void Run::lock(std::size_t at, const event &e) {
         return;
     }
     (e.value ? counts.reductions : counts.locks)++;
-    if (e.value && e.mark != REDUCES) {
-        auto size = sizes_.find(e.address);
-        s.reduced.emplace_back(e.address, size == sizes_.end() ? 8 : size->second);
-        return;
-    }
     s.locks = locks.with(s.locks, e.address, e.mark == SHARED);
     if (e.mark == REDUCES && s.phase != NONE && actors[s.actor].flags & Actor::IS_PART)
         reduce(s, at, e.address);

@@ -134,7 +134,6 @@ bool Part::is_left(const event &e, std::size_t at, const std::unordered_set<u64>
         return false;
     if (is_gone && (e.kind == MEMORY || ((e.kind == START || e.kind == END) && e.mark == STACK))) {
         changed.kind = MEMORY;
-        changed.place = 0;
         changed.mark = 0;
         changed.task = 0;
         return true;

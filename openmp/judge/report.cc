@@ -120,7 +120,7 @@ void Report::write_races(std::ostream &out) {
         out << (i ? ",\n" : "\n") << "{\"count\": " << race.count << ", \"apart\": " << (race.is_apart ? "true" : "false")
             << ", \"copied\": " << (race.is_copied ? "true" : "false") << ", \"sure\": " << (race.is_sure ? "true" : "false")
             << ", \"lanes\": " << (run_.are_lanes(race.earlier_segment, race.later_segment) ? "true" : "false") << ", \"address\": " << race.address;
-        if (block.at != NONE && run_.trace[block.at].kind == MEMORY && run_.trace[block.at].place != 0)
+        if (block.at != NONE && run_.trace[block.at].place != 0)
             out << ", \"block\": {\"place\": " << run_.trace[block.at].place
                 << ", \"offset\": " << race.address - memory_->block_begin[i] << ", \"size\": " << block.size << "}";
         out << ", \"earlier\": ";

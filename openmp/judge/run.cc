@@ -59,7 +59,7 @@ void Run::split(State &s, u32 also) {
 
 void Run::refuse(const char *rule, const char *step, const State &s, u32 other, const event &e) {
     if (fault.rule.empty())
-        fault = Fault{rule, step, s.actor, other, e.kind == END ? 0 : e.place, static_cast<u32>(now_ + 1)};
+        fault = Fault{rule, step, s.actor, other, e.place, static_cast<u32>(now_ + 1)};
 }
 
 void Run::take(std::size_t at) {
@@ -84,7 +84,7 @@ void Run::access(std::size_t at, const event &e) {
     if (s.pending != NONE)
         return refuse("Undeferred", e.kind == READ ? "reads" : "writes", s, s.pending, e);
     segment_of[at] = s.segment;
-    locks_of[at] = !s.reduced.empty() ? locks_with_reduced(s, e) : region_copies_.empty() ? s.locks : locks_with_copy(s, e);
+    locks_of[at] = region_copies_.empty() ? s.locks : locks_with_copy(s, e);
     chain_of[at] = s.callers;
     if (s.reduction != NONE && e.kind == WRITE && !(e.mark & FREED)) {
         reductions[s.reduction].actor = s.actor;
@@ -105,15 +105,6 @@ u32 Run::locks_with_copy(const State &s, const event &e) {
     return is_in ? locks.with(s.locks, copy->first, false) : s.locks;
 }
 
-// Where the runtime gives tasks no copies, the reduction keeps apart what they do to the variable itself, and nothing else.
-u32 Run::locks_with_reduced(const State &s, const event &e) {
-    u32 found = s.locks;
-    for (const auto &variable : s.reduced)
-        if (e.address - variable.first < variable.second)
-            found = locks.with(found, variable.first, false);
-    return found;
-}
-
 // What is read under a lock or by an atomic operation may be another value for each thread.
 void Run::part_ways(const State &s, std::size_t at) {
     actors[s.actor].parted = std::min(actors[s.actor].parted, at);
@@ -131,8 +122,8 @@ void Run::take_sync(std::size_t at, const event &e) {
         if (e.mark == STACK)
             forget_released(e);
         return;
-    case END:   // the stack is the other one's from here on
-        segment_of[at] = state(static_cast<u32>(e.place)).segment;
+    case END:
+        segment_of[at] = state_of(e).segment;
         return end(e);
     case RESUME: actors[state_of(e).actor].thread = trace.thread(at); return;
     case FULFIL: return fulfil(e);
@@ -251,18 +242,7 @@ void Run::finish() {
     for (const Region &region : regions)
         open_regions += region.is_ended ? 0 : 1;
     states_.clear();
-    find_outlived();
     graph_.finish();
-}
-
-// Who comes from an actor stands behind it.
-void Run::find_outlived() {
-    std::vector<std::size_t> last(actors.size(), 0);
-    for (std::size_t i = actors.size(); i-- > 1;) {
-        const std::size_t ended = actors[i].ended;
-        actors[i].is_outlived = last[i] > ended;
-        last[actors[i].parent] = std::max({last[actors[i].parent], last[i], actors[i].flags & Actor::IS_PART ? 0 : ended});
-    }
 }
 
 u32 Run::begin_of(u32 segment) const {

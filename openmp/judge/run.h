@@ -38,10 +38,8 @@ struct Actor {
     u32 start = NONE, end = NONE;   // nodes
     u32 unit = NONE;        // of a thread's share, in which it was made
     std::size_t made = 0;   // the event by which it was, or the region
-    std::size_t ended = ~std::size_t{0};    // the event at which it did
     std::size_t parted = ~std::size_t{0};   // the event from which on the threads of its team may go different ways
     bool is_started = false, is_ended = false, is_joined = false;
-    bool is_outlived = false;       // by some task of those that come from it
     std::vector<Item> items;
     std::vector<u32> waits;         // the siblings that its items make it wait for
 };
@@ -152,7 +150,6 @@ struct State {
     u32 masked_unit = NONE; // its first masked block
     std::map<std::array<u64, 3>, u32> static_units;     // in which it made tasks
     u32 unsettled = NONE;   // the last child, while its items come
-    std::vector<std::pair<u64, u64>> reduced;   // of what its group reduces it has no copies: address, size
     bool is_next_team_one = false;
     bool is_next_one = false;   // the next region has one thread by a clause
     bool is_one = false;        // so have those that no clause gives more, by the program's words
@@ -277,12 +274,10 @@ private:
     void note(const event &e);
     void copy(std::size_t at, const event &e);
     u32 locks_with_copy(const State &s, const event &e);
-    u32 locks_with_reduced(const State &s, const event &e);
     void access(std::size_t at, const event &e);
     void part_ways(const State &s, std::size_t at);
     Shared *next_shared(State &s);
     void finish();
-    void find_outlived();
 
     Graph graph_;
     std::vector<std::shared_ptr<State>> states_;   // 0 is the program's first thread, which others may stand for too

@@ -111,7 +111,7 @@ void Run::start(const event &e, u32 thread) {
     actor.thread = thread;
     s.segment = add_segment(s.actor, node, 0);
     if (actor.flags & Actor::IS_UNDEFERRED)
-        s.locks = parent.locks, s.reduced = parent.reduced;
+        s.locks = parent.locks;
 }
 
 // A task that a cancellation discards before it starts ends there, and whoever waits for it goes on.
@@ -140,7 +140,6 @@ void Run::end(const event &e) {
     settle_items(s);
     Actor &actor = actors[s.actor];
     actor.is_ended = true;
-    actor.ended = now_;
     actor.end = node_of(s);
     if (s.fulfilled != NONE) {
         actor.end = graph_.add(actor.end);

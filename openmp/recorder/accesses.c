@@ -339,19 +339,6 @@ void __tsan_init(void) {}
 void __tsan_ignore_thread_begin(void) {}
 void __tsan_ignore_thread_end(void) {}
 
-/* A task that shares what stands where its own stack begins has it of a function that has returned: it counts as a load, since
-   the task's own variables hide what it does there. Its pointers are the last in its record. */
-static void note_lost(struct own *own, const struct running *running, uint64_t top, uint64_t place) {
-    uint64_t end = running->record + running->size;
-    if (running->shared - running->record >= running->size)
-        return;
-    for (uint64_t at = running->shared; at < end; at += sizeof at) {
-        uint64_t shared = *(const uint64_t *)at;
-        if (shared - own->stack_low < top - own->stack_low)
-            write_down(own, READ, number_of_event(READ, 0), running->task, shared, number_at(shared, 1), offset_of(place), 1, 0);
-    }
-}
-
 /* The first function that a task enters shows where its part of the stack begins; all below is new to it. What a
    function has on the stack no other task knows of until the function meets the runtime. */
 void __tsan_func_entry(void *caller) {
@@ -366,7 +353,6 @@ void __tsan_func_entry(void *caller) {
     if (running->base)
         return;
     running->base = top;
-    note_lost(own, running, top, PLACE);
     struct event *start = own->next - 1;
     if (start != own->started) {
         taskback_new_memory(own, own->stack_low, top - own->stack_low, 0)->mark = STACK;

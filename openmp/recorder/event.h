@@ -9,8 +9,7 @@ enum kind {
     CREATE = 1,     /* task: the creator; address: the child; value: its flags; place: the directive */
     ITEM,           /* task: the child; address; value: the length; mark: the type's bits */
     START,          /* task; mark: STACK where address, value are its part of the stack, which is new */
-    END,            /* task; mark: STACK where address, value are its part of the stack, which from here on is that of the
-                       task whose number is place */
+    END,            /* task; mark: STACK where address, value are its part of the stack, which is new from here on */
     WAIT,           /* task: it has passed a taskwait */
     WAIT_ITEM,      /* task; the rest as of ITEM; in front of its WAIT_ITEMS */
     WAIT_ITEMS,     /* task: it has passed a taskwait with items */
@@ -26,11 +25,9 @@ enum kind {
                        their order it is one event: the size is that of all, the number that of the first; so it is of
                        a SET of elements, whose numbers aren't kept: the address is that of the first of 64 */
     WRITE,          /* the same; the number written */
-    MEMORY,         /* task; address, value: from here on this many bytes are new; place: who took them; mark: STACK, or BACK
-                       where they are a part of the stack that another task has left to this one */
+    MEMORY,         /* task; address, value: from here on this many bytes are new; place: who took them; mark: STACK */
     LOCK,           /* task; address: the lock; value: 1 where it is a reduction's; mark: SHARED, or REDUCES where the
-                       team's threads put their parts together there; without that it is a reduction's for the variable
-                       at that address alone */
+                       team's threads put their parts together there */
     UNLOCK,         /* task; address: the lock */
     NOTE,           /* task; value: one of enum note; place */
     COPY,           /* address: a thread's copy of a reduced variable; value: the variable; with a size, its own */
@@ -82,7 +79,7 @@ enum { ROW_SHIFT = 5 };
 /* Marks of a loop, of an iteration, of a release, of a lock that several may hold, and of a task's
    own part of a stack. */
 enum { LOOP_STATIC = 1, LOOP_ORDERED = 2, HANDED_OUT = 1, KEEPS = 1, GUARD = 2, NOTHING = 4, DOWN = 8, UP = 8, SHARED = 1,
-       REDUCES = 2, STACK = 1, BACK = 2, TEAMS = 1 };
+       REDUCES = 2, STACK = 1, TEAMS = 1 };
 
 /* 32 bytes: what is written is most of what recording costs. */
 struct event {

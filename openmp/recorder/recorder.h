@@ -34,7 +34,6 @@ struct running {
     uint8_t has_callers;       /* some of its accesses have callers that were written down */
     uint64_t base;
     uint64_t record, shared;   /* the runtime's record, and its pointers to what the task shares; 0: not known */
-    uint64_t size;             /* of the record */
     struct chain chain;
 };
 

@@ -41,41 +41,34 @@ static void push_task(struct own *own, uint32_t task, uint32_t prior, int is_unt
     if (own->depth < RUNNING_MOST) {
         uint64_t record = data && record_distance ? (uint64_t)data + record_distance : 0;
         uint64_t shared = record ? *(const uint64_t *)record : 0;
-        uint64_t size = record ? data->value >> SIZE_SHIFT : 0;
-        own->running[own->depth] = (struct running){task, prior, (uint8_t)is_untied, 0, 0, record, shared, size, {0}};
+        own->running[own->depth] = (struct running){task, prior, (uint8_t)is_untied, 0, 0, record, shared, {0}};
         own->quiet_record = record;
-        own->quiet_size = size;
+        own->quiet_size = record ? data->value >> SIZE_SHIFT : 0;
     } else {
         note(own, NOTE, task, 0, NOTE_DEEP, 0);
     }
     own->depth++;
 }
 
-/* What a task leaves: its part of the stack, 0 where it had none, and to whom. */
-struct left {
-    uint64_t size;
-    uint32_t prior;
-};
-
-static struct left drop_task(struct own *own, uint32_t task) {
+/* The task's part of the stack, which is free from here on; 0 where it had none. */
+static uint64_t drop_task(struct own *own, uint32_t task) {
     if (own->depth == 0)
-        return (struct left){0, own->task};
+        return 0;
     if (own->depth > RUNNING_MOST) {
         own->depth--;
-        return (struct left){0, own->task};
+        return 0;
     }
     struct running *top = &own->running[own->depth - 1];
     if (top->task != task)
-        return (struct left){0, own->task};
+        return 0;
     own->depth--;
-    return (struct left){top->base ? top->base - own->stack_low : 0, top->prior};
+    return top->base ? top->base - own->stack_low : 0;
 }
 
 void taskback_pop_task(struct own *own, uint32_t task) {
-    struct left left = drop_task(own, task);
-    own->task = left.prior;
-    if (left.size)
-        taskback_new_memory(own, own->stack_low, left.size, 0)->mark = BACK;
+    uint64_t size = drop_task(own, task);
+    if (size)
+        taskback_new_memory(own, own->stack_low, size, 0);
 }
 
 /* The size of the record that the creator has filled for the child; 0 where it isn't known. */
@@ -118,18 +111,9 @@ static void on_create(ompt_data_t *creator, const ompt_frame_t *frame, ompt_data
     own->item_count = own->more_count = 0;
 }
 
-/* What a task that has started has in its record ends with it. */
-static void end_record(struct own *own, const ompt_data_t *data) {
-    uint64_t size = data->value >> SIZE_SHIFT, kept = size > RECORD_HEAD ? size - RECORD_HEAD : 0;
-    if (kept && record_distance && data->value & STARTED)
-        write_down(own, WRITE, number_of_event(WRITE, FREED | FRAME), number_of(data), (uint64_t)data + record_distance + RECORD_HEAD,
-                   kept, 0, LARGE, FREED | FRAME | OUTERMOST);
-}
-
-static void finish(struct own *own, uint32_t task, struct left left) {
+static void finish(struct own *own, uint32_t task, uint64_t stack) {
     begin_part(own);
-    write_down(own, END, number_of_event(END, 0), task, left.size ? own->stack_low : 0, left.size, (int32_t)left.prior, 0,
-               left.size ? STACK : 0);
+    note(own, END, task, stack ? own->stack_low : 0, stack, 0)->mark = stack ? STACK : 0;
 }
 
 static int runs_here(const struct own *own, uint32_t task) {
@@ -158,14 +142,11 @@ static void go_on(struct own *own, ompt_data_t *next, uint32_t before) {
 
 static void on_schedule(ompt_data_t *prior, ompt_task_status_t status, ompt_data_t *next) {
     struct own *own = own_state();
-    int is_known = !own->quiet_size;    /* others may know of what is in the task's record */
     begin_loud_part(own);
     uint32_t before = number_of(prior), met = own->task;
     switch (status) {
     case ompt_task_complete:
     case ompt_task_cancel:
-        if (is_known)
-            end_record(own, prior);
         finish(own, before, drop_task(own, before));
         break;
     case ompt_task_detach:
@@ -173,7 +154,7 @@ static void on_schedule(ompt_data_t *prior, ompt_task_status_t status, ompt_data
         break;
     case ompt_task_late_fulfill:
         note(own, FULFIL, own->task, before, 0, 0);
-        finish(own, before, (struct left){0, own->task});
+        finish(own, before, 0);
         return;
     case ompt_task_early_fulfill:
         note(own, FULFIL, own->task, before, 0, 0);
@@ -246,9 +227,7 @@ static void on_implicit(ompt_scope_endpoint_t end, ompt_data_t *region, ompt_dat
     struct own *own = own_state();
     begin_loud_part(own);
     if (end == ompt_scope_end) {
-        struct left left = drop_task(own, number_of(task));
-        if (left.size)
-            taskback_new_memory(own, own->stack_low, left.size, 0);
+        taskback_pop_task(own, number_of(task));
         return;
     }
     uint32_t before = own->task;

@@ -21,7 +21,7 @@ enum { HAS_PRIORITY = 0x20 };
 void *__wrap___kmpc_omp_task_alloc(void *at, int32_t thread, int32_t flags, size_t size, size_t shared, void *entry) {
     void *record = __real___kmpc_omp_task_alloc(at, thread, flags, size, shared, entry);
     struct own *own = own_state();
-    taskback_fill_record(own, (uint64_t)record, (size + 7) / 8 * 8 + shared);
+    taskback_fill_record(own, (uint64_t)record, (size + 15) / 8 * 8 + shared);
     if (flags & HAS_PRIORITY)
         taskback_note(own, NOTE, own->task, 0, NOTE_PRIORITY, PLACE);
     if (!taskback_has_tool)

@@ -128,7 +128,6 @@ class Run:
         self._implicit: dict[int, tuple[Region, int]] = {}     # number: (region, phase)
         self._busy: set[int] = set()   # the numbers that have touched memory since their last barrier
         self._locks: dict[int, frozenset[int]] = {}
-        self._reduced: dict[int, list[int]] = {}
         self._wait_items: dict[int, list[tuple[int, int]]] = {}
         self._blocks: dict[int, int] = {}      # the sizes of blocks, by their addresses
         self._sizes: dict[int, int] = {}
@@ -253,7 +252,7 @@ class Run:
             return      # a thread's share of a region ends, behind its last barrier
         if not event.mark & t.FRAME:
             self._busy.add(task)
-        actor, locks = self._now.get(task, self.root), self._locks.get(task, NO_LOCKS) | self._reductions_of(event)
+        actor, locks = self._now.get(task, self.root), self._locks.get(task, NO_LOCKS)
         whose = event.task, event.place
         if event.mark & t.FREED and event.size == 0:
             event = event._replace(size=t.LARGE, value=self._blocks.get(event.address, 1))
@@ -261,15 +260,8 @@ class Run:
             self._numbers[whose] = event.value
         self.accesses += [Access(element, actor, locks) for element in elements(event, self._numbers.get(whose, 0))]
 
-    def _reductions_of(self, event: t.Event) -> frozenset[int]:
-        """What keeps apart the tasks that have no copies of a reduced variable, where the event touches it."""
-        return frozenset(item for item in self._reduced.get(event.task, ()) if 0 <= event.address - item < self._sizes.get(item, 8))
-
     def _lock(self, event: t.Event) -> None:
         self.counts["reductions" if event.value else "critical sections and locks"] += 1
-        if event.value and event.mark != t.REDUCES:
-            self._reduced.setdefault(event.task, []).append(event.address)
-            return
         self._locks[event.task] = self._locks.get(event.task, NO_LOCKS) | {event.address}
 
     def _unlock(self, event: t.Event) -> None:

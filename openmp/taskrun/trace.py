@@ -41,8 +41,8 @@ NOTES = ("", "reductions", "detach clauses", "priority clauses", "cancellations"
          "calls that ask for the thread's number", "teams of one thread by the program", "runs without OMPT",
          "pieces without room", "processes that were forked", "words that regions have one thread from there on",
          "words that regions have more threads from there on", "leagues of one team by the program")
-ATOMIC, FREED, LIBRARY, FRAME, OUTERMOST, STACK, REDUCES, ROW_SHIFT, LARGE, SET = numbers(
-    "ATOMIC FREED LIBRARY FRAME OUTERMOST STACK REDUCES ROW_SHIFT LARGE SET")
+ATOMIC, FREED, LIBRARY, FRAME, OUTERMOST, STACK, ROW_SHIFT, LARGE, SET = numbers(
+    "ATOMIC FREED LIBRARY FRAME OUTERMOST STACK ROW_SHIFT LARGE SET")
 MARKS = (1 << ROW_SHIFT) - 1
 WRITES = 32      # of a step: the program writes there, be the step a load or a store
 UNDEFERRED, FINAL = 0x8000000, 0x20000000

@@ -13,8 +13,6 @@ OF_THREADS = ("loop_", "team_", "masked", "barrier_", "single_nowait", "thread_"
 OF_LEAGUES = ("teams", "simd")
 # Ordered by atomic operations, which a session has no word for.
 BY_ATOMICS = ("static_guard",)
-# A session has another cell for what a task uses of one that has ended.
-OF_ENDED = ("ended_task_race",)
 
 
 @support.needs_clang
@@ -23,7 +21,7 @@ class Agreement(support.Recorded):
     def test_examples(self):
         compared = 0
         for name in sorted(os.listdir(support.EXAMPLES)):
-            if name.startswith(OF_THREADS + OF_LEAGUES + BY_ATOMICS + OF_ENDED):
+            if name.startswith(OF_THREADS + OF_LEAGUES + BY_ATOMICS):
                 continue
             with self.subTest(example=name):
                 compared += self.compare(name)
