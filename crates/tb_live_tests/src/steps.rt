@@ -101,6 +101,25 @@ fn ends_and_fills(rt: HostRuntime) {
     mem::forget(live);
 }
 
+/// A journal that may have no more entries takes no step, and takes one where it may have one more.
+#[test]
+fn a_limit_is_set(rt: HostRuntime) {
+    let mut live = opened(rt.alloc(), STORED, 12).expect(&rt, "an accepted program");
+    step_root(&rt, &mut live, &[100, 100]);
+    live.journal_is_sound();
+    let entries = live.journal().len() as u32;
+    live.set_limit(entries);
+    assert!(rt; live.is_full());
+    step_root(&rt, &mut live, &[7]);
+    live.journal_is_sound();
+    let limit = live.limit();
+    assert!(rt; limit < 1_000_000);
+    live.set_limit(limit + 1);
+    step_root(&rt, &mut live, &[100, 7]);
+    assert_eq!(rt; live.cells(), [7].as_slice());
+    mem::forget(live);
+}
+
 /// The task that a refusal names.
 fn named(refusal: &StepRefusal) -> Option<&TaskName> {
     match refusal {
