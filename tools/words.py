@@ -18,7 +18,7 @@ from typing import Iterator, NamedTuple
 TOP = os.path.dirname(os.path.dirname(os.path.abspath(__file__)))
 READING = ("tb_model", "tb_read", "tb_plan", "tb_commands", "tb_plain")
 TABLES = ("tb_store", "tb_cells", "tb_depend", "tb_excl", "tb_wait", "tb_ready", "tb_undo")
-HISTORY = ("tb_places", "tb_core", "tb_cause", "tb_order", "tb_roll", "tb_races")
+HISTORY = ("tb_places", "tb_steps", "tb_core", "tb_cause", "tb_lanes", "tb_order", "tb_roll", "tb_races")
 RUN = ("tb_journal", "tb_control", "tb_next", "tb_live", "tb_work", "tb_team")
 
 # How often an identifier is in each file, with the crate of the file.

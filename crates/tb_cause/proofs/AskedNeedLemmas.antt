@@ -12,19 +12,19 @@ use Rattle.tb_model.specs.Facts.{is_end, is_of, ends}
 use Rattle.tb_model.specs.Needs.{needs}
 use Rattle.tb_model.proofs.AlikeLemmas.{any_same}
 use Rattle.tb_model.proofs.TestLemmas.{same_refl}
-use Rattle.tb_core.specs.Entries.{Entry}
-use Rattle.tb_core.specs.Scans.{AreLegal, history_of}
-use Rattle.tb_core.proofs.ScanLemmas.{history_cut}
+use Rattle.tb_steps.specs.Entries.{Entry}
+use Rattle.tb_steps.specs.Scans.{AreLegal, history_of}
+use Rattle.tb_steps.proofs.ScanLemmas.{history_cut}
 use Rattle.tb_cause.specs.Asked.{AreAskedAt, asks, gives_any}
 use Rattle.tb_cause.specs.Chains.{placed_at}
 use Rattle.tb_cause.specs.Indexes.{items_told}
 use Rattle.tb_cause.specs.Keys.{Key, gives, takes_any}
 use Rattle.tb_cause.proofs.AskedLemmas.{given_one_by_one}
 use Rattle.tb_cause.proofs.CauseLemmas.{placed_pushed}
-use Rattle.tb_cause.proofs.ConeLemmas.{there}
 use Rattle.tb_cause.proofs.KeyLemmas.{any_or, any_none, takes_same, takes_more, takes_none}
 use Rattle.tb_cause.proofs.KeyNeedLemmas.{any_same_in}
 use Rattle.tb_cause.proofs.KeyedLemmas.{all_weaker, told_by_keys, EndsIn}
+use Rattle.tb_steps.proofs.FirstLemmas.{there}
 
 -- ---- what is taken by some of several
 

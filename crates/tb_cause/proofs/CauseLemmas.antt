@@ -15,13 +15,13 @@ use Rattle.tb_model.specs.Needs.{needs, step_of}
 use Rattle.tb_laws.proofs.CausesLemmas.{one_pass}
 use Rattle.tb_model.proofs.LeastLemmas.{later_not_step}
 use Rattle.tb_model.proofs.RemovalLemmas.{its_step}
-use Rattle.tb_core.specs.Entries.{Entry}
-use Rattle.tb_core.specs.Scans.{history_of, step_at}
-use Rattle.tb_core.proofs.FirstLemmas.{step_read}
-use Rattle.tb_core.proofs.ScanLemmas.{history_cut, history_more}
+use Rattle.tb_steps.specs.Entries.{Entry}
+use Rattle.tb_steps.specs.Scans.{history_of, step_at}
+use Rattle.tb_steps.proofs.FirstLemmas.{some_same, step_read, there}
+use Rattle.tb_steps.proofs.ScanLemmas.{history_cut, history_more}
 use Rattle.tb_cause.specs.Asked.{AreCausesAt}
 use Rattle.tb_cause.specs.Chains.{causes_of, placed_at}
-use Rattle.tb_cause.proofs.ConeLemmas.{there, some_same, somes_same}
+use Rattle.tb_cause.proofs.ConeLemmas.{somes_same}
 
 -- ---- the pass asks only whether one of those found needs the next
 

@@ -2,15 +2,16 @@
 use Rattle.std.proofs.Common.{◌≡◌, ◌<◌, ◌≤◌, ◌+◌, ◌-◌, ℕ, List, [], ◌∷◌, ◌++◌, Bool, true, false, ◌||◌, length, take, get_or, refl, sym, ap, ◌∙◌, subst, arith}
 use Rattle.std.specs.List.{All, AllByRecursion}
 use Rattle.tb_model.specs.Causes.{some_needs}
-use Rattle.tb_core.specs.Entries.{Entry}
-use Rattle.tb_core.specs.Scans.{AreLegal, history_of}
+use Rattle.tb_steps.specs.Entries.{Entry}
+use Rattle.tb_steps.specs.Scans.{AreLegal, history_of}
 use Rattle.tb_cause.specs.Asked.{AreAskedAt, asks, gives_any}
 use Rattle.tb_cause.specs.Chains.{placed_at}
 use Rattle.tb_cause.specs.Indexes.{items_told}
 use Rattle.tb_cause.specs.Keys.{Key}
 use Rattle.tb_cause.proofs.AskedNeedLemmas.{IsToldByKeys, told_first, told_more, told_on, asked_is_needed, asked_more}
 use Rattle.tb_cause.proofs.CauseLemmas.{IsFound, one_more, passed_by}
-use Rattle.tb_cause.proofs.ConeLemmas.{there, all_pushed}
+use Rattle.tb_cause.proofs.ConeLemmas.{all_pushed}
+use Rattle.tb_steps.proofs.FirstLemmas.{there}
 
 -- what the pass knows when it has come down to left: these are found, and f are their keys and the step's own
 pub record IsPassed (entries : List Entry) (at left : ℕ) (places : List ℕ) (f : Key → Bool) : Type 0 where

@@ -15,12 +15,11 @@ use Rattle.tb_model.proofs.FactsLemmas.{own_mine}
 use Rattle.tb_model.proofs.LeastLemmas.{gone_here}
 use Rattle.tb_model.proofs.RemovalLemmas.{own_grows, removed_none}
 use Rattle.tb_model.proofs.TestLemmas.{same_refl}
-use Rattle.tb_core.specs.Entries.{Entry}
+use Rattle.tb_steps.specs.Entries.{Entry, departure}
 use Rattle.tb_core.specs.Rolled.{removed_places, removed_steps}
-use Rattle.tb_core.specs.Scans.{history_of, step_at}
-use Rattle.tb_core.specs.Soundness.{departure}
-use Rattle.tb_core.proofs.FirstLemmas.{step_read}
-use Rattle.tb_core.proofs.ScanLemmas.{history_more}
+use Rattle.tb_steps.specs.Scans.{history_of, step_at}
+use Rattle.tb_steps.proofs.FirstLemmas.{some_same, step_read, there}
+use Rattle.tb_steps.proofs.ScanLemmas.{count_front, history_more}
 use Rattle.tb_cause.specs.declared.cone.Cone.{Cone}
 use Rattle.tb_cause.specs.Chains.{AreAllFound, IsCone, events_at}
 
@@ -39,12 +38,6 @@ events_pushed entries [] p e within here =
 events_pushed entries (q ∷ places) p e within here =
     let before = map (λ (x : Entry). x.event) (option_to_list (slice_get entries q)) in
     ap (λ H. before ++ H) (events_pushed entries places p e within here) ∙ sym (append_assoc before (events_at entries places) (e.event ∷ []))
-
--- there are as many events in front of a place as its number
-pub count_front : (entries : List Entry) (at : ℕ) → at ≤ length entries → length (history_of (take at entries)) ≡ at
-count_front entries at h =
-    length-map (map departure (reverse (take at entries))) (λ (d : Departure). d.event) ∙ length-map (reverse (take at entries)) departure
-    ∙ length-reverse (take at entries) ∙ length-take-le at entries h
 
 -- in front of the step nothing goes
 pub none_in_front : (e : StepId) (H : History) → removed e H ≡ [] → (removed_places e H ≡ []) × (removed_steps e H ≡ [])
@@ -92,12 +85,6 @@ module _ (entries : List Entry) (at : ℕ) (u : Entry) (within : at < length ent
 
       events_are : u.event ∷ [] ≡ reverse (removed itself (u.event ∷ F))
       events_are = sym (ap₂ (λ b R. reverse (prepend_if b u.event R)) g none)
-
-pub some_same : {A : Type 0} (x y : A) → ◌≡◌ {A = Option A} (Some x) (Some y) → x ≡ y
-some_same x y e = cc
-
-pub there : (entries : List Entry) (at : ℕ) → at < length entries → (e : Entry) × (e ≡ get_or entries at e)
-there entries at within = ⊎_elim (λ found. (found.0, sym found.3)) (λ past. absurd (omega (arith, past.0))) (slice_get_cases entries at).1
 
 -- an entry is read alike whatever stands for none
 pub one_entry : (entries : List Entry) (at : ℕ) (d e : Entry) → at < length entries → d ≡ get_or entries at d → e ≡ get_or entries at e → get_or entries at d ≡ e

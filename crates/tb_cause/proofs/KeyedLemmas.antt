@@ -15,10 +15,10 @@ use Rattle.tb_model.specs.Needs.{needs, is_removed, removed}
 use Rattle.tb_model.proofs.NeighboursLemmas.{legal_below}
 use Rattle.tb_model.proofs.SettledLemmas.{items_settled}
 use Rattle.tb_model.proofs.TestLemmas.{any_weaker, same_refl, same_true}
-use Rattle.tb_core.specs.Entries.{Entry}
-use Rattle.tb_core.specs.Scans.{AreLegal, history_of}
+use Rattle.tb_steps.specs.Entries.{Entry}
+use Rattle.tb_steps.specs.Scans.{AreLegal, history_of}
 use Rattle.tb_model.proofs.StateLemmas.{items_of_spawn}
-use Rattle.tb_core.proofs.ScanLemmas.{history_cut, history_more}
+use Rattle.tb_steps.proofs.ScanLemmas.{history_cut, history_more}
 use Rattle.tb_cause.specs.Chains.{AreGivenAt, events_at}
 use Rattle.tb_cause.specs.Indexes.{items_told}
 use Rattle.tb_cause.specs.Keys.{Key, Within, IsUpward, gives, takes_any}

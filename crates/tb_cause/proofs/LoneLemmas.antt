@@ -14,15 +14,15 @@ use Rattle.tb_model.specs.Legal.{Continues}
 use Rattle.tb_model.specs.Needs.{needs}
 use Rattle.tb_model.specs.State.{spawn_of}
 use Rattle.tb_model.proofs.FactsLemmas.{no_acts, not_again, spawned_by}
-use Rattle.tb_core.specs.Entries.{Entry}
-use Rattle.tb_core.specs.Scans.{AreLegal, history_of}
+use Rattle.tb_steps.specs.Entries.{Entry}
+use Rattle.tb_steps.specs.Scans.{AreLegal, history_of}
 use Rattle.tb_cause.specs.Indexes.{placed_action, items_told}
 use Rattle.tb_cause.specs.Keys.{Key, Task, gives, held_by, held_any, action_any, wait_any, items_any, item_any}
 use Rattle.tb_cause.specs.Nearest.{IsReach}
 use Rattle.tb_cause.proofs.AskedNeedLemmas.{told_at}
-use Rattle.tb_cause.proofs.ConeLemmas.{some_same, there}
 use Rattle.tb_cause.proofs.KeyedLemmas.{legal_here}
 use Rattle.tb_cause.proofs.NearestLemmas.{at_one, cut_at}
+use Rattle.tb_steps.proofs.FirstLemmas.{some_same, there}
 
 -- what generates a task is a spawn of it
 spawn_found : (t : Name) (H : History) (a : Action) → spawn_of t H ≡ Some a → is_spawn_of t a ≡ true

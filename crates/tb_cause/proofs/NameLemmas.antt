@@ -7,12 +7,11 @@ use Rattle.tb_model.specs.Names.{Name, same_name}
 use Rattle.tb_model.specs.Facts.{History, own, is_of, prepend_if}
 use Rattle.tb_model.specs.Needs.{step_of}
 use Rattle.tb_model.proofs.TestLemmas.{same_true}
-use Rattle.tb_core.specs.Entries.{Entry}
-use Rattle.tb_core.specs.Scans.{history_of, step_at}
-use Rattle.tb_core.proofs.FirstLemmas.{step_read}
-use Rattle.tb_core.proofs.ScanLemmas.{history_more}
+use Rattle.tb_steps.specs.Entries.{Entry}
+use Rattle.tb_steps.specs.Scans.{history_of, step_at}
+use Rattle.tb_steps.proofs.FirstLemmas.{some_same, step_read}
+use Rattle.tb_steps.proofs.ScanLemmas.{count_front, history_more}
 use Rattle.tb_cause.specs.Indexes.{AreNumbers}
-use Rattle.tb_cause.proofs.ConeLemmas.{some_same, count_front}
 
 -- one step more
 pub named_more : (entries : List Entry) (places : List ℕ) (i d : ℕ) (steps steps' : List StepId) (id : StepId) → i < length places → map (λ (s : StepId). Some s) steps ≡ map (step_at entries) (take i places)

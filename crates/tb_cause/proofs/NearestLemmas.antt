@@ -11,15 +11,16 @@ use Rattle.tb_model.specs.Causes.{Placed, some_needs}
 use Rattle.tb_model.specs.Closure.{Needs, directly, by_way}
 use Rattle.tb_model.specs.Needs.{needs, step_of}
 use Rattle.tb_model.proofs.LeastLemmas.{complete}
-use Rattle.tb_core.specs.Entries.{Entry}
-use Rattle.tb_core.specs.Scans.{history_of}
-use Rattle.tb_core.proofs.ScanLemmas.{history_cut, history_more}
+use Rattle.tb_steps.specs.Entries.{Entry}
+use Rattle.tb_steps.specs.Scans.{history_of}
+use Rattle.tb_steps.proofs.ScanLemmas.{count_front, history_cut, history_more}
 use Rattle.tb_races.specs.Immediate.{as_cause, cause, needs_by_way}
 use Rattle.tb_races.specs.Kinds.{need_kind}
 use Rattle.tb_races.proofs.ImmediateLemmas.{by_test}
 use Rattle.tb_races.proofs.KindLemmas.{kind_some}
 use Rattle.tb_cause.specs.Nearest.{nearest, IsFound, AreFound}
-use Rattle.tb_cause.proofs.ConeLemmas.{there, count_front, one_entry}
+use Rattle.tb_cause.proofs.ConeLemmas.{one_entry}
+use Rattle.tb_steps.proofs.FirstLemmas.{there}
 
 -- ---- the links of a chain of needs
 

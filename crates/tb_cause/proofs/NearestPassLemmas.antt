@@ -8,8 +8,8 @@ use Rattle.tb_model.specs.Names.{Name}
 use Rattle.tb_model.specs.Facts.{History, own}
 use Rattle.tb_model.specs.Causes.{Placed, some_needs}
 use Rattle.tb_model.specs.Needs.{needs}
-use Rattle.tb_core.specs.Entries.{Entry}
-use Rattle.tb_core.specs.Scans.{AreLegal, history_of}
+use Rattle.tb_steps.specs.Entries.{Entry}
+use Rattle.tb_steps.specs.Scans.{AreLegal, history_of}
 use Rattle.tb_races.specs.Immediate.{cause}
 use Rattle.tb_cause.specs.Asked.{AreAskedAt, asks, gives_any}
 use Rattle.tb_cause.specs.Chains.{placed_at}
@@ -19,8 +19,8 @@ use Rattle.tb_cause.specs.Nearest.{nearest, AreNearest, IsReach, AreFound, AreSo
 use Rattle.tb_cause.proofs.AnsweredLemmas.{answered_given}
 use Rattle.tb_cause.proofs.AskedNeedLemmas.{IsToldByKeys, asked_is_needed, asked_more, told_first, told_at, told_more, told_on}
 use Rattle.tb_cause.proofs.CauseLemmas.{placed_pushed}
-use Rattle.tb_cause.proofs.ConeLemmas.{there}
 use Rattle.tb_cause.proofs.NearestLemmas.{found_none, found_more, found_on, is_near, no_need, by_others, near_none, near_past, near_put}
+use Rattle.tb_steps.proofs.FirstLemmas.{there}
 
 or_none : (b : Bool) → (b || false) ≡ b
 or_none true = refl

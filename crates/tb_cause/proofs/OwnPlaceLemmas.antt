@@ -6,10 +6,9 @@ use Rattle.tb_model.specs.Names.{Name}
 use Rattle.tb_model.specs.Lines.{events_of}
 use Rattle.tb_model.specs.Facts.{is_of}
 use Rattle.tb_places.specs.Where.{places_where}
-use Rattle.tb_core.specs.Entries.{Entry}
+use Rattle.tb_steps.specs.Entries.{Entry, departure}
 use Rattle.tb_core.specs.Renumbering.{events_in}
 use Rattle.tb_core.specs.Seen.{Seen, history}
-use Rattle.tb_core.specs.Soundness.{departure}
 use Rattle.tb_core.proofs.IndexLemmas.{from_oldest}
 
 pub lent : (es : List Entry) (s : Seen) (p : Event → Bool) (found : List ℕ) → map departure (reverse es) ≡ s.steps → found ≡ places_where p (reverse (history s)) → found ≡ places_where p (events_in es)

@@ -16,15 +16,16 @@ use Rattle.tb_model.specs.Facts.{History, own, groups, innermost, holds, is_end,
 use Rattle.tb_model.specs.Legal.{Legal}
 use Rattle.tb_model.proofs.FactsLemmas.{AreChildren, first_children, group_children, held_child}
 use Rattle.tb_model.proofs.TestLemmas.{any_weaker, same_refl, same_true}
-use Rattle.tb_core.specs.Entries.{Entry}
+use Rattle.tb_steps.specs.Entries.{Entry}
 use Rattle.tb_core.specs.Lending.{IsNoneBetween}
-use Rattle.tb_core.specs.Scans.{AreLegal, history_of}
+use Rattle.tb_steps.specs.Scans.{AreLegal, history_of}
 use Rattle.tb_cause.specs.Chains.{AreGivenAt, events_at}
 use Rattle.tb_cause.specs.Indexes.{items_told}
 use Rattle.tb_cause.specs.Keys.{Key, Task, Ended, Parent, Within, Item, Stored, Touched, Printed, held_by, held_any, action_any, wait_any, place_any, kind_any, item_any, items_any, kinds, kind_number, comes_behind, gives, takes_any}
 use Rattle.tb_cause.specs.Skipping.{ArePassed, AreParentsPassed, AreTouchesPassed, HasNoItems, LeavesOut}
-use Rattle.tb_cause.proofs.ConeLemmas.{Found, found_same, there}
+use Rattle.tb_cause.proofs.ConeLemmas.{Found, found_same}
 use Rattle.tb_cause.proofs.KeyedLemmas.{legal_here, taken_is_needed}
+use Rattle.tb_steps.proofs.FirstLemmas.{there}
 
 -- ---- what is given together
 

@@ -5,14 +5,14 @@ use Rattle.tb_model.specs.Names.{Name}
 use Rattle.tb_model.specs.Facts.{IsSpawned, own, is_of, is_spawn_of, prepend_if}
 use Rattle.tb_model.specs.State.{spawn_of}
 use Rattle.tb_model.proofs.FactsLemmas.{own_other}
-use Rattle.tb_core.specs.Entries.{Entry}
+use Rattle.tb_steps.specs.Entries.{Entry}
 use Rattle.tb_core.specs.Lending.{IsLast, IsNoneBetween}
-use Rattle.tb_core.specs.Scans.{AreLegal, history_of}
+use Rattle.tb_steps.specs.Scans.{AreLegal, history_of}
 use Rattle.tb_core.proofs.LendingLemmas.{spawned_in}
-use Rattle.tb_core.proofs.ScanLemmas.{history_more}
+use Rattle.tb_steps.proofs.ScanLemmas.{history_more}
 use Rattle.tb_cause.specs.Indexes.{placed_action}
 use Rattle.tb_cause.specs.Keys.{held_by}
-use Rattle.tb_cause.proofs.ConeLemmas.{there}
+use Rattle.tb_steps.proofs.FirstLemmas.{there}
 
 -- where none of the entries from a place on is the task's, it has the actions that it had there
 own_stays : (entries : List Entry) (t : Name) (from k : ℕ) → from + k ≤ length entries → IsNoneBetween (is_of t) entries from (from + k)

@@ -5,10 +5,10 @@ use Rattle.tb_model.specs.declared.item.Item.{Item as AnItem}
 use Rattle.tb_model.specs.Names.{Name, same_name}
 use Rattle.tb_model.specs.Facts.{History, is_of}
 use Rattle.tb_model.proofs.TestLemmas.{same_refl, same_true}
-use Rattle.tb_core.specs.Entries.{Entry}
+use Rattle.tb_steps.specs.Entries.{Entry}
 use Rattle.tb_cause.specs.Asked.{asks, same_key}
 use Rattle.tb_cause.specs.Keys.{Key, Task, Ended, Parent, Within, Item, Stored, Touched, Printed, IsOfTask, gives, own_key}
-use Rattle.tb_cause.proofs.ConeLemmas.{there}
+use Rattle.tb_steps.proofs.FirstLemmas.{there}
 
 -- two entries of one task
 pub of_same_task : (entries : List Entry) (p q : ℕ) (f : Key → Bool) (b : Bool) → p < length entries → IsOfTask entries p f b

@@ -11,8 +11,8 @@ use Rattle.tb_model.specs.declared.place.Place.TheVariants.{Cell, All as Everywh
 use Rattle.tb_model.specs.declared.step_id.StepId.{StepId}
 use Rattle.tb_model.specs.Names.{Name, same_name}
 use Rattle.tb_model.specs.Facts.{History, is_end}
-use Rattle.tb_core.specs.Entries.{Entry}
-use Rattle.tb_core.specs.Scans.{history_of, step_at}
+use Rattle.tb_steps.specs.Entries.{Entry}
+use Rattle.tb_steps.specs.Scans.{history_of, step_at}
 use Rattle.tb_cause.specs.Chains.{causes_of, placed_at}
 use Rattle.tb_cause.specs.Indexes.{items_told}
 use Rattle.tb_cause.specs.Keys.{Key, Task, Ended, Parent, Within, Item, Stored, Touched, Printed, kind_number, item_any, takes_any}

@@ -7,9 +7,9 @@ use Rattle.tb_model.specs.Facts.{History, prepend_if}
 use Rattle.tb_model.specs.Causes.{Placed, causes}
 use Rattle.tb_model.specs.Needers.{is_needer}
 use Rattle.tb_model.specs.Needs.{is_step, step_of}
-use Rattle.tb_core.specs.Entries.{Entry}
+use Rattle.tb_steps.specs.Entries.{Entry}
 use Rattle.tb_core.specs.Rolled.{removed_places, removed_steps}
-use Rattle.tb_core.specs.Scans.{history_of, step_at}
+use Rattle.tb_steps.specs.Scans.{history_of, step_at}
 use Rattle.tb_cause.specs.declared.cone.Cone.{Cone}
 use Rattle.tb_cause.specs.Indexes.{items_told}
 use Rattle.tb_cause.specs.Keys.{Key, gives}

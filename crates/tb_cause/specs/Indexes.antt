@@ -6,8 +6,8 @@ use Rattle.tb_model.specs.declared.item.Item.{Item}
 use Rattle.tb_model.specs.declared.step_id.StepId.{StepId}
 use Rattle.tb_model.specs.Names.{Name, same_name}
 use Rattle.tb_model.specs.State.{spawn_of, items_in}
-use Rattle.tb_core.specs.Entries.{Entry}
-use Rattle.tb_core.specs.Scans.{history_of, step_at}
+use Rattle.tb_steps.specs.Entries.{Entry}
+use Rattle.tb_steps.specs.Scans.{history_of, step_at}
 
 -- the action at a place, if there is one
 abbrev pub placed_action : List Entry → Option ℕ → Option Action

@@ -14,7 +14,7 @@ use Rattle.tb_model.specs.declared.place.Place.TheVariants.{Cell, All}
 use Rattle.tb_model.specs.Names.{Name, same_name, is_child, is_within}
 use Rattle.tb_model.specs.Facts.{History, own, groups, innermost, is_end, is_print, is_store_to, touches, is_spawn_of}
 use Rattle.tb_model.specs.Items
-use Rattle.tb_core.specs.Entries.{Entry}
+use Rattle.tb_steps.specs.Entries.{Entry}
 use Rattle.tb_cause.specs.declared.keys.Keys.{Keys}
 
 -- a step or the spawn of a task, its end, the end of a child of it, the end of it or of one below it, the end of a child with an

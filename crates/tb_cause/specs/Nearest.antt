@@ -10,8 +10,8 @@ use Rattle.tb_model.specs.Facts.{History, prepend_if}
 use Rattle.tb_model.specs.Causes.{Placed, some_needs}
 use Rattle.tb_model.specs.Closure.{Needs}
 use Rattle.tb_model.specs.Needs.{needs}
-use Rattle.tb_core.specs.Entries.{Entry}
-use Rattle.tb_core.specs.Scans.{history_of}
+use Rattle.tb_steps.specs.Entries.{Entry}
+use Rattle.tb_steps.specs.Scans.{history_of}
 use Rattle.tb_races.specs.Immediate.{cause}
 use Rattle.tb_cause.specs.Chains.{placed_at}
 use Rattle.tb_cause.specs.Keys.{Key, Task, Parent, Stored, Touched, Printed}

@@ -3,8 +3,8 @@
 ghost use Rattle.std.specs.Prelude.{◌≡◌, ◌<◌, length, take, get_or};
 ghost use Rattle.std.specs.Option.{option_copied};
 ghost use Rattle.tb_model.specs.Facts.{own};
-ghost use Rattle.tb_core.specs.Entries.{Entry as AnEntry};
-ghost use Rattle.tb_core.specs.Scans.{history_of};
+ghost use Rattle.tb_steps.specs.Entries.{Entry as AnEntry};
+ghost use Rattle.tb_steps.specs.Scans.{history_of};
 ghost use Rattle.tb_cause.specs.Keys.{has, held_by};
 ghost use Rattle.tb_cause.specs.Nearest.{action_answered, answered, held_answered};
 

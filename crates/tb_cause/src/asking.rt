@@ -2,9 +2,9 @@
 
 ghost use Rattle.std.specs.Prelude.{◌≡◌, ◌↔◌, IfOk, IfSome, IsErrOf, IsFalse, IsSome, IsTrue, Some, map, reverse, ◌<◌, length, vec_len, drop};
 ghost use Rattle.tb_model.specs.Equivalent.{stands};
-ghost use Rattle.tb_core.specs.Scans.{history_of, step_at};
+ghost use Rattle.tb_steps.specs.Scans.{history_of, step_at};
 ghost use Rattle.tb_core.specs.Seen.{history};
-ghost use Rattle.tb_core.specs.Soundness.{departure};
+ghost use Rattle.tb_steps.specs.Entries.{departure};
 ghost use Rattle.tb_cause.specs.Chains.{needers, causes_of};
 
 use crate::cause_refusal::CauseRefusal;

@@ -2,8 +2,8 @@
 
 ghost use Rattle.std.specs.Prelude.{◌≡◌, ◌<◌, ◌≤◌, ◌∷◌, [], ◌++◌, ◌||◌, IfOk, IsTrue, OnOk, Some, false, true, length, reverse, take, get_or};
 ghost use Rattle.tb_model.specs.declared.step_id.StepId.{StepId};
-ghost use Rattle.tb_core.specs.Entries.{Entry as AnEntry};
-ghost use Rattle.tb_core.specs.Scans.{AreLegal, history_of, step_at};
+ghost use Rattle.tb_steps.specs.Entries.{Entry as AnEntry};
+ghost use Rattle.tb_steps.specs.Scans.{AreLegal, history_of, step_at};
 ghost use Rattle.tb_cause.specs.Asked.{AreAskedAt, AreCausesAt, asks, gives_any};
 ghost use Rattle.tb_cause.specs.Chains.{causes_of};
 ghost use Rattle.tb_cause.specs.Indexes.{items_told};

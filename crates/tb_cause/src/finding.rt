@@ -3,9 +3,8 @@
 ghost use Rattle.std.specs.Prelude.{◌≡◌, ◌<◌, ◌≤◌, ◌+◌, ◌-◌, ◌∷◌, [], ◌++◌, ◌||◌, IfOk, IsTrue, OnOk, Some, false, true, length, map, reverse, take, get_or};
 ghost use Rattle.std.specs.List.{All};
 ghost use Rattle.tb_model.specs.declared.step_id.StepId.{StepId};
-ghost use Rattle.tb_core.specs.Entries.{Entry as AnEntry};
-ghost use Rattle.tb_core.specs.Scans.{AreLegal, history_of, step_at};
-ghost use Rattle.tb_core.specs.Soundness.{departure};
+ghost use Rattle.tb_steps.specs.Entries.{Entry as AnEntry, departure};
+ghost use Rattle.tb_steps.specs.Scans.{AreLegal, history_of, step_at};
 ghost use Rattle.tb_cause.specs.Chains.{AreAllBehind, AreGivenAt, IsCone};
 ghost use Rattle.tb_cause.specs.Indexes.{items_told};
 ghost use Rattle.tb_cause.specs.Keys.{Key, IsOfTask, Within, IsUpward, gives, has, takes_any};

@@ -5,7 +5,7 @@ ghost use Rattle.std.specs.List.{list_any};
 ghost use Rattle.indexmap.specs.IndexSet.{contains};
 ghost use Rattle.tb_model.specs.Names.{Name, same_name, is_within};
 ghost use Rattle.tb_model.specs.Facts.{is_spawned};
-ghost use Rattle.tb_core.specs.Scans.{history_of};
+ghost use Rattle.tb_steps.specs.Scans.{history_of};
 ghost use Rattle.tb_cause.specs.Asked.{action_gives, parent_gives, over_gives, place_gives, item_gives, items_give, gives_any, some_above};
 ghost use Rattle.tb_cause.specs.Indexes.{items_told};
 ghost use Rattle.tb_cause.specs.Keys.{Key, Task, Within, IsUpward, has, gives, own_key, action_key, over_key, items_key, item_key, place_key, kind_number, same_item_key};

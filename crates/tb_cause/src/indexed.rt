@@ -5,9 +5,9 @@ ghost use Rattle.std.specs.Option.{option_copied};
 ghost use Rattle.tb_model.specs.declared.action.Action.{Action as AnAction};
 ghost use Rattle.tb_model.specs.Facts.{is_of, is_print, is_spawned, own, touches};
 ghost use Rattle.tb_model.specs.State.{spawn_of};
-ghost use Rattle.tb_core.specs.Entries.{Entry as AnEntry};
+ghost use Rattle.tb_steps.specs.Entries.{Entry as AnEntry};
 ghost use Rattle.tb_core.specs.Lending.{IsNoneBetween};
-ghost use Rattle.tb_core.specs.Scans.{AreLegal, history_of};
+ghost use Rattle.tb_steps.specs.Scans.{AreLegal, history_of};
 ghost use Rattle.tb_cause.specs.Indexes.{items_told, placed_action};
 ghost use Rattle.tb_cause.specs.Keys.{IsOfTask, has, held_by};
 
@@ -25,7 +25,7 @@ pub(crate) struct Indexed<'a> {
 
 impl<'a> Model for Indexed<'a> {
     ghost use Rattle.std.specs.Prelude.{◌≤◌, List, length};
-    ghost use Rattle.tb_core.specs.Entries.{Entry as AnEntry};
+    ghost use Rattle.tb_steps.specs.Entries.{Entry as AnEntry};
 
     ghost Value = { List AnEntry };
 

@@ -5,10 +5,9 @@ ghost use Rattle.std.specs.List.{All};
 ghost use Rattle.tb_model.specs.declared.step_id.StepId.{StepId};
 ghost use Rattle.tb_model.specs.Facts.{is_of};
 ghost use Rattle.tb_places.specs.Where.{places_where};
-ghost use Rattle.tb_core.specs.Entries.{Entry as AnEntry};
+ghost use Rattle.tb_steps.specs.Entries.{Entry as AnEntry, departure};
 ghost use Rattle.tb_core.specs.Renumbering.{events_in};
-ghost use Rattle.tb_core.specs.Scans.{step_at};
-ghost use Rattle.tb_core.specs.Soundness.{departure};
+ghost use Rattle.tb_steps.specs.Scans.{step_at};
 ghost use Rattle.tb_cause.specs.Indexes.{AreNumbers};
 
 use crate::counting::count_step;

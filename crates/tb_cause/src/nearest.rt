@@ -2,8 +2,8 @@
 //! pass ends where all that is left is needed by way of what was found.
 
 ghost use Rattle.std.specs.Prelude.{◌≡◌, ◌<◌, ◌≤◌, ◌+◌, ◌∷◌, [], ◌++◌, ◌&&◌, ◌||◌, not, IfOk, OnOk, IfSome, Some, false, length, reverse, get_or, if◌then◌else◌};
-ghost use Rattle.tb_core.specs.Entries.{Entry as AnEntry};
-ghost use Rattle.tb_core.specs.Scans.{AreLegal};
+ghost use Rattle.tb_steps.specs.Entries.{Entry as AnEntry};
+ghost use Rattle.tb_steps.specs.Scans.{AreLegal};
 ghost use Rattle.tb_cause.specs.Asked.{AreAskedAt, gives_any};
 ghost use Rattle.tb_cause.specs.Indexes.{items_told};
 ghost use Rattle.tb_cause.specs.Keys.{Key, has};

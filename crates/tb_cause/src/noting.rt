@@ -8,7 +8,7 @@ ghost use Rattle.tb_model.specs.declared.action.Action.TheVariants.{Close, Start
 ghost use Rattle.tb_model.specs.declared.item.Item.{Item as AnItem};
 ghost use Rattle.tb_model.specs.Names.{Name, same_name};
 ghost use Rattle.tb_model.specs.Facts.{own, groups, innermost, is_spawned};
-ghost use Rattle.tb_core.specs.Scans.{history_of};
+ghost use Rattle.tb_steps.specs.Scans.{history_of};
 ghost use Rattle.tb_cause.specs.Asked.{same_key, asks, group_key, new_items_key};
 ghost use Rattle.tb_cause.specs.Indexes.{items_told};
 ghost use Rattle.tb_cause.specs.Keys.{Key, Item as ItemKey, Task, has, held_by, held_any, action_any, wait_any, items_any, item_any, kind_any, place_any, same_item_key};

@@ -2,6 +2,7 @@
 
 ghost use Rattle.std.specs.Prelude.{◌≡◌, ◌∷◌, [], ℕ, IfOk, None, OnErr, OnOk, Some};
 ghost use Rattle.std.specs.Option.{option_copied};
+ghost use Rattle.tb_model.specs.declared.event.Event.{Event as AnEvent};
 ghost use Rattle.tb_model.specs.Names.{Name};
 ghost use Rattle.tb_model.specs.Facts.{History, IsSpawned};
 ghost use Rattle.tb_model.specs.Legal.{Cells, Legal};
@@ -10,7 +11,7 @@ ghost use Rattle.tb_clocks.specs.Known.{HasId};
 
 use indexmap::IndexSet;
 use std::alloc::{AllocError, Global};
-use tb_model::{Action, Event, TaskName};
+use tb_model::{Action, TaskName};
 
 /// The ids of tasks: they are counted in the order of spawning, the root first.
 #[derive(Drop)]
@@ -28,14 +29,14 @@ impl Ids {
         Ok(Ids { names })
     }
 
-    /// Takes the next event: a child that it generates gets the next id. Where memory is wanted,
-    /// nothing changes.
-    pub fn push(&mut self, event: &Event) -> Result<(), AllocError>
-        ensures ok { OnOk result ((cells : Cells) (H : History) → AreIds cells H self.old → Legal cells (event.now ∷ H) →
-            AreIds cells (event.now ∷ H) self.new) }
+    /// Takes the action of the next event: a child that it generates gets the next id. Where memory
+    /// is wanted, nothing changes.
+    pub fn push(&mut self, action: &Action) -> Result<(), AllocError>
+        ensures ok { OnOk result ((cells : Cells) (H : History) (v : AnEvent) → AreIds cells H self.old
+            → v.action ≡ action.now → Legal cells (v ∷ H) → AreIds cells (v ∷ H) self.new) }
         ensures err { OnErr result ((cells : Cells) (H : History) → AreIds cells H self.old → AreIds cells H self.new) }
     {
-        match &event.action {
+        match action {
             Action::Spawn(spawned) => {
                 let name = spawned.get().child.clone()?;
                 self.names.insert(name)?;

@@ -1,6 +1,7 @@
 //! What a history says of its tasks.
 
 ghost use Rattle.std.specs.Prelude.{◌≡◌, ◌<◌, ◌∷◌, ◌==◌, ◌&&◌, false, [], nat_lt, IfOk, IfSome, OnErr, OnOk, length, reverse};
+ghost use Rattle.tb_model.specs.declared.event.Event.{Event as AnEvent};
 ghost use Rattle.tb_model.specs.Facts;
 ghost use Rattle.tb_model.specs.Facts.{History, IsSpawned};
 ghost use Rattle.tb_model.specs.Legal.{Cells, Legal, spawn_count};
@@ -14,7 +15,7 @@ use crate::group::Group;
 use crate::row::Row;
 use crate::rows::{add, advance};
 use std::alloc::{AllocError, Global};
-use tb_model::{Action, Event, Item, Items};
+use tb_model::{Action, Item, Items};
 
 /// What a history says of its tasks, by their ids: they are counted in the order of spawning, the
 /// root first. Memory goes by tasks, not by events.
@@ -50,18 +51,20 @@ impl Tasks {
         Ok(Tasks { rows, count: 0 })
     }
 
-    /// Takes the next event, of the task with this id. Where memory is wanted, nothing changes.
-    pub fn push(&mut self, alloc: Global, task: usize, event: &Event) -> Result<(), AllocError>
-        ensures ok { OnOk result ((cells : Cells) (H : History) → AreTasks cells H self.old → Legal cells (event.now ∷ H) → HasId H task event.now.task →
-            AreTasks cells (event.now ∷ H) self.new) }
+    /// Takes the action of the next event, which is of the task with this id. Where memory is
+    /// wanted, nothing changes.
+    pub fn push(&mut self, alloc: Global, task: usize, action: &Action) -> Result<(), AllocError>
+        ensures ok { OnOk result ((cells : Cells) (H : History) (v : AnEvent) → AreTasks cells H self.old
+            → v.action ≡ action.now → Legal cells (v ∷ H) → HasId H task v.task
+            → AreTasks cells (v ∷ H) self.new) }
         ensures err { OnErr result ((cells : Cells) (H : History) → AreTasks cells H self.old → AreTasks cells H self.new) }
     {
         if self.count == usize::MAX {
             return Err(AllocError);
         }
-        let child = child_row(alloc, task, &event.action)?;
+        let child = child_row(alloc, task, action)?;
         self.rows.reserve(1)?;
-        advance(&mut self.rows, task, self.count, &event.action)?;
+        advance(&mut self.rows, task, self.count, action)?;
         add(&mut self.rows, child);
         self.count += 1;
         Ok(())

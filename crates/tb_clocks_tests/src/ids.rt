@@ -20,7 +20,7 @@ fn spawns(alloc: Global, ids: &mut Ids, n: u32) -> bool
         return false;
     };
     let event = Event { task: root, action };
-    let taken = ids.push(&event).is_ok();
+    let taken = ids.push(&event.action).is_ok();
     forget(event);
     taken
 }

@@ -33,7 +33,7 @@ pub fn spawn(alloc: Global, child: TaskName, deferred: bool) -> Option<Action> {
 /// back, so that no test is proved for each way to do that.
 fn takes(alloc: Global, tasks: &mut Tasks, id: usize, task: TaskName, action: Action) -> bool {
     let event = Event { task, action };
-    let taken = tasks.push(alloc, id, &event).is_ok();
+    let taken = tasks.push(alloc, id, &event.action).is_ok();
     forget(event);
     taken
 }

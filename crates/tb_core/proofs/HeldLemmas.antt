@@ -21,12 +21,12 @@ use Rattle.tb_places.specs.declared.places.Places.{Places}
 use Rattle.tb_places.specs.Places.{IsIndexOf, IsNamed, HasRoomAs, event_number}
 use Rattle.tb_places.specs.Numbers.{number_of}
 use Rattle.tb_core.specs.declared.entry.Entry.{Entry as Stored}
-use Rattle.tb_core.specs.Entries.{Entry}
+use Rattle.tb_steps.specs.Entries.{Entry, departure}
 use Rattle.tb_core.specs.Packing.{packed}
 use Rattle.tb_core.specs.Renumbering.{events_in}
 use Rattle.tb_core.specs.Outcomes.{grown_by}
 use Rattle.tb_core.specs.Seen.{Seen, Held, history}
-use Rattle.tb_core.specs.Soundness.{departure, names_in, seen, IsSound, HasReserved}
+use Rattle.tb_core.specs.Soundness.{names_in, seen, IsSound, HasReserved}
 use Rattle.tb_core.specs.Storing.{IsStored, stored, entries_in}
 use Rattle.tb_core.proofs.StoringLemmas.{all_kept, entries_are}
 use Rattle.tb_core.proofs.NumberLemmas.{named_next}

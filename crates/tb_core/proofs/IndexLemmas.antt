@@ -13,11 +13,11 @@ use Rattle.tb_undo.proofs.TieLemmas.{map_events}
 use Rattle.tb_places.specs.declared.places.Places.{Places}
 use Rattle.tb_places.specs.Places.{IsIndexOf}
 use Rattle.tb_places.specs.Where.{places_where}
-use Rattle.tb_core.specs.Entries.{Entry}
+use Rattle.tb_steps.specs.Entries.{Entry, departure}
 use Rattle.tb_core.specs.declared.removed.Removed.{Removed}
 use Rattle.tb_core.specs.Rolled.{removed_places}
 use Rattle.tb_core.specs.Seen.{Seen, history}
-use Rattle.tb_core.specs.Soundness.{departure, names_in, seen, IsSound}
+use Rattle.tb_core.specs.Soundness.{names_in, seen, IsSound}
 use Rattle.tb_wait.specs.Kin.{KeepsNames}
 use Rattle.tb_core.proofs.NumberLemmas.{index_kept}
 use Rattle.tb_places.specs.Renumbering.{left_from}

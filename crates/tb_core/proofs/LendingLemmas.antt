@@ -20,14 +20,14 @@ use Rattle.tb_places.specs.Places.{IsIndexOf}
 use Rattle.tb_places.specs.Where.{IsLastBefore, IsNoneFrom, places_where}
 use Rattle.tb_undo.specs.State.{Seen as Tables}
 use Rattle.tb_core.specs.declared.entry.Entry.{Entry as Stored}
-use Rattle.tb_core.specs.Entries.{Entry}
+use Rattle.tb_steps.specs.Entries.{Entry}
 use Rattle.tb_core.specs.Lending.{AreLeft, IsLast, IsNoneBetween}
 use Rattle.tb_core.specs.Renumbering.{events_in}
-use Rattle.tb_core.specs.Scans.{AreLegal, history_of, step_at}
+use Rattle.tb_steps.specs.Scans.{AreLegal, history_of, step_at}
 use Rattle.tb_core.specs.Soundness.{IsSound, names_in}
 use Rattle.tb_core.specs.Storing.{IsStored, entries_in}
-use Rattle.tb_core.proofs.ScanLemmas.{history_cut, history_of-append}
-use Rattle.tb_core.proofs.FirstLemmas.{legal_front, front_legal, step_read}
+use Rattle.tb_steps.proofs.ScanLemmas.{history_cut, history_of-append}
+use Rattle.tb_steps.proofs.FirstLemmas.{legal_front, front_legal, step_read}
 use Rattle.tb_core.proofs.OwnLemmas.{own_count, own_number}
 
 -- the tables of a core are those of its entries

@@ -1,16 +1,11 @@
-pub mod ScanLemmas
-pub mod MemberLemmas
 pub mod GroupLemmas
 pub mod HistoryLemmas
 pub mod WalkLemmas
-pub mod NeedsLemmas
-pub mod FirstLemmas
 pub mod LendingLemmas
 pub mod NeedingLemmas
 pub mod FillingLemmas
 pub mod ShownLemmas
 pub mod MiddleLemmas
-pub mod PlaceLemmas
 pub mod NumberLemmas
 pub mod TakenLemmas
 pub mod RefusedLemmas

@@ -5,9 +5,8 @@ use Rattle.tb_model.specs.Lines.{events_of}
 use Rattle.tb_model.proofs.UndoLemmas.{AreFree}
 use Rattle.tb_undo.specs.Steps.{replaced_for}
 use Rattle.tb_undo.proofs.MiddleLemmas.{record_left}
-use Rattle.tb_core.specs.Entries.{Entry}
+use Rattle.tb_steps.specs.Entries.{Entry, departure}
 use Rattle.tb_core.specs.Packing.{replaced_in}
-use Rattle.tb_core.specs.Soundness.{departure}
 use Rattle.tb_core.specs.Soundness.{AreRecords}
 
 pub departures_append : (xs ys : List Entry) → map departure (xs ++ ys) ≡ map departure xs ++ map departure ys

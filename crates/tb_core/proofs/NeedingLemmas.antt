@@ -1,22 +1,25 @@
 -- The entries that are passed over, where the first that needs a step is looked for, don't need it.
-use Rattle.std.proofs.Common.{◌≡◌, ◌<◌, ◌≤◌, ◌+◌, ◌-◌, ◌==◌, ℕ, zero, suc, List, Bool, true, false, ◌&&◌, ◌||◌, Some, None, length, take, get_or, refl, sym, ap, ◌∙◌, subst, arith, rules, tests, ltb}
+use Rattle.std.proofs.Common.{◌≡◌, ◌<◌, ◌≤◌, ◌+◌, ◌-◌, ◌==◌, ℕ, zero, suc, List, [], ◌∷◌, ◌++◌, Bool, true, false, ◌&&◌, ◌||◌, Some, None, length, take, drop, get_or, refl, sym, ap, ◌∙◌, subst, arith, rules, tests, ltb}
 use Rattle.std.proofs.lemmas.Bool.{true≢false, ltb-true, ltb-false}
 use Rattle.std.proofs.lemmas.List.{get_or_default}
 use Rattle.tb_model.specs.declared.action.Action.{Action}
 use Rattle.tb_model.specs.declared.action.Action.TheVariants.{Start, Let, Load, Store, Print, Spawn, Wait, Open, Close, Test, End, Fault}
 use Rattle.tb_model.specs.declared.event.Event.{Event}
 use Rattle.tb_model.specs.declared.step_id.StepId.{StepId}
-use Rattle.tb_model.specs.Names.{Name, same_name, is_child}
-use Rattle.tb_model.specs.Facts.{History, holds, is_end, is_of, own, is_print, is_spawn_of, is_store_to, touches}
+use Rattle.tb_model.specs.declared.item.Item.{Item}
+use Rattle.tb_model.specs.Items.{Relation, is_apart, is_before, some_meet}
+use Rattle.tb_model.specs.Names.{Name, same_name, is_child, is_elder}
+use Rattle.tb_model.specs.Facts.{History, holds, is_end, is_of, items_for, items_of, own, is_print, is_spawn_of, is_store_to, touches}
 use Rattle.tb_model.specs.Needs.{conflicts, needs, needs_end_of, waits_for}
 use Rattle.tb_model.specs.Needers.{first_needer}
 use Rattle.tb_model.proofs.TestLemmas.{same_true, same_refl}
-use Rattle.tb_core.specs.Entries.{Entry}
+use Rattle.tb_steps.specs.Entries.{Entry}
 use Rattle.tb_core.specs.Lending.{IsNoneBetween}
 use Rattle.tb_core.specs.Needing.{NoneNeeds, may_wait, may_wait_for, meets}
-use Rattle.tb_core.specs.Scans.{AreLegal, history_of, step_at}
-use Rattle.tb_core.proofs.FirstLemmas.{front_legal, there, none_next}
-use Rattle.tb_core.proofs.NeedsLemmas.{held_within}
+use Rattle.tb_steps.specs.Scans.{AreLegal, history_of, step_at}
+use Rattle.tb_steps.proofs.FirstLemmas.{front_legal, there, none_next}
+use Rattle.tb_steps.proofs.ScanLemmas.{history_cut}
+use Rattle.tb_steps.proofs.NeedsLemmas.{held_within}
 
 -- ---- what each part of the test says
 
@@ -120,19 +123,52 @@ ended_meets Open v h = absurd (true≢false (sym h))
 ended_meets Close v h = absurd (true≢false (sym h))
 ended_meets (Test b) v h = absurd (true≢false (sym h))
 
-waits_none : (H : History) (t : Name) (a : Action) (u : Name) → may_wait a ≡ false → waits_for H t a u ≡ false
-waits_none H t Start u h = absurd (true≢false h)
-waits_none H t (Wait items) u h = absurd (true≢false h)
-waits_none H t Close u h = absurd (true≢false h)
-waits_none H t (Let r x) u h = refl
-waits_none H t (Load r c x) u h = refl
-waits_none H t (Store c x) u h = refl
-waits_none H t (Print x) u h = refl
-waits_none H t (Spawn s) u h = refl
-waits_none H t Open u h = refl
-waits_none H t (Test b) u h = refl
-waits_none H t End u h = refl
-waits_none H t Fault u h = refl
+meets_none : (test : Relation → Bool) (new : List Item) → some_meet test new [] ≡ false
+meets_none test [] = refl
+meets_none test (i ∷ new) = meets_none test new
+
+none_met : (a b p q r : Bool) → p ≡ false → q ≡ false → r ≡ false → ((a && p) || ((a && q) || (b && r))) ≡ false
+none_met true true p q r x y z = rw (x, y, z) refl
+none_met true false p q r x y z = rw (x, y) refl
+none_met false true p q r x y z = rw z refl
+none_met false false p q r x y z = refl
+
+-- a start waits for no task without depend items
+no_start_waits : (H : History) (t u : Name) → items_of u H ≡ [] → waits_for H t Start u ≡ false
+no_start_waits H t u none =
+    none_met (is_elder u t) (is_elder t u) _ _ _
+    (ap (λ (its : List Item). some_meet is_before (items_of t H) its) none ∙ meets_none is_before (items_of t H))
+    (ap (λ (its : List Item). some_meet is_apart (items_of t H) its) none ∙ meets_none is_apart (items_of t H))
+    (ap (λ (its : List Item). some_meet is_apart its (items_of t H)) none)
+
+-- what was no item of the task later wasn't one before
+none_before : (t : Name) (b front : History) → items_of t (b ++ front) ≡ [] → items_of t front ≡ []
+none_before t [] front h = h
+none_before t (v ∷ b) front h = none_before t b front (rest (items_for t v.action) _ h)
+  where
+    rest : (xs ys : List Item) → xs ++ ys ≡ [] → ys ≡ []
+    rest [] ys none = none
+    rest (x ∷ xs) ys none = let more : suc (length (xs ++ ys)) ≡ 0 = ap length none in absurd (omega (arith, more))
+
+pub none_in_front : (entries : List Entry) (next : ℕ) (w : Entry) (t : Name) → next < length entries → w ≡ get_or entries next w → items_of t (history_of entries) ≡ [] → items_of t (history_of (take next entries)) ≡ []
+none_in_front entries next w t inside there none =
+    none_before t (w.event ∷ []) (history_of (take next entries))
+    (none_before t (history_of (drop (suc next) entries)) (w.event ∷ history_of (take next entries))
+    (sym (ap (items_of t) (history_cut entries next w inside there)) ∙ none))
+
+waits_none : (some : Bool) (H : History) (t : Name) (a : Action) (u : Name) → (some ≡ false → items_of u H ≡ []) → may_wait some a ≡ false → waits_for H t a u ≡ false
+waits_none some H t Start u none h = no_start_waits H t u (none h)
+waits_none some H t (Wait items) u none h = absurd (true≢false h)
+waits_none some H t Close u none h = absurd (true≢false h)
+waits_none some H t (Let r x) u none h = refl
+waits_none some H t (Load r c x) u none h = refl
+waits_none some H t (Store c x) u none h = refl
+waits_none some H t (Print x) u none h = refl
+waits_none some H t (Spawn s) u none h = refl
+waits_none some H t Open u none h = refl
+waits_none some H t (Test b) u none h = refl
+waits_none some H t End u none h = refl
+waits_none some H t Fault u none h = refl
 
 first_false : (a b : Bool) → (a || b) ≡ false → a ≡ false
 first_false false b h = refl
@@ -146,21 +182,21 @@ no_wait : (a b c d e x y : Bool) → a ≡ false → b ≡ false → c ≡ false
 no_wait a b c d e x y pa pb pc px py pe = rw (pa, pb, pc, px, py, pe) (ap (λ z. z || false) (no_right d))
 
 -- the entry may not need the end
-end_not_needed : (front : List Entry) (v u : Event) → AreLegal front → is_end u.action ≡ true → may_wait_for v.action v.task u.task ≡ false → needs (history_of front) v u ≡ false
-end_not_needed front v u legal ends none =
+end_not_needed : (some : Bool) (front : List Entry) (v u : Event) → AreLegal front → is_end u.action ≡ true → (some ≡ false → items_of u.task (history_of front) ≡ []) → may_wait_for some v.action v.task u.task ≡ false → needs (history_of front) v u ≡ false
+end_not_needed some front v u legal ends no_items none =
     let H = history_of front in
     let p = apart u.action v (ended_meets u.action v ends) in
-    let names = second_false (may_wait v.action) _ none in
+    let names = second_false (may_wait some v.action) _ none in
     let held : (b : Bool) → holds (own v.task H) u.task ≡ b → b ≡ false =
     λ b. elim b as (λ b. holds (own v.task H) u.task ≡ b → b ≡ false) [ false ↦ λ _. refl | true ↦ λ h. absurd (true≢false (sym (held_within front v.task u.task legal h) ∙ first_false (is_child v.task u.task) _ names)) ] in
     no_wait (is_of v.task u) (is_spawn_of v.task u.action) (conflicts v.action u.action) (is_end u.action) (is_print v.action && is_print u.action) (holds (own v.task H) u.task) (waits_for H v.task v.action u.task)
     (other_way v.task u.task (second_false (is_child v.task u.task) _ names)) p.spawns (conflict_none v.action u.action p.cells) (held (holds (own v.task H) u.task) refl)
-    (waits_none H v.task v.action u.task (first_false (may_wait v.action) _ none)) p.prints
+    (waits_none some H v.task v.action u.task no_items (first_false (may_wait some v.action) _ none)) p.prints
 
 -- one entry more
-pub none_waits : (entries : List Entry) (at from next : ℕ) (u w : Entry) → AreLegal entries → at < length entries → next < length entries → u ≡ get_or entries at u → w ≡ get_or entries next w → is_end u.event.action ≡ true
-    → may_wait_for w.event.action w.event.task u.event.task ≡ false → NoneNeeds entries at from next → NoneNeeds entries at from (next + 1)
-none_waits entries at from next u w legal within inside here there ends apart none k v x low high v_there x_there = by (ltb k next) refl
+pub none_waits : (some : Bool) (entries : List Entry) (at from next : ℕ) (u w : Entry) → AreLegal entries → at < length entries → next < length entries → u ≡ get_or entries at u → w ≡ get_or entries next w → is_end u.event.action ≡ true
+    → (some ≡ false → items_of u.event.task (history_of entries) ≡ []) → may_wait_for some w.event.action w.event.task u.event.task ≡ false → NoneNeeds entries at from next → NoneNeeds entries at from (next + 1)
+none_waits some entries at from next u w legal within inside here there ends no_items apart none k v x low high v_there x_there = by (ltb k next) refl
   where
     by : (b : Bool) → ltb k next ≡ b → needs (history_of (take k entries)) v.event x.event ≡ false
     by true t = none k v x low (ltb-true k next t) v_there x_there
@@ -171,7 +207,7 @@ none_waits entries at from next u w legal within inside here there ends apart no
         subst (λ n. needs (history_of (take n entries)) v.event x.event ≡ false) (sym same)
         (subst (λ (y : Entry). needs (history_of (take next entries)) v.event y.event ≡ false) one
         (subst (λ (y : Entry). needs (history_of (take next entries)) y.event u.event ≡ false) other
-        (end_not_needed (take next entries) w.event u.event (front_legal entries next w inside there legal) ends apart)))
+        (end_not_needed some (take next entries) w.event u.event (front_legal entries next w inside there legal) ends (λ h. none_in_front entries next w u.event.task inside there (no_items h)) apart)))
 
 -- ---- those that are passed over
 

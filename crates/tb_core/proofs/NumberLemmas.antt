@@ -17,9 +17,9 @@ use Rattle.tb_places.specs.declared.places.Places.{Places}
 use Rattle.tb_places.specs.Places.{IsIndexOf, IsNamed, HasRoomAs, HasRoomFor}
 use Rattle.tb_places.proofs.PlacesLemmas.{index_grown}
 use Rattle.tb_places.proofs.NameLemmas.{number_grown}
-use Rattle.tb_core.specs.Entries.{Entry}
+use Rattle.tb_steps.specs.Entries.{Entry, departure}
 use Rattle.tb_core.specs.Seen.{Seen, history}
-use Rattle.tb_core.specs.Soundness.{departure, names_in, seen, IsSound}
+use Rattle.tb_core.specs.Soundness.{names_in, seen, IsSound}
 
 -- ---- who is there has a place
 

@@ -12,7 +12,7 @@ use Rattle.tb_places.specs.declared.places.Places.{Places}
 use Rattle.tb_places.specs.Places.{IsIndexOf}
 use Rattle.tb_core.specs.declared.entry.Entry.{Entry as Stored}
 use Rattle.tb_core.specs.declared.removed.Removed.{Removed}
-use Rattle.tb_core.specs.Entries.{Entry}
+use Rattle.tb_steps.specs.Entries.{Entry}
 use Rattle.tb_core.specs.Outcomes.{IsFree, IsPlaceOfStep, TakesBack}
 use Rattle.tb_core.specs.Packing.{replaced_in}
 use Rattle.tb_places.specs.Renumbering.{left_from}

@@ -12,10 +12,10 @@ use Rattle.tb_model.specs.Needs.{step_of}
 use Rattle.tb_places.specs.Where.{places_from, places_where}
 use Rattle.tb_places.proofs.WhereLemmas.{places_cons}
 use Rattle.tb_places.proofs.RoomLemmas.{places_count}
-use Rattle.tb_core.specs.Entries.{Entry}
+use Rattle.tb_steps.specs.Entries.{Entry}
 use Rattle.tb_core.specs.Renumbering.{events_in}
-use Rattle.tb_core.specs.Scans.{history_of, step_at, step_behind}
-use Rattle.tb_core.proofs.ScanLemmas.{history_of-append, found_stands, found_step_at, numbered}
+use Rattle.tb_steps.specs.Scans.{history_of, step_at, step_behind}
+use Rattle.tb_steps.proofs.ScanLemmas.{history_of-append, found_stands, found_step_at, numbered}
 
 -- ---- one place of those at which a test passes
 

@@ -18,13 +18,13 @@ use Rattle.tb_model.proofs.UndoLemmas.{single}
 use Rattle.tb_undo.specs.State.{Seen as Tables, IsState}
 use Rattle.tb_undo.specs.Steps.{Precedes, Stands, IsWithout}
 use Rattle.tb_undo.proofs.TieLemmas.{map_events}
-use Rattle.tb_core.specs.Entries.{Entry}
+use Rattle.tb_steps.specs.Entries.{Entry, departure}
 use Rattle.tb_core.specs.declared.removed.Removed.{Removed}
 use Rattle.tb_core.specs.declared.rollback.Rollback.{Rollback}
 use Rattle.tb_core.specs.Rolled.{removed_places, removed_steps, removals, IsOfHistory, RollsBack}
 use Rattle.tb_core.specs.Seen.{Seen}
 use Rattle.tb_core.specs.Packing.{replaced_in}
-use Rattle.tb_core.specs.Soundness.{departure, seen, IsSound}
+use Rattle.tb_core.specs.Soundness.{seen, IsSound}
 use Rattle.tb_core.specs.Unwinding.{events, kept_entries, gone_entries, AreTied, StayTied, Unwinds, Unwound}
 use Rattle.tb_core.proofs.MiddleLemmas.{departures_append, records_left, record_at}
 

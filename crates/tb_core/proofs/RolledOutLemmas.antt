@@ -9,7 +9,7 @@ use Rattle.tb_places.specs.declared.places.Places.{Places}
 use Rattle.tb_places.specs.Places.{IsIndexOf}
 use Rattle.tb_core.specs.declared.entry.Entry.{Entry as Stored}
 use Rattle.tb_core.specs.declared.removed.Removed.{Removed}
-use Rattle.tb_core.specs.Entries.{Entry}
+use Rattle.tb_steps.specs.Entries.{Entry}
 use Rattle.tb_places.specs.Renumbering.{goes_at, left_from}
 use Rattle.tb_core.specs.Renumbering.{events_in}
 use Rattle.tb_core.specs.Rolled.{removed_places, RollsBack}

@@ -13,7 +13,7 @@ use Rattle.tb_undo.specs.Tasks.{register_by}
 use Rattle.tb_places.specs.Places.{event_number}
 use Rattle.tb_places.proofs.NameLemmas.{number_at}
 use Rattle.tb_core.specs.declared.entry.Entry.{Entry as Stored}
-use Rattle.tb_core.specs.Entries.{Entry}
+use Rattle.tb_steps.specs.Entries.{Entry}
 use Rattle.tb_core.specs.Packing.{number_in, replaced_in}
 use Rattle.tb_core.specs.Renumbering.{events_in}
 use Rattle.tb_core.specs.Storing.{IsStored, replaced_stored}

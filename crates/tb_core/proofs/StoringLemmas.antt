@@ -18,9 +18,9 @@ use Rattle.tb_undo.specs.Steps.{replaced_for}
 use Rattle.tb_undo.specs.Tasks.{Task}
 use Rattle.tb_wait.specs.Kin.{KeepsNames}
 use Rattle.tb_core.specs.declared.entry.Entry.{Entry as Stored}
-use Rattle.tb_core.specs.Entries.{Entry}
+use Rattle.tb_steps.specs.Entries.{Entry, departure}
 use Rattle.tb_core.specs.Packing.{replaced_in}
-use Rattle.tb_core.specs.Soundness.{departure, names_in, AreRecords, IsSound}
+use Rattle.tb_core.specs.Soundness.{names_in, AreRecords, IsSound}
 use Rattle.tb_core.specs.Storing.{IsStored, line_in, name_of, lines_before, entries_of, entries_in}
 
 -- ---- lists that go with each other

@@ -23,9 +23,8 @@ use Rattle.tb_undo.specs.State.{Seen as Tables, IsState}
 use Rattle.tb_undo.specs.Changes.{AreSame, HasRoomFor}
 use Rattle.tb_undo.specs.Steps.{Follows, IsAhead, IsBehind, IsRecord, replaced_for}
 use Rattle.tb_undo.proofs.StateLemmas.{state_same}
-use Rattle.tb_core.specs.Entries.{Entry}
+use Rattle.tb_steps.specs.Entries.{Entry, departure}
 use Rattle.tb_core.specs.Packing.{packed, replaced_in}
-use Rattle.tb_core.specs.Soundness.{departure}
 use Rattle.tb_core.specs.Seen.{Seen, history}
 use Rattle.tb_core.specs.Filling.{completed, IsRunOf, Fills}
 use Rattle.tb_core.specs.Outcomes.{MayTake, Takes, event_for, grown_by}

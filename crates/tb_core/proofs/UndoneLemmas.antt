@@ -23,10 +23,9 @@ use Rattle.tb_undo.specs.Steps.{Precedes, Stands, IsWithout}
 use Rattle.tb_undo.proofs.TieLemmas.{map_events}
 use Rattle.tb_undo.proofs.MiddleLemmas.{lines_kept}
 use Rattle.tb_core.specs.Naming.{IsLongName}
-use Rattle.tb_core.specs.Entries.{Entry}
+use Rattle.tb_steps.specs.Entries.{Entry, departure}
 use Rattle.tb_core.specs.Packing.{replaced_in}
-use Rattle.tb_core.specs.Soundness.{departure}
-use Rattle.tb_core.specs.Scans.{AreLegal, history_of, step_behind, step_at}
+use Rattle.tb_steps.specs.Scans.{AreLegal, history_of, step_behind, step_at}
 use Rattle.tb_core.specs.declared.removed.Removed.{Removed}
 use Rattle.tb_core.specs.Seen.{Seen, history}
 use Rattle.tb_core.specs.Outcomes.{IsFree, IsPlaceOfStep, TakesBack}

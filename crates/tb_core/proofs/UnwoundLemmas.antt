@@ -14,10 +14,10 @@ use Rattle.tb_undo.specs.Steps.{Stands, IsWithout}
 use Rattle.tb_core.specs.declared.entry.Entry.{Entry as Stored}
 use Rattle.tb_core.specs.declared.removed.Removed.{Removed}
 use Rattle.tb_core.specs.declared.rollback.Rollback.{Rollback}
-use Rattle.tb_core.specs.Entries.{Entry}
+use Rattle.tb_steps.specs.Entries.{Entry, departure}
 use Rattle.tb_core.specs.Packing.{replaced_in}
 use Rattle.tb_core.specs.Rolled.{IsOfHistory, removed_places}
-use Rattle.tb_core.specs.Soundness.{departure, names_in}
+use Rattle.tb_core.specs.Soundness.{names_in}
 use Rattle.tb_core.specs.Storing.{IsStored, replaced_stored}
 use Rattle.tb_core.specs.Unwinding.{events, AreTied, StayTied, Unwinds}
 use Rattle.tb_core.specs.UnwindingStored.{UnwindsAt, UnwoundOf}

@@ -5,10 +5,10 @@ use Rattle.tb_model.specs.Legal.{Cells, Legal}
 use Rattle.tb_places.specs.declared.places.Places.{Places}
 use Rattle.tb_places.specs.Places.{IsIndexOf}
 use Rattle.tb_undo.specs.State.{Seen as Tables, IsState}
-use Rattle.tb_core.specs.Entries.{Entry}
+use Rattle.tb_steps.specs.Entries.{Entry, departure}
 use Rattle.tb_core.specs.Renumbering.{events_in}
-use Rattle.tb_core.specs.Scans.{history_of}
-use Rattle.tb_core.specs.Soundness.{departure, names_in}
+use Rattle.tb_steps.specs.Scans.{history_of}
+use Rattle.tb_core.specs.Soundness.{names_in}
 
 -- the entries are a legal history, the tables are its state, and the index says where its events are
 pub record AreLeft (tables : Tables) (index : Places) (entries : List Entry) : Type 0 where

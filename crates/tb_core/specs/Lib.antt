@@ -4,11 +4,9 @@ pub mod Situation
 pub mod Filling
 pub mod Naming
 pub mod Outcomes
-pub mod Entries
 pub mod Packing
 pub mod Storing
 pub mod Soundness
-pub mod Scans
 pub mod Lending
 pub mod Needing
 pub mod Listed

@@ -6,8 +6,8 @@ use Rattle.tb_model.specs.declared.event.Event.{Event}
 use Rattle.tb_model.specs.Names.{Name, same_name, is_child}
 use Rattle.tb_model.specs.Facts.{is_of, is_print, touches}
 use Rattle.tb_model.specs.Needs.{needs}
-use Rattle.tb_core.specs.Entries.{Entry}
-use Rattle.tb_core.specs.Scans.{history_of}
+use Rattle.tb_steps.specs.Entries.{Entry}
+use Rattle.tb_steps.specs.Scans.{history_of}
 
 -- the event touches the cell that the action touches, prints as it does, or is one of the task that it generates
 abbrev pub meets : Action → Event → Bool
@@ -17,16 +17,16 @@ meets (Print x) v = is_print v.action
 meets (Spawn s) v = is_of s.child v
 meets _ v = false
 
--- the action can wait for other tasks
-abbrev pub may_wait : Action → Bool
-may_wait Start = true
-may_wait (Wait items) = true
-may_wait Close = true
-may_wait _ = false
+-- the action can wait for a task other than its own, which has depend items or none
+abbrev pub may_wait : Bool → Action → Bool
+may_wait has_items Start = has_items
+may_wait has_items (Wait items) = true
+may_wait has_items Close = true
+may_wait has_items _ = false
 
--- the action of t may need the end of u, by what is read off the action and the names
-abbrev pub may_wait_for : Action → Name → Name → Bool
-may_wait_for a t u = may_wait a || (is_child t u || same_name t u)
+-- the action of t may need the end of u, by what is read off the action and the names, and by whether u has depend items
+abbrev pub may_wait_for : Bool → Action → Name → Name → Bool
+may_wait_for has_items a t u = may_wait has_items a || (is_child t u || same_name t u)
 
 -- no entry from the one place on, in front of the other, directly needs the one at the place `at`
 abbrev pub NoneNeeds : List Entry → ℕ → ℕ → ℕ → Type 0

@@ -5,7 +5,7 @@ use Rattle.tb_model.specs.declared.action.Action.TheVariants.{Let, Load, Store}
 use Rattle.tb_model.specs.declared.event.Event.{Event}
 use Rattle.tb_store.specs.declared.replaced.Replaced.{Replaced}
 use Rattle.tb_undo.specs.Tasks.{register_by}
-use Rattle.tb_core.specs.Entries.{Entry}
+use Rattle.tb_steps.specs.Entries.{Entry}
 
 -- the number, where the action is one that replaces a number
 abbrev pub number_in : Action → ℤ → Option ℤ

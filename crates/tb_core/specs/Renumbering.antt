@@ -5,7 +5,7 @@ use Rattle.tb_model.specs.Names.{Name}
 use Rattle.tb_places.specs.declared.places.Places.{Places}
 use Rattle.tb_places.specs.Places.{IsIndexOf, HasRoomForAll}
 use Rattle.tb_places.specs.Renumbering.{left_from}
-use Rattle.tb_core.specs.Entries.{Entry}
+use Rattle.tb_steps.specs.Entries.{Entry}
 
 -- the events of entries that come from the oldest
 abbrev pub events_in : List Entry → List Event

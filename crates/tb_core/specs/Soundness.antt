@@ -4,18 +4,15 @@ use Rattle.std.specs.Map.{keys_of}
 use Rattle.tb_model.specs.declared.event.Event.{Event}
 use Rattle.tb_model.specs.Names.{Name}
 use Rattle.tb_model.specs.Legal.{Cells, Legal}
-use Rattle.tb_model.specs.Lines.{Departure, events_of}
+use Rattle.tb_model.specs.Lines.{events_of}
 use Rattle.tb_undo.specs.State.{Seen as Tables, IsState}
 use Rattle.tb_undo.specs.Steps.{replaced_for}
 use Rattle.tb_undo.specs.Changes.{HasRoomFor}
 use Rattle.tb_places.specs.declared.places.Places.{Places}
 use Rattle.tb_places.specs.Places.{HasRoomFor as HasRoomForPlaces}
-use Rattle.tb_core.specs.Entries.{Entry}
+use Rattle.tb_steps.specs.Entries.{Entry, departure}
 use Rattle.tb_core.specs.Packing.{replaced_in}
 use Rattle.tb_core.specs.Seen.{Seen}
-
-abbrev pub departure : Entry → Departure
-departure e = record { event = e.event; to = e.to }
 
 -- what a core shows of these entries, the newest first
 abbrev pub seen : Cells → (root_line limit : ℕ) → List Entry → Seen

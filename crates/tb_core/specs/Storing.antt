@@ -8,7 +8,7 @@ use Rattle.tb_store.specs.declared.replaced.Replaced.{Replaced}
 use Rattle.tb_undo.specs.State.{Seen as Tables}
 use Rattle.tb_undo.specs.Tasks.{Task, task, register_by}
 use Rattle.tb_core.specs.declared.entry.Entry.{Entry as Stored}
-use Rattle.tb_core.specs.Entries.{Entry}
+use Rattle.tb_steps.specs.Entries.{Entry}
 use Rattle.tb_core.specs.Packing.{number_in}
 use Rattle.tb_core.specs.Soundness.{names_in}
 

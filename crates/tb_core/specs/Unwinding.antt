@@ -6,10 +6,10 @@ use Rattle.tb_model.specs.Legal.{Cells}
 use Rattle.tb_model.specs.Lines.{events_of, without_lines}
 use Rattle.tb_model.specs.Needs.{is_removed, step_of}
 use Rattle.tb_undo.specs.State.{Seen as Tables}
-use Rattle.tb_core.specs.Entries.{Entry}
+use Rattle.tb_steps.specs.Entries.{Entry, departure}
 use Rattle.tb_core.specs.declared.removed.Removed.{Removed}
 use Rattle.tb_core.specs.Rolled.{removed_places, removed_steps, removals}
-use Rattle.tb_core.specs.Soundness.{departure, IsSound}
+use Rattle.tb_core.specs.Soundness.{IsSound}
 
 -- the history of entries that are listed from the newest
 abbrev pub events : List Entry → History

@@ -5,7 +5,7 @@ use Rattle.tb_places.specs.Renumbering.{goes_at, left_from}
 use Rattle.tb_undo.specs.State.{Seen as Tables}
 use Rattle.tb_core.specs.declared.entry.Entry.{Entry as Stored}
 use Rattle.tb_core.specs.declared.removed.Removed.{Removed}
-use Rattle.tb_core.specs.Entries.{Entry}
+use Rattle.tb_steps.specs.Entries.{Entry}
 use Rattle.tb_core.specs.Unwinding.{StayTied, Unwinds, Unwound}
 
 -- so many entries are as they were; of those behind them the ones at the done places are hollow, the kept ones stay, and these

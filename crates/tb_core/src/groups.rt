@@ -5,7 +5,7 @@ ghost use Rattle.tb_model.specs.Facts.{own};
 ghost use Rattle.tb_model.specs.declared.action.Action.{Action};
 ghost use Rattle.tb_model.specs.State.{Faulted, status_of, is_member_of, open_groups_of};
 ghost use Rattle.tb_core.specs.Groups.{is_among, makes_member};
-ghost use Rattle.tb_core.specs.Scans.{history_of};
+ghost use Rattle.tb_steps.specs.Scans.{history_of};
 
 use crate::history::History;
 use crate::places::steps_of;

@@ -2,9 +2,9 @@
 
 ghost use Rattle.std.specs.Prelude.{◌≡◌, ◌<◌, ◌≤◌, [], ◌∷◌, suc, IfSome, IfNone, IsTrue, length, take, get_or};
 ghost use Rattle.tb_model.specs.Facts.{is_of, is_print, is_spawned, items_of, own, touches};
-ghost use Rattle.tb_core.specs.Entries.{Entry as AnEntry};
+ghost use Rattle.tb_steps.specs.Entries.{Entry as AnEntry};
 ghost use Rattle.tb_core.specs.Lending.{AreLeft, IsLast, IsNoneBetween};
-ghost use Rattle.tb_core.specs.Scans.{AreLegal, history_of};
+ghost use Rattle.tb_steps.specs.Scans.{AreLegal, history_of};
 ghost use Rattle.tb_core.specs.Soundness.{names_in};
 ghost use Rattle.tb_core.specs.Storing.{IsStored, entries_in};
 ghost use Rattle.std.specs.List.{AllZip};
@@ -31,7 +31,7 @@ pub struct History<'a> {
 impl<'a> Model for History<'a> {
     ghost use Rattle.std.specs.Prelude.{◌≤◌, List, length, take};
     ghost use Rattle.std.specs.List.{AllZip};
-    ghost use Rattle.tb_core.specs.Entries.{Entry as AnEntry};
+    ghost use Rattle.tb_steps.specs.Entries.{Entry as AnEntry};
     ghost use Rattle.tb_core.specs.Lending.{AreLeft};
     ghost use Rattle.tb_core.specs.Soundness.{names_in};
     ghost use Rattle.tb_core.specs.Storing.{IsStored, entries_in};

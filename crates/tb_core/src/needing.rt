@@ -1,15 +1,15 @@
 //! Which event of the entries needs which. What tasks named at their spawns is known to the tables, and where a step
 //! that is no end may be needed to the indexes; all else is found by scans. No memory is taken.
 
-ghost use Rattle.std.specs.Prelude.{◌≡◌, ◌<◌, ◌≤◌, IfSome, IsTrue, Some, length, take, get_or};
+ghost use Rattle.std.specs.Prelude.{◌≡◌, ◌<◌, ◌≤◌, [], IfSome, IsFalse, IsTrue, Some, length, take, get_or};
 ghost use Rattle.tb_model.specs.declared.step_id.StepId.{StepId};
-ghost use Rattle.tb_model.specs.Facts.{apart, before, covers, is_end, is_spawned};
+ghost use Rattle.tb_model.specs.Facts.{apart, before, covers, is_end, is_spawned, items_of};
 ghost use Rattle.tb_model.specs.Needs;
 ghost use Rattle.tb_model.specs.Needers;
-ghost use Rattle.tb_core.specs.Entries.{Entry as AnEntry};
+ghost use Rattle.tb_steps.specs.Entries.{Entry as AnEntry};
 ghost use Rattle.tb_core.specs.Lending.{IsNoneBetween};
 ghost use Rattle.tb_core.specs.Needing.{NoneNeeds, may_wait_for, meets};
-ghost use Rattle.tb_core.specs.Scans.{AreLegal, history_of, step_at, found_step};
+ghost use Rattle.tb_steps.specs.Scans.{AreLegal, history_of, step_at, found_step};
 
 use crate::history::History;
 use crate::scans::{holds, is_member};
@@ -50,6 +50,16 @@ fn next_chance(entries: &History<'_>, at: usize, from: usize) -> usize
     own.min(next_met(entries, action, from))
 }
 
+/// Whether the task of the step at this place was generated with depend items.
+fn has_items(entries: &History<'_>, at: usize) -> bool
+    requires { at < length entries.now }
+    ensures { IsFalse result → (e : AnEntry) → e ≡ get_or entries.now at e →
+        items_of e.event.task (history_of entries.now) ≡ [] }
+{
+    entries.is_legal();
+    !entries.items(entries.task(at)).is_empty()
+}
+
 /// The first place from this one on at which the end at `at` may be waited for, else how many there are.
 fn next_wait(entries: &History<'_>, at: usize, from: usize) -> usize
     requires at { at < from }
@@ -61,10 +71,11 @@ fn next_wait(entries: &History<'_>, at: usize, from: usize) -> usize
 {
     entries.is_legal();
     let ended = entries.task(at);
+    let has_items = has_items(entries, at);
     let end = entries.len();
     let mut next = from;
     'past: while next < end {
-        if may_wait_for(entries.action(next), entries.task(next), ended) {
+        if may_wait_for(entries.action(next), entries.task(next), ended, has_items) {
             return next;
         }
         next += 1;
@@ -72,14 +83,18 @@ fn next_wait(entries: &History<'_>, at: usize, from: usize) -> usize
     next
 }
 
-/// Whether the action of `t` may need the end of `u`, by what is read off the action and the names.
+/// Whether the action of `t` may need the end of `u`, by what is read off the action and the names,
+/// and by whether `u` has depend items.
 #[inline(always)]
-fn may_wait_for(action: &Action, t: &TaskName, u: &TaskName) -> bool
-    ensures { result ≡ may_wait_for action.now t.now u.now }
+fn may_wait_for(action: &Action, t: &TaskName, u: &TaskName, has_items: bool) -> bool
+    ensures { result ≡ may_wait_for has_items action.now t.now u.now }
 {
-    matches!(action, Action::Start | Action::Wait { .. } | Action::Close)
-        || t.is_parent_of(u)
-        || *t == *u
+    let waits = match action {
+        Action::Start => has_items,
+        Action::Wait { .. } | Action::Close => true,
+        _ => false,
+    };
+    waits || t.is_parent_of(u) || *t == *u
 }
 
 /// The first place from this one on whose step has to do with the action, else how many there are.

@@ -2,11 +2,11 @@
 
 ghost use Rattle.std.specs.Prelude.{◌≡◌, ◌<◌, ◌≤◌, ◌↔◌, IfOk, IfSome, IsErr, IsSome, IsTrue, Some, length, slice_get};
 ghost use Rattle.tb_model.specs.declared.step_id.StepId.{StepId as AStepId};
-ghost use Rattle.tb_core.specs.Entries.{Entry as AnEntry};
+ghost use Rattle.tb_steps.specs.Entries.{Entry as AnEntry};
 ghost use Rattle.tb_model.specs.Facts.{History as Events, own, is_of};
 ghost use Rattle.tb_model.specs.Equivalent.{stands};
 ghost use Rattle.tb_core.specs.Naming.{IsLongName};
-ghost use Rattle.tb_core.specs.Scans.{history_of, step_at};
+ghost use Rattle.tb_steps.specs.Scans.{history_of, step_at};
 ghost use Rattle.tb_places.specs.Where.{places_where};
 ghost use Rattle.tb_core.specs.Renumbering.{events_in};
 
@@ -15,7 +15,7 @@ use std::alloc::AllocError;
 use tb_model::{StepId, TaskName};
 
 /// The place of a step: where the kth event of its task stands.
-#[tactic(auto, using(crate::proofs::ScanLemmas::found_stands, crate::proofs::ScanLemmas::found_step_at))]
+#[tactic(auto, using(tb_steps::proofs::ScanLemmas::found_stands, tb_steps::proofs::ScanLemmas::found_step_at))]
 pub fn place_of(entries: &History<'_>, id: &StepId) -> Option<usize>
     ensures there { IsSome result ↔ IsTrue (stands id.now (history_of entries.now)) }
     ensures step { IfSome result (λ at. step_at entries.now at ≡ Some id.now) }
@@ -47,7 +47,7 @@ pub fn place_in(own: &[u32], entries: &History<'_>, id: &StepId) -> Option<usize
 }
 
 /// Whether a task with this many steps has the step.
-pub fn is_number_of(id: &StepId, steps: usize) -> bool
+fn is_number_of(id: &StepId, steps: usize) -> bool
     ensures { (H : Events) → steps ≡ length (own id.now.task H) → result ≡ stands id.now H }
 {
     if id.k == 0 {

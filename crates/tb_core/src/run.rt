@@ -9,23 +9,21 @@ mod undoing;
 ghost use Rattle.std.specs.Prelude.{◌≡◌, ◌≢◌, ◌<◌, ◌≤◌, ◌+◌, ◌↔◌, [], ◌∷◌, OnOk, IfOk, IfErr, OnErr, IfSome, IfNone, IsOk, IsTrue, IsFalse, length, reverse, slice_get, Some, None, if◌then◌else◌, map, vec_len, vec_capacity};
 ghost use Rattle.std.specs.Option.{option_copied};
 ghost use Rattle.tb_model.specs.Facts.{is_spawned};
-ghost use Rattle.tb_model.specs.Equivalent.{stands};
 ghost use Rattle.tb_model.specs.Legal.{Legal, MayFollow};
 ghost use Rattle.tb_model.specs.Hindrances.{in_the_way};
-ghost use Rattle.tb_core.specs.Soundness.{departure};
+ghost use Rattle.tb_steps.specs.Entries.{departure};
 ghost use Rattle.tb_core.specs.Naming.{config_with};
 ghost use Rattle.tb_core.specs.Seen.{history, with_limit};
 ghost use Rattle.tb_core.specs.Situation.{config_of};
 ghost use Rattle.tb_core.specs.Outcomes.{event_of, has_ended, Fits, IsOpen, IsKept, IsKeptBy, Takes, grown_by, Refuses, Steps, Stepped};
 ghost use Rattle.tb_core.specs.Soundness.{AreRecords, seen};
-ghost use Rattle.tb_core.specs.Scans.{AreLegal};
+ghost use Rattle.tb_steps.specs.Scans.{AreLegal};
 
 use crate::answers::{config, named, stale, stands_so};
 use crate::entry::Entry;
 use crate::filling::{action_of, forget};
 use crate::history::History;
 use crate::numbers::number_in;
-use crate::places::is_number_of;
 use crate::step_refusal::StepRefusal;
 use std::alloc::{AllocError, Global};
 use std::marker::Model;
@@ -142,16 +140,6 @@ impl Core {
         ensures { result ≡ has_ended self.now.run task.now }
     {
         self.tables.has_ended_at(standing, task)
-    }
-
-    /// Whether the step is in the history. It isn't looked for: its task's steps are counted.
-    pub fn has_step(&self, id: &StepId) -> bool
-        ensures { result ≡ stands id.now (history self.now.run) }
-    {
-        match self.tables.standing(&id.task) {
-            Some(standing) => is_number_of(id, standing.steps() as usize),
-            None => false,
-        }
     }
 
     /// Where a task stands that is there.

@@ -3,13 +3,13 @@
 ghost use Rattle.std.specs.Prelude.{◌≡◌, ◌∷◌, List};
 ghost use Rattle.tb_model.specs.declared.action.Action.{Action};
 ghost use Rattle.tb_model.specs.Facts;
-ghost use Rattle.tb_core.specs.Scans.{AreLegal, history_of};
+ghost use Rattle.tb_steps.specs.Scans.{AreLegal, history_of};
 
 use crate::history::History;
 use tb_model::{Action, TaskName};
 
 /// Whether the newest action of `t` generated the undeferred child `u`.
-#[tactic(auto, using(crate::proofs::NeedsLemmas::held_within))]
+#[tactic(auto, using(tb_steps::proofs::NeedsLemmas::held_within))]
 pub fn holds(front: &History<'_>, t: &TaskName, u: &TaskName) -> bool
     ensures { AreLegal front.now →
         result ≡ Facts.holds (Facts.own t.now (history_of front.now)) u.now }
@@ -44,7 +44,7 @@ fn is_undeferred(action: &Action, u: &TaskName) -> bool
 }
 
 /// Whether the task is a member of the innermost group that `t` has open.
-#[tactic(auto, using(crate::proofs::NeedsLemmas::member_within))]
+#[tactic(auto, using(tb_steps::proofs::NeedsLemmas::member_within))]
 pub fn is_member(front: &History<'_>, t: &TaskName, m: &TaskName) -> bool
     ensures { AreLegal front.now →
         result ≡ Facts.is_member (Facts.own t.now (history_of front.now)) m.now }

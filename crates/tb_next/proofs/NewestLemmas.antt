@@ -12,10 +12,9 @@ use Rattle.tb_model.specs.Lines.{Departure}
 use Rattle.tb_model.specs.Needs.{step_of}
 use Rattle.tb_places.specs.Where.{places_where}
 use Rattle.tb_places.proofs.WhereLemmas.{places_push_yes, places_push_no}
-use Rattle.tb_core.specs.Entries.{Entry}
-use Rattle.tb_core.specs.Scans.{history_of, step_behind, found_step}
-use Rattle.tb_core.specs.Soundness.{departure}
-use Rattle.tb_core.proofs.ScanLemmas.{history_more}
+use Rattle.tb_steps.specs.Entries.{Entry, departure}
+use Rattle.tb_steps.specs.Scans.{history_of, step_behind, found_step}
+use Rattle.tb_steps.proofs.ScanLemmas.{history_more}
 use Rattle.tb_core.proofs.RenumberLemmas.{some_entry}
 use Rattle.tb_next.specs.Newest.{last_where}
 

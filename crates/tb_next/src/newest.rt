@@ -3,7 +3,7 @@
 ghost use Rattle.std.specs.Prelude.{◌≡◌, ◌<◌, ◌≤◌, IfOk, IfSome, length, reverse};
 ghost use Rattle.tb_model.specs.Facts.{is_print, is_store_to, touches};
 ghost use Rattle.tb_places.specs.Where.{places_where};
-ghost use Rattle.tb_core.specs.Scans.{found_step, history_of};
+ghost use Rattle.tb_steps.specs.Scans.{found_step, history_of};
 ghost use Rattle.tb_next.specs.Newest.{last_store, last_print};
 
 use std::alloc::AllocError;

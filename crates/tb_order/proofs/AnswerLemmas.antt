@@ -9,11 +9,10 @@ use Rattle.tb_model.specs.Facts.{History}
 use Rattle.tb_model.specs.Needs.{step_of}
 use Rattle.tb_model.proofs.LeastLemmas.{later_not_step}
 use Rattle.tb_model.proofs.RemovalLemmas.{its_step}
-use Rattle.tb_core.specs.Entries.{Entry}
-use Rattle.tb_core.specs.Scans.{history_of, step_at}
-use Rattle.tb_core.proofs.FirstLemmas.{step_read}
-use Rattle.tb_core.proofs.ScanLemmas.{history_more, history_cut}
-use Rattle.tb_cause.proofs.ConeLemmas.{some_same}
+use Rattle.tb_steps.specs.Entries.{Entry}
+use Rattle.tb_steps.specs.Scans.{history_of, step_at}
+use Rattle.tb_steps.proofs.FirstLemmas.{some_same, step_read}
+use Rattle.tb_steps.proofs.ScanLemmas.{history_more, history_cut}
 use Rattle.tb_races.specs.declared.race.Race.{Race}
 use Rattle.tb_races.specs.Immediate.{immediate, immediate_of}
 use Rattle.tb_races.specs.Racing.{race_of, races}
@@ -39,6 +38,10 @@ module _ (entries : List Entry) (at : ℕ) (x : Entry) (within : at < length ent
       ap₂ (λ f p. f ++ option_to_list p) so_far (h x read)
       ∙ sym (reverse_more (race_of F x.event) (races F))
       ∙ ap (λ K. reverse (races K)) (sym more)
+
+-- the entry that is read there is that one
+pub read_there : (entries : List Entry) (at : ℕ) (x v : Entry) → at < length entries → x ≡ get_or entries at x → slice_get entries at ≡ Some v → x ≡ v
+read_there entries at x v within here is = some_same x v (sym (slice_get_read entries (length entries) at x refl within here) ∙ is)
 
 -- what isn't there is nothing
 pub nothing : {A : Type 0} (o : Option A) → ((x : A) → o ≡ Some x → ⊥) → o ≡ None

@@ -12,12 +12,11 @@ use Rattle.tb_model.specs.declared.step_id.StepId.{StepId}
 use Rattle.tb_model.specs.Facts.{History, prepend_if}
 use Rattle.tb_model.specs.Names.{Name}
 use Rattle.tb_model.specs.Needs.{step_of}
-use Rattle.tb_core.specs.Entries.{Entry}
-use Rattle.tb_core.specs.Scans.{history_of, step_at}
-use Rattle.tb_core.proofs.FirstLemmas.{step_read}
-use Rattle.tb_core.proofs.ScanLemmas.{history_more}
+use Rattle.tb_steps.specs.Entries.{Entry}
+use Rattle.tb_steps.specs.Scans.{history_of, step_at}
+use Rattle.tb_steps.proofs.FirstLemmas.{some_same, step_read, there}
+use Rattle.tb_steps.proofs.ScanLemmas.{count_front, history_more}
 use Rattle.tb_cause.specs.Nearest.{nearest}
-use Rattle.tb_cause.proofs.ConeLemmas.{some_same, there, count_front}
 use Rattle.tb_races.specs.declared.cause.Cause.{Cause}
 use Rattle.tb_races.specs.declared.need_kind.NeedKind.{NeedKind}
 use Rattle.tb_races.specs.Immediate.{needs_by_way, cause, as_cause, immediate}

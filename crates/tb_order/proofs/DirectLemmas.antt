@@ -8,10 +8,9 @@ use Rattle.tb_model.specs.declared.step_id.StepId.{StepId}
 use Rattle.tb_model.specs.Facts.{History, prepend_if}
 use Rattle.tb_model.specs.Needers.{is_needer}
 use Rattle.tb_model.specs.Needs.{is_step, needs, removed, step_of}
-use Rattle.tb_core.specs.Entries.{Entry}
-use Rattle.tb_core.specs.Scans.{history_of}
+use Rattle.tb_steps.specs.Entries.{Entry}
+use Rattle.tb_steps.specs.Scans.{history_of}
 use Rattle.tb_cause.specs.Nearest.{nearest}
-use Rattle.tb_cause.proofs.ConeLemmas.{count_front}
 use Rattle.tb_races.specs.declared.need_kind.NeedKind.{NeedKind}
 use Rattle.tb_races.specs.declared.need_kind.NeedKind.TheVariants.{Task, Spawn, Conflict, Before, Apart, Wait, Group, Undeferred}
 use Rattle.tb_races.specs.Immediate.{as_cause, cause, needing, needs_by_way}
@@ -20,10 +19,11 @@ use Rattle.tb_races.specs.Orders.{AllNeeds, counts_some, followers, links}
 use Rattle.tb_races.proofs.KindLemmas.{kind_some}
 use Rattle.tb_races.proofs.PassLemmas.{any_put, put_here, put_rest}
 use Rattle.tb_order.specs.AllNeeds.{AreDirect, IsDirect}
-use Rattle.tb_order.specs.Clocks.{is_after, links_at, reaches}
-use Rattle.tb_order.specs.Needing.{IsAmong, place_at}
-use Rattle.tb_order.proofs.AfterLemmas.{after_is, after_links, at, at_is, links_is, low, same_at, step_place}
-use Rattle.tb_order.proofs.FrontLemmas.{one_more}
+use Rattle.tb_lanes.specs.Clocks.{is_after, links_at, reaches}
+use Rattle.tb_lanes.specs.Needing.{IsAmong, place_at}
+use Rattle.tb_lanes.proofs.AfterLemmas.{after_is, after_links, at, at_is, links_is, low, same_at, step_place}
+use Rattle.tb_lanes.proofs.FrontLemmas.{one_more}
+use Rattle.tb_steps.proofs.ScanLemmas.{count_front}
 
 -- ---- all needs are links
 

@@ -5,11 +5,10 @@ use Rattle.indexmap.proofs.ReorderLemmas.{map-reverse}
 use Rattle.tb_model.specs.declared.step_id.StepId.{StepId}
 use Rattle.tb_model.specs.Facts.{History}
 use Rattle.tb_model.specs.Needs.{step_of}
-use Rattle.tb_core.specs.Entries.{Entry}
-use Rattle.tb_core.specs.Scans.{history_of, step_at}
-use Rattle.tb_core.proofs.FirstLemmas.{step_read}
-use Rattle.tb_core.proofs.ScanLemmas.{history_more}
-use Rattle.tb_cause.proofs.ConeLemmas.{some_same}
+use Rattle.tb_steps.specs.Entries.{Entry}
+use Rattle.tb_steps.specs.Scans.{history_of, step_at}
+use Rattle.tb_steps.proofs.FirstLemmas.{some_same, step_read}
+use Rattle.tb_steps.proofs.ScanLemmas.{history_more}
 use Rattle.tb_races.specs.declared.cause.Cause.{Cause}
 use Rattle.tb_races.specs.Immediate.{immediate}
 use Rattle.tb_order.specs.declared.edge.Edge.{Edge}

@@ -1,15 +1,15 @@
 -- What is joined, end by end.
 use Rattle.std.proofs.Common.{◌≡◌, ◌<◌, ℕ, Option, Some, None, List, [], ◌∷◌, ◌++◌, true, refl, sym, ◌∙◌, subst, ◌⊎◌, inl, inr, ⊎_elim}
-use Rattle.tb_core.specs.Entries.{Entry}
-use Rattle.tb_order.specs.declared.tasks.Tasks.{Tasks}
-use Rattle.tb_order.specs.declared.past.Past.{Past}
-use Rattle.tb_order.specs.declared.joined.Joined.{Joined}
-use Rattle.tb_order.specs.Clocks.{IsJoined, IsSound, lanes_of, links_at, reaches}
-use Rattle.tb_order.specs.Bounds.{AreRising, bound_among}
-use Rattle.tb_order.specs.Linking.{order_of}
-use Rattle.tb_order.specs.Needing.{IsLinkedEnd}
-use Rattle.tb_order.proofs.NeedingLemmas.{below_last, below_more, each_more}
-use Rattle.tb_order.specs.Rows.{AreJoined, IsTold, JoinsMore}
+use Rattle.tb_steps.specs.Entries.{Entry}
+use Rattle.tb_lanes.specs.declared.tasks.Tasks.{Tasks}
+use Rattle.tb_lanes.specs.declared.past.Past.{Past}
+use Rattle.tb_lanes.specs.declared.joined.Joined.{Joined}
+use Rattle.tb_lanes.specs.Clocks.{IsJoined, IsSound, lanes_of, links_at, reaches}
+use Rattle.tb_lanes.specs.Bounds.{AreRising, bound_among}
+use Rattle.tb_lanes.specs.Linking.{order_of}
+use Rattle.tb_lanes.specs.Needing.{IsLinkedEnd}
+use Rattle.tb_lanes.proofs.NeedingLemmas.{below_last, below_more, each_more}
+use Rattle.tb_lanes.specs.Rows.{AreJoined, IsTold, JoinsMore}
 
 module _ (entries : List Entry) (tasks : Tasks) (past : Past) (k p : ℕ) where
   pub joins_none : (j : Joined) → AreJoined entries tasks past k p j → JoinsMore entries tasks past k p j j

@@ -1,19 +1,19 @@
 -- What a step needs immediately, one step more.
 use Rattle.std.proofs.Common.{◌≡◌, ◌≢◌, ◌<◌, ◌≤◌, ◌==◌, ℕ, suc, List, [], ◌∷◌, ◌++◌, true, false, length, sym, ap, ◌∙◌, subst, arith, ◌⊎◌, inl, inr, ⊎_elim, eqb-true}
 use Rattle.std.proofs.lemmas.Bool.{both_ways, cases_eq, false_from_ne_true, or_cases}
-use Rattle.tb_core.specs.Entries.{Entry}
+use Rattle.tb_steps.specs.Entries.{Entry}
 use Rattle.tb_races.specs.Orders.{AllNeeds}
-use Rattle.tb_order.specs.declared.tasks.Tasks.{Tasks}
-use Rattle.tb_order.specs.declared.clocks.Clocks.{Clocks}
-use Rattle.tb_order.specs.declared.merging.Step.{Step}
+use Rattle.tb_lanes.specs.declared.tasks.Tasks.{Tasks}
+use Rattle.tb_lanes.specs.declared.clocks.Clocks.{Clocks}
+use Rattle.tb_lanes.specs.declared.step.Step.{Step}
 use Rattle.tb_order.specs.declared.needing.Needed.{Needed}
-use Rattle.tb_order.specs.Bounds.{AreRising, bound_among, bound_in}
-use Rattle.tb_order.specs.Clocks.{Adds, IsSound, is_after, is_told, lanes_of, previous, reaches}
-use Rattle.tb_order.specs.Needing.{AreApart, IsBegun, IsBelow, IsCandidate, is_known, own_row, place_at}
+use Rattle.tb_lanes.specs.Bounds.{AreRising, bound_among, bound_in}
+use Rattle.tb_lanes.specs.Clocks.{Adds, IsSound, is_after, is_told, lanes_of, previous, reaches}
+use Rattle.tb_lanes.specs.Needing.{AreApart, IsBegun, IsBelow, IsCandidate, is_known, own_row, place_at}
 use Rattle.tb_order.specs.Walked.{IsSoFar, is_met}
-use Rattle.tb_order.proofs.AfterLemmas.{low, reaches_so}
-use Rattle.tb_order.proofs.NeedingLemmas.{below_last, below_more, each_more, kept_is, last_is, length_more}
-use Rattle.tb_order.proofs.SoundLemmas.{adds_told, first_touches, itself_told, sound_more, stays_told, told_touch}
+use Rattle.tb_lanes.proofs.AfterLemmas.{low, reaches_so}
+use Rattle.tb_lanes.proofs.NeedingLemmas.{below_last, below_more, each_more, kept_is, last_is, length_more}
+use Rattle.tb_lanes.proofs.SoundLemmas.{adds_told, first_touches, itself_told, sound_more, stays_told, told_touch}
 
 -- one place more, in front of all, which none of them reaches
 pub apart_more : (entries : List Entry) (old new : List ℕ) (c : ℕ) (e : new ≡ old ++ c ∷ []) → AreApart entries old → ((i : ℕ) → i < length old → c < place_at old i) → ((i : ℕ) → i < length old → reaches AllNeeds entries (place_at old i) c ≡ false) → AreApart entries new

@@ -4,21 +4,21 @@ use Rattle.std.specs.Option.{option_or, option_map}
 use Rattle.std.proofs.lemmas.Bool.{and_from, both_ways, cases_eq, false≢true}
 use Rattle.tb_model.specs.declared.event.Event.{Event}
 use Rattle.tb_model.specs.Facts.{History, is_of, is_end, spawns}
-use Rattle.tb_core.specs.Entries.{Entry}
-use Rattle.tb_core.specs.Scans.{history_of}
+use Rattle.tb_steps.specs.Entries.{Entry}
+use Rattle.tb_steps.specs.Scans.{history_of}
 use Rattle.tb_races.specs.declared.conflict.Conflict.{Conflict}
 use Rattle.tb_races.specs.declared.need_kind.NeedKind.TheVariants.{Task, Spawn, Conflict as Conflicts}
 use Rattle.tb_races.specs.Kinds.{shared, end_kind}
 use Rattle.tb_races.specs.Orders.{AllNeeds, counts_some, links}
-use Rattle.tb_order.specs.Clocks.{links_at, reaches}
-use Rattle.tb_order.specs.Kept.{in_so, is_in, is_in_at, is_load, loads_at, loads_so, shares_at, slot_of}
-use Rattle.tb_order.specs.Needing.{IsBelow, Shares}
-use Rattle.tb_order.proofs.AfterLemmas.{at, at_read, links_is, linked_on, reaches_so}
-use Rattle.tb_order.proofs.FrontLemmas.{entry_read}
-use Rattle.tb_order.proofs.KeptLemmas.{shares_by_number}
-use Rattle.tb_order.proofs.LinkLemmas.{shares_is}
-use Rattle.tb_order.proofs.NeedingLemmas.{below_last, below_more, each_more}
-use Rattle.tb_order.proofs.SharingLemmas.{in_no_slot, in_slot}
+use Rattle.tb_lanes.specs.Clocks.{links_at, reaches}
+use Rattle.tb_lanes.specs.Kept.{in_so, is_in, is_in_at, is_load, loads_at, loads_so, shares_at, slot_of}
+use Rattle.tb_lanes.specs.Needing.{IsBelow, Shares}
+use Rattle.tb_lanes.proofs.AfterLemmas.{at, at_read, links_is, linked_on, reaches_so}
+use Rattle.tb_lanes.proofs.FrontLemmas.{entry_read}
+use Rattle.tb_lanes.proofs.KeptLemmas.{shares_by_number}
+use Rattle.tb_lanes.proofs.LinkLemmas.{shares_is}
+use Rattle.tb_lanes.proofs.NeedingLemmas.{below_last, below_more, each_more}
+use Rattle.tb_lanes.proofs.SharingLemmas.{in_no_slot, in_slot}
 
 -- where all needs count, what shares something is linked
 pub link_shared : (H : History) (v u : Event) → is_some (shared v.action u.action) ≡ true → links AllNeeds H v u ≡ true

@@ -6,33 +6,33 @@ use Rattle.tb_model.specs.declared.action.Action.{Action}
 use Rattle.tb_model.specs.declared.action.Action.TheVariants.{Start, Wait as Waits, Close}
 use Rattle.tb_model.specs.Facts.{History, before, apart, covers, is_member, own, holds}
 use Rattle.tb_model.specs.Names.{Name}
-use Rattle.tb_core.specs.Entries.{Entry}
-use Rattle.tb_cause.proofs.ConeLemmas.{there}
-use Rattle.tb_core.specs.Scans.{history_of}
+use Rattle.tb_steps.specs.Entries.{Entry}
+use Rattle.tb_steps.specs.Scans.{history_of}
 use Rattle.tb_races.specs.declared.need_kind.NeedKind.{NeedKind}
 use Rattle.tb_races.specs.declared.need_kind.NeedKind.TheVariants.{Before, Apart, Wait, Group, Undeferred}
 use Rattle.tb_races.specs.Kinds.{end_kind, need_kind, some_if, wait_kind}
 use Rattle.tb_races.specs.Orders.{AllNeeds, WithExclusion, counts_some}
-use Rattle.tb_order.specs.declared.tasks.Tasks.{Tasks}
-use Rattle.tb_order.specs.declared.clocks.Clocks.{Clocks}
-use Rattle.tb_order.specs.declared.lane_bound.LaneBound.{LaneBound}
-use Rattle.tb_order.specs.declared.kept.Kept.{Kept}
-use Rattle.tb_order.specs.declared.merging.Step.{Step}
+use Rattle.tb_lanes.specs.declared.tasks.Tasks.{Tasks}
+use Rattle.tb_lanes.specs.declared.clocks.Clocks.{Clocks}
+use Rattle.tb_lanes.specs.declared.lane_bound.LaneBound.{LaneBound}
+use Rattle.tb_lanes.specs.declared.kept.Kept.{Kept}
+use Rattle.tb_lanes.specs.declared.step.Step.{Step}
 use Rattle.tb_order.specs.AllNeeds.{AreDirect, GoesBehind, IsMade}
-use Rattle.tb_order.specs.Bounds.{IsRising, bound_in}
-use Rattle.tb_order.specs.Clocks.{AreClocks, AreTasks, GoesOn, IsClock, IsLane, IsOneMore, IsSound, TellsEnds, both_at, is_after, is_end_at, is_told, kept_in, lanes_of, links_at, reaches, touches}
-use Rattle.tb_order.specs.Kept.{is_in_at, is_load, loads_at, loads_so, shares_at, shares_so, slot_of}
-use Rattle.tb_order.specs.Needing.{AreCandidates, AreNeeded, AreShared, FindsEnds, IsAmong, IsBegun, IsBelow, IsEndBefore, IsOwn, IsRowFound, IsTouched, TellsShared, is_known, own_row, place_at, places_so, shared_places}
-use Rattle.tb_order.proofs.AfterLemmas.{After, at, at_read, by_way, direct, links_is, reach_on, reached, reaches_so, same_at}
+use Rattle.tb_lanes.specs.Bounds.{IsRising, bound_in}
+use Rattle.tb_lanes.specs.Clocks.{AreClocks, AreTasks, GoesOn, IsClock, IsLane, IsOneMore, IsSound, TellsEnds, both_at, is_after, is_end_at, is_told, kept_in, lanes_of, links_at, reaches, touches}
+use Rattle.tb_lanes.specs.Kept.{is_in_at, is_load, loads_at, loads_so, shares_at, shares_so, slot_of}
+use Rattle.tb_lanes.specs.Needing.{AreCandidates, AreNeeded, AreShared, FindsEnds, IsAmong, IsBegun, IsBelow, IsEndBefore, IsOwn, IsRowFound, IsTouched, TellsShared, is_known, own_row, place_at, places_so, shared_places}
+use Rattle.tb_lanes.proofs.AfterLemmas.{After, at, at_read, by_way, direct, links_is, reach_on, reached, reaches_so, same_at}
 use Rattle.tb_order.proofs.DirectLemmas.{all_count}
-use Rattle.tb_order.proofs.KeptLemmas.{shares_by_number}
-use Rattle.tb_order.proofs.LinkLemmas.{end_is, end_links, link_cases_at, touch_links_at}
+use Rattle.tb_lanes.proofs.KeptLemmas.{shares_by_number}
+use Rattle.tb_lanes.proofs.LinkLemmas.{end_is, end_links, link_cases_at, touch_links_at}
 use Rattle.tb_order.proofs.SharedLemmas.{link_shared_at}
-use Rattle.tb_order.proofs.SharingLemmas.{shared_none}
-use Rattle.tb_order.proofs.SoundLemmas.{clock_told, first_reaches, first_touches, reached_low, told_touch}
-use Rattle.tb_order.proofs.LaneLemmas.{stands_in}
-use Rattle.tb_order.proofs.TableLemmas.{clocks_kept, clocks_more, stands_by}
+use Rattle.tb_lanes.proofs.SharingLemmas.{shared_none}
+use Rattle.tb_lanes.proofs.SoundLemmas.{clock_told, first_reaches, first_touches, reached_low, told_touch}
+use Rattle.tb_lanes.proofs.LaneLemmas.{stands_in}
+use Rattle.tb_lanes.proofs.TableLemmas.{clocks_kept, clocks_more, stands_by}
 use Rattle.tb_order.proofs.WalkedLemmas.{among_both, among_filter, among_left, among_right, filter_among}
+use Rattle.tb_steps.proofs.FirstLemmas.{there}
 
 -- ---- what exclusion orders, all needs do
 

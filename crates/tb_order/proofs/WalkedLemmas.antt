@@ -5,7 +5,7 @@ use Rattle.std.proofs.lemmas.Bool.{cases_eq}
 use Rattle.std.proofs.lemmas.List.{get_or_default}
 use Rattle.std.proofs.lemmas.List.Elements.{Contains-append_left, Contains-append_right}
 use Rattle.std.proofs.lemmas.List.Sorted.{Contains-permutation, IsPermutation-sym}
-use Rattle.tb_order.specs.Needing.{IsAmong, place_at}
+use Rattle.tb_lanes.specs.Needing.{IsAmong, place_at}
 use Rattle.tb_order.specs.Walked.{IsWalked, first_places}
 
 pub among_of : (xs : List ℕ) (q : ℕ) → Contains xs q → IsAmong xs q

@@ -1,15 +1,15 @@
 -- All needs of the steps of a history.
 use Rattle.std.specs.Prelude.{ℕ, ◌≡◌, ◌≢◌, ◌⊎◌, ◌<◌, ◌++◌, ◌∷◌, [], List, Option, Some, None, Vec, true, false, length, IsTrue}
-use Rattle.tb_core.specs.Entries.{Entry}
+use Rattle.tb_steps.specs.Entries.{Entry}
 use Rattle.tb_races.specs.Orders.{AllNeeds}
-use Rattle.tb_order.specs.declared.tasks.Tasks.{Tasks}
+use Rattle.tb_lanes.specs.declared.tasks.Tasks.{Tasks}
 use Rattle.std.specs.declared.alloc.Global.{Global}
 use Rattle.tb_order.specs.declared.needs.Needs.{Needs}
-use Rattle.tb_order.specs.declared.clocks.Clocks.{Clocks}
-use Rattle.tb_order.specs.declared.lane_bound.LaneBound.{LaneBound}
-use Rattle.tb_order.specs.Clocks.{AreClocks, Lanes, lane, links_at, reaches}
-use Rattle.tb_order.specs.Needing.{AreShared, IsAmong, place_at}
-use Rattle.tb_order.specs.Rows.{IsPast}
+use Rattle.tb_lanes.specs.declared.clocks.Clocks.{Clocks}
+use Rattle.tb_lanes.specs.declared.lane_bound.LaneBound.{LaneBound}
+use Rattle.tb_lanes.specs.Clocks.{AreClocks, Lanes, lane, links_at, reaches}
+use Rattle.tb_lanes.specs.Needing.{AreShared, IsAmong, place_at}
+use Rattle.tb_lanes.specs.Rows.{IsPast}
 
 -- the order is that of the first n steps
 pub record AreNeeds (entries : List Entry) (tasks : Tasks) (n : ℕ) (needs : Needs) : Type 0 where

@@ -1,12 +1,5 @@
-pub mod Linking
-pub mod Bounds
-pub mod Clocks
-pub mod Kept
-pub mod Numbering
 pub mod Told
-pub mod Exclusion
 pub mod Edges
-pub mod Needing
 pub mod Walked
 pub mod AllNeeds
-pub mod Rows
+pub mod Begun

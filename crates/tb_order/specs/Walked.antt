@@ -1,14 +1,14 @@
 -- The steps that a step may need, walked from the newest on.
 use Rattle.std.specs.Prelude.{ℕ, suc, ◌≡◌, ◌⊎◌, ◌<◌, ◌≤◌, ◌-◌, ◌==◌, List, [], ◌∷◌, if◌then◌else◌, length, IsTrue}
-use Rattle.tb_core.specs.Entries.{Entry}
+use Rattle.tb_steps.specs.Entries.{Entry}
 use Rattle.tb_races.specs.Orders.{AllNeeds}
-use Rattle.tb_order.specs.declared.tasks.Tasks.{Tasks}
-use Rattle.tb_order.specs.declared.clocks.Clocks.{Clocks}
-use Rattle.tb_order.specs.declared.merging.Step.{Step}
+use Rattle.tb_lanes.specs.declared.tasks.Tasks.{Tasks}
+use Rattle.tb_lanes.specs.declared.clocks.Clocks.{Clocks}
+use Rattle.tb_lanes.specs.declared.step.Step.{Step}
 use Rattle.tb_order.specs.declared.needing.Needed.{Needed}
-use Rattle.tb_order.specs.Bounds.{AreRising, bound_among}
-use Rattle.tb_order.specs.Clocks.{IsSound, is_told, lanes_of, previous}
-use Rattle.tb_order.specs.Needing.{AreApart, IsAmong, IsBelow, IsCandidate, is_known, place_at}
+use Rattle.tb_lanes.specs.Bounds.{AreRising, bound_among}
+use Rattle.tb_lanes.specs.Clocks.{IsSound, is_told, lanes_of, previous}
+use Rattle.tb_lanes.specs.Needing.{AreApart, IsAmong, IsBelow, IsCandidate, is_known, place_at}
 
 -- the place in front of first, none where that is 0
 abbrev pub first_places : ℕ → List ℕ

@@ -5,20 +5,16 @@ ghost use Rattle.std.specs.List.{list_any};
 ghost use Rattle.tb_model.specs.declared.item.Item.{Item as AnItem};
 ghost use Rattle.tb_model.specs.declared.place.Place.TheVariants.{Cell};
 ghost use Rattle.tb_model.specs.Items.{same_place};
-ghost use Rattle.tb_order.specs.Clocks.{IsEnd, links_at};
-ghost use Rattle.tb_order.specs.Linking.{order_of};
-ghost use Rattle.tb_order.specs.Rows as is;
-ghost use Rattle.tb_order.specs.Rows.{AreJoined, IsAsked, IsNoted, IsTold, IsWaiting, JoinsMore, items_at, may_meet, some_may_meet, waits_at};
+ghost use Rattle.tb_lanes.specs.Clocks.{IsEnd, links_at};
+ghost use Rattle.tb_lanes.specs.Linking.{order_of};
+ghost use Rattle.tb_lanes.specs.Rows as is;
+ghost use Rattle.tb_lanes.specs.Rows.{AreJoined, IsAsked, IsNoted, IsTold, IsWaiting, JoinsMore, items_at, may_meet, some_may_meet, waits_at};
 
-use crate::joined::Joined;
 use crate::merging::merge;
-use crate::past::Past;
-use crate::rows::{Key, item_key, row_of};
-use crate::tasks::Tasks;
-use crate::waiter::Waiter;
 use crate::waiting::{is_held, items_of};
 use std::alloc::AllocError;
 use tb_core::History;
+use tb_lanes::{Joined, Key, Past, Tasks, Waiter, item_key, row_of};
 use tb_model::{Action, Item, Kind, Place};
 
 /// Adds the ends to which the step is linked, with all that is in front of them.

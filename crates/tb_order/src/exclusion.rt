@@ -1,9 +1,9 @@
 //! Whether tasks of a history exclude each other.
 
-ghost use Rattle.std.specs.Prelude.{◌≡◌, ◌<◌, ℕ, false, length, take, Some, IsFalse};
-ghost use Rattle.tb_core.specs.Scans.{history_of};
+ghost use Rattle.std.specs.Prelude.{◌≡◌, ◌<◌, ℕ, false, get_or, length, Some, IsFalse};
+ghost use Rattle.tb_steps.specs.Entries.{Entry};
 ghost use Rattle.tb_model.specs.State.{items_in};
-ghost use Rattle.tb_order.specs.Exclusion.{excludes_some, has_exclusive};
+ghost use Rattle.tb_stream.specs.Exclusion.{has_exclusive};
 
 use crate::waiting::action_items;
 use tb_core::History;
@@ -12,8 +12,8 @@ use tb_model::{Action, Kind};
 /// Whether some task has an item by which it may exclude others. The contract says what a no means: a
 /// needless yes would only cost a second table of clocks.
 pub fn exclude_some(entries: &History<'_>) -> bool
-    ensures { IsFalse result → (p : ℕ) → p < length entries.now →
-        excludes_some (history_of (take p entries.now)) ≡ false }
+    ensures { IsFalse result → (p : ℕ) (e : Entry) → p < length entries.now
+        → e ≡ get_or entries.now p e → has_exclusive (items_in (Some e.event.action)) ≡ false }
 {
     for at in 0..entries.len() {
         if has_exclusive(entries.action(at)) {

@@ -1,15 +1,15 @@
 //! Where a taskgroup was opened.
 
 ghost use Rattle.std.specs.Prelude.{◌≡◌, ◌<◌, ◌≤◌, ℕ, Bool, length, take, slice_get, IsTrue, Some, false};
-ghost use Rattle.tb_core.specs.Entries.{Entry};
-ghost use Rattle.tb_core.specs.Scans.{AreLegal, history_of};
+ghost use Rattle.tb_steps.specs.Entries.{Entry};
+ghost use Rattle.tb_steps.specs.Scans.{AreLegal, history_of};
 ghost use Rattle.tb_model.specs.Facts.{IsSpawned, is_member, own};
 ghost use Rattle.tb_model.specs.Names.{Name};
-ghost use Rattle.tb_order.specs.Clocks.{AreTasks, IsEnd, links_at};
-ghost use Rattle.tb_order.specs.Linking.{order_of};
+ghost use Rattle.tb_lanes.specs.Clocks.{AreTasks, IsEnd, links_at};
+ghost use Rattle.tb_lanes.specs.Linking.{order_of};
 
-use crate::tasks::{Tasks, step_before};
 use tb_core::History;
+use tb_lanes::{Tasks, step_before};
 use tb_model::Action;
 
 /// A place in front of which no end stands to which the step is linked: that of the end of a

@@ -3,8 +3,8 @@
 ghost use Rattle.std.specs.Prelude.{◌≡◌, ◌<◌, ◌≤◌, IfOk, IsTrue, Some, is_some, length, map, take, reverse, get_or};
 ghost use Rattle.std.specs.List.{All};
 ghost use Rattle.tb_model.specs.Facts.{is_spawned};
-ghost use Rattle.tb_core.specs.Entries.{Entry as AnEntry};
-ghost use Rattle.tb_core.specs.Scans.{AreLegal, history_of};
+ghost use Rattle.tb_steps.specs.Entries.{Entry as AnEntry};
+ghost use Rattle.tb_steps.specs.Scans.{AreLegal, history_of};
 ghost use Rattle.tb_races.specs.declared.cause.Cause.{Cause as ACause};
 ghost use Rattle.tb_races.specs.Immediate.{immediate};
 ghost use Rattle.tb_order.specs.Told.{told};

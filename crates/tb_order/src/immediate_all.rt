@@ -1,32 +1,29 @@
 //! The immediate needs of all steps.
 
 ghost use Rattle.std.specs.Prelude.{◌≡◌, ◌<◌, ◌≤◌, ◌+◌, ◌++◌, ℕ, List, IfOk, IfSome, OnOk, IsTrue, Some, is_some, get_or, length, map, reverse, take};
-ghost use Rattle.tb_core.specs.Entries.{Entry};
-ghost use Rattle.tb_core.specs.Scans.{AreLegal, history_of};
+ghost use Rattle.tb_steps.specs.Entries.{Entry};
+ghost use Rattle.tb_steps.specs.Scans.{AreLegal, history_of};
 ghost use Rattle.tb_races.specs.declared.cause.Cause.{Cause as ACause};
-ghost use Rattle.tb_order.specs.declared.tasks.Tasks.{Tasks as ATasks};
+ghost use Rattle.tb_lanes.specs.declared.tasks.Tasks.{Tasks as ATasks};
 ghost use Rattle.tb_order.specs.AllNeeds.{AreDirect, AreNeeds, GoesBehind, IsMade};
-ghost use Rattle.tb_order.specs.Clocks as is;
-ghost use Rattle.tb_order.specs.Clocks.{AreOrdinals, AreTasks, lanes_of};
+ghost use Rattle.tb_lanes.specs.Clocks as is;
+ghost use Rattle.tb_lanes.specs.Clocks.{AreOrdinals, AreTasks, lanes_of};
 ghost use Rattle.tb_order.specs.Edges;
 ghost use Rattle.tb_order.specs.Edges.{as_edge};
-ghost use Rattle.tb_order.specs.Needing.{place_at};
+ghost use Rattle.tb_lanes.specs.Needing.{place_at};
 ghost use Rattle.tb_order.specs.Told.{told};
 
-use crate::clocks::Clocks;
 use crate::edge::Edge;
-use crate::kept::nothing;
-use crate::lane_bound::LaneBound;
-use crate::merging::{Step, add, advance, begin, lane_behind, no_clocks, nothing_past};
+use crate::merging::{add, advance, begin, lane_behind, no_clocks, nothing_past};
 use crate::needing::{candidates, needed_among, untold};
 use crate::needs::Needs;
 use crate::numbering::tasks_of;
 use crate::ordinals::{named, ordinals_of};
 use crate::sharing::note_shared;
-use crate::tasks::Tasks;
 use crate::waiting::kind_at;
 use std::alloc::{AllocError, Global};
 use tb_core::History;
+use tb_lanes::{Clocks, LaneBound, Step, Tasks, nothing};
 use tb_model::StepId;
 use tb_races::Cause;
 

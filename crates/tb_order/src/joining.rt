@@ -1,18 +1,17 @@
 //! A step that comes before one that waits is joined to it.
 
 ghost use Rattle.std.specs.Prelude.{◌≡◌, ◌<◌, ◌≤◌, ◌||◌, ℕ, List, length, IfOk, OnOk};
-ghost use Rattle.tb_core.specs.Entries.{Entry};
+ghost use Rattle.tb_steps.specs.Entries.{Entry};
 ghost use Rattle.tb_races.specs.Orders.{Order};
-ghost use Rattle.tb_order.specs.Bounds.{AreRising, IsRising, bound_among, bound_in};
-ghost use Rattle.tb_order.specs.Clocks as is;
-ghost use Rattle.tb_order.specs.Clocks.{Adds, AreClocks, AreTasks, IsShaped, IsSound, adds, is_told, lane, lanes_of, row_of_step, says};
+ghost use Rattle.tb_lanes.specs.Bounds.{AreRising, IsRising, bound_among, bound_in};
+ghost use Rattle.tb_lanes.specs.Clocks as is;
+ghost use Rattle.tb_lanes.specs.Clocks.{Adds, AreClocks, AreTasks, IsShaped, IsSound, adds, is_told, lane, lanes_of, row_of_step, says};
 
-use crate::bounds::{add_row, bound_among as told_among, merged, whole};
-use crate::clocks::{Clocks, reaches, row};
-use crate::lane_bound::LaneBound;
-use crate::tasks::Tasks;
-use crate::waiter::Waiter;
 use std::alloc::{AllocError, Global};
+use tb_lanes::{
+    Clocks, LaneBound, Tasks, Waiter, add_row, bound_among as told_among, merged, reaches, row,
+    whole,
+};
 
 /// Whether the step at `early` is told of as one in front of the step, where of its lane the row so
 /// far tells up to this bound.
@@ -116,10 +115,9 @@ fn row_with(alloc: Global, clocks: &Clocks, at: usize) -> Result<Vec<LaneBound>,
     ensures adds { IfOk result (λ row. (k q : ℕ) →
         says (bound_in row.items) k q ≡ adds (lanes_of clocks.now) at k q) }
 {
-    let own = [LaneBound {
-        lane: clocks.lanes[at],
-        to: at + 1,
-    }];
-    let row = merged(alloc, &own, row(&clocks.rows, clocks.of[at]))?;
+    let Some(own) = LaneBound::up_to(clocks.lanes[at], at) else {
+        return Err(AllocError);
+    };
+    let row = merged(alloc, &[own], row(&clocks.rows, clocks.of[at]))?;
     Ok(row)
 }

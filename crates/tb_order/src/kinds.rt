@@ -1,12 +1,10 @@
 //! Why a step directly needs an earlier one, found by scans: nothing is kept for it.
 
-ghost use Rattle.std.specs.Prelude.{◌≡◌, ◌<◌, IsTrue, length, get_or};
+ghost use Rattle.std.specs.Prelude.{◌≡◌, IsTrue};
 ghost use Rattle.tb_model.specs.Facts.{is_spawned};
-ghost use Rattle.tb_core.specs.Entries.{Entry};
-ghost use Rattle.tb_core.specs.Scans.{AreLegal, history_of};
+ghost use Rattle.tb_steps.specs.Scans.{AreLegal, history_of};
 ghost use Rattle.tb_races.specs.Kinds;
-ghost use Rattle.tb_races.specs.Racing;
-ghost use Rattle.tb_order.specs.Linking;
+ghost use Rattle.tb_lanes.specs.Linking;
 
 use tb_core::{History, holds, is_apart, is_before, is_covered, is_member};
 use tb_model::{Action, TaskName};
@@ -52,20 +50,6 @@ pub fn need_kind(
         end_kind(front, t, a, u)
     } else {
         None
-    }
-}
-
-/// What a later and an earlier step of different tasks share, so that their order can be seen.
-pub fn conflict(entries: &History<'_>, later: usize, earlier: usize) -> Option<Conflict>
-    requires later { later < length entries.now }
-    requires earlier { earlier < length entries.now }
-    ensures { (v u : Entry) → v ≡ get_or entries.now later v → u ≡ get_or entries.now earlier u →
-        result ≡ Racing.conflict v.event u.event }
-{
-    if entries.are_of_one(later, earlier) {
-        None
-    } else {
-        shared(entries.action(later), entries.action(earlier))
     }
 }
 

@@ -1,59 +1,29 @@
 //! The clocks of a history.
 
 ghost use Rattle.std.specs.Prelude.{◌≡◌, ◌≢◌, IfSome, ◌⊎◌, ◌<◌, ◌≤◌, ◌+◌, ◌||◌, ◌&&◌, ◌==◌, ℕ, List, Vec, Some, false, length, nat_lt, slice_index_or, IfOk, IsTrue, OnOk};
-ghost use Rattle.tb_core.specs.Entries.{Entry};
-ghost use Rattle.tb_core.specs.Scans.{AreLegal};
+ghost use Rattle.tb_steps.specs.Entries.{Entry};
+ghost use Rattle.tb_steps.specs.Scans.{AreLegal};
 ghost use Rattle.tb_races.specs.Orders.{Order};
-ghost use Rattle.tb_order.specs.Clocks as is;
-ghost use Rattle.tb_order.specs.Clocks.{AreClocks, AreEnds, AreTasks, GoesOn, IsLane, IsLow, IsOneMore, IsShaped, IsSound, IsStanding, adds, end_at, lane, lanes_of, links_at, number, row_in};
-ghost use Rattle.tb_order.specs.Bounds.{IsRising, bound_in};
-ghost use Rattle.tb_order.specs.Rows.{AreJoined, AreRows, IsNoted, IsPast, IsRow, IsTold, IsWaiting, JoinsMore, parent, starts_at};
-ghost use Rattle.tb_order.specs.Linking.{order_of};
-ghost use Rattle.tb_order.specs.Needing.{FindsEnds, IsEndBefore, IsOwn};
-ghost use Rattle.tb_order.specs.declared.tasks.Tasks.{Tasks as ATasks};
+ghost use Rattle.tb_lanes.specs.Clocks as is;
+ghost use Rattle.tb_lanes.specs.Clocks.{AreClocks, AreEnds, AreTasks, GoesOn, IsLane, IsLow, IsOneMore, IsShaped, IsSound, IsStanding, adds, end_at, lane, lanes_of, links_at, number, row_in};
+ghost use Rattle.tb_lanes.specs.Bounds.{IsRising, bound_in};
+ghost use Rattle.tb_lanes.specs.Rows.{AreJoined, AreRows, IsNoted, IsPast, IsRow, IsTold, IsWaiting, JoinsMore, parent, starts_at};
+ghost use Rattle.tb_lanes.specs.Linking.{order_of};
+ghost use Rattle.tb_lanes.specs.Needing.{FindsEnds, IsEndBefore, IsOwn};
+ghost use Rattle.tb_lanes.specs.declared.tasks.Tasks.{Tasks as ATasks};
 
 use crate::asked::merge_all;
-use crate::bounds::{add_row, bound, bound_among, whole};
-use crate::clocks::{Clocks, row};
-use crate::ends::{Ends, no_ends, note_end};
 use crate::grouping::first_asked;
-use crate::joined::Joined;
 use crate::joining::{is_merged, join};
 use crate::noting::note_rows;
-use crate::past::Past;
-use crate::rows::parent_of;
-use crate::tasks::{Tasks, step_before};
-use crate::waiter::Waiter;
 use crate::waiting::{may_wait, waits};
 use indexmap::IndexMap;
 use std::alloc::{AllocError, Global};
 use tb_core::History;
-
-/// A step for which a clock is made: its place, the number of its row so far, and its lane.
-#[derive(Drop)]
-pub struct Step {
-    pub at: usize,
-    pub row: usize,
-    pub lane: usize,
-}
-
-/// What the order puts in front of each of these entries, where exclusion counts or doesn't.
-pub fn clocks_of(
-    alloc: Global,
-    exclusion: bool,
-    entries: &History<'_>,
-    tasks: &Tasks,
-) -> Result<Clocks, AllocError>
-    requires legal { AreLegal entries.now }
-    requires tasks { AreTasks entries.now tasks.now }
-    ensures { IfOk result (AreClocks (order_of exclusion) entries.now tasks.now (length entries.now)) }
-{
-    let mut past = nothing_past(alloc, exclusion);
-    for at in 0..entries.len() {
-        advance(alloc, entries, tasks, &mut past, at)?;
-    }
-    Ok(past.clocks)
-}
+use tb_lanes::{
+    Clocks, Ends, Joined, Past, Step, Tasks, Waiter, add_row, bound, bound_among, no_ends,
+    note_end, parent_of, row, step_before, whole,
+};
 
 /// No clocks yet.
 pub fn no_clocks(alloc: Global) -> Clocks

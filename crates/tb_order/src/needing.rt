@@ -1,23 +1,20 @@
 //! What a step needs immediately, found among the steps that it may.
 
 ghost use Rattle.std.specs.Prelude.{◌≡◌, ◌≢◌, ◌<◌, ◌≤◌, ◌⊎◌, ◌++◌, ◌∷◌, [], if◌then◌else◌, not, false, ℕ, List, suc, filter, length, slice_index_or, IfOk, IfSome, IfNone, IsTrue, IsFalse, OnOk};
-ghost use Rattle.tb_core.specs.Entries.{Entry};
+ghost use Rattle.tb_steps.specs.Entries.{Entry};
 ghost use Rattle.tb_races.specs.Orders.{AllNeeds};
-ghost use Rattle.tb_order.specs.Clocks as is;
-ghost use Rattle.tb_order.specs.Clocks.{AreTasks, AreClocks, IsShaped};
-ghost use Rattle.tb_order.specs.Needing.{AreCandidates, AreNeeded, IsAmong, IsBegun, IsBelow, IsCandidate, IsRowFound, is_known, place_at, shared_places};
+ghost use Rattle.tb_lanes.specs.Clocks as is;
+ghost use Rattle.tb_lanes.specs.Clocks.{AreTasks, AreClocks, IsShaped};
+ghost use Rattle.tb_lanes.specs.Needing.{AreCandidates, AreNeeded, IsAmong, IsBegun, IsBelow, IsCandidate, IsRowFound, is_known, place_at, shared_places};
 ghost use Rattle.tb_order.specs.Walked.{IsOffered, IsSoFar, IsWalked, first_places};
 
-use crate::bounds::{add_row, bound, bound_among, whole};
-use crate::clocks::{Clocks, reaches, row};
 use crate::joining::{is_merged, join};
-use crate::kept::{Kept, is_load, places_in, slot_of};
-use crate::lane_bound::LaneBound;
-use crate::merging::Step;
-use crate::tasks::Tasks;
-use crate::waiter::Waiter;
 use std::alloc::{AllocError, Global};
 use tb_core::History;
+use tb_lanes::{
+    Clocks, Kept, LaneBound, Step, Tasks, Waiter, add_row, bound, bound_among, is_load, places_in,
+    reaches, row, slot_of, whole,
+};
 use tb_model::Action;
 
 /// What a step needs immediately, as far as it was found.

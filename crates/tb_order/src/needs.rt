@@ -1,9 +1,7 @@
 //! What has been made of all needs so far.
 
-use crate::clocks::Clocks;
-use crate::kept::Kept;
-use crate::past::Past;
 use std::alloc::Global;
+use tb_lanes::{Clocks, Kept, Past};
 
 /// The first steps of a history by all that they need.
 #[derive(Drop)]

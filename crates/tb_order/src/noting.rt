@@ -1,18 +1,15 @@
 //! An end is added to the rows in which it belongs.
 
 ghost use Rattle.std.specs.Prelude.{◌≡◌, ◌<◌, ◌≤◌, ◌+◌, length, IsTrue, OnOk};
-ghost use Rattle.tb_core.specs.Scans.{AreLegal};
+ghost use Rattle.tb_steps.specs.Scans.{AreLegal};
 ghost use Rattle.tb_races.specs.Orders.{Order};
-ghost use Rattle.tb_order.specs.Clocks.{AreClocks, AreTasks, IsShaped, is_end_at};
-ghost use Rattle.tb_order.specs.Rows.{AddsTo, AreFit, AreRows, IsNoted};
+ghost use Rattle.tb_lanes.specs.Clocks.{AreClocks, AreTasks, IsShaped, is_end_at};
+ghost use Rattle.tb_lanes.specs.Rows.{AddsTo, AreFit, AreRows, IsNoted};
 
-use crate::clocks::Clocks;
-use crate::ends::{no_ends, note_end};
-use crate::rows::{Key, Rows, item_key, parent_of};
-use crate::tasks::Tasks;
 use crate::waiting::items_of;
 use std::alloc::{AllocError, Global};
 use tb_core::History;
+use tb_lanes::{Clocks, Key, Rows, Tasks, item_key, no_ends, note_end, parent_of};
 
 /// Adds the end at this place to each row in which it belongs.
 pub fn note_rows(

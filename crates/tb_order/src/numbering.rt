@@ -1,18 +1,18 @@
 //! Which steps of a history are of one task.
 
 ghost use Rattle.std.specs.Prelude.{◌≡◌, ◌<◌, ◌+◌, ◌≤◌, length, slice_get, Some, IfOk, OnOk, suc, ℕ, true, false, IsTrue, if◌then◌else◌};
-ghost use Rattle.tb_core.specs.Entries.{Entry};
-ghost use Rattle.tb_core.specs.Scans.{AreLegal};
+ghost use Rattle.tb_steps.specs.Entries.{Entry};
+ghost use Rattle.tb_steps.specs.Scans.{AreLegal};
 ghost use Rattle.tb_model.specs.Facts.{is_spawn_of};
 ghost use Rattle.tb_model.specs.Names.{Name};
-ghost use Rattle.tb_order.specs.Clocks as is;
-ghost use Rattle.tb_order.specs.Clocks.{AreTasks, both_at, of_one};
-ghost use Rattle.tb_order.specs.Numbering.{AreNewest, AreNumbered, IsAdded, IsPut, of_at, place_of, touched};
+ghost use Rattle.tb_lanes.specs.Clocks as is;
+ghost use Rattle.tb_lanes.specs.Clocks.{AreTasks, both_at, of_one};
+ghost use Rattle.tb_lanes.specs.Numbering.{AreNewest, AreNumbered, IsAdded, IsPut, of_at, place_of, touched};
 
-use crate::tasks::Tasks;
 use indexmap::IndexMap;
 use std::alloc::{AllocError, Global};
 use tb_core::History;
+use tb_lanes::Tasks;
 use tb_model::{Action, TaskName};
 
 /// The steps of these entries by their tasks.

@@ -1,14 +1,14 @@
 //! Which step of its task each step of a history is.
 
 ghost use Rattle.std.specs.Prelude.{◌≡◌, ◌<◌, ◌≤◌, ◌+◌, ℕ, List, Some, suc, length, take, slice_get, slice_index_or, IfOk};
-ghost use Rattle.tb_core.specs.Entries.{Entry};
-ghost use Rattle.tb_core.specs.Scans.{history_of, step_at};
+ghost use Rattle.tb_steps.specs.Entries.{Entry};
+ghost use Rattle.tb_steps.specs.Scans.{history_of, step_at};
 ghost use Rattle.tb_model.specs.Facts;
-ghost use Rattle.tb_order.specs.Clocks.{AreOrdinals, AreTasks, IsShaped};
+ghost use Rattle.tb_lanes.specs.Clocks.{AreOrdinals, AreTasks, IsShaped};
 
-use crate::tasks::{Tasks, step_before};
 use std::alloc::{AllocError, Global};
 use tb_core::History;
+use tb_lanes::{Tasks, step_before};
 use tb_model::StepId;
 
 /// The number of each of these entries among the steps of its task.

@@ -1,11 +1,11 @@
 //! The steps that a later one needs for what they share.
 
 ghost use Rattle.std.specs.Prelude.{◌<◌, ◌+◌, length, OnOk};
-ghost use Rattle.tb_order.specs.Needing.{AreShared};
+ghost use Rattle.tb_lanes.specs.Needing.{AreShared};
 
-use crate::kept::{Kept, cut, grow, is_load, places_in, put, slot_of};
 use std::alloc::AllocError;
 use tb_core::History;
+use tb_lanes::{Kept, cut, grow, is_load, places_in, put, slot_of};
 
 /// Notes the step at this place at the cell that it touches, or at the output. One that stores or
 /// prints comes after all that share it, so these go.

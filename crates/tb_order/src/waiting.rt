@@ -2,20 +2,20 @@
 
 ghost use Rattle.std.specs.Prelude.{◌≡◌, ◌<◌, ◌≤◌, ◌∷◌, ◌||◌, ℕ, List, Bool, length, take, slice_get, IsFalse, IsTrue, Some, false};
 ghost use Rattle.tb_model.specs.declared.action.Action.{Action};
-ghost use Rattle.tb_core.specs.Entries.{Entry};
-ghost use Rattle.tb_core.specs.Scans.{AreLegal, history_of};
+ghost use Rattle.tb_steps.specs.Entries.{Entry};
+ghost use Rattle.tb_steps.specs.Scans.{AreLegal, history_of};
 ghost use Rattle.tb_model.specs.Facts;
 ghost use Rattle.tb_model.specs.Names.{Name};
 ghost use Rattle.tb_model.specs.Items.{has_no_items, is_before, some_meet};
 ghost use Rattle.tb_model.specs.State.{items_in};
 ghost use Rattle.tb_races.specs.Kinds;
-ghost use Rattle.tb_order.specs.Clocks.{AreTasks, both_at, is_end_at, links_at, of_one};
-ghost use Rattle.tb_order.specs.Linking;
-ghost use Rattle.tb_order.specs.Linking.{order_of};
+ghost use Rattle.tb_lanes.specs.Clocks.{AreTasks, both_at, is_end_at, links_at, of_one};
+ghost use Rattle.tb_lanes.specs.Linking;
+ghost use Rattle.tb_lanes.specs.Linking.{order_of};
 
 use crate::kinds::{counts, shared};
-use crate::tasks::{Tasks, step_before};
 use tb_core::{History, is_member};
+use tb_lanes::{Tasks, step_before};
 use tb_model::{Action, Item, TaskName, some_apart, some_before};
 use tb_races::NeedKind;
 

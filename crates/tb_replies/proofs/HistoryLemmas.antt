@@ -8,10 +8,9 @@ use Rattle.tb_model.specs.declared.event.Event.{Event}
 use Rattle.tb_model.specs.Facts.{History}
 use Rattle.tb_model.specs.Lines.{Departure}
 use Rattle.tb_model.specs.Program.{Program}
-use Rattle.tb_core.specs.Entries.{Entry}
-use Rattle.tb_core.specs.Scans.{history_of}
-use Rattle.tb_core.specs.Soundness.{departure}
-use Rattle.tb_core.proofs.ScanLemmas.{history_of-append}
+use Rattle.tb_steps.specs.Entries.{Entry, departure}
+use Rattle.tb_steps.specs.Scans.{history_of}
+use Rattle.tb_steps.proofs.ScanLemmas.{history_of-append}
 use Rattle.tb_live.specs.Session.{Session, history}
 use Rattle.tb_commands.specs.declared.command.Command.TheVariants.{Show}
 use Rattle.tb_draft.specs.Written.{Told, WroteFront}

@@ -3,11 +3,10 @@ use Rattle.std.proofs.Common.{◌≡◌, ◌≤◌, ◌+◌, ℕ, suc, List, [],
 use Rattle.std.proofs.lemmas.List.{length-map, length-reverse}
 use Rattle.tb_model.specs.Names.{Name}
 use Rattle.tb_model.specs.Lines.{events_of}
-use Rattle.tb_core.specs.Entries.{Entry}
+use Rattle.tb_steps.specs.Entries.{Entry, departure}
 use Rattle.tb_core.specs.Seen.{Seen}
 use Rattle.tb_core.specs.Seen as core
-use Rattle.tb_core.specs.Soundness.{departure}
-use Rattle.tb_core.specs.Scans.{history_of}
+use Rattle.tb_steps.specs.Scans.{history_of}
 use Rattle.tb_live.specs.Session.{Session, history}
 use Rattle.tb_view.specs.Steps.{newest_lines}
 use Rattle.tb_team.specs.declared.gone.Gone.{Gone}

@@ -1,7 +1,7 @@
 //! The reply to `hist`, which goes out in pieces.
 
 ghost use Rattle.std.specs.Prelude.{◌≡◌, ◌≤◌, ◌+◌, ◌++◌, ◌-◌, ◌<◌, ◌^◌, IfErr, IfOk, OnErr, OnOk, length};
-ghost use Rattle.tb_core.specs.Scans.{history_of};
+ghost use Rattle.tb_steps.specs.Scans.{history_of};
 ghost use Rattle.tb_view.specs.Steps.{history_lines};
 ghost use Rattle.tb_view.specs.declared.view.View.TheVariants as view;
 ghost use Rattle.tb_commands.specs.declared.command.Command.TheVariants as command;

@@ -10,11 +10,10 @@ use Rattle.tb_model.specs.Names.{Name, same_name}
 use Rattle.tb_model.specs.Needs.{step_of}
 use Rattle.tb_model.proofs.FactsLemmas.{own_mine, own_other}
 use Rattle.tb_model.proofs.TestLemmas.{same_true, same_refl}
-use Rattle.tb_core.specs.Entries.{Entry}
-use Rattle.tb_core.specs.Scans.{history_of, step_at}
-use Rattle.tb_core.proofs.FirstLemmas.{step_read}
-use Rattle.tb_core.proofs.ScanLemmas.{history_of-append, history_more}
-use Rattle.tb_cause.proofs.ConeLemmas.{some_same, there}
+use Rattle.tb_steps.specs.Entries.{Entry}
+use Rattle.tb_steps.specs.Scans.{history_of, step_at}
+use Rattle.tb_steps.proofs.FirstLemmas.{some_same, step_read, there}
+use Rattle.tb_steps.proofs.ScanLemmas.{history_of-append, history_more}
 use Rattle.tb_roll.specs.Comparing.{AreFound, AreMatched, AreOldest, IsSameStep, action_at, next_step}
 
 -- ---- lists with one end

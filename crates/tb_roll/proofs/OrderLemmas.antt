@@ -12,11 +12,10 @@ use Rattle.tb_model.specs.Ordered.{all_first, ordered}
 use Rattle.tb_model.proofs.FactsLemmas.{own_mine}
 use Rattle.tb_laws.proofs.OrderedLemmas.{in_order, from_order}
 use Rattle.tb_model.proofs.RemovalLemmas.{its_step, own_grows}
-use Rattle.tb_core.specs.Entries.{Entry}
-use Rattle.tb_core.specs.Scans.{history_of, step_at}
-use Rattle.tb_core.proofs.FirstLemmas.{step_read}
-use Rattle.tb_core.proofs.ScanLemmas.{history_of-append, history_cut, history_more}
-use Rattle.tb_cause.proofs.ConeLemmas.{some_same, there}
+use Rattle.tb_steps.specs.Entries.{Entry}
+use Rattle.tb_steps.specs.Scans.{history_of, step_at}
+use Rattle.tb_steps.proofs.FirstLemmas.{some_same, step_read, there}
+use Rattle.tb_steps.proofs.ScanLemmas.{history_of-append, history_cut, history_more}
 use Rattle.tb_roll.specs.Comparing.{AreMatched, IsFoundIn}
 use Rattle.tb_roll.proofs.MatchingLemmas.{all_oldest, both_oldest}
 

@@ -9,13 +9,12 @@ use Rattle.tb_model.specs.Equivalent.{stands}
 use Rattle.tb_model.specs.Facts.{History, prepend_if}
 use Rattle.tb_model.specs.Lines.{Departure}
 use Rattle.tb_model.specs.Needs.{is_removed, step_of}
-use Rattle.tb_core.specs.Entries.{Entry}
+use Rattle.tb_steps.specs.Entries.{Entry, departure}
 use Rattle.tb_core.specs.declared.removed.Removed.{Removed}
 use Rattle.tb_core.specs.declared.rollback.Rollback.{Rollback}
 use Rattle.tb_core.specs.Rolled.{removed_places, removed_steps, removals, IsOfHistory}
-use Rattle.tb_core.specs.Scans.{history_of}
+use Rattle.tb_steps.specs.Scans.{history_of}
 use Rattle.tb_core.specs.Seen.{Seen, history}
-use Rattle.tb_core.specs.Soundness.{departure}
 use Rattle.tb_cause.specs.declared.cone.Cone.{Cone}
 use Rattle.tb_cause.specs.Chains.{IsCone}
 use Rattle.tb_cause.proofs.AnswerLemmas.{chosen_first}

@@ -6,8 +6,8 @@ use Rattle.tb_model.specs.declared.step_id.StepId.{StepId}
 use Rattle.tb_model.specs.Equivalent.{comes_first, needs_in}
 use Rattle.tb_model.specs.Facts.{History, own}
 use Rattle.tb_model.specs.Names.{Name}
-use Rattle.tb_core.specs.Entries.{Entry}
-use Rattle.tb_core.specs.Scans.{history_of, step_at}
+use Rattle.tb_steps.specs.Entries.{Entry}
+use Rattle.tb_steps.specs.Scans.{history_of, step_at}
 
 -- the first actions are the oldest of all
 abbrev pub AreOldest : List Action → List Action → Type 0

@@ -4,8 +4,8 @@ ghost use Rattle.std.specs.Prelude.{◌≡◌, ◌≤◌, ◌<◌, ◌↔◌, If
 ghost use Rattle.tb_model.specs.declared.step_id.StepId.{StepId};
 ghost use Rattle.tb_model.specs.Equivalent.{Equivalent};
 ghost use Rattle.tb_model.specs.Ordered.{all_first, ordered};
-ghost use Rattle.tb_core.specs.Entries.{Entry};
-ghost use Rattle.tb_core.specs.Scans.{history_of, step_at};
+ghost use Rattle.tb_steps.specs.Entries.{Entry};
+ghost use Rattle.tb_steps.specs.Scans.{history_of, step_at};
 ghost use Rattle.tb_core.specs.Seen.{history};
 ghost use Rattle.tb_roll.specs.Comparing.{AreMatched, IsFoundIn};
 

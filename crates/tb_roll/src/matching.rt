@@ -4,8 +4,8 @@
 ghost use Rattle.std.specs.Prelude.{◌≡◌, ◌≤◌, ◌<◌, IfOk, IfSome, IfNone, List, Some, length, take};
 ghost use Rattle.tb_model.specs.Facts.{own};
 ghost use Rattle.tb_model.specs.Names.{Name};
-ghost use Rattle.tb_core.specs.Entries.{Entry};
-ghost use Rattle.tb_core.specs.Scans.{history_of, step_at};
+ghost use Rattle.tb_steps.specs.Entries.{Entry};
+ghost use Rattle.tb_steps.specs.Scans.{history_of, step_at};
 ghost use Rattle.tb_roll.specs.Comparing.{AreFound, AreMatched, IsSameStep, next_step};
 
 use crate::same_action::is_same_action;

@@ -3,9 +3,9 @@
 ghost use Rattle.std.specs.Prelude.{◌≡◌, ◌<◌, ◌≤◌, IfOk, IfErr, OnOk, OnErr, IsTrue, Some, length, map, reverse};
 ghost use Rattle.tb_model.specs.Equivalent.{stands};
 ghost use Rattle.tb_core.specs.Rolled.{IsOfHistory, RollsBack};
-ghost use Rattle.tb_core.specs.Scans.{AreLegal, history_of, step_at};
+ghost use Rattle.tb_steps.specs.Scans.{AreLegal, history_of, step_at};
 ghost use Rattle.tb_core.specs.Seen.{history};
-ghost use Rattle.tb_core.specs.Soundness.{departure};
+ghost use Rattle.tb_steps.specs.Entries.{departure};
 ghost use Rattle.tb_roll.specs.Outcomes.{TellsFirst, Stays};
 
 use crate::readied::Ready;

@@ -12,21 +12,21 @@ use Rattle.tb_model.proofs.TestLemmas.{same_refl, same_true}
 use Rattle.tb_clocks.specs.Known.{HasId, holds_some, names_in, parent_of}
 use Rattle.tb_clocks.specs.Tree.{older}
 use Rattle.tb_clocks.proofs.TaskLemmas.{one_id}
-use Rattle.tb_core.specs.Entries.{Entry}
-use Rattle.tb_core.proofs.FirstLemmas.{front_legal}
-use Rattle.tb_core.proofs.NeedsLemmas.{held_within}
+use Rattle.tb_steps.specs.Entries.{Entry}
+use Rattle.tb_steps.proofs.FirstLemmas.{front_legal}
+use Rattle.tb_steps.proofs.NeedsLemmas.{held_within}
 use Rattle.tb_races.specs.declared.need_kind.NeedKind.{NeedKind}
 use Rattle.tb_races.specs.declared.need_kind.NeedKind.TheVariants.{Before, Apart, Wait as Waits, Group, Undeferred}
 use Rattle.tb_races.specs.Kinds.{some_if, wait_kind}
 use Rattle.tb_races.specs.Orders.{Synchronised, counts_some}
-use Rattle.tb_order.specs.Clocks.{IsEnd, both_at, links_at, of_one}
-use Rattle.tb_order.specs.Linking.{order_of}
-use Rattle.tb_order.specs.Rows.{waits_at}
-use Rattle.tb_order.proofs.AfterLemmas.{at, at_is, links_is, same_at}
-use Rattle.tb_order.proofs.AskedLemmas.{held_goes_on, link_parts, waits_is}
-use Rattle.tb_order.proofs.GroupLemmas.{close_from}
-use Rattle.tb_order.proofs.LinkLemmas.{end_is, end_links}
-use Rattle.tb_order.proofs.OwnLemmas.{ev}
+use Rattle.tb_lanes.specs.Clocks.{IsEnd, both_at, links_at, of_one}
+use Rattle.tb_lanes.specs.Linking.{order_of}
+use Rattle.tb_lanes.specs.Rows.{waits_at}
+use Rattle.tb_lanes.proofs.AfterLemmas.{at, at_is, links_is, same_at}
+use Rattle.tb_lanes.proofs.AskedLemmas.{held_goes_on, link_parts, waits_is}
+use Rattle.tb_lanes.proofs.GroupLemmas.{close_from}
+use Rattle.tb_lanes.proofs.LinkLemmas.{end_is, end_links}
+use Rattle.tb_lanes.proofs.OwnLemmas.{ev}
 use Rattle.tb_stream.specs.Seen.{IsEvent, IsOf, Run, front, order}
 use Rattle.tb_stream.proofs.ListLemmas.{the_same}
 use Rattle.tb_stream.proofs.SeenLemmas.{action_here, id_at, legal_in_front, next_is}

@@ -14,16 +14,16 @@ use Rattle.tb_model.proofs.FactsLemmas.{not_again}
 use Rattle.tb_model.proofs.TestLemmas.{same_refl, same_true}
 use Rattle.tb_clocks.specs.Known.{HasId, generated, names_in}
 use Rattle.tb_clocks.proofs.TaskLemmas.{among, generates_it, id_spawned, one_id, only_one, within as index_within}
-use Rattle.tb_order.specs.declared.lane_bound.LaneBound.{LaneBound}
-use Rattle.tb_order.specs.Bounds.{IsRising, bound_in}
-use Rattle.tb_order.specs.Clocks.{AreLanes, Lanes, row_in}
-use Rattle.tb_order.proofs.GroupLemmas.{spawned_on}
-use Rattle.tb_order.proofs.OwnLemmas.{ev, legal_here}
-use Rattle.tb_order.proofs.TableLemmas.{lanes_more}
+use Rattle.tb_lanes.specs.declared.lane_bound.LaneBound.{LaneBound}
+use Rattle.tb_lanes.specs.Bounds.{IsRising, bound_in}
+use Rattle.tb_lanes.specs.Clocks.{AreLanes, Lanes, row_in}
+use Rattle.tb_lanes.proofs.GroupLemmas.{spawned_on}
+use Rattle.tb_lanes.proofs.OwnLemmas.{ev, legal_here}
+use Rattle.tb_lanes.proofs.TableLemmas.{lanes_more}
 use Rattle.tb_stream.specs.declared.clocks.Clocks.{Clocks}
 use Rattle.tb_stream.specs.declared.end.End.{End}
 use Rattle.tb_stream.specs.declared.mark.Mark.{Mark}
-use Rattle.tb_order.specs.Rows.{Key}
+use Rattle.tb_lanes.specs.Rows.{Key}
 use Rattle.tb_stream.specs.Ends.{AreRows, AreStored, IsRowOf, Named, row_of as row_named}
 use Rattle.tb_stream.specs.Placing.{IsPlaced, lasts_with, newest_with, row_of, with_step}
 use Rattle.tb_stream.specs.Seen.{AreClocks, AreOfTasks, IsAdded, IsFull, IsMaker, IsNewest, IsOf, Run, front, order, passes_at}

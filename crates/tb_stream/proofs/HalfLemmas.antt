@@ -10,20 +10,20 @@ use Rattle.tb_model.specs.Names.{Name}
 use Rattle.tb_clocks.specs.Known as known
 use Rattle.tb_clocks.specs.Known.{HasId}
 use Rattle.tb_clocks.specs.declared.tasks.Tasks.{Tasks}
-use Rattle.tb_core.specs.Entries.{Entry}
-use Rattle.tb_core.proofs.FirstLemmas.{step_read}
+use Rattle.tb_steps.specs.Entries.{Entry}
+use Rattle.tb_steps.proofs.FirstLemmas.{step_read}
 use Rattle.tb_races.specs.declared.conflict.Conflict.{Conflict}
 use Rattle.tb_races.specs.declared.race.Race.{Race}
 use Rattle.tb_races.specs.declared.conflict.Conflict.TheVariants.{Cell, Print as Prints}
 use Rattle.tb_races.specs.Kinds.{shared, some_if}
 use Rattle.tb_races.specs.Orders.{Synchronised}
 use Rattle.tb_races.specs.Racing.{conflict, newest_race}
-use Rattle.tb_order.specs.Clocks.{Lanes, reaches}
-use Rattle.tb_order.specs.Kept as kept
-use Rattle.tb_order.specs.Linking.{order_of}
-use Rattle.tb_order.proofs.AfterLemmas.{at, at_is, at_read}
-use Rattle.tb_order.proofs.OwnLemmas.{ev}
-use Rattle.tb_order.proofs.RaceLemmas.{conflicts, none_named, race_named, some_shared}
+use Rattle.tb_lanes.specs.Clocks.{Lanes, reaches}
+use Rattle.tb_lanes.specs.Kept as kept
+use Rattle.tb_lanes.specs.Linking.{order_of}
+use Rattle.tb_lanes.proofs.AfterLemmas.{at, at_is, at_read}
+use Rattle.tb_lanes.proofs.OwnLemmas.{ev}
+use Rattle.tb_lanes.proofs.RaceLemmas.{conflicts, none_named, race_named, some_shared}
 use Rattle.tb_stream.specs.declared.access.Access.{Access}
 use Rattle.tb_stream.specs.declared.mark.Mark.{Mark}
 use Rattle.tb_stream.specs.Halves.{Begins, Takes, conflict_of}

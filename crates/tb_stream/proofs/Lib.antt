@@ -12,3 +12,4 @@ pub mod TouchLemmas
 pub mod RunLemmas
 pub mod HalfLemmas
 pub mod NewLemmas
+pub mod ExclusionLemmas

@@ -2,12 +2,12 @@
 use Rattle.std.proofs.Common.{◌≡◌, ◌<◌, ◌≤◌, ℕ, suc, List, true, false, length, refl, sym, ap, ◌∙◌, subst, arith, Option, Some, None, slice_get, ◌⊎◌, inl, inr, ⊎_elim, Vec, Global}
 use Rattle.std.proofs.lemmas.Bool.{both_ways, cases_eq, cases_lt}
 use Rattle.std.proofs.lemmas.List.{length-map}
-use Rattle.tb_order.specs.declared.lane_bound.LaneBound.{LaneBound}
-use Rattle.tb_order.specs.Bounds.{AreRising, bound_among}
-use Rattle.tb_order.specs.Clocks.{Adds, IsEnd, Lanes, end_at, is_end_at, links_at, skip_at}
-use Rattle.tb_order.specs.Rows.{IsRow, Key}
-use Rattle.tb_order.proofs.EndLemmas.{row_walked, seen_more}
-use Rattle.tb_order.proofs.SoundLemmas.{itself_told, sound_more, stays_told}
+use Rattle.tb_lanes.specs.declared.lane_bound.LaneBound.{LaneBound}
+use Rattle.tb_lanes.specs.Bounds.{AreRising, bound_among}
+use Rattle.tb_lanes.specs.Clocks.{Adds, IsEnd, Lanes, end_at, is_end_at, links_at, skip_at}
+use Rattle.tb_lanes.specs.Rows.{IsRow, Key}
+use Rattle.tb_lanes.proofs.EndLemmas.{row_walked, seen_more}
+use Rattle.tb_lanes.proofs.SoundLemmas.{itself_told, sound_more, stays_told}
 use Rattle.tb_stream.specs.declared.end.End.{End}
 use Rattle.tb_stream.specs.declared.joined.Joined.{Joined}
 use Rattle.tb_stream.specs.declared.mark.Mark.{Mark}

@@ -1,10 +1,10 @@
 -- What is kept of no events.
 use Rattle.std.proofs.Common.{◌≡◌, ℕ, zero, suc, List, [], ◌∷◌, Bool, length, refl, sym, ap, ◌∙◌, subst, arith, Option, Some, None, slice_get, Vec, Global}
 use Rattle.tb_model.specs.Names.{Name}
-use Rattle.tb_order.specs.declared.lane_bound.LaneBound.{LaneBound}
-use Rattle.tb_order.specs.Clocks.{IsEnd, Lanes}
-use Rattle.tb_order.specs.Rows.{Key}
-use Rattle.tb_order.proofs.KeptLemmas.{kept_none}
+use Rattle.tb_lanes.specs.declared.lane_bound.LaneBound.{LaneBound}
+use Rattle.tb_lanes.specs.Clocks.{IsEnd, Lanes}
+use Rattle.tb_lanes.specs.Rows.{Key}
+use Rattle.tb_lanes.proofs.KeptLemmas.{kept_none}
 use Rattle.tb_stream.specs.declared.clocks.Clocks.{Clocks}
 use Rattle.tb_stream.specs.declared.half.Half.{Half}
 use Rattle.tb_stream.specs.declared.mark.Mark.{Mark}

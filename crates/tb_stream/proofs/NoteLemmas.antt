@@ -4,14 +4,14 @@ use Rattle.std.proofs.lemmas.Bool.{both_ways, cases_eq}
 use Rattle.std.proofs.lemmas.List.{length-map, map-append}
 use Rattle.tb_model.specs.declared.item.Item.{Item}
 use Rattle.tb_clocks.proofs.TaskLemmas.{one_id}
-use Rattle.tb_core.specs.Scans.{history_of}
+use Rattle.tb_steps.specs.Scans.{history_of}
 use Rattle.tb_races.specs.Orders.{Synchronised}
-use Rattle.tb_order.specs.declared.lane_bound.LaneBound.{LaneBound}
-use Rattle.tb_order.specs.Clocks.{Lanes, end_at, is_end_at, reaches}
-use Rattle.tb_order.specs.Rows.{HasKey, Key, child_key, item_key, items_at, same_key}
-use Rattle.tb_order.proofs.AfterLemmas.{at, at_read}
-use Rattle.tb_order.proofs.EndLemmas.{passed_more, row_more, row_none, row_same}
-use Rattle.tb_order.proofs.RowLemmas.{key_refl, key_true}
+use Rattle.tb_lanes.specs.declared.lane_bound.LaneBound.{LaneBound}
+use Rattle.tb_lanes.specs.Clocks.{Lanes, end_at, is_end_at, reaches}
+use Rattle.tb_lanes.specs.Rows.{HasKey, Key, child_key, item_key, items_at, same_key}
+use Rattle.tb_lanes.proofs.AfterLemmas.{at, at_read}
+use Rattle.tb_lanes.proofs.EndLemmas.{passed_more, row_more, row_none, row_same}
+use Rattle.tb_lanes.proofs.RowLemmas.{key_refl, key_true}
 use Rattle.tb_stream.specs.declared.clocks.Clocks.{Clocks}
 use Rattle.tb_stream.specs.declared.end.End.{End}
 use Rattle.tb_stream.specs.declared.mark.Mark.{Mark}

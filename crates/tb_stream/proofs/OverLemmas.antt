@@ -4,14 +4,14 @@ use Rattle.tb_model.specs.declared.event.Event.{Event}
 use Rattle.tb_model.specs.declared.item.Item.{Item}
 use Rattle.tb_model.specs.Facts.{items_of}
 use Rattle.tb_clocks.specs.Known.{HasId, parent_of}
-use Rattle.tb_core.specs.Entries.{Entry}
+use Rattle.tb_steps.specs.Entries.{Entry}
 use Rattle.tb_races.specs.Orders.{Synchronised}
-use Rattle.tb_order.specs.declared.lane_bound.LaneBound.{LaneBound}
-use Rattle.tb_order.specs.Clocks.{IsEnd, Lanes, is_end_at}
-use Rattle.tb_order.specs.Rows.{items_at, items_so}
-use Rattle.tb_order.proofs.AfterLemmas.{at, at_read}
-use Rattle.tb_order.proofs.OwnLemmas.{ev}
-use Rattle.tb_order.proofs.RowLemmas.{end_back, end_less, end_more, end_there}
+use Rattle.tb_lanes.specs.declared.lane_bound.LaneBound.{LaneBound}
+use Rattle.tb_lanes.specs.Clocks.{IsEnd, Lanes, is_end_at}
+use Rattle.tb_lanes.specs.Rows.{items_at, items_so}
+use Rattle.tb_lanes.proofs.AfterLemmas.{at, at_read}
+use Rattle.tb_lanes.proofs.OwnLemmas.{ev}
+use Rattle.tb_lanes.proofs.RowLemmas.{end_back, end_less, end_more, end_there}
 use Rattle.tb_stream.specs.declared.clocks.Clocks.{Clocks}
 use Rattle.tb_stream.specs.declared.mark.Mark.{Mark}
 use Rattle.tb_stream.specs.declared.order.Order.{Order}

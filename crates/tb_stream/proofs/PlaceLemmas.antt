@@ -2,13 +2,13 @@
 use Rattle.std.proofs.Common.{◌≡◌, ◌<◌, ◌≤◌, ℕ, List, [], ◌∷◌, ◌++◌, true, length, refl, sym, ap, ◌∙◌, subst, arith, Some, None, slice_get, ◌⊎◌, inl, inr, Vec, Global}
 use Rattle.std.specs.Prelude.{slice_index_or}
 use Rattle.std.proofs.lemmas.List.{length-map}
-use Rattle.tb_order.specs.declared.lane_bound.LaneBound.{LaneBound}
-use Rattle.tb_order.specs.Bounds.{IsRising, bound_in}
-use Rattle.tb_order.specs.Clocks.{GoesOn, IsClock, IsEnd, IsLane, IsLow, IsSound, Lanes, is_end_at, is_told}
-use Rattle.tb_order.proofs.LaneLemmas.{fresh_new, lane_before, lane_none, sound_before, stands_in}
-use Rattle.tb_order.proofs.NeedingLemmas.{none_shared}
-use Rattle.tb_order.proofs.SoundLemmas.{sound_none}
-use Rattle.tb_order.proofs.TableLemmas.{row_pushed}
+use Rattle.tb_lanes.specs.declared.lane_bound.LaneBound.{LaneBound}
+use Rattle.tb_lanes.specs.Bounds.{IsRising, bound_in}
+use Rattle.tb_lanes.specs.Clocks.{GoesOn, IsClock, IsEnd, IsLane, IsLow, IsSound, Lanes, is_end_at, is_told}
+use Rattle.tb_lanes.proofs.LaneLemmas.{fresh_new, lane_before, lane_none, sound_before, stands_in}
+use Rattle.tb_lanes.proofs.NeedingLemmas.{none_shared}
+use Rattle.tb_lanes.proofs.SoundLemmas.{sound_none}
+use Rattle.tb_lanes.proofs.TableLemmas.{row_pushed}
 use Rattle.tb_stream.specs.declared.clocks.Clocks.{Clocks}
 use Rattle.tb_stream.specs.declared.end.End.{End}
 use Rattle.tb_stream.specs.declared.mark.Mark.{Mark}

@@ -1,9 +1,9 @@
 -- Which step comes after which, by their marks.
 use Rattle.std.proofs.Common.{◌≡◌, ◌<◌, ◌≤◌, ◌-◌, ◌==◌, ◌||◌, ◌&&◌, ℕ, suc, List, Bool, true, false, length, nat_lt, nat_le, ap, ap₂, ◌∙◌, subst, arith, Option, Some, None, Vec, Global}
-use Rattle.tb_order.specs.declared.lane_bound.LaneBound.{LaneBound}
-use Rattle.tb_order.specs.Bounds.{bound_in}
-use Rattle.tb_order.specs.Clocks.{Lanes, is_below, is_told, origin, origin_reaches, reaches, row_in}
-use Rattle.tb_order.proofs.JoinLemmas.{from_origin, not_from_origin, not_reached, reached_above, reached_below, reached_not}
+use Rattle.tb_lanes.specs.declared.lane_bound.LaneBound.{LaneBound}
+use Rattle.tb_lanes.specs.Bounds.{bound_in}
+use Rattle.tb_lanes.specs.Clocks.{Lanes, is_below, is_told, origin, origin_reaches, reaches, row_in}
+use Rattle.tb_lanes.proofs.JoinLemmas.{from_origin, not_from_origin, not_reached, reached_above, reached_below, reached_not}
 use Rattle.tb_stream.specs.declared.clocks.Clocks.{Clocks}
 use Rattle.tb_stream.specs.declared.mark.Mark.{Mark}
 use Rattle.tb_stream.specs.Seen.{AreClocks, IsFull, IsMark, IsNext, IsOrigin, Run, order}

@@ -4,14 +4,14 @@ use Rattle.std.proofs.lemmas.List.{length-append, take_all}
 use Rattle.tb_model.specs.declared.event.Event.{Event}
 use Rattle.tb_model.specs.Facts.{History}
 use Rattle.tb_model.specs.Legal.{Cells, Legal}
-use Rattle.tb_core.specs.Entries.{Entry}
-use Rattle.tb_core.specs.Scans.{AreLegal, history_of}
-use Rattle.tb_core.proofs.ScanLemmas.{history_of-append}
-use Rattle.tb_order.specs.declared.tasks.Tasks.{Tasks}
-use Rattle.tb_order.specs.Clocks.{AreTasks, both_at, number, of_one, origin}
-use Rattle.tb_order.specs.Numbering.{AreNumbered, touched}
-use Rattle.tb_order.proofs.NumberLemmas.{numbered_all, numbered_new, numbered_none, numbered_own}
-use Rattle.tb_order.proofs.OwnLemmas.{ev}
+use Rattle.tb_steps.specs.Entries.{Entry}
+use Rattle.tb_steps.specs.Scans.{AreLegal, history_of}
+use Rattle.tb_steps.proofs.ScanLemmas.{history_of-append}
+use Rattle.tb_lanes.specs.declared.tasks.Tasks.{Tasks}
+use Rattle.tb_lanes.specs.Clocks.{AreTasks, both_at, number, of_one, origin}
+use Rattle.tb_lanes.specs.Numbering.{AreNumbered, touched}
+use Rattle.tb_lanes.proofs.NumberLemmas.{numbered_all, numbered_new, numbered_none, numbered_own}
+use Rattle.tb_lanes.proofs.OwnLemmas.{ev}
 use Rattle.tb_stream.specs.Halves.{Begins}
 use Rattle.tb_stream.specs.Seen.{Run}
 

@@ -12,17 +12,17 @@ use Rattle.tb_model.proofs.NeedsLemmas.{may_spawned}
 use Rattle.tb_clocks.specs.Known.{HasId, generated, names_in}
 use Rattle.tb_clocks.proofs.TaskLemmas.{in_front, one_id, within as index_within}
 use Rattle.tb_clocks.proofs.TreeLemmas.{named as an_id}
-use Rattle.tb_core.specs.Entries.{Entry}
-use Rattle.tb_core.specs.Scans.{history_of}
+use Rattle.tb_steps.specs.Entries.{Entry}
+use Rattle.tb_steps.specs.Scans.{history_of}
 use Rattle.tb_races.specs.Orders.{Synchronised}
 use Rattle.tb_model.specs.Legal.{Legal}
-use Rattle.tb_order.specs.declared.lane_bound.LaneBound.{LaneBound}
-use Rattle.tb_order.specs.Clocks.{Behind, alone, generated as generated_by, going_on, Lanes, both_at, generates, number, is_end_at, of_one, origin, previous, touches}
-use Rattle.tb_order.proofs.AfterLemmas.{at, at_is, at_read}
-use Rattle.tb_order.proofs.GroupLemmas.{spawned_on}
-use Rattle.tb_order.proofs.FrontLemmas.{one_more}
-use Rattle.tb_order.proofs.LinkLemmas.{both_is, end_is}
-use Rattle.tb_order.proofs.OwnLemmas.{ev, legal_here, place_any}
+use Rattle.tb_lanes.specs.declared.lane_bound.LaneBound.{LaneBound}
+use Rattle.tb_lanes.specs.Clocks.{Behind, alone, generated as generated_by, going_on, Lanes, both_at, generates, number, is_end_at, of_one, origin, previous, touches}
+use Rattle.tb_lanes.proofs.AfterLemmas.{at, at_is, at_read}
+use Rattle.tb_lanes.proofs.GroupLemmas.{spawned_on}
+use Rattle.tb_lanes.proofs.FrontLemmas.{one_more}
+use Rattle.tb_lanes.proofs.LinkLemmas.{both_is, end_is}
+use Rattle.tb_lanes.proofs.OwnLemmas.{ev, legal_here, place_any}
 use Rattle.tb_stream.proofs.ListLemmas.{the_same}
 use Rattle.tb_stream.specs.declared.clocks.Clocks.{Clocks}
 use Rattle.tb_stream.specs.declared.mark.Mark.{Mark}

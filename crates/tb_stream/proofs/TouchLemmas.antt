@@ -3,11 +3,11 @@ use Rattle.std.proofs.Common.{◌≡◌, ◌≢◌, ◌==◌, ◌<◌, ◌≤◌
 use Rattle.std.proofs.lemmas.Bool.{cases_eq}
 use Rattle.std.proofs.lemmas.List.{length-map, map-append}
 use Rattle.tb_model.specs.declared.action.Action.{Action}
-use Rattle.tb_core.specs.Entries.{Entry}
-use Rattle.tb_order.specs.Clocks.{Lanes}
-use Rattle.tb_order.specs.Kept.{AreRows, IsCut, IsLarger, IsNewest, is_load, newest_of, slot_of}
-use Rattle.tb_order.proofs.AfterLemmas.{at, at_is, at_read}
-use Rattle.tb_order.proofs.KeptLemmas.{load_met, load_newest, none_kept, none_newest, tables_met, write_met, write_newest}
+use Rattle.tb_steps.specs.Entries.{Entry}
+use Rattle.tb_lanes.specs.Clocks.{Lanes}
+use Rattle.tb_lanes.specs.Kept.{AreRows, IsCut, IsLarger, IsNewest, is_load, newest_of, slot_of}
+use Rattle.tb_lanes.proofs.AfterLemmas.{at, at_is, at_read}
+use Rattle.tb_lanes.proofs.KeptLemmas.{load_met, load_newest, none_kept, none_newest, tables_met, write_met, write_newest}
 use Rattle.tb_races.specs.Orders.{Synchronised}
 use Rattle.tb_stream.specs.declared.access.Access.{Access}
 use Rattle.tb_stream.specs.declared.clocks.Clocks.{Clocks}

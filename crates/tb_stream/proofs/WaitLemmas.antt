@@ -13,18 +13,18 @@ use Rattle.tb_model.specs.declared.place.Place.TheVariants.{Cell, All}
 use Rattle.tb_model.specs.Facts.{holds, is_start, items_of, own}
 use Rattle.tb_model.specs.Items.{has_no_items, same_place}
 use Rattle.tb_clocks.specs.Known.{holds_some, parent_of}
-use Rattle.tb_core.specs.Entries.{Entry}
+use Rattle.tb_steps.specs.Entries.{Entry}
 use Rattle.tb_races.specs.Kinds.{wait_kind}
 use Rattle.tb_races.specs.Orders.{Synchronised, counts_some}
-use Rattle.tb_order.specs.declared.lane_bound.LaneBound.{LaneBound}
-use Rattle.tb_order.specs.Clocks.{IsEnd, Lanes, both_at, links_at, of_one}
-use Rattle.tb_order.specs.Linking.{order_of}
-use Rattle.tb_order.specs.Rows.{asks, item_key, items_at, may_meet, some_may_meet, waits_at}
-use Rattle.tb_order.proofs.AfterLemmas.{at, at_read, same_at}
-use Rattle.tb_order.proofs.AskedLemmas.{any_at, held_goes_on, link_parts, other_waits, start_asked, wait_asked, waits_is}
-use Rattle.tb_order.proofs.OwnLemmas.{ev}
-use Rattle.tb_order.proofs.SoundLemmas.{told_own}
-use Rattle.tb_order.specs.Bounds.{bound_among}
+use Rattle.tb_lanes.specs.declared.lane_bound.LaneBound.{LaneBound}
+use Rattle.tb_lanes.specs.Clocks.{IsEnd, Lanes, both_at, links_at, of_one}
+use Rattle.tb_lanes.specs.Linking.{order_of}
+use Rattle.tb_lanes.specs.Rows.{asks, item_key, items_at, may_meet, some_may_meet, waits_at}
+use Rattle.tb_lanes.proofs.AfterLemmas.{at, at_read, same_at}
+use Rattle.tb_lanes.proofs.AskedLemmas.{any_at, held_goes_on, link_parts, other_waits, start_asked, wait_asked, waits_is}
+use Rattle.tb_lanes.proofs.OwnLemmas.{ev}
+use Rattle.tb_lanes.proofs.SoundLemmas.{told_own}
+use Rattle.tb_lanes.specs.Bounds.{bound_among}
 use Rattle.tb_stream.specs.declared.end.End.{End}
 use Rattle.tb_stream.specs.declared.joined.Joined.{Joined}
 use Rattle.tb_stream.specs.declared.order.Order.{Order}

@@ -3,11 +3,11 @@ use Rattle.std.specs.Prelude.{ℕ, ◌≡◌, ◌⊎◌, ◌<◌, ◌≤◌, Lis
 use Rattle.std.specs.Map.{lookup}
 use Rattle.std.specs.declared.alloc.Global.{Global}
 use Rattle.tb_clocks.specs.Known.{parent_of}
-use Rattle.tb_core.specs.Entries.{Entry}
-use Rattle.tb_order.specs.declared.ends.Ends.{Ends}
-use Rattle.tb_order.specs.declared.lane_bound.LaneBound.{LaneBound}
-use Rattle.tb_order.specs.Clocks.{AreRow, IsEnd, Lanes, end_at}
-use Rattle.tb_order.specs.Rows.{HasKey, Key, items_at, same_key}
+use Rattle.tb_steps.specs.Entries.{Entry}
+use Rattle.tb_lanes.specs.declared.ends.Ends.{Ends}
+use Rattle.tb_lanes.specs.declared.lane_bound.LaneBound.{LaneBound}
+use Rattle.tb_lanes.specs.Clocks.{AreRow, IsEnd, Lanes, end_at}
+use Rattle.tb_lanes.specs.Rows.{HasKey, Key, items_at, same_key}
 use Rattle.tb_stream.specs.declared.end.End.{End}
 use Rattle.tb_stream.specs.Seen.{IsFull, IsId, Run, order}
 use mathlib.Core.Path.{sym, ◌∙◌}

@@ -1,5 +1,5 @@
 -- What is kept of a history, by both orders.
-use Rattle.std.specs.Prelude.{ℕ, suc, ◌≡◌, ◌≤◌, ◌∷◌, Bool, true, false, Option, Some, None, length}
+use Rattle.std.specs.Prelude.{ℕ, suc, ◌≡◌, ◌≤◌, ◌∷◌, Bool, true, false, ⊤, Option, Some, None, is_some, length}
 use Rattle.tb_clocks.specs.Ids.{AreIds}
 use Rattle.tb_clocks.specs.Known as known
 use Rattle.tb_clocks.specs.Known.{HasId}
@@ -8,17 +8,25 @@ use Rattle.tb_model.specs.declared.action.Action.{Action}
 use Rattle.tb_model.specs.declared.action.Action.TheVariants.{Load, Store, Print}
 use Rattle.tb_model.specs.declared.event.Event.{Event}
 use Rattle.tb_model.specs.Facts.{History, own}
+use Rattle.tb_model.specs.Names.{Name}
 use Rattle.tb_model.specs.Legal.{Cells, Legal}
+use Rattle.tb_model.specs.State.{items_in}
 use Rattle.tb_races.specs.declared.conflict.Conflict.{Conflict}
 use Rattle.tb_races.specs.declared.conflict.Conflict.TheVariants.{Cell, Print as Prints}
-use Rattle.tb_order.specs.Clocks.{Lanes}
+use Rattle.tb_lanes.specs.Clocks.{Lanes}
 use Rattle.tb_stream.specs.declared.access.Access.{Access}
 use Rattle.tb_stream.specs.declared.half.Half.{Half}
+use Rattle.tb_stream.specs.declared.halves.Halves.{Halves}
 use Rattle.tb_stream.specs.declared.races.Races.{Races}
+use Rattle.tb_stream.specs.Exclusion.{excludes_some, has_exclusive}
 use Rattle.tb_stream.specs.Joins.{IsOrder}
 use Rattle.tb_stream.specs.Keeping as keeping
 use Rattle.tb_stream.specs.Keeping.{AreKept}
 use Rattle.tb_stream.specs.Seen.{Run, front}
+
+-- this action of the task
+abbrev pub event_of : Name → Action → Event
+event_of t a = record { task = t; action = a }
 
 -- the whole history begins with these events
 pub record Begins (exclusion : Bool) (H : History) (r : Run) : Type 0 where
@@ -56,10 +64,28 @@ conflict_of (Store c x) = Some (Cell c)
 conflict_of (Print x) = Some Prints
 conflict_of _ = None
 
-pub record AreRaces (cells : Cells) (H : History) (races : Races) : Type 0 where
+-- what is kept of the order without exclusion: nothing where no tasks exclude each other, since it is then the one with it
+abbrev pub IsLoose : History → Option Half → Type 0
+IsLoose H None = excludes_some H ≡ false
+IsLoose H (Some h) = IsHalf false H h
+
+pub record AreHalves (H : History) (halves : Halves) : Type 0 where
+  pub strict : IsHalf true H halves.strict
+  pub loose : IsLoose H halves.loose
+
+-- the action may be the next one: it generates no task that may exclude others where one order alone is kept
+abbrev pub MayFollow : (both : Bool) → Action → Type 0
+MayFollow true a = ⊤
+MayFollow false a = has_exclusive (items_in (Some a)) ≡ false
+
+-- of these events, by both orders, or by one alone
+pub record AreRacesOf (both : Bool) (cells : Cells) (H : History) (races : Races) : Type 0 where
   pub legal : Legal cells H
   pub ids : AreIds cells H races.ids
   pub tasks : known.AreTasks cells H races.tasks
   pub count : races.count ≡ length H
-  pub strict : IsHalf true H races.strict
-  pub loose : IsHalf false H races.loose
+  pub halves : AreHalves H races.halves
+  pub kind : is_some races.halves.loose ≡ both
+
+abbrev pub AreRaces : Cells → History → Races → Type 0
+AreRaces cells H races = AreRacesOf true cells H races

@@ -3,13 +3,13 @@ use Rattle.std.specs.Prelude.{ℕ, ◌≡◌, ◌<◌, ◌≤◌, List, Option, 
 use Rattle.std.specs.declared.alloc.Global.{Global}
 use Rattle.tb_clocks.specs.Known as known
 use Rattle.tb_clocks.specs.declared.tasks.Tasks.{Tasks}
-use Rattle.tb_core.specs.Entries.{Entry}
+use Rattle.tb_steps.specs.Entries.{Entry}
 use Rattle.tb_model.specs.declared.action.Action.{Action}
 use Rattle.tb_model.specs.Facts.{is_start}
 use Rattle.tb_model.specs.Names.{Name}
-use Rattle.tb_order.specs.Bounds.{AreRising, bound_among}
-use Rattle.tb_order.specs.Clocks.{IsEnd, IsLane, IsSound, Lanes, is_end_at, is_told, links_at}
-use Rattle.tb_order.specs.declared.lane_bound.LaneBound.{LaneBound}
+use Rattle.tb_lanes.specs.Bounds.{AreRising, bound_among}
+use Rattle.tb_lanes.specs.Clocks.{IsEnd, IsLane, IsSound, Lanes, is_end_at, is_told, links_at}
+use Rattle.tb_lanes.specs.declared.lane_bound.LaneBound.{LaneBound}
 use Rattle.tb_stream.specs.declared.joined.Joined.{Joined}
 use Rattle.tb_stream.specs.declared.mark.Mark.{Mark}
 use Rattle.tb_stream.specs.declared.order.Order.{Order}
@@ -20,7 +20,7 @@ use Rattle.tb_model.specs.declared.item.Item.{Item}
 use Rattle.tb_model.specs.declared.kind.Kind.{Kind}
 use Rattle.tb_model.specs.declared.place.Place.TheVariants.{Cell}
 use Rattle.tb_model.specs.Items.{same_place}
-use Rattle.tb_order.specs.Rows.{items_at}
+use Rattle.tb_lanes.specs.Rows.{items_at}
 
 -- the task with this id takes the step behind the first n, with this action; the tables are those of what is in front of it
 pub record IsNow (r : Run) (n : ℕ) (tasks : Tasks) (act : Action) (id : ℕ) : Type 0 where

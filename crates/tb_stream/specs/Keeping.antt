@@ -1,11 +1,11 @@
 -- The steps with which a later one may still race, as they are stored.
 use Rattle.std.specs.Prelude.{ℕ, suc, ◌≡◌, ◌-◌, ◌==◌, List, [], Bool, Option, Some, None, if◌then◌else◌, length, map, slice_get}
 use Rattle.std.specs.Map.{lookup}
-use Rattle.tb_core.specs.Entries.{Entry}
+use Rattle.tb_steps.specs.Entries.{Entry}
 use Rattle.tb_model.specs.Facts.{own}
-use Rattle.tb_order.specs.Clocks.{Lanes}
-use Rattle.tb_order.specs.Kept as kept
-use Rattle.tb_order.specs.Kept.{is_load, slot_of}
+use Rattle.tb_lanes.specs.Clocks.{Lanes}
+use Rattle.tb_lanes.specs.Kept as kept
+use Rattle.tb_lanes.specs.Kept.{is_load, slot_of}
 use Rattle.tb_stream.specs.declared.access.Access.{Access}
 use Rattle.tb_stream.specs.declared.touched.Touched.{Touched}
 use Rattle.tb_stream.specs.Seen.{IsMark, IsOf, Run, front, order}

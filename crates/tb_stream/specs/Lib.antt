@@ -3,4 +3,5 @@ pub mod Ends
 pub mod Joins
 pub mod Placing
 pub mod Keeping
+pub mod Exclusion
 pub mod Halves

@@ -1,9 +1,9 @@
 -- How a step is put into an order.
 use Rattle.std.specs.Prelude.{ℕ, suc, ◌+◌, ◌≡◌, ◌==◌, ◌≤◌, List, [], ◌∷◌, ◌++◌, Option, Some, None, Vec, IsTrue, if◌then◌else◌, length, nat_lt, slice_set}
 use Rattle.std.specs.declared.alloc.Global.{Global}
-use Rattle.tb_order.specs.declared.lane_bound.LaneBound.{LaneBound}
-use Rattle.tb_order.specs.Bounds.{IsRising, bound_among, bound_in}
-use Rattle.tb_order.specs.Clocks.{IsClock, IsEnd, IsLane, IsLow, IsSound, Lanes, TellsEnds, is_end_at, is_told, row_in}
+use Rattle.tb_lanes.specs.declared.lane_bound.LaneBound.{LaneBound}
+use Rattle.tb_lanes.specs.Bounds.{IsRising, bound_among, bound_in}
+use Rattle.tb_lanes.specs.Clocks.{IsClock, IsEnd, IsLane, IsLow, IsSound, Lanes, TellsEnds, is_end_at, is_told, row_in}
 use Rattle.tb_stream.specs.declared.joined.Joined.{Joined}
 use Rattle.tb_stream.specs.declared.mark.Mark.{Mark}
 use Rattle.tb_stream.specs.declared.order.Order.{Order}

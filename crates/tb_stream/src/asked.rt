@@ -2,9 +2,9 @@
 
 ghost use Rattle.std.specs.Prelude.{◌≡◌, ℕ, Some, None, if◌then◌else◌, IsTrue, OnOk};
 ghost use Rattle.std.specs.List.{list_any};
-ghost use Rattle.tb_order.specs.Clocks.{IsEnd, Lanes};
-ghost use Rattle.tb_order.specs.Rows as is;
-ghost use Rattle.tb_order.specs.Rows.{items_at, may_meet, some_may_meet, waits_at};
+ghost use Rattle.tb_lanes.specs.Clocks.{IsEnd, Lanes};
+ghost use Rattle.tb_lanes.specs.Rows as is;
+ghost use Rattle.tb_lanes.specs.Rows.{items_at, may_meet, some_may_meet, waits_at};
 ghost use Rattle.tb_stream.specs.Ends.{IsChild, IsNoted};
 ghost use Rattle.tb_stream.specs.Joins.{AreJoined, HasMet, IsChildEnd, IsWaiting, Merges};
 ghost use Rattle.tb_stream.specs.Seen.{Run, order as order_of_run};
@@ -14,8 +14,8 @@ use crate::merging::merge;
 use crate::order::{Order, row_of};
 use crate::waiter::Waiter;
 use std::alloc::AllocError;
+use tb_lanes::{Key, item_key};
 use tb_model::{Action, Item, Kind, Place};
-use tb_order::{Key, item_key};
 
 /// Adds the ends to which the step is linked, with all that is in front of them.
 pub fn merge_all(joined: &mut Joined, waiter: &Waiter<'_>, order: &Order) -> Result<(), AllocError>

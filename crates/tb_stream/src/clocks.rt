@@ -1,7 +1,7 @@
 //! What an order puts in front of the steps that may still be asked about.
 
 use crate::mark::Mark;
-use tb_order::LaneBound;
+use tb_lanes::LaneBound;
 
 /// What an order puts in front of the steps that may still be asked about, by lanes. A lane is a row
 /// of tasks, each of which starts after the end of the one in front.

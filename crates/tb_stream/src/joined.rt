@@ -1,7 +1,7 @@
 //! What is in front of a step that waits.
 
 use crate::mark::Mark;
-use tb_order::LaneBound;
+use tb_lanes::LaneBound;
 
 /// What is in front of a step that waits, as far as its ends were found.
 #[derive(Drop)]

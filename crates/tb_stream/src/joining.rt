@@ -1,16 +1,16 @@
 //! A step that comes before one that waits is joined to it.
 
 ghost use Rattle.std.specs.Prelude.{◌≡◌, ℕ, IfOk, OnOk};
-ghost use Rattle.tb_order.specs.Bounds.{AreRising, IsRising, bound_among, bound_in};
-ghost use Rattle.tb_order.specs.Clocks as is;
-ghost use Rattle.tb_order.specs.Clocks.{Adds, IsSound, Lanes, adds, is_told, origin, row_in, says};
+ghost use Rattle.tb_lanes.specs.Bounds.{AreRising, IsRising, bound_among, bound_in};
+ghost use Rattle.tb_lanes.specs.Clocks as is;
+ghost use Rattle.tb_lanes.specs.Clocks.{Adds, IsSound, Lanes, adds, is_told, origin, row_in, says};
 ghost use Rattle.tb_stream.specs.Seen.{AreClocks, IsFull, IsMark, IsNext, Run, order};
 
 use crate::clocks::Clocks;
 use crate::mark::Mark;
 use crate::reaching::{origin_of, reaches};
 use std::alloc::{AllocError, Global};
-use tb_order::{LaneBound, add_row, bound_among as told_among, merged, row, whole};
+use tb_lanes::{LaneBound, add_row, bound_among as told_among, merged, row, whole};
 
 /// Whether the earlier step is told of as one in front of the step, where of its lane the row so far
 /// tells up to this bound.
@@ -80,13 +80,9 @@ fn row_with(alloc: Global, clocks: &Clocks, mark: Mark) -> Result<Vec<LaneBound>
         → IsFull r n lanes clocks.now.rows.items mark → (k q : ℕ)
         → says (bound_in row.items) k q ≡ adds lanes mark.at k q) }
 {
-    if mark.at == usize::MAX {
+    let Some(own) = LaneBound::up_to(mark.lane, mark.at) else {
         return Err(AllocError);
-    }
-    let own = [LaneBound {
-        lane: mark.lane,
-        to: mark.at + 1,
-    }];
-    let row = merged(alloc, &own, row(&clocks.rows, mark.row))?;
+    };
+    let row = merged(alloc, &[own], row(&clocks.rows, mark.row))?;
     Ok(row)
 }

@@ -1,8 +1,8 @@
 //! The steps at each cell and at the output with which a later step may still race.
 
 ghost use Rattle.std.specs.Prelude.{◌≡◌, ◌<◌, ◌≤◌, ◌+◌, ◌++◌, ◌∷◌, ◌⊎◌, [], ℕ, IfOk, OnOk, Some, length, slice_get, take};
-ghost use Rattle.tb_order.specs.Clocks.{Lanes};
-ghost use Rattle.tb_order.specs.Kept.{IsCut, IsLarger};
+ghost use Rattle.tb_lanes.specs.Clocks.{Lanes};
+ghost use Rattle.tb_lanes.specs.Kept.{IsCut, IsLarger};
 ghost use Rattle.tb_stream.specs.Keeping.{AreKept, AreTouched, IsAccess, IsFound, IsTold, behind, last_in, places};
 ghost use Rattle.tb_stream.specs.declared.access.Access.{Access as AnAccess};
 ghost use Rattle.tb_stream.specs.Seen.{Extends, IsAdded, IsEvent, IsMark, Run, order};
@@ -14,8 +14,8 @@ use crate::reaching::reaches;
 use crate::touched::Touched;
 use indexmap::IndexMap;
 use std::alloc::{AllocError, Global};
+use tb_lanes::{is_load, slot_of};
 use tb_model::Action;
-use tb_order::{is_load, slot_of};
 
 /// By what they share, the output or a cell.
 pub type Kept = IndexMap<usize, Touched>;

@@ -6,6 +6,7 @@ mod asked;
 mod clocks;
 mod end;
 mod half;
+mod halves;
 mod joined;
 mod joining;
 mod kept;

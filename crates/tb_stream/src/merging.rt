@@ -1,8 +1,8 @@
 //! The ends for which a step waits come before it.
 
 ghost use Rattle.std.specs.Prelude.{◌≡◌, ◌≤◌, ◌⊎◌, ℕ, OnOk, Option, Some, IsTrue, slice_index_or};
-ghost use Rattle.tb_order.specs.Clocks.{Lanes};
-ghost use Rattle.tb_order.specs.Rows.{Key};
+ghost use Rattle.tb_lanes.specs.Clocks.{Lanes};
+ghost use Rattle.tb_lanes.specs.Rows.{Key};
 ghost use Rattle.tb_stream.specs.Ends.{AreStored, IsOfRow};
 ghost use Rattle.tb_stream.specs.Joins.{AreJoined, IsWaiting, Merges};
 ghost use Rattle.tb_stream.specs.Seen.{Run};
@@ -15,7 +15,7 @@ use crate::order::Order;
 use crate::waiter::Waiter;
 use crate::waiting::waits;
 use std::alloc::AllocError;
-use tb_order::bound_among;
+use tb_lanes::bound_among;
 
 /// Adds the ends of the row to which the step is linked, with all that is in front of them.
 pub fn merge(

@@ -1,9 +1,9 @@
 //! An end is added to the rows in which it belongs.
 
 ghost use Rattle.std.specs.Prelude.{◌≡◌, ◌<◌, ◌≤◌, ◌+◌, ◌⊎◌, ℕ, Option, length, IsTrue, OnOk};
-ghost use Rattle.tb_order.specs.Clocks as is;
-ghost use Rattle.tb_order.specs.Clocks.{Lanes, end_at, is_end_at};
-ghost use Rattle.tb_order.specs.Rows.{Key as AKey, items_at};
+ghost use Rattle.tb_lanes.specs.Clocks as is;
+ghost use Rattle.tb_lanes.specs.Clocks.{Lanes, end_at, is_end_at};
+ghost use Rattle.tb_lanes.specs.Rows.{Key as AKey, items_at};
 ghost use Rattle.tb_stream.specs.Ends.{AreRows, AreStored, AtStage, IsChild, IsMeant, IsNoted, WithOne, ends_of};
 ghost use Rattle.tb_stream.specs.Seen.{IsAdded, Run, order};
 
@@ -14,8 +14,8 @@ use crate::merging::lower;
 use crate::order::Rows;
 use crate::reaching::reaches;
 use std::alloc::{AllocError, Global};
+use tb_lanes::{Key, item_key};
 use tb_model::Item;
-use tb_order::{Key, item_key};
 
 /// Adds the end of a task to each row in which it belongs, where this is the id of its parent and
 /// these are its depend items.

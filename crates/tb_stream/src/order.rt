@@ -8,7 +8,7 @@ use crate::clocks::Clocks;
 use crate::end::End;
 use indexmap::IndexMap;
 use std::alloc::Global;
-use tb_order::Key;
+use tb_lanes::Key;
 
 /// The ends by what a step may wait for: those of the children of a task, and of those of them that
 /// have an item of a kind at a place.

@@ -1,9 +1,9 @@
 //! A step is put into an order.
 
 ghost use Rattle.std.specs.Prelude.{◌≡◌, ◌<◌, ◌≤◌, ◌+◌, ◌⊎◌, ◌++◌, ◌∷◌, [], ℕ, IfOk, OnOk, Some, length, slice_get, slice_index_or};
-ghost use Rattle.tb_core.specs.Entries.{Entry};
+ghost use Rattle.tb_steps.specs.Entries.{Entry};
 ghost use Rattle.tb_clocks.specs.Known.{AreTasks};
-ghost use Rattle.tb_order.specs.Clocks.{Lanes};
+ghost use Rattle.tb_lanes.specs.Clocks.{Lanes};
 ghost use Rattle.tb_stream.specs.Joins.{IsNow, IsOrder};
 ghost use Rattle.tb_stream.specs.Placing.{HasPlaced, IsBegun, IsGoing, IsPlaced, IsWaited, OldEnds, IsComplete, lasts_with, newest_with, with_step};
 ghost use Rattle.tb_stream.specs.Seen.{AreClocks, IsAdded, IsEvent, IsOf, Run, front};
@@ -20,8 +20,8 @@ use crate::waiter::Waiter;
 use crate::waiting::{first_asked, may_wait, whose_children};
 use std::alloc::AllocError;
 use tb_clocks::Tasks;
+use tb_lanes::{LaneBound, add_row, bound, row, whole};
 use tb_model::Action;
-use tb_order::{LaneBound, add_row, bound, row, whole};
 
 /// Puts the next step, with this index and of the task with this id, into the order, where the
 /// tables say what the run in front of it says of its tasks.
@@ -99,7 +99,8 @@ fn finish(order: &mut Order, tasks: &Tasks, action: &Action, step: Mark) -> Resu
     match joined.end {
         None => Ok(stay(order, step)),
         Some(end) => {
-            let row = whole(order.alloc, joined.rows)?;
+            let mut row = whole(order.alloc, joined.rows)?;
+            row.shrink_to_fit();
             let mark = go_on(&mut order.clocks, step, end, row)?;
             Ok(mark)
         }

@@ -1,16 +1,16 @@
 //! The races of a run.
 
-ghost use Rattle.std.specs.Prelude.{◌≡◌, ◌∷◌, ◌<◌, [], IfOk, IsFalse, OnOk};
+ghost use Rattle.std.specs.Prelude.{◌≡◌, ◌∷◌, ◌<◌, [], Bool, IfOk, IsFalse, OnOk, false};
 ghost use Rattle.tb_model.specs.Facts.{History};
 ghost use Rattle.tb_model.specs.Legal.{Cells, Legal};
 ghost use Rattle.tb_races.specs.Racing;
-ghost use Rattle.tb_stream.specs.Halves.{AreRaces};
+ghost use Rattle.tb_stream.specs.Halves.{AreRaces, AreRacesOf, MayFollow, event_of};
 
-use crate::half::Half;
+use crate::halves::Halves;
 use crate::racing::race_of;
 use std::alloc::{AllocError, Global};
 use tb_clocks::{Ids, Tasks};
-use tb_model::Event;
+use tb_model::{Action, Event, TaskName};
 use tb_races::Race;
 
 /// As many events as a run can have.
@@ -32,10 +32,7 @@ pub struct Races {
     tasks: Tasks,
     /// How many events there are.
     count: usize,
-    /// By the order with exclusion.
-    strict: Half,
-    /// By the order without it.
-    loose: Half,
+    halves: Halves,
 }
 
 impl Races {
@@ -48,14 +45,27 @@ impl Races {
             ids: Ids::new(alloc)?,
             tasks: Tasks::new(alloc)?,
             count: 0,
-            strict: Half::new(alloc, true)?,
-            loose: Half::new(alloc, false)?,
+            halves: Halves::both(alloc)?,
+        })
+    }
+
+    /// Of no events of a run in which no task will have a `mutexinoutset` item: only half as much is
+    /// kept.
+    pub fn without_exclusion(alloc: Global) -> Result<Races, AllocError>
+        ensures { IfOk result (λ races. (cells : Cells) → AreRacesOf false cells [] races) }
+    {
+        Ok(Races {
+            alloc,
+            ids: Ids::new(alloc)?,
+            tasks: Tasks::new(alloc)?,
+            count: 0,
+            halves: Halves::one(alloc)?,
         })
     }
 
     /// Adds the next event, and returns the race that is named for it: with the newest event from
     /// which exclusion doesn't keep it apart, else with the newest. After an error nothing is known
-    /// of it.
+    /// of the run.
     pub fn push(&mut self, event: &Event) -> Result<Option<Race>, AllocError>
         ensures race { IfOk result (λ race. (cells : Cells) (H : History)
             → AreRaces cells H self.old
@@ -64,7 +74,25 @@ impl Races {
             → AreRaces cells H self.old
             → Legal cells (event.now ∷ H) → AreRaces cells (event.now ∷ H) self.new) }
     {
-        let Some(task) = self.ids.id(&event.task) else {
+        let race = self.push_action(&event.task, &event.action)?;
+        Ok(race)
+    }
+
+    /// Adds the next event, this action of the task, as `push` does.
+    pub fn push_action(
+        &mut self,
+        name: &TaskName,
+        action: &Action,
+    ) -> Result<Option<Race>, AllocError>
+        ensures race { IfOk result (λ race. (both : Bool) (cells : Cells) (H : History)
+            → AreRacesOf both cells H self.old → Legal cells (event_of name.now action.now ∷ H)
+            → race ≡ Racing.race_of H (event_of name.now action.now)) }
+        ensures more { OnOk result ((both : Bool) (cells : Cells) (H : History)
+            → AreRacesOf both cells H self.old → Legal cells (event_of name.now action.now ∷ H)
+            → MayFollow both action.now
+            → AreRacesOf both cells (event_of name.now action.now ∷ H) self.new) }
+    {
+        let Some(task) = self.ids.id(name) else {
             return Err(AllocError);
         };
         let at = self.count;
@@ -72,13 +100,11 @@ impl Races {
         if is_full(at, steps) {
             return Err(AllocError);
         }
-        let action = &event.action;
         let k = steps + 1;
-        let strict = self.strict.take(&self.tasks, action, at, task, k)?;
-        let loose = self.loose.take(&self.tasks, action, at, task, k)?;
-        let race = race_of(&self.ids, event, k, strict, loose)?;
-        self.tasks.push(self.alloc, task, event)?;
-        self.ids.push(event)?;
+        let (strict, loose) = self.halves.take(&self.tasks, action, at, task, k)?;
+        let race = race_of(&self.ids, name, action, k, strict, loose)?;
+        self.tasks.push(self.alloc, task, action)?;
+        self.ids.push(action)?;
         self.count = at + 1;
         Ok(race)
     }

@@ -5,14 +5,14 @@ ghost use Rattle.tb_model.specs.Facts.{History, own};
 ghost use Rattle.tb_model.specs.Legal.{Cells};
 ghost use Rattle.tb_stream.specs.Seen.{Run};
 ghost use Rattle.tb_races.specs.Racing;
-ghost use Rattle.tb_order.specs.Linking.{order_of};
+ghost use Rattle.tb_lanes.specs.Linking.{order_of};
 ghost use Rattle.tb_clocks.specs.Ids.{AreIds};
-ghost use Rattle.tb_stream.specs.Halves.{Begins, IsFound, conflict_of};
+ghost use Rattle.tb_stream.specs.Halves.{Begins, IsFound, conflict_of, event_of};
 
 use crate::access::Access;
 use std::alloc::AllocError;
 use tb_clocks::Ids;
-use tb_model::{Action, Event, StepId};
+use tb_model::{Action, StepId, TaskName};
 use tb_races::{Conflict, Race};
 
 /// What the action shares with those with which it conflicts.
@@ -27,51 +27,53 @@ fn conflict_of(action: &Action) -> Option<Conflict>
     }
 }
 
-/// The race that is named for the event, the step of its task with this number, where these are the
+/// The race that is named for the step, which has this number in its task, where these are the
 /// newest with which it has one by the order with exclusion and by that without.
 pub fn race_of(
     ids: &Ids,
-    event: &Event,
+    name: &TaskName,
+    action: &Action,
     k: u32,
     newest: Option<Access>,
     excluded: Option<Access>,
 ) -> Result<Option<Race>, AllocError>
     ensures { IfOk result (λ o. (cells : Cells) (H : History) (strict loose : Run)
         → AreIds cells H ids.now
-        → Begins true (event.now ∷ H) strict → Begins false (event.now ∷ H) loose
-        → k ≡ suc (length (own event.now.task H)) → IsFound true H event.now newest
-        → IsFound false H event.now excluded → o ≡ Racing.race_of H event.now) }
+        → Begins true (event_of name.now action.now ∷ H) strict → Begins false (event_of name.now action.now ∷ H) loose
+        → k ≡ suc (length (own name.now H)) → IsFound true H (event_of name.now action.now) newest
+        → IsFound false H (event_of name.now action.now) excluded → o ≡ Racing.race_of H (event_of name.now action.now)) }
 {
-    match race_with(ids, event, k, newest, false)? {
+    match race_with(ids, name, action, k, newest, false)? {
         Some(race) => Ok(Some(race)),
-        None => race_with(ids, event, k, excluded, true),
+        None => race_with(ids, name, action, k, excluded, true),
     }
 }
 
-/// The race of the event with this step.
+/// The race of the step with this earlier one.
 fn race_with(
     ids: &Ids,
-    event: &Event,
+    name: &TaskName,
+    action: &Action,
     k: u32,
     earlier: Option<Access>,
     apart: bool,
 ) -> Result<Option<Race>, AllocError>
     ensures { IfOk result (λ o. (cells : Cells) (H : History) (exclusion : Bool) (r : Run)
-        → AreIds cells H ids.now → Begins exclusion (event.now ∷ H) r
-        → k ≡ suc (length (own event.now.task H)) → IsFound exclusion H event.now earlier
-        → apart ≡ not exclusion → o ≡ Racing.newest_race (order_of exclusion) H event.now H) }
+        → AreIds cells H ids.now → Begins exclusion (event_of name.now action.now ∷ H) r
+        → k ≡ suc (length (own name.now H)) → IsFound exclusion H (event_of name.now action.now) earlier
+        → apart ≡ not exclusion → o ≡ Racing.newest_race (order_of exclusion) H (event_of name.now action.now) H) }
 {
     let Some(access) = earlier else {
         return Ok(None);
     };
-    let Some(conflict) = conflict_of(&event.action) else {
+    let Some(conflict) = conflict_of(action) else {
         return Ok(None);
     };
-    let Some(name) = ids.name(access.mark.task) else {
+    let Some(other) = ids.name(access.mark.task) else {
         return Err(AllocError);
     };
-    let first = name.clone()?;
-    let second = event.task.clone()?;
+    let first = other.clone()?;
+    let second = name.clone()?;
     Ok(Some(Race {
         earlier: StepId {
             task: first,

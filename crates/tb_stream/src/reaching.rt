@@ -1,14 +1,14 @@
 //! Which step comes after which.
 
 ghost use Rattle.std.specs.Prelude.{◌≡◌, ◌<◌, ◌≤◌, ℕ, IfSome, None, Some, length};
-ghost use Rattle.tb_order.specs.Clocks as is;
-ghost use Rattle.tb_order.specs.Clocks.{Lanes, origin};
+ghost use Rattle.tb_lanes.specs.Clocks as is;
+ghost use Rattle.tb_lanes.specs.Clocks.{Lanes, origin};
 ghost use Rattle.tb_stream.specs.declared.mark.Mark.{Mark as AMark};
 ghost use Rattle.tb_stream.specs.Seen.{AreClocks, IsFull, IsMark, IsOf, IsOrigin, Run, order};
 
 use crate::clocks::Clocks;
 use crate::mark::Mark;
-use tb_order::{bound, row};
+use tb_lanes::{bound, row};
 
 /// Whether the later step is the earlier one, or comes after it.
 pub fn reaches(clocks: &Clocks, late: Mark, early: Mark) -> bool

@@ -2,15 +2,15 @@
 
 ghost use Rattle.std.specs.Prelude.{◌≡◌, ◌<◌, ◌≤◌, ◌||◌, ◌&&◌, ℕ, Bool, IsFalse, IsTrue, None, Some, slice_get};
 ghost use Rattle.tb_clocks.specs.Known.{AreTasks, HasId};
-ghost use Rattle.tb_core.specs.Entries.{Entry};
+ghost use Rattle.tb_steps.specs.Entries.{Entry};
 ghost use Rattle.tb_model.specs.Facts;
 ghost use Rattle.tb_model.specs.Items.{has_no_items, is_before, some_meet};
 ghost use Rattle.tb_model.specs.Legal.{Cells};
 ghost use Rattle.tb_model.specs.Names.{Name};
 ghost use Rattle.tb_races.specs.Kinds;
 ghost use Rattle.tb_races.specs.Orders.{counts_some};
-ghost use Rattle.tb_order.specs.Clocks.{IsEnd, both_at, is_end_at, links_at, of_one};
-ghost use Rattle.tb_order.specs.Linking.{order_of, start_kind};
+ghost use Rattle.tb_lanes.specs.Clocks.{IsEnd, both_at, is_end_at, links_at, of_one};
+ghost use Rattle.tb_lanes.specs.Linking.{order_of, start_kind};
 ghost use Rattle.tb_stream.specs.Joins.{IsNow, waited_by};
 ghost use Rattle.tb_stream.specs.Seen.{IsId, IsOf, Run, order};
 

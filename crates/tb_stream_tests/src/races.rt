@@ -79,6 +79,26 @@ fn stores(alloc: Global, races: &mut Races, n: u32) -> Option<u32>
     }
 }
 
+/// Whether the stores of two siblings race, and a load after a `taskwait` doesn't.
+fn is_right(alloc: Global, races: &mut Races) -> bool {
+    let started = racing(races, root(alloc), Action::Start);
+    let spawned = spawns(alloc, races, 1) && spawns(alloc, races, 2);
+    let first = stores(alloc, races, 1);
+    let second = stores(alloc, races, 2);
+    let Ok(items) = WaitItems::new(alloc, Items::new(alloc)) else {
+        return false;
+    };
+    let waited = racing(races, root(alloc), Action::Wait { items });
+    let load = Action::Load {
+        reg: 0,
+        cell: 7,
+        value: 1,
+    };
+    let loaded = racing(races, root(alloc), load);
+    let ordered = started == Some(0) && spawned && waited == Some(0) && loaded == Some(0);
+    ordered && first == Some(0) && second == Some(2)
+}
+
 #[test]
 fn stores_of_siblings_race_and_a_load_after_a_taskwait_does_not(rt: HostRuntime) {
     let alloc = rt.alloc();
@@ -86,27 +106,19 @@ fn stores_of_siblings_race_and_a_load_after_a_taskwait_does_not(rt: HostRuntime)
         assert!(rt; false);
         return;
     };
-    let started = racing(&mut races, root(alloc), Action::Start);
-    let spawned = spawns(alloc, &mut races, 1) && spawns(alloc, &mut races, 2);
-    let first = stores(alloc, &mut races, 1);
-    let second = stores(alloc, &mut races, 2);
-    let Ok(items) = WaitItems::new(alloc, Items::new(alloc)) else {
+    let right = is_right(alloc, &mut races);
+    forget(races);
+    assert!(rt; right);
+}
+
+#[test]
+fn where_no_tasks_exclude_each_other_one_order_tells_as_much(rt: HostRuntime) {
+    let alloc = rt.alloc();
+    let Ok(mut races) = Races::without_exclusion(alloc) else {
         assert!(rt; false);
         return;
     };
-    let wait = Action::Wait { items };
-    let waited = racing(&mut races, root(alloc), wait);
-    let load = Action::Load {
-        reg: 0,
-        cell: 7,
-        value: 1,
-    };
-    let loaded = racing(&mut races, root(alloc), load);
+    let right = is_right(alloc, &mut races);
     forget(races);
-    assert!(rt; started == Some(0));
-    assert!(rt; spawned);
-    assert!(rt; first == Some(0));
-    assert!(rt; second == Some(2));
-    assert!(rt; waited == Some(0));
-    assert!(rt; loaded == Some(0));
+    assert!(rt; right);
 }

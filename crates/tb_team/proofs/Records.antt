@@ -12,10 +12,10 @@ use Rattle.tb_model.specs.Names.{Name}
 use Rattle.tb_model.specs.Program.{Program, LegalFor}
 use Rattle.tb_model.proofs.LinesLemmas.{line_kept}
 use Rattle.tb_model.specs.Legal.{Cells}
-use Rattle.tb_core.specs.Entries.{Entry as Step}
+use Rattle.tb_steps.specs.Entries.{Entry as Step, departure}
 use Rattle.tb_core.specs.Seen.{Seen}
 use Rattle.tb_live.specs.Soundness.{Fits}
-use Rattle.tb_core.specs.Soundness.{AreRecords, departure}
+use Rattle.tb_core.specs.Soundness.{AreRecords}
 use Rattle.tb_control.specs.declared.breakpoint.Breakpoint.{Breakpoint}
 use Rattle.tb_live.specs.Breaks.{met}
 use Rattle.tb_team.proofs.Counting.{taken_long, taken_count, last_one, last_within, all_dropped}

@@ -5,7 +5,7 @@ use Rattle.tb_model.specs.Facts.{History}
 use Rattle.tb_model.specs.Journal.{Sound}
 use Rattle.tb_model.specs.WellFormed.{WellFormed}
 use Rattle.tb_model.specs.Program.{Program, situation}
-use Rattle.tb_core.specs.Entries.{Entry as Step}
+use Rattle.tb_steps.specs.Entries.{Entry as Step}
 use Rattle.tb_control.specs.declared.breakpoint.Breakpoint.{Breakpoint}
 use Rattle.tb_control.specs.declared.mode.Mode.TheVariants.{Resumed}
 use Rattle.tb_live.specs.Breaks.{met}

@@ -2,7 +2,7 @@
 
 ghost use Rattle.std.specs.Prelude.{◌≡◌, ◌-◌, ◌<◌, ◌≤◌, ◌↔◌, IsTrue, is_some, not, length, take, drop, get_or};
 ghost use Rattle.std.specs.List.{list_all};
-ghost use Rattle.tb_core.specs.Entries.{Entry as Step};
+ghost use Rattle.tb_steps.specs.Entries.{Entry as Step};
 ghost use Rattle.tb_live.specs.Breaks.{met};
 ghost use Rattle.tb_live.specs.Session.{history};
 ghost use Rattle.tb_journal.specs.Journals.{is_turn};

@@ -15,10 +15,10 @@ use Rattle.tb_model.specs.Program.{Program}
 use Rattle.tb_model.proofs.FactsLemmas.{own_mine}
 use Rattle.tb_model.proofs.RemovalLemmas.{own_grows}
 use Rattle.tb_model.proofs.TestLemmas.{same_true, same_refl}
-use Rattle.tb_core.specs.Entries.{Entry}
-use Rattle.tb_core.specs.Scans.{history_of, step_at}
-use Rattle.tb_core.proofs.FirstLemmas.{step_read}
-use Rattle.tb_core.proofs.ScanLemmas.{history_cut}
+use Rattle.tb_steps.specs.Entries.{Entry}
+use Rattle.tb_steps.specs.Scans.{history_of, step_at}
+use Rattle.tb_steps.proofs.FirstLemmas.{step_read}
+use Rattle.tb_steps.proofs.ScanLemmas.{history_cut}
 use Rattle.tb_view.specs.Lines.{event_line, step_line}
 use Rattle.tb_view.specs.Steps.{same_step, is_among, chosen_lines, AreStepsOf}
 

@@ -13,11 +13,10 @@ use Rattle.tb_model.specs.Facts.{History, is_of, own, prepend_if}
 use Rattle.tb_model.specs.Names.{Name, same_name}
 use Rattle.tb_model.specs.NameLaws.{same_name_equivalence}
 use Rattle.tb_model.proofs.TestLemmas.{same_true}
-use Rattle.tb_core.specs.Entries.{Entry}
-use Rattle.tb_core.specs.Scans.{history_of}
+use Rattle.tb_steps.specs.Entries.{Entry}
+use Rattle.tb_steps.specs.Scans.{history_of}
 use Rattle.tb_core.proofs.RenumberLemmas.{some_entry}
-use Rattle.tb_core.proofs.ScanLemmas.{history_more}
-use Rattle.tb_cause.proofs.ConeLemmas.{count_front}
+use Rattle.tb_steps.proofs.ScanLemmas.{count_front, history_more}
 use Rattle.tb_view.specs.Steps.{Counts, count_of, IsCounted, AreCounts}
 
 -- one entry is written: t has taken k steps more than that

@@ -11,14 +11,12 @@ use Rattle.tb_model.specs.Needs.{is_step, step_of}
 use Rattle.tb_model.specs.Program.{Program}
 use Rattle.tb_model.proofs.LeastLemmas.{later_not_step}
 use Rattle.tb_model.proofs.RemovalLemmas.{its_step}
-use Rattle.tb_core.specs.Entries.{Entry}
-use Rattle.tb_core.specs.Scans.{history_of, step_at}
+use Rattle.tb_steps.specs.Entries.{Entry, departure}
+use Rattle.tb_steps.specs.Scans.{history_of, step_at}
 use Rattle.tb_core.specs.Seen.{Seen, history as events}
-use Rattle.tb_core.specs.Soundness.{departure}
-use Rattle.tb_core.proofs.FirstLemmas.{step_read}
+use Rattle.tb_steps.proofs.FirstLemmas.{some_same, step_read}
 use Rattle.tb_core.proofs.RenumberLemmas.{some_entry}
-use Rattle.tb_core.proofs.ScanLemmas.{history_cut}
-use Rattle.tb_cause.proofs.ConeLemmas.{some_same}
+use Rattle.tb_steps.proofs.ScanLemmas.{history_cut}
 use Rattle.tb_live.specs.Session.{Session, history}
 use Rattle.tb_races.specs.declared.cause.Cause.{Cause}
 use Rattle.tb_races.specs.Immediate.{immediate_of}

@@ -7,10 +7,9 @@ use Rattle.tb_model.specs.Facts.{History, is_spawned}
 use Rattle.tb_model.specs.Lines.{events_of}
 use Rattle.tb_model.specs.Names.{Name}
 use Rattle.tb_model.specs.Program.{Program}
-use Rattle.tb_core.specs.Entries.{Entry}
-use Rattle.tb_core.specs.Scans.{history_of}
+use Rattle.tb_steps.specs.Entries.{Entry, departure}
+use Rattle.tb_steps.specs.Scans.{history_of}
 use Rattle.tb_core.specs.Seen.{Seen, history as events}
-use Rattle.tb_core.specs.Soundness.{departure}
 use Rattle.tb_live.specs.Session.{Session, history}
 use Rattle.tb_view.specs.Steps.{chosen_text, AreStepsOf}
 use Rattle.tb_view.specs.declared.view_refusal.ViewRefusal.TheVariants.{NoSuchTask}

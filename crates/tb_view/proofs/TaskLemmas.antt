@@ -1,10 +1,10 @@
 -- The tasks of a history, along its entries.
 use Rattle.std.proofs.Common.{◌≡◌, ◌<◌, ◌+◌, ℕ, List, length, take, sym, ap, ap₂, ◌∙◌, get_or}
 use Rattle.tb_model.specs.declared.action.Action.{Action}
-use Rattle.tb_core.specs.Entries.{Entry}
-use Rattle.tb_core.specs.Scans.{history_of}
+use Rattle.tb_steps.specs.Entries.{Entry}
+use Rattle.tb_steps.specs.Scans.{history_of}
 use Rattle.tb_core.proofs.RenumberLemmas.{some_entry}
-use Rattle.tb_core.proofs.ScanLemmas.{history_more}
+use Rattle.tb_steps.proofs.ScanLemmas.{history_more}
 use Rattle.tb_view.specs.Tasks.{Named, named_tasks, with_spawned}
 
 -- the action is that of the step at place i

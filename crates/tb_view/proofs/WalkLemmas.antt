@@ -12,9 +12,9 @@ use Rattle.tb_model.specs.Program.{Program}
 use Rattle.tb_model.proofs.FactsLemmas.{own_mine}
 use Rattle.tb_model.proofs.RemovalLemmas.{own_grows}
 use Rattle.tb_model.proofs.TestLemmas.{same_true, same_refl}
-use Rattle.tb_core.specs.Entries.{Entry}
-use Rattle.tb_core.specs.Scans.{history_of}
-use Rattle.tb_core.proofs.ScanLemmas.{history_more, history_of-append}
+use Rattle.tb_steps.specs.Entries.{Entry}
+use Rattle.tb_steps.specs.Scans.{history_of}
+use Rattle.tb_steps.proofs.ScanLemmas.{history_more, history_of-append}
 use Rattle.tb_view.specs.Lines.{event_line, step_line}
 use Rattle.tb_view.proofs.CountLemmas.{IsReadAt, read_more}
 use Rattle.tb_view.specs.Steps.{history_lines, newest_lines, Counts, count_of, AreCounts}

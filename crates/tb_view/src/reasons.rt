@@ -1,7 +1,7 @@
 //! Immediate needs and races, as text.
 
 ghost use Rattle.std.specs.Prelude.{◌≡◌, ◌++◌, IfOk, OnOk};
-ghost use Rattle.tb_core.specs.Scans.{history_of};
+ghost use Rattle.tb_steps.specs.Scans.{history_of};
 ghost use Rattle.tb_draft.specs.Races.{races_text};
 ghost use Rattle.tb_view.specs.Reasons;
 

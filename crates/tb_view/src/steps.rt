@@ -2,8 +2,8 @@
 
 ghost use Rattle.std.specs.Prelude.{◌≡◌, ◌<◌, ◌≤◌, ◌++◌, ◌∷◌, [], IfOk, IsTrue, OnOk, codes, decimal, length, map, reverse, suc, if◌then◌else◌};
 ghost use Rattle.tb_model.specs.Equivalent.{stands};
-ghost use Rattle.tb_core.specs.Scans.{history_of};
-ghost use Rattle.tb_core.specs.Soundness.{departure};
+ghost use Rattle.tb_steps.specs.Scans.{history_of};
+ghost use Rattle.tb_steps.specs.Entries.{departure};
 ghost use Rattle.tb_view.specs.Lines.{event_line, line};
 ghost use Rattle.tb_view.specs.Steps.{history_text, newest_lines, chosen_lines, chosen_text, AreStepsOf, count_of, IsCounted};
 

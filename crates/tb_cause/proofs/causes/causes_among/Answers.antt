@@ -1,5 +1,5 @@
 use Rattle.std.proofs.Common.{map, ap, ◌∙◌}
-use Rattle.tb_core.specs.Scans.{step_at}
+use Rattle.tb_steps.specs.Scans.{step_at}
 use Rattle.tb_cause.proofs.CauseLemmas.{causes_named}
 use Rattle.tb_cause.proofs.causes.causes_among.Goals as goal
 

@@ -1,12 +1,12 @@
 use Rattle.std.proofs.Common.{◌≡◌, List, Some, reverse, subst, sym}
 use Rattle.tb_model.specs.declared.step_id.StepId.{StepId}
-use Rattle.tb_core.specs.Entries.{Entry}
-use Rattle.tb_core.specs.Scans.{AreLegal, history_of, step_at}
+use Rattle.tb_steps.specs.Entries.{Entry}
+use Rattle.tb_steps.specs.Scans.{AreLegal, history_of, step_at}
 use Rattle.tb_cause.specs.Chains.{causes_of}
 use Rattle.tb_cause.proofs.CauseLemmas.{causes_in_front}
-use Rattle.tb_cause.proofs.ConeLemmas.{there}
 use Rattle.tb_cause.proofs.KeyedLemmas.{legal_so_far}
 use Rattle.tb_cause.proofs.causes.causes_of.Goals as goal
+use Rattle.tb_steps.proofs.FirstLemmas.{there}
 
 pub causes_among-requires-clause-legal : goal.causes_among-requires-clause-legal
 causes_among-requires-clause-legal c =

@@ -2,9 +2,9 @@ use Rattle.std.proofs.Common.{◌∙◌, ap, ap₂, sym}
 use Rattle.tb_cause.specs.Asked.{gives_any}
 use Rattle.tb_cause.specs.Indexes.{items_told}
 use Rattle.tb_cause.specs.Keys.{Task, has}
-use Rattle.tb_cause.proofs.ConeLemmas.{there}
 use Rattle.tb_cause.proofs.StandingLemmas.{spawned_here}
 use Rattle.tb_cause.proofs.causes.is_asked.Goals as goal
+use Rattle.tb_steps.proofs.FirstLemmas.{there}
 
 pub gives_some-requires-clause-of_task : goal.gives_some-requires-clause-of_task
 gives_some-requires-clause-of_task c =

@@ -1,12 +1,12 @@
 use Rattle.std.proofs.Common.{◌≢◌, [], List, subst, sym, ap, ◌∙◌}
 use Rattle.tb_model.specs.Facts.{own, groups}
-use Rattle.tb_core.specs.Entries.{Entry}
-use Rattle.tb_core.specs.Scans.{history_of}
+use Rattle.tb_steps.specs.Entries.{Entry}
+use Rattle.tb_steps.specs.Scans.{history_of}
 use Rattle.tb_cause.specs.Keys.{Task, has}
-use Rattle.tb_cause.proofs.ConeLemmas.{there}
 use Rattle.tb_cause.proofs.KeyedLemmas.{closes_an_open}
 use Rattle.tb_cause.proofs.StandingLemmas.{held_here, spawned_here}
 use Rattle.tb_cause.proofs.causes.note_at.Goals as goal
+use Rattle.tb_steps.proofs.FirstLemmas.{there}
 
 pub note-requires-clause-held : goal.note-requires-clause-held
 note-requires-clause-held c =

@@ -1,5 +1,5 @@
 use Rattle.std.proofs.Common.{◌-◌, take, subst, arith}
-use Rattle.tb_core.specs.Scans.{history_of}
+use Rattle.tb_steps.specs.Scans.{history_of}
 use Rattle.tb_cause.specs.Indexes.{items_told}
 use Rattle.tb_cause.specs.Keys.{IsOfTask, has}
 use Rattle.tb_cause.proofs.CauseLemmas.{causes_told}

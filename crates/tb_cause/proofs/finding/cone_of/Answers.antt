@@ -1,5 +1,5 @@
 use Rattle.std.proofs.Common.{◌∙◌, ap, map}
-use Rattle.tb_core.specs.Scans.{step_at}
+use Rattle.tb_steps.specs.Scans.{step_at}
 use Rattle.tb_cause.proofs.ConeLemmas.{named_cone}
 use Rattle.tb_cause.proofs.finding.cone_of.Goals as goal
 

@@ -1,9 +1,9 @@
 use Rattle.std.proofs.Common.{◌||◌, ◌∙◌, ap, ap₂, sym}
 use Rattle.tb_cause.specs.Indexes.{items_told}
 use Rattle.tb_cause.specs.Keys.{Task, gives, has}
-use Rattle.tb_cause.proofs.ConeLemmas.{there}
 use Rattle.tb_cause.proofs.StandingLemmas.{spawned_here}
 use Rattle.tb_cause.proofs.finding.enter.Goals as goal
+use Rattle.tb_steps.proofs.FirstLemmas.{there}
 
 pub give-requires-clause-of_task : goal.give-requires-clause-of_task
 give-requires-clause-of_task c h =

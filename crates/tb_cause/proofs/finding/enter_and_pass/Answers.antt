@@ -1,9 +1,9 @@
 use Rattle.std.proofs.Common.{◌++◌, ◌∷◌, [], sym, ap, ◌∙◌}
 use Rattle.std.proofs.lemmas.Bool.{false≢true}
 use Rattle.tb_cause.specs.Keys.{Within, has}
-use Rattle.tb_cause.proofs.ConeLemmas.{there}
 use Rattle.tb_cause.proofs.KeyedLemmas.{given_more}
 use Rattle.tb_cause.proofs.finding.enter_and_pass.Goals as goal
+use Rattle.tb_steps.proofs.FirstLemmas.{there}
 
 pub enter-requires-clause-upward : goal.enter-requires-clause-upward
 enter-requires-clause-upward c q m w h = absurd (false≢true (sym (c.requires.none (Within m)) ∙ h))

@@ -1,11 +1,11 @@
 use Rattle.std.proofs.Common.{◌∙◌, ap, ap₂, sym, List, take}
-use Rattle.tb_core.specs.Entries.{Entry}
-use Rattle.tb_core.specs.Scans.{history_of}
+use Rattle.tb_steps.specs.Entries.{Entry}
+use Rattle.tb_steps.specs.Scans.{history_of}
 use Rattle.tb_cause.specs.Indexes.{items_told}
 use Rattle.tb_cause.specs.Keys.{Task, has, takes_any}
-use Rattle.tb_cause.proofs.ConeLemmas.{there}
 use Rattle.tb_cause.proofs.StandingLemmas.{held_here, spawned_here}
 use Rattle.tb_cause.proofs.finding.goes.Goals as goal
+use Rattle.tb_steps.proofs.FirstLemmas.{there}
 
 pub takes_some-requires-clause-held : goal.takes_some-requires-clause-held
 takes_some-requires-clause-held c =

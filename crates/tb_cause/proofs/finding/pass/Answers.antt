@@ -3,12 +3,13 @@ use Rattle.std.specs.List.{All, list_any}
 use Rattle.tb_cause.specs.Chains.{events_at}
 use Rattle.tb_cause.specs.Indexes.{items_told}
 use Rattle.tb_cause.specs.Keys.{IsOfTask, gives, has}
-use Rattle.tb_cause.proofs.ConeLemmas.{there, found_first, found_same, found_more, all_pushed, found_all}
+use Rattle.tb_cause.proofs.ConeLemmas.{found_first, found_same, found_more, all_pushed, found_all}
 use Rattle.tb_cause.proofs.KeyedLemmas.{given_more, given_upward, taken_is_needed}
 use Rattle.tb_cause.proofs.SkippingLemmas.{found_upto}
 use Rattle.tb_cause.proofs.TaskKeyLemmas.{of_given, placed_on}
 use Rattle.tb_cause.proofs.finding.pass.Goals as goal
 use Rattle.tb_cause.proofs.finding.pass.Goals.{then-branch+in_ok-enter, else-branch}
+use Rattle.tb_steps.proofs.FirstLemmas.{there}
 
 pub forward-preserved : goal.forward-preserved
 forward-preserved c =

@@ -1,6 +1,6 @@
 use Rattle.std.proofs.Common.{◌≡◌, Some, map, take}
 use Rattle.tb_model.specs.declared.step_id.StepId.{StepId}
-use Rattle.tb_core.specs.Scans.{step_at}
+use Rattle.tb_steps.specs.Scans.{step_at}
 use Rattle.tb_cause.proofs.names.few_names.Given as goal
 
 abbrev pub invariant-loop-place : goal.invariant-loop-place

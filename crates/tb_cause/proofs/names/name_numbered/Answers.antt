@@ -1,8 +1,8 @@
 use Rattle.std.proofs.Common.{◌-◌, length, refl, arith}
 use Rattle.std.proofs.lemmas.Option.{get_or_from_slice_get, slice_get_read, slice_get_within}
 use Rattle.tb_core.proofs.OwnLemmas.{own_few, own_number}
-use Rattle.tb_cause.proofs.ConeLemmas.{there}
 use Rattle.tb_cause.proofs.names.name_numbered.Goals as goal
+use Rattle.tb_steps.proofs.FirstLemmas.{there}
 
 pub overflow_cast-k : goal.overflow_cast-k
 overflow_cast-k c =

@@ -2,9 +2,9 @@ use Rattle.std.proofs.Common.{◌<◌, ◌+◌, cond, length, ap, ◌∙◌, ari
 use Rattle.indexmap.specs.IndexMap.{get}
 use Rattle.tb_model.specs.Names.{same_name}
 use Rattle.tb_cause.specs.Indexes.{count_in}
-use Rattle.tb_cause.proofs.ConeLemmas.{there}
 use Rattle.tb_cause.proofs.NameLemmas.{still_room, counted_more, numbered_one}
 use Rattle.tb_cause.proofs.names.numbers_of.Goals as goal
+use Rattle.tb_steps.proofs.FirstLemmas.{there}
 
 pub count_step-requires : goal.count_step-requires
 count_step-requires c =

@@ -2,7 +2,7 @@ use Rattle.std.proofs.Common.{◌≡◌, length, take}
 use Rattle.indexmap.specs.IndexMap.{get}
 use Rattle.tb_model.specs.Names.{Name, same_name}
 use Rattle.tb_model.specs.Facts.{own}
-use Rattle.tb_core.specs.Scans.{history_of}
+use Rattle.tb_steps.specs.Scans.{history_of}
 use Rattle.tb_cause.specs.Indexes.{AreNumbers, count_in}
 use Rattle.tb_cause.proofs.names.numbers_of.Given as goal
 

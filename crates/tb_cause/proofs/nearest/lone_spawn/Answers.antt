@@ -1,11 +1,11 @@
 use Rattle.std.proofs.Common.{◌≡◌, length, rules, sym, ap, ◌∙◌}
 use Rattle.tb_model.specs.State.{spawn_of}
-use Rattle.tb_core.specs.Scans.{history_of}
+use Rattle.tb_steps.specs.Scans.{history_of}
 use Rattle.tb_cause.specs.Indexes.{items_told}
-use Rattle.tb_cause.proofs.ConeLemmas.{there}
 use Rattle.tb_cause.proofs.StandingLemmas.{spawned_here}
 use Rattle.tb_cause.proofs.LoneLemmas.{lone_reach, no_length}
 use Rattle.tb_cause.proofs.nearest.lone_spawn.Goals as goal
+use Rattle.tb_steps.proofs.FirstLemmas.{there}
 
 pub returns-then-spawn-at : goal.returns-then-spawn-at
 returns-then-spawn-at c =

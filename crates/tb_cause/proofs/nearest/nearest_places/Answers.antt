@@ -1,11 +1,11 @@
 use Rattle.std.proofs.Common.{List, subst, sym}
-use Rattle.tb_core.specs.Entries.{Entry}
-use Rattle.tb_core.specs.Scans.{AreLegal}
+use Rattle.tb_steps.specs.Entries.{Entry}
+use Rattle.tb_steps.specs.Scans.{AreLegal}
 use Rattle.tb_cause.specs.Nearest.{AreNearest}
-use Rattle.tb_cause.proofs.ConeLemmas.{there}
 use Rattle.tb_cause.proofs.KeyedLemmas.{legal_so_far}
 use Rattle.tb_cause.proofs.NearestPassLemmas.{nearest_in_front}
 use Rattle.tb_cause.proofs.nearest.nearest_places.Goals as goal
+use Rattle.tb_steps.proofs.FirstLemmas.{there}
 
 pub nearest_among-requires-clause-legal : goal.nearest_among-requires-clause-legal
 nearest_among-requires-clause-legal c =

@@ -1,8 +1,8 @@
 use Rattle.std.proofs.Common.{◌∷◌, [], refl}
 use Rattle.tb_cause.specs.Keys.{has}
 use Rattle.tb_cause.proofs.AskedNeedLemmas.{asked_more}
-use Rattle.tb_cause.proofs.ConeLemmas.{there}
 use Rattle.tb_cause.proofs.nearest.note_and_pass.Goals as goal
+use Rattle.tb_steps.proofs.FirstLemmas.{there}
 
 pub pass-requires-clause-own : goal.pass-requires-clause-own
 pass-requires-clause-own c =

@@ -1,6 +1,6 @@
 use Rattle.std.proofs.Common.{◌||◌, sym, ap, ◌∙◌}
 use Rattle.tb_model.specs.Facts.{own, groups, innermost}
-use Rattle.tb_core.specs.Scans.{history_of}
+use Rattle.tb_steps.specs.Scans.{history_of}
 use Rattle.tb_cause.specs.Asked.{same_key}
 use Rattle.tb_cause.specs.Keys.{has, wait_any}
 use Rattle.tb_cause.proofs.HasLemmas.{group_asks}

@@ -3,7 +3,7 @@ use Rattle.indexmap.specs.IndexSet.{contains}
 use Rattle.tb_model.specs.declared.action.Action.TheVariants.{Spawn}
 use Rattle.tb_model.specs.Names.{same_name}
 use Rattle.tb_model.specs.Facts.{own}
-use Rattle.tb_core.specs.Scans.{history_of}
+use Rattle.tb_steps.specs.Scans.{history_of}
 use Rattle.tb_cause.proofs.GroupLemmas.{behind_open, behind_close, behind_spawn, member_behind}
 use Rattle.tb_cause.proofs.HasLemmas.{or_turned}
 use Rattle.tb_cause.proofs.noting.note_group.Goals as goal

@@ -1,6 +1,6 @@
 use Rattle.std.proofs.Common.{sym, ap, ◌∙◌}
 use Rattle.tb_model.specs.Facts.{own}
-use Rattle.tb_core.specs.Scans.{history_of}
+use Rattle.tb_steps.specs.Scans.{history_of}
 use Rattle.tb_cause.specs.Indexes.{items_told}
 use Rattle.tb_cause.specs.Keys.{Task, has, held_by, held_any, action_any, wait_any, items_any}
 use Rattle.tb_cause.proofs.HasLemmas.{only_last}

@@ -1,7 +1,7 @@
 use Rattle.std.proofs.Common.{◌≡◌, ◌≤◌, length}
 use Rattle.tb_model.specs.Facts.{own}
 use Rattle.tb_model.specs.State.{is_member_of}
-use Rattle.tb_core.specs.Scans.{history_of}
+use Rattle.tb_steps.specs.Scans.{history_of}
 use Rattle.tb_core.proofs.groups.is_member_of.Given as goal
 
 -- the newer steps of the task make it no member

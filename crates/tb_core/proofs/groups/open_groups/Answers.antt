@@ -1,5 +1,5 @@
 use Rattle.std.proofs.Common.{rules, ◌∙◌, ◌++◌, ◌∷◌, [], sym, ap, arith, length}
-use Rattle.tb_core.specs.Scans.{history_of}
+use Rattle.tb_steps.specs.Scans.{history_of}
 use Rattle.tb_core.proofs.GroupLemmas.{one_more, behind_open, behind_inner, behind_close, behind_plain, plain_unless, other_behind, open_behind}
 use Rattle.tb_core.proofs.groups.open_groups.Goals.{in-Open+then-closed-eq0+in_ok-step-in-Open+in_ok-push-in-Open, in-Open+else-closed-eq0, in-Close, in_default-action}
 use Rattle.tb_core.proofs.groups.open_groups.Goals as goal

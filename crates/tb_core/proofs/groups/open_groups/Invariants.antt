@@ -1,7 +1,7 @@
 use Rattle.std.proofs.Common.{◌≡◌, ◌≤◌, ◌+◌, ◌++◌, length}
 use Rattle.tb_model.specs.Facts.{own}
 use Rattle.tb_model.specs.State.{open_groups_of}
-use Rattle.tb_core.specs.Scans.{history_of}
+use Rattle.tb_steps.specs.Scans.{history_of}
 use Rattle.tb_core.proofs.GroupLemmas.{open_behind}
 use Rattle.tb_core.proofs.groups.open_groups.Given as goal
 

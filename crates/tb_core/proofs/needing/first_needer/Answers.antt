@@ -1,5 +1,5 @@
 use Rattle.std.proofs.Common.{◌<◌, ◌+◌, length, arith}
-use Rattle.tb_core.proofs.FirstLemmas.{there, none_yet, none_next, found_first}
+use Rattle.tb_steps.proofs.FirstLemmas.{there, none_yet, none_next, found_first}
 use Rattle.tb_core.proofs.NeedingLemmas.{none_until}
 use Rattle.tb_core.proofs.needing.first_needer.Goals as goal
 

@@ -1,7 +1,7 @@
 use Rattle.std.proofs.Common.{◌≡◌, ◌<◌, ◌≤◌, ◌-◌, None, Some, length, take}
 use Rattle.tb_model.specs.declared.step_id.StepId.{StepId}
 use Rattle.tb_model.specs.Needers.{first_needer}
-use Rattle.tb_core.specs.Scans.{AreLegal, history_of, step_at}
+use Rattle.tb_steps.specs.Scans.{AreLegal, history_of, step_at}
 use Rattle.tb_core.proofs.needing.first_needer.Given as goal
 
 -- none in front of the next needs the step

@@ -1,9 +1,9 @@
 use Rattle.std.proofs.Common.{◌<◌, List, length, sym, subst, arith}
 use Rattle.tb_model.specs.Names.{Name}
 use Rattle.tb_model.specs.Facts.{IsSpawned}
-use Rattle.tb_core.specs.Entries.{Entry}
-use Rattle.tb_core.specs.Scans.{AreLegal, history_of}
-use Rattle.tb_core.proofs.FirstLemmas.{front_legal, there}
+use Rattle.tb_steps.specs.Entries.{Entry}
+use Rattle.tb_steps.specs.Scans.{AreLegal, history_of}
+use Rattle.tb_steps.proofs.FirstLemmas.{front_legal, there}
 use Rattle.tb_core.proofs.LendingLemmas.{spawned_at, spawned_before}
 use Rattle.tb_core.proofs.needing.needs.Goals as goal
 

@@ -2,7 +2,7 @@ use Rattle.std.proofs.Common.{◌<◌, ◌∙◌, length, ap, sym, subst, arith}
 use Rattle.tb_model.specs.Facts.{is_end, is_of}
 use Rattle.tb_core.specs.Lending.{IsNoneBetween}
 use Rattle.tb_core.specs.Needing.{meets}
-use Rattle.tb_core.proofs.FirstLemmas.{there}
+use Rattle.tb_steps.proofs.FirstLemmas.{there}
 use Rattle.tb_core.proofs.NeedingLemmas.{none_needs}
 use Rattle.tb_core.proofs.needing.next_chance.Goals as goal
 

@@ -1,6 +1,6 @@
 use Rattle.std.proofs.Common.{◌≡◌, ◌<◌, ◌∙◌, length, false, sym, subst, arith}
 use Rattle.tb_core.specs.Needing.{may_wait_for}
-use Rattle.tb_core.proofs.FirstLemmas.{there}
+use Rattle.tb_steps.proofs.FirstLemmas.{there}
 use Rattle.tb_core.proofs.NeedingLemmas.{none_waits}
 use Rattle.tb_core.proofs.needing.next_wait.Goals as goal
 
@@ -16,12 +16,16 @@ past-preserved c =
     let within : at < length es = omega (arith, c.requires.at, c.requires.from) in
     let u = there es at within in
     let w = there es next inside in
-    let apart : may_wait_for w.0.event.action w.0.event.task u.0.event.task ≡ false =
-    subst (λ a. may_wait_for a w.0.event.task u.0.event.task ≡ false) (c.action.ensures w.0 w.1)
-    (subst (λ t. may_wait_for c.action.result.now t u.0.event.task ≡ false) (c.task.ensures w.0 w.1)
-    (subst (λ t. may_wait_for c.action.result.now c.task.result.now t ≡ false) (c.task-ended.ensures u.0 u.1) (sym c.may_wait_for.ensures ∙ c.if-may_wait_for.false))) in
+    let some = c.has_items-has_items.result in
+    let apart : may_wait_for some w.0.event.action w.0.event.task u.0.event.task ≡ false =
+    subst (λ a. may_wait_for some a w.0.event.task u.0.event.task ≡ false) (c.action.ensures w.0 w.1)
+    (subst (λ t. may_wait_for some c.action.result.now t u.0.event.task ≡ false) (c.task.ensures w.0 w.1)
+    (subst (λ t. may_wait_for some c.action.result.now c.task.result.now t ≡ false) (c.task-ended.ensures u.0 u.1) (sym c.may_wait_for.ensures ∙ c.if-may_wait_for.false))) in
     record {
       from = omega (arith, c.past.invariant.from);
       within = omega (arith, inside);
-      none = none_waits es at c.args.from next u.0 w.0 c.is_legal.ensures within inside u.1 w.1 (c.requires.end u.0 u.1) apart c.past.invariant.none;
+      none = none_waits some es at c.args.from next u.0 w.0 c.is_legal.ensures within inside u.1 w.1 (c.requires.end u.0 u.1) (λ h. c.has_items-has_items.ensures h u.0 u.1) apart c.past.invariant.none;
     }
+
+pub has_items-has_items-requires : goal.has_items-has_items-requires
+has_items-has_items-requires c = omega (arith, c.requires.at, c.requires.from)

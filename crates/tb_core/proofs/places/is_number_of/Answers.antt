@@ -1,5 +1,5 @@
 use Rattle.std.proofs.Common.{arith, sym}
-use Rattle.tb_core.proofs.ScanLemmas.{has_numbered, has_none, has_not_so_many}
+use Rattle.tb_steps.proofs.ScanLemmas.{has_numbered, has_none, has_not_so_many}
 use Rattle.tb_core.proofs.places.is_number_of.Goals as goal
 
 pub returns-then-id-eq0 : goal.returns-then-id-eq0

@@ -1,6 +1,6 @@
 use Rattle.std.proofs.Common.{◌<◌, ◌∙◌, arith, length, refl, sym}
 use Rattle.tb_core.proofs.RenumberLemmas.{some_entry}
-use Rattle.tb_core.proofs.ScanLemmas.{found_stands, found_step_at, not_of_other, not_of_number}
+use Rattle.tb_steps.proofs.ScanLemmas.{found_stands, found_step_at, not_of_other, not_of_number}
 use Rattle.tb_core.proofs.places.place_of.Goals.{then-is_of+else-count-id, else-is_of}
 use Rattle.tb_core.proofs.places.place_of.Goals as goal
 

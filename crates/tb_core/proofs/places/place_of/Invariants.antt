@@ -1,4 +1,4 @@
-use Rattle.tb_core.proofs.ScanLemmas.{IsNotYet}
+use Rattle.tb_steps.proofs.ScanLemmas.{IsNotYet}
 use Rattle.tb_core.proofs.places.place_of.Given as goal
 
 abbrev pub invariant-loop-at : goal.invariant-loop-at

@@ -1,6 +1,6 @@
 use Rattle.std.proofs.Common.{List, Some, arith, ◌∙◌, sym, subst}
 use Rattle.tb_places.specs.Places.{HasRoomAs}
-use Rattle.tb_core.specs.Entries.{Entry}
+use Rattle.tb_steps.specs.Entries.{Entry}
 use Rattle.tb_core.specs.Renumbering.{events_in}
 use Rattle.tb_core.specs.Soundness.{names_in}
 use Rattle.tb_core.specs.Storing.{entries_in}

@@ -1,7 +1,7 @@
 use Rattle.std.proofs.Common.{sym, ap, ◌∙◌, rules}
 use Rattle.tb_model.specs.declared.action.Action.TheVariants.{Spawn}
-use Rattle.tb_core.specs.Scans.{history_of}
-use Rattle.tb_core.proofs.MemberLemmas.{behind_open, behind_member, behind_other}
+use Rattle.tb_steps.specs.Scans.{history_of}
+use Rattle.tb_steps.proofs.MemberLemmas.{behind_open, behind_member, behind_other}
 use Rattle.tb_core.proofs.scans.is_in_innermost.Goals as goal
 
 pub back-preserved-else-closed-eq0 : goal.back-preserved-else-closed-eq0

@@ -1,7 +1,7 @@
 use Rattle.std.proofs.Common.{◌≡◌, ◌≤◌, ◌+◌, length}
 use Rattle.tb_model.specs.Facts.{own, is_member}
-use Rattle.tb_core.specs.Scans.{history_of}
-use Rattle.tb_core.proofs.MemberLemmas.{member_behind}
+use Rattle.tb_steps.specs.Scans.{history_of}
+use Rattle.tb_steps.proofs.MemberLemmas.{member_behind}
 use Rattle.tb_core.proofs.scans.is_in_innermost.Given as goal
 
 -- what is found so far, and what the rest gives, is what all gives

@@ -1,6 +1,6 @@
 use Rattle.std.proofs.Common.{◌≡◌, ◌≤◌, length}
 use Rattle.tb_model.specs.Facts.{own}
-use Rattle.tb_core.specs.Scans.{history_of}
+use Rattle.tb_steps.specs.Scans.{history_of}
 use Rattle.tb_core.proofs.scans.newest_generated.Given as goal
 
 abbrev pub invariant-back : goal.invariant-back

@@ -1,15 +1,15 @@
 use Rattle.std.proofs.Common.{◌<◌, length, sym, subst, arith, ⊎_elim}
 use Rattle.std.proofs.lemmas.Bool.{both_ways}
 use Rattle.tb_races.specs.Orders.{Synchronised}
-use Rattle.tb_order.specs.Linking.{order_of}
-use Rattle.tb_order.specs.Rows.{IsAsked}
-use Rattle.tb_order.specs.Bounds.{bound_among}
-use Rattle.tb_order.specs.Clocks.{lanes_of}
-use Rattle.tb_order.proofs.AfterLemmas.{at_read}
-use Rattle.tb_order.proofs.AskedLemmas.{held_asked, held_goes_on, link_parts, not_starting}
+use Rattle.tb_lanes.specs.Linking.{order_of}
+use Rattle.tb_lanes.specs.Rows.{IsAsked}
+use Rattle.tb_lanes.specs.Bounds.{bound_among}
+use Rattle.tb_lanes.specs.Clocks.{lanes_of}
+use Rattle.tb_lanes.proofs.AfterLemmas.{at_read}
+use Rattle.tb_lanes.proofs.AskedLemmas.{held_asked, held_goes_on, link_parts, not_starting}
 use Rattle.tb_order.proofs.JoinedLemmas.{joins_trans}
-use Rattle.tb_order.proofs.OwnLemmas.{ev}
-use Rattle.tb_order.proofs.SoundLemmas.{told_own}
+use Rattle.tb_lanes.proofs.OwnLemmas.{ev}
+use Rattle.tb_lanes.proofs.SoundLemmas.{told_own}
 use Rattle.tb_order.proofs.asked.merge_all.Goals as goal
 
 pub returns-in_ok-merge_children-clause-more : goal.returns-in_ok-merge_children-clause-more

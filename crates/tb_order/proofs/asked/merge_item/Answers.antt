@@ -1,7 +1,7 @@
 use Rattle.std.proofs.Common.{◌≡◌, Some, true, ap, sym, ◌∙◌}
 use Rattle.tb_model.specs.declared.kind.Kind.TheVariants.{In, Out, Inout, Mutexinoutset, Inoutset}
-use Rattle.tb_order.specs.Rows.{IsTold, asks}
-use Rattle.tb_order.proofs.AskedLemmas.{each_kind, item_told, kind_some, on_ok_both, on_ok_map}
+use Rattle.tb_lanes.specs.Rows.{IsTold, asks}
+use Rattle.tb_lanes.proofs.AskedLemmas.{each_kind, item_told, kind_some, on_ok_both, on_ok_map}
 use Rattle.tb_order.proofs.JoinedLemmas.{joins_trans}
 use Rattle.tb_order.proofs.asked.merge_item.Goals as goal
 

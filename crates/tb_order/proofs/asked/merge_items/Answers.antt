@@ -1,8 +1,8 @@
 use Rattle.std.proofs.Common.{◌≡◌, Some, true, sym, subst, arith, ⊎_elim, slice_get}
 use Rattle.std.specs.List.{list_any}
 use Rattle.std.proofs.lemmas.Bool.{cases_eq}
-use Rattle.tb_order.specs.Rows.{items_at, may_meet}
-use Rattle.tb_order.proofs.AskedLemmas.{any_at, got_is}
+use Rattle.tb_lanes.specs.Rows.{items_at, may_meet}
+use Rattle.tb_lanes.proofs.AskedLemmas.{any_at, got_is}
 use Rattle.tb_order.proofs.JoinedLemmas.{joins_trans}
 use Rattle.tb_order.proofs.asked.merge_items.Goals as goal
 

@@ -1,8 +1,8 @@
 use Rattle.std.proofs.Common.{◌≡◌, ◌<◌, ℕ, Some, slice_get, IsTrue}
 use Rattle.std.specs.List.{list_any}
 use Rattle.tb_model.specs.declared.item.Item.{Item}
-use Rattle.tb_order.specs.Linking.{order_of}
-use Rattle.tb_order.specs.Rows.{IsAsked, IsTold, JoinsMore, items_at, may_meet}
+use Rattle.tb_lanes.specs.Linking.{order_of}
+use Rattle.tb_lanes.specs.Rows.{IsAsked, IsTold, JoinsMore, items_at, may_meet}
 use Rattle.tb_order.proofs.asked.merge_items.Given as goal
 
 -- those that the items so far may meet are told of

@@ -1,9 +1,9 @@
 use Rattle.std.proofs.Common.{ap, sym, subst, ◌∙◌, IsTrue}
 use Rattle.std.specs.Option.{option_copied}
-use Rattle.tb_order.specs.Clocks.{links_at}
-use Rattle.tb_order.specs.Linking.{order_of}
-use Rattle.tb_order.specs.Rows.{IsNoted, IsRowOf, IsTold}
-use Rattle.tb_order.proofs.AskedLemmas.{on_ok_map, row_told}
+use Rattle.tb_lanes.specs.Clocks.{links_at}
+use Rattle.tb_lanes.specs.Linking.{order_of}
+use Rattle.tb_lanes.specs.Rows.{IsNoted, IsRowOf, IsTold}
+use Rattle.tb_lanes.proofs.AskedLemmas.{on_ok_map, row_told}
 use Rattle.tb_order.proofs.asked.merge_key.Goals as goal
 
 pub returns-in-Some-clause-told : goal.returns-in-Some-clause-told

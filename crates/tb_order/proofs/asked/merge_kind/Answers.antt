@@ -1,7 +1,7 @@
 use Rattle.std.proofs.Common.{subst, sym, ⊎_elim}
-use Rattle.tb_order.specs.Linking.{order_of}
-use Rattle.tb_order.specs.Rows.{IsNoted}
-use Rattle.tb_order.proofs.AskedLemmas.{noted_item, on_ok_both, on_ok_map, the_kind}
+use Rattle.tb_lanes.specs.Linking.{order_of}
+use Rattle.tb_lanes.specs.Rows.{IsNoted}
+use Rattle.tb_lanes.proofs.AskedLemmas.{noted_item, on_ok_both, on_ok_map, the_kind}
 use Rattle.tb_order.proofs.JoinedLemmas.{joins_trans}
 use Rattle.tb_order.proofs.asked.merge_kind.Goals as goal
 

@@ -4,13 +4,13 @@ use Rattle.tb_model.specs.declared.action.Action.TheVariants.{Start, Wait}
 use Rattle.tb_model.specs.declared.item.Item.{Item}
 use Rattle.tb_races.specs.Kinds.{wait_kind}
 use Rattle.tb_races.specs.Orders.{Synchronised, counts_some}
-use Rattle.tb_order.specs.Clocks.{IsEnd, links_at}
-use Rattle.tb_order.specs.Linking.{order_of}
-use Rattle.tb_order.specs.Rows.{IsAsked, IsTold}
-use Rattle.tb_order.proofs.AfterLemmas.{at_is, at_read}
-use Rattle.tb_order.proofs.AskedLemmas.{is_starting, not_starting, on_ok_map, other_waits, row_told, some_items, start_asked, wait_asked, waits_is, waits_links}
+use Rattle.tb_lanes.specs.Clocks.{IsEnd, links_at}
+use Rattle.tb_lanes.specs.Linking.{order_of}
+use Rattle.tb_lanes.specs.Rows.{IsAsked, IsTold}
+use Rattle.tb_lanes.proofs.AfterLemmas.{at_is, at_read}
+use Rattle.tb_lanes.proofs.AskedLemmas.{is_starting, not_starting, on_ok_map, other_waits, row_told, some_items, start_asked, wait_asked, waits_is, waits_links}
 use Rattle.tb_order.proofs.JoinedLemmas.{joins_none}
-use Rattle.tb_order.proofs.OwnLemmas.{H, ev}
+use Rattle.tb_lanes.proofs.OwnLemmas.{H, ev}
 use Rattle.tb_order.proofs.asked.merge_waited.Goals as goal
 
 or_second : (a b : Bool) → a ≡ false → (a || b) ≡ true → b ≡ true

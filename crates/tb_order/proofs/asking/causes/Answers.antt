@@ -1,9 +1,9 @@
 use Rattle.std.proofs.Common.{ap, ◌∙◌, reverse}
-use Rattle.tb_cause.proofs.ConeLemmas.{there}
 use Rattle.tb_model.specs.Lines.{events_of}
 use Rattle.tb_races.specs.Immediate.{immediate_of}
 use Rattle.tb_order.proofs.AnswerLemmas.{immediate_at}
 use Rattle.tb_order.proofs.asking.causes.Goals as goal
+use Rattle.tb_steps.proofs.FirstLemmas.{there}
 
 pub returns-in-Ok-clause-causes : goal.returns-in-Ok-clause-causes
 returns-in-Ok-clause-causes c =

@@ -1,14 +1,21 @@
-use Rattle.std.proofs.Common.{◌<◌, length, sym, ap, ◌∙◌, Some, arith}
+use Rattle.std.proofs.Common.{◌≡◌, ◌≢◌, ◌<◌, ◌⊎◌, ◌∙◌, ℕ, Some, ap, arith, false, get_or, inl, inr, length, subst, sym}
+use Rattle.std.proofs.lemmas.Bool.{cases_eq}
 use Rattle.tb_model.specs.State.{items_in}
-use Rattle.tb_cause.proofs.ConeLemmas.{there}
-use Rattle.tb_order.specs.Exclusion.{has_exclusive}
-use Rattle.tb_order.proofs.ExclusionLemmas.{none_more}
+use Rattle.tb_steps.specs.Entries.{Entry}
+use Rattle.tb_stream.specs.Exclusion.{has_exclusive}
 use Rattle.tb_order.proofs.exclusion.exclude_some.Goals as goal
 
+pub loop-at-init : goal.loop-at-init
+loop-at-init c p e low = absurd (omega (arith, low))
+
 pub loop-at-preserved : goal.loop-at-preserved
-loop-at-preserved c =
-    let entries = c.args.entries.now in
-    let at = c.loop-at.at in
-    let within : at < length entries = omega (arith, c.loop-at-test.true, c.len-at-end.ensures) in
-    let x = there entries at within in
-    none_more entries at x.0 within x.1 (ap (λ a. has_exclusive (items_in (Some a))) (sym (c.action.ensures x.0 x.1)) ∙ sym c.has_exclusive.ensures ∙ c.if-has_exclusive.false) c.loop-at.invariant
+loop-at-preserved c p e low here = by (cases_eq p c.loop-at.at)
+  where
+    by : (p ≡ c.loop-at.at) ⊎ (p ≢ c.loop-at.at) → has_exclusive (items_in (Some e.event.action)) ≡ false
+    by (inl same) =
+        ap (λ a. has_exclusive (items_in (Some a))) (sym (c.action.ensures e (here ∙ ap (λ n. get_or c.args.entries.now n e) same)))
+        ∙ sym c.has_exclusive.ensures ∙ c.if-has_exclusive.false
+    by (inr other) = c.loop-at.invariant p e (omega (arith, low, other)) here
+
+pub returns : goal.returns
+returns c empty p e within here = c.loop-at.invariant p e (omega (arith, within, c.loop-at-test.false, c.len-at-end.ensures)) here

@@ -1,6 +1,6 @@
 use Rattle.std.proofs.Common.{sym, ◌∙◌}
-use Rattle.tb_order.proofs.AfterLemmas.{at_is, at_read}
-use Rattle.tb_order.proofs.GroupLemmas.{close_from}
+use Rattle.tb_lanes.proofs.AfterLemmas.{at_is, at_read}
+use Rattle.tb_lanes.proofs.GroupLemmas.{close_from}
 use Rattle.tb_races.specs.Orders.{Synchronised}
 use Rattle.tb_order.proofs.grouping.first_asked.Goals as goal
 

@@ -1,8 +1,8 @@
 use Rattle.std.proofs.Common.{◌<◌, length, refl, sym, ◌∙◌, arith}
-use Rattle.tb_core.proofs.MemberLemmas.{at_first}
-use Rattle.tb_order.proofs.AfterLemmas.{at_is}
-use Rattle.tb_order.proofs.GroupLemmas.{walk_close, walk_none, walk_open, walk_opened, walk_other}
-use Rattle.tb_order.proofs.OwnLemmas.{H}
+use Rattle.tb_steps.proofs.MemberLemmas.{at_first}
+use Rattle.tb_lanes.proofs.AfterLemmas.{at_is}
+use Rattle.tb_lanes.proofs.GroupLemmas.{walk_close, walk_none, walk_open, walk_opened, walk_other}
+use Rattle.tb_lanes.proofs.OwnLemmas.{H}
 use Rattle.tb_model.specs.Facts.{own}
 use Rattle.tb_races.specs.Orders.{Synchronised}
 use Rattle.tb_order.proofs.grouping.opened.Goals as goal

@@ -1,10 +1,10 @@
 use Rattle.std.proofs.Common.{◌≡◌, ◌≤◌, ◌+◌, take, slice_get, Some, false}
-use Rattle.tb_core.specs.Entries.{Entry}
-use Rattle.tb_core.specs.Scans.{history_of}
-use Rattle.tb_core.proofs.MemberLemmas.{member_behind}
+use Rattle.tb_steps.specs.Entries.{Entry}
+use Rattle.tb_steps.specs.Scans.{history_of}
+use Rattle.tb_steps.proofs.MemberLemmas.{member_behind}
 use Rattle.tb_model.specs.Facts.{IsSpawned, is_member, own}
 use Rattle.tb_model.specs.Names.{Name}
-use Rattle.tb_order.specs.Clocks.{number}
+use Rattle.tb_lanes.specs.Clocks.{number}
 use Rattle.tb_order.proofs.grouping.opened.Given as goal
 
 -- of who was generated so far, the actions so far tell who is a member

@@ -1,10 +1,10 @@
 use Rattle.std.proofs.Common.{sym, subst}
 use Rattle.tb_model.specs.Names.{Name}
 use Rattle.tb_model.specs.Facts.{IsSpawned}
-use Rattle.tb_core.specs.Scans.{history_of}
+use Rattle.tb_steps.specs.Scans.{history_of}
 use Rattle.tb_core.proofs.LendingLemmas.{spawned_in}
-use Rattle.tb_cause.proofs.ConeLemmas.{there}
 use Rattle.tb_order.proofs.immediate.cause_at.Goals as goal
+use Rattle.tb_steps.proofs.FirstLemmas.{there}
 
 pub need_kind-requires-clause-earlier : goal.need_kind-requires-clause-earlier
 need_kind-requires-clause-earlier c =

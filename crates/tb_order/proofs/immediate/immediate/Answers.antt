@@ -1,13 +1,12 @@
 use Rattle.std.proofs.Common.{◌≡◌, ◌<◌, ◌∙◌, List, true, is_some, length, sym, ap₂, subst, map, take}
 use Rattle.std.specs.List.{All}
 use Rattle.tb_model.specs.declared.event.Event.{Event}
-use Rattle.tb_core.specs.Entries.{Entry}
+use Rattle.tb_steps.specs.Entries.{Entry}
 use Rattle.tb_model.specs.Names.{Name}
 use Rattle.tb_model.specs.Facts.{IsSpawned}
-use Rattle.tb_core.specs.Scans.{AreLegal, history_of}
-use Rattle.tb_core.proofs.FirstLemmas.{front_legal}
+use Rattle.tb_steps.specs.Scans.{AreLegal, history_of}
+use Rattle.tb_steps.proofs.FirstLemmas.{front_legal, there}
 use Rattle.tb_core.proofs.LendingLemmas.{spawned_at}
-use Rattle.tb_cause.proofs.ConeLemmas.{there}
 use Rattle.tb_order.specs.Told.{told}
 use Rattle.tb_order.proofs.CauseLemmas.{causes_told, event_read, places_near, places_within}
 use Rattle.tb_order.proofs.immediate.immediate.Goals as goal

@@ -1,12 +1,12 @@
 use Rattle.std.proofs.Common.{◌<◌, ◌++◌, ◌∷◌, [], Some, is_some, length, map, take, sym, ap, ap₂, ◌∙◌, arith}
 use Rattle.std.proofs.lemmas.List.{map-append, take_more}
-use Rattle.tb_cause.proofs.ConeLemmas.{there}
 use Rattle.tb_races.specs.declared.cause.Cause.{Cause}
-use Rattle.tb_order.specs.Needing.{place_at}
+use Rattle.tb_lanes.specs.Needing.{place_at}
 use Rattle.tb_order.specs.Told.{told}
 use Rattle.tb_order.proofs.CauseLemmas.{has_kind, told_as}
-use Rattle.tb_order.proofs.FrontLemmas.{entry_read, front_length, front_read, front_step}
+use Rattle.tb_lanes.proofs.FrontLemmas.{entry_read, front_length, front_read, front_step}
 use Rattle.tb_order.proofs.immediate_all.causes_of.Goals as goal
+use Rattle.tb_steps.proofs.FirstLemmas.{there}
 
 pub unwrap-kind-requires : goal.unwrap-kind-requires
 unwrap-kind-requires c =

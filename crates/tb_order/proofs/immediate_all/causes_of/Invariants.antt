@@ -1,5 +1,5 @@
 use Rattle.std.proofs.Common.{◌≡◌, Some, get_or, map, take}
-use Rattle.tb_core.specs.Entries.{Entry}
+use Rattle.tb_steps.specs.Entries.{Entry}
 use Rattle.tb_races.specs.declared.cause.Cause.{Cause}
 use Rattle.tb_order.specs.Told.{told}
 use Rattle.tb_order.proofs.immediate_all.causes_of.Given as goal

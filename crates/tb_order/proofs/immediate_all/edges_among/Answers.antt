@@ -1,15 +1,15 @@
 use Rattle.std.proofs.Common.{◌≡◌, ◌<◌, length, reverse, take, sym, ap, ◌∙◌, arith}
-use Rattle.tb_cause.proofs.ConeLemmas.{some_same, there}
 use Rattle.tb_cause.specs.Nearest.{nearest}
-use Rattle.tb_core.specs.Entries.{Entry}
-use Rattle.tb_core.specs.Scans.{history_of}
+use Rattle.tb_steps.specs.Entries.{Entry}
+use Rattle.tb_steps.specs.Scans.{history_of}
 use Rattle.tb_races.specs.Orders.{AllNeeds}
-use Rattle.tb_order.proofs.AfterLemmas.{at, at_read}
+use Rattle.tb_lanes.proofs.AfterLemmas.{at, at_read}
 use Rattle.tb_order.proofs.CauseLemmas.{causes_told, places_near}
 use Rattle.tb_order.proofs.DirectLemmas.{direct_nearest}
 use Rattle.tb_order.proofs.EdgeLemmas.{edges_more}
-use Rattle.tb_order.proofs.FrontLemmas.{entry_read}
+use Rattle.tb_lanes.proofs.FrontLemmas.{entry_read}
 use Rattle.tb_order.proofs.immediate_all.edges_among.Goals as goal
+use Rattle.tb_steps.proofs.FirstLemmas.{some_same, there}
 
 pub loop-at-init : goal.loop-at-init
 loop-at-init c = record {

@@ -1,5 +1,5 @@
 use Rattle.std.proofs.Common.{◌≡◌, take, reverse}
-use Rattle.tb_core.specs.Scans.{history_of}
+use Rattle.tb_steps.specs.Scans.{history_of}
 use Rattle.tb_order.specs.AllNeeds.{AreNeeds}
 use Rattle.tb_order.specs.Edges
 use Rattle.tb_order.proofs.immediate_all.edges_among.Given as goal

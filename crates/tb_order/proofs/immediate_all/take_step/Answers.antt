@@ -1,12 +1,12 @@
 use Rattle.std.proofs.Common.{◌≡◌, ◌<◌, ◌+◌, ◌++◌, ℕ, Some, filter, length, not, sym, ap, ◌∙◌, subst}
-use Rattle.tb_cause.proofs.ConeLemmas.{there}
 use Rattle.tb_races.specs.Orders.{AllNeeds, WithExclusion}
 use Rattle.tb_order.specs.AllNeeds.{AreDirect}
-use Rattle.tb_order.specs.Clocks.{AreClocks, IsOneMore}
-use Rattle.tb_order.specs.Linking.{order_of}
-use Rattle.tb_order.specs.Needing.{AreCandidates, AreNeeded, AreShared, FindsEnds, IsBegun, IsEndBefore, IsRowFound, is_known, place_at, shared_places}
+use Rattle.tb_lanes.specs.Clocks.{AreClocks, IsOneMore}
+use Rattle.tb_lanes.specs.Linking.{order_of}
+use Rattle.tb_lanes.specs.Needing.{AreCandidates, AreNeeded, AreShared, FindsEnds, IsBegun, IsEndBefore, IsRowFound, is_known, place_at, shared_places}
 use Rattle.tb_order.proofs.TakenLemmas.{action_at, are_candidates, are_direct, begun_of, clocks_taken, low_source}
 use Rattle.tb_order.proofs.immediate_all.take_step.Goals as goal
+use Rattle.tb_steps.proofs.FirstLemmas.{there}
 
 pub untold-requires-clause-low : goal.untold-requires-clause-low
 untold-requires-clause-low c =

@@ -1,9 +1,9 @@
 use Rattle.std.proofs.Common.{◌≡◌, ◌-◌, ◌<◌, ◌||◌, ℕ, false, true, length, max, nat_lt, refl, sym, ap, ap₂, ◌∙◌, subst, arith}
-use Rattle.tb_order.specs.Bounds.{AreRising, bound_among, bound_in}
-use Rattle.tb_order.specs.Clocks.{is_told, lane, lanes_of, origin, says}
-use Rattle.tb_order.proofs.BoundLemmas.{first_bound, none_rising, says_both}
-use Rattle.tb_order.proofs.ClockLemmas.{within_any}
-use Rattle.tb_order.proofs.JoinLemmas.{adds_all, adds_low, adds_up, joined, joined_end, joined_up, low_more}
+use Rattle.tb_lanes.specs.Bounds.{AreRising, bound_among, bound_in}
+use Rattle.tb_lanes.specs.Clocks.{is_told, lane, lanes_of, origin, says}
+use Rattle.tb_lanes.proofs.BoundLemmas.{first_bound, none_rising, says_both}
+use Rattle.tb_lanes.proofs.ClockLemmas.{within_any}
+use Rattle.tb_lanes.proofs.JoinLemmas.{adds_all, adds_low, adds_up, joined, joined_end, joined_up, low_more}
 use Rattle.tb_order.proofs.joining.join.Goals as goal
 
 pub up-init : goal.up-init

@@ -1,8 +1,8 @@
 use Rattle.std.proofs.Common.{◌≡◌, ◌<◌, ◌≤◌, ◌||◌, ℕ, List}
-use Rattle.tb_core.specs.Entries.{Entry}
+use Rattle.tb_steps.specs.Entries.{Entry}
 use Rattle.tb_races.specs.Orders.{Order}
-use Rattle.tb_order.specs.Bounds.{AreRising, bound_among}
-use Rattle.tb_order.specs.Clocks.{AreTasks, AreClocks, IsLow, says, lane, lanes_of, origin, reaches, origin_reaches}
+use Rattle.tb_lanes.specs.Bounds.{AreRising, bound_among}
+use Rattle.tb_lanes.specs.Clocks.{AreTasks, AreClocks, IsLow, says, lane, lanes_of, origin, reaches, origin_reaches}
 use Rattle.tb_order.proofs.joining.join.Given as goal
 
 -- what was gathered, and what the way up adds, is what the step reaches

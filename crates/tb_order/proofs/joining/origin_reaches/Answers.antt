@@ -1,7 +1,7 @@
 use Rattle.std.proofs.Common.{◌≡◌, sym, ◌∙◌, arith}
-use Rattle.tb_order.specs.Clocks.{origin}
-use Rattle.tb_order.proofs.ClockLemmas.{within_any}
-use Rattle.tb_order.proofs.JoinLemmas.{from_origin, not_from_origin}
+use Rattle.tb_lanes.specs.Clocks.{origin}
+use Rattle.tb_lanes.proofs.ClockLemmas.{within_any}
+use Rattle.tb_lanes.proofs.JoinLemmas.{from_origin, not_from_origin}
 use Rattle.tb_order.proofs.joining.origin_reaches.Goals as goal
 
 pub returns-then-origin-early : goal.returns-then-origin-early

@@ -1,12 +1,12 @@
 use Rattle.std.proofs.Common.{sym, ◌∙◌, subst, inl, inr, ⊎_elim}
 use Rattle.std.specs.Prelude.{slice_index_or}
-use Rattle.tb_order.specs.Bounds.{bound_in}
-use Rattle.tb_order.specs.Clocks.{IsLane, IsOneMore, IsSound, IsStanding, lanes_of, row_in}
-use Rattle.tb_order.specs.Linking.{order_of}
-use Rattle.tb_order.specs.Needing.{FindsEnds, IsEndBefore, IsOwn}
-use Rattle.tb_order.specs.Rows.{IsPast}
-use Rattle.tb_order.proofs.NeedingLemmas.{some_of}
-use Rattle.tb_order.proofs.TableLemmas.{clocks_more}
+use Rattle.tb_lanes.specs.Bounds.{bound_in}
+use Rattle.tb_lanes.specs.Clocks.{IsLane, IsOneMore, IsSound, IsStanding, lanes_of, row_in}
+use Rattle.tb_lanes.specs.Linking.{order_of}
+use Rattle.tb_lanes.specs.Needing.{FindsEnds, IsEndBefore, IsOwn}
+use Rattle.tb_lanes.specs.Rows.{IsPast}
+use Rattle.tb_lanes.proofs.NeedingLemmas.{some_of}
+use Rattle.tb_lanes.proofs.TableLemmas.{clocks_more}
 use Rattle.tb_order.proofs.merging.advance.Goals as goal
 
 pub finish-requires-clause-past : goal.finish-requires-clause-past

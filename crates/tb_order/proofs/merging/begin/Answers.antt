@@ -1,11 +1,11 @@
 use Rattle.std.proofs.Common.{◌≡◌, ◌<◌, [], length, sym, subst, arith}
 use Rattle.std.specs.Prelude.{slice_index_or}
-use Rattle.tb_order.specs.Clocks.{IsLane, IsSound, lane, lanes_of, row_in}
-use Rattle.tb_order.specs.Bounds.{IsRising, bound_in}
-use Rattle.tb_order.proofs.ClockLemmas.{within_any}
-use Rattle.tb_order.proofs.LaneLemmas.{fresh_new, own_before, lane_before, lane_none, sound_before}
-use Rattle.tb_order.proofs.SoundLemmas.{own_none, sound_none}
-use Rattle.tb_order.specs.Needing.{IsOwn}
+use Rattle.tb_lanes.specs.Clocks.{IsLane, IsSound, lane, lanes_of, row_in}
+use Rattle.tb_lanes.specs.Bounds.{IsRising, bound_in}
+use Rattle.tb_lanes.proofs.ClockLemmas.{within_any}
+use Rattle.tb_lanes.proofs.LaneLemmas.{fresh_new, own_before, lane_before, lane_none, sound_before}
+use Rattle.tb_lanes.proofs.SoundLemmas.{own_none, sound_none}
+use Rattle.tb_lanes.specs.Needing.{IsOwn}
 use Rattle.tb_order.proofs.merging.begin.Goals as goal
 
 pub returns-in-Some-clause-row : goal.returns-in-Some-clause-row

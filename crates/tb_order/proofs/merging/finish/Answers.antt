@@ -1,13 +1,13 @@
 use Rattle.std.proofs.Common.{length, refl, true, ◌≡◌, ℕ, Option, Some, None, sym, ap, ◌∙◌, subst, arith, inl, inr, ⊎_elim}
-use Rattle.tb_order.specs.Clocks.{GoesOn, is_told, IsJoined, IsSound, IsStanding, TellsEnds, lanes_of, row_in}
-use Rattle.tb_order.specs.Bounds.{IsRising, bound_among, bound_in}
-use Rattle.tb_order.specs.Linking.{order_of}
-use Rattle.tb_order.proofs.LaneLemmas.{goes_behind, stands_in}
-use Rattle.tb_order.proofs.NeedingLemmas.{none_shared}
-use Rattle.tb_order.proofs.AfterLemmas.{reaches_so}
-use Rattle.tb_order.proofs.SoundLemmas.{no_ends_told, own_touches}
-use Rattle.tb_order.proofs.TableLemmas.{clocks_kept, sound_same, stands_by}
-use Rattle.tb_order.proofs.BoundLemmas.{first_bound, none_rising}
+use Rattle.tb_lanes.specs.Clocks.{GoesOn, is_told, IsJoined, IsSound, IsStanding, TellsEnds, lanes_of, row_in}
+use Rattle.tb_lanes.specs.Bounds.{IsRising, bound_among, bound_in}
+use Rattle.tb_lanes.specs.Linking.{order_of}
+use Rattle.tb_lanes.proofs.LaneLemmas.{goes_behind, stands_in}
+use Rattle.tb_lanes.proofs.NeedingLemmas.{none_shared}
+use Rattle.tb_lanes.proofs.AfterLemmas.{reaches_so}
+use Rattle.tb_lanes.proofs.SoundLemmas.{no_ends_told, own_touches}
+use Rattle.tb_lanes.proofs.TableLemmas.{clocks_kept, sound_same, stands_by}
+use Rattle.tb_lanes.proofs.BoundLemmas.{first_bound, none_rising}
 use mathlib.Core.Path.{fun_ext}
 use Rattle.tb_order.proofs.merging.finish.Goals as goal
 

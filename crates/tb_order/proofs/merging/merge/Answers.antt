@@ -1,12 +1,12 @@
 use Rattle.std.proofs.Common.{◌≡◌, ◌-◌, ◌<◌, true, false, refl, sym, ap, ap₂, ◌∙◌, subst, arith, ⊎_elim, length}
 use Rattle.std.proofs.lemmas.Bool.{cases_eq, cases_lt, both_ways}
-use Rattle.tb_order.specs.Clocks.{end_at, is_end_at, is_told, lane, lanes_of, links_at, skip_at}
-use Rattle.tb_order.specs.Linking.{order_of}
-use Rattle.tb_order.specs.Bounds.{AreRising, bound_among}
-use Rattle.tb_order.proofs.ClockLemmas.{within_any}
-use Rattle.tb_order.proofs.EndLemmas.{seen_more}
+use Rattle.tb_lanes.specs.Clocks.{end_at, is_end_at, is_told, lane, lanes_of, links_at, skip_at}
+use Rattle.tb_lanes.specs.Linking.{order_of}
+use Rattle.tb_lanes.specs.Bounds.{AreRising, bound_among}
+use Rattle.tb_lanes.proofs.ClockLemmas.{within_any}
+use Rattle.tb_lanes.proofs.EndLemmas.{seen_more}
 use Rattle.tb_order.proofs.JoinedLemmas.{joins_none, joins_one}
-use Rattle.tb_order.proofs.SoundLemmas.{adds_told, sound_more, stays_told, itself_told}
+use Rattle.tb_lanes.proofs.SoundLemmas.{adds_told, sound_more, stays_told, itself_told}
 use Rattle.tb_order.proofs.merging.merge.Goals as goal
 
 pub back-init : goal.back-init

@@ -1,7 +1,7 @@
 use Rattle.std.proofs.Common.{◌<◌, ◌≤◌, ℕ, length, IsTrue}
-use Rattle.tb_order.specs.Clocks.{end_at, links_at}
-use Rattle.tb_order.specs.Linking.{order_of}
-use Rattle.tb_order.specs.Rows.{IsTold, JoinsMore}
+use Rattle.tb_lanes.specs.Clocks.{end_at, links_at}
+use Rattle.tb_lanes.specs.Linking.{order_of}
+use Rattle.tb_lanes.specs.Rows.{IsTold, JoinsMore}
 use Rattle.tb_order.proofs.merging.merge.Given as goal
 
 -- the ends that were looked at, and those that were skipped, are told of

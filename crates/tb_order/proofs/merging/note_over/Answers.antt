@@ -1,12 +1,12 @@
 use Rattle.std.proofs.Common.{◌≡◌, ◌+◌, true, false, sym, ap, ◌∙◌, arith}
-use Rattle.tb_cause.proofs.ConeLemmas.{there}
 use Rattle.tb_model.specs.Facts.{is_end}
-use Rattle.tb_order.specs.Clocks.{IsEnd, is_end_at}
-use Rattle.tb_order.specs.Linking.{order_of}
-use Rattle.tb_order.specs.Rows.{IsNoted}
-use Rattle.tb_order.proofs.EndLemmas.{end_here, row_same}
-use Rattle.tb_order.proofs.RowLemmas.{ends_more, end_back, end_there, rows_fit, rows_same, step_back, step_there}
+use Rattle.tb_lanes.specs.Clocks.{IsEnd, is_end_at}
+use Rattle.tb_lanes.specs.Linking.{order_of}
+use Rattle.tb_lanes.specs.Rows.{IsNoted}
+use Rattle.tb_lanes.proofs.EndLemmas.{end_here, row_same}
+use Rattle.tb_lanes.proofs.RowLemmas.{ends_more, end_back, end_there, rows_fit, rows_same, step_back, step_there}
 use Rattle.tb_order.proofs.merging.note_over.Goals as goal
+use Rattle.tb_steps.proofs.FirstLemmas.{there}
 
 pub note_rows-requires-clause-over : goal.note_rows-requires-clause-over
 note_rows-requires-clause-over c =

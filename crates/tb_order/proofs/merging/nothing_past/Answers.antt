@@ -1,9 +1,9 @@
 use Rattle.std.proofs.Common.{ap, arith}
-use Rattle.tb_order.specs.Clocks.{IsEnd}
-use Rattle.tb_order.specs.Linking.{order_of}
-use Rattle.tb_order.specs.Rows.{IsNoted, Named, row_of}
-use Rattle.tb_order.proofs.EndLemmas.{row_none}
-use Rattle.tb_order.proofs.RowLemmas.{rows_none}
+use Rattle.tb_lanes.specs.Clocks.{IsEnd}
+use Rattle.tb_lanes.specs.Linking.{order_of}
+use Rattle.tb_lanes.specs.Rows.{IsNoted, Named, row_of}
+use Rattle.tb_lanes.proofs.EndLemmas.{row_none}
+use Rattle.tb_lanes.proofs.RowLemmas.{rows_none}
 use Rattle.tb_order.proofs.merging.nothing_past.Goals as goal
 
 pub returns-clause-past : goal.returns-clause-past

@@ -1,8 +1,8 @@
 use Rattle.std.proofs.Common.{◌≡◌, ◌<◌, ℕ, List, false, length}
-use Rattle.tb_core.specs.Entries.{Entry}
+use Rattle.tb_steps.specs.Entries.{Entry}
 use Rattle.tb_races.specs.Orders.{AllNeeds}
-use Rattle.tb_order.specs.Clocks.{AreClocks, AreTasks, reaches}
-use Rattle.tb_order.specs.Needing.{place_at}
+use Rattle.tb_lanes.specs.Clocks.{AreClocks, AreTasks, reaches}
+use Rattle.tb_lanes.specs.Needing.{place_at}
 use Rattle.tb_order.proofs.needing.is_reached.Given as goal
 
 -- those so far don't reach it

@@ -1,11 +1,11 @@
 use Rattle.std.proofs.Common.{◌≡◌, false, length, refl, sym, ap, ap₂, ◌∙◌, subst, arith, ◌⊎◌, inl, inr, ⊎_elim}
 use Rattle.tb_races.specs.Orders.{AllNeeds}
-use Rattle.tb_order.specs.Bounds.{AreRising, bound_among}
-use Rattle.tb_order.specs.Clocks.{is_told, lane, lanes_of, previous, reaches}
-use Rattle.tb_order.specs.Needing.{IsAmong, IsCandidate, place_at}
-use Rattle.tb_order.proofs.ClockLemmas.{within_any}
+use Rattle.tb_lanes.specs.Bounds.{AreRising, bound_among}
+use Rattle.tb_lanes.specs.Clocks.{is_told, lane, lanes_of, previous, reaches}
+use Rattle.tb_lanes.specs.Needing.{IsAmong, IsCandidate, place_at}
+use Rattle.tb_lanes.proofs.ClockLemmas.{within_any}
 use Rattle.tb_order.proofs.NeededLemmas.{first_found, joined_found, met_below}
-use Rattle.tb_order.proofs.NeedingLemmas.{below_more, each_more}
+use Rattle.tb_lanes.proofs.NeedingLemmas.{below_more, each_more}
 use Rattle.tb_order.proofs.WalkedLemmas.{at_among}
 use Rattle.tb_order.proofs.needing.need.Goals as goal
 

@@ -2,12 +2,12 @@ use Rattle.std.proofs.Common.{◌≡◌, ◌<◌, ◌-◌, suc, true, length, sy
 use mathlib.Core.Path.{fun_ext}
 use Rattle.std.proofs.lemmas.Bool.{cases_eq}
 use Rattle.tb_races.specs.Orders.{AllNeeds}
-use Rattle.tb_order.specs.Bounds.{IsRising, bound_among, bound_in}
-use Rattle.tb_order.specs.Clocks.{IsSound, is_told, lanes_of, previous, row_in}
-use Rattle.tb_order.specs.Needing.{IsAmong, IsBelow, own_row, place_at}
+use Rattle.tb_lanes.specs.Bounds.{IsRising, bound_among, bound_in}
+use Rattle.tb_lanes.specs.Clocks.{IsSound, is_told, lanes_of, previous, row_in}
+use Rattle.tb_lanes.specs.Needing.{IsAmong, IsBelow, own_row, place_at}
 use Rattle.tb_order.specs.Walked.{IsOffered}
-use Rattle.tb_order.proofs.BoundLemmas.{first_bound, none_rising}
-use Rattle.tb_order.proofs.ClockLemmas.{within_any}
+use Rattle.tb_lanes.proofs.BoundLemmas.{first_bound, none_rising}
+use Rattle.tb_lanes.proofs.ClockLemmas.{within_any}
 use Rattle.tb_order.proofs.NeededLemmas.{below_met, known_first}
 use Rattle.tb_order.proofs.needing.needed_among.Goals as goal
 

@@ -1,6 +1,6 @@
 use Rattle.std.proofs.Common.{◌≡◌, ◌<◌, ◌≤◌, ℕ, length}
 use Rattle.tb_races.specs.Orders.{AllNeeds}
-use Rattle.tb_order.specs.Needing.{IsBelow, place_at}
+use Rattle.tb_lanes.specs.Needing.{IsBelow, place_at}
 use Rattle.tb_order.specs.Walked.{IsSoFar}
 use Rattle.tb_order.proofs.needing.needed_among.Given as goal
 

@@ -1,10 +1,10 @@
 use Rattle.std.proofs.Common.{◌≡◌, ◌++◌, ◌∷◌, [], ℕ, cond, not, sym, ap, ap₂, ◌∙◌, subst, arith}
 use Rattle.std.proofs.lemmas.List.Elements.{filter_more}
 use Rattle.tb_races.specs.Orders.{AllNeeds}
-use Rattle.tb_order.specs.Bounds.{IsRising, bound_in}
-use Rattle.tb_order.specs.Clocks.{lane, lanes_of, row_in}
-use Rattle.tb_order.specs.Needing.{is_known, own_row, place_at}
-use Rattle.tb_order.proofs.ClockLemmas.{within_any}
+use Rattle.tb_lanes.specs.Bounds.{IsRising, bound_in}
+use Rattle.tb_lanes.specs.Clocks.{lane, lanes_of, row_in}
+use Rattle.tb_lanes.specs.Needing.{is_known, own_row, place_at}
+use Rattle.tb_lanes.proofs.ClockLemmas.{within_any}
 use Rattle.tb_order.proofs.needing.untold.Goals as goal
 
 pub loop-place-preserved : goal.loop-place-preserved

@@ -1,8 +1,8 @@
 use Rattle.std.proofs.Common.{IsSome, refl, sym, ap, ◌∙◌, subst}
 use Rattle.std.specs.Option.{option_copied_mut}
-use Rattle.tb_order.proofs.AskedLemmas.{on_ok_map}
-use Rattle.tb_order.proofs.NumberLemmas.{on_ok}
-use Rattle.tb_order.proofs.RowLemmas.{inserts_row, moved_writes, writes_fit, writes_row}
+use Rattle.tb_lanes.proofs.AskedLemmas.{on_ok_map}
+use Rattle.tb_lanes.proofs.NumberLemmas.{on_ok}
+use Rattle.tb_lanes.proofs.RowLemmas.{inserts_row, moved_writes, writes_fit, writes_row}
 use Rattle.tb_order.proofs.noting.note.Goals as goal
 
 pub note_end-requires-clause-low : goal.note_end-requires-clause-low

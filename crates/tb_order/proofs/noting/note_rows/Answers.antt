@@ -3,10 +3,10 @@ use Rattle.tb_model.specs.declared.item.Item.{Item}
 use Rattle.tb_model.specs.declared.kind.Kind.TheVariants.{In}
 use Rattle.tb_model.specs.declared.place.Place.TheVariants.{Cell}
 use Rattle.tb_races.specs.Orders.{Synchronised}
-use Rattle.tb_order.specs.Rows.{AddsTo, AreRows, IsNoted, child_key, item_key, items_at, items_so, parent}
-use Rattle.tb_order.proofs.AfterLemmas.{at_read}
-use Rattle.tb_order.proofs.RowLemmas.{SoFar, WithOne, first_back, first_there, got_here, last_back, last_there, next_back, next_there, rows_more, rows_same}
-use Rattle.tb_order.proofs.OwnLemmas.{H}
+use Rattle.tb_lanes.specs.Rows.{AddsTo, AreRows, IsNoted, child_key, item_key, items_at, items_so, parent}
+use Rattle.tb_lanes.proofs.AfterLemmas.{at_read}
+use Rattle.tb_lanes.proofs.RowLemmas.{SoFar, WithOne, first_back, first_there, got_here, last_back, last_there, next_back, next_there, rows_more, rows_same}
+use Rattle.tb_lanes.proofs.OwnLemmas.{H}
 use Rattle.tb_order.proofs.noting.note_rows.Goals as goal
 
 pub loop-item-init : goal.loop-item-init

@@ -1,8 +1,8 @@
 use Rattle.std.proofs.Common.{◌+◌}
 use Rattle.tb_races.specs.Orders.{Order}
-use Rattle.tb_order.specs.Clocks.{AreClocks}
-use Rattle.tb_order.specs.Rows.{AreFit, AreRows, IsNoted}
-use Rattle.tb_order.proofs.RowLemmas.{SoFar}
+use Rattle.tb_lanes.specs.Clocks.{AreClocks}
+use Rattle.tb_lanes.specs.Rows.{AreFit, AreRows, IsNoted}
+use Rattle.tb_lanes.proofs.RowLemmas.{SoFar}
 use Rattle.tb_order.proofs.noting.note_rows.Given as goal
 
 -- the end is in the rows of the items so far

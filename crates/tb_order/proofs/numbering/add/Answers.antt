@@ -1,9 +1,9 @@
 use Rattle.std.proofs.Common.{◌≡◌, ◌-◌, ◌∙◌, ap, arith, subst}
-use Rattle.tb_order.specs.Clocks.{number, origin}
-use Rattle.tb_order.specs.Numbering.{IsAdded}
-use Rattle.tb_order.proofs.AfterLemmas.{at_read}
-use Rattle.tb_order.proofs.ClockLemmas.{within_any}
-use Rattle.tb_order.proofs.NumberLemmas.{previous_low, numbered_own, numbered_new}
+use Rattle.tb_lanes.specs.Clocks.{number, origin}
+use Rattle.tb_lanes.specs.Numbering.{IsAdded}
+use Rattle.tb_lanes.proofs.AfterLemmas.{at_read}
+use Rattle.tb_lanes.proofs.ClockLemmas.{within_any}
+use Rattle.tb_lanes.proofs.NumberLemmas.{previous_low, numbered_own, numbered_new}
 use Rattle.tb_races.specs.Orders.{Synchronised}
 use Rattle.tb_order.proofs.numbering.add.Goals as goal
 

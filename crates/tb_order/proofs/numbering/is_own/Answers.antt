@@ -1,8 +1,8 @@
 use Rattle.std.proofs.Common.{◌≡◌, ◌-◌, ◌<◌, ◌∙◌, false, length, arith, subst}
-use Rattle.tb_cause.proofs.ConeLemmas.{there}
-use Rattle.tb_order.specs.Clocks.{both_at, of_one}
-use Rattle.tb_order.proofs.NumberLemmas.{own_tested}
+use Rattle.tb_lanes.specs.Clocks.{both_at, of_one}
+use Rattle.tb_lanes.proofs.NumberLemmas.{own_tested}
 use Rattle.tb_order.proofs.numbering.is_own.Goals as goal
+use Rattle.tb_steps.proofs.FirstLemmas.{there}
 
 pub returns-then-previous-gt0-clause-own : goal.returns-then-previous-gt0-clause-own
 returns-then-previous-gt0-clause-own c h =

@@ -1,10 +1,10 @@
 use Rattle.std.proofs.Common.{◌≡◌, ◌-◌, ◌<◌, ◌∙◌, length, sym, ap, arith}
 use Rattle.tb_model.specs.Names.{Name}
-use Rattle.tb_cause.proofs.ConeLemmas.{there}
-use Rattle.tb_order.specs.Numbering.{place_of, touched}
-use Rattle.tb_order.proofs.NumberLemmas.{put_newest, same_newest, first_newest, told_place}
+use Rattle.tb_lanes.specs.Numbering.{place_of, touched}
+use Rattle.tb_lanes.proofs.NumberLemmas.{put_newest, same_newest, first_newest, told_place}
 use Rattle.tb_order.proofs.numbering.previous_of.Goals as goal
 use Rattle.tb_order.proofs.numbering.previous_of.Goals.{then-at-gt0+else-are_of_one+in_ok-put, else-at-gt0}
+use Rattle.tb_steps.proofs.FirstLemmas.{there}
 
 pub returns-then-are_of_one-clause-newest : goal.returns-then-are_of_one-clause-newest
 returns-then-are_of_one-clause-newest c =

@@ -1,6 +1,6 @@
 use Rattle.std.proofs.Common.{rules, IsSome, refl, sym, ap, ◌∙◌, subst}
 use Rattle.std.specs.Option.{option_copied_mut}
-use Rattle.tb_order.proofs.NumberLemmas.{writes_place, inserts_place, on_ok}
+use Rattle.tb_lanes.proofs.NumberLemmas.{writes_place, inserts_place, on_ok}
 use Rattle.tb_order.proofs.numbering.put.Goals as goal
 
 pub returns-in-Some : goal.returns-in-Some

@@ -1,8 +1,8 @@
 use Rattle.std.proofs.Common.{◌<◌, ◌+◌, cond, length, ap, ◌∙◌, arith}
 use Rattle.tb_model.specs.Facts.{is_spawn_of}
-use Rattle.tb_order.specs.Numbering.{place_of}
-use Rattle.tb_order.proofs.AfterLemmas.{at, at_is}
-use Rattle.tb_order.proofs.NumberLemmas.{newest_spawn}
+use Rattle.tb_lanes.specs.Numbering.{place_of}
+use Rattle.tb_lanes.proofs.AfterLemmas.{at, at_is}
+use Rattle.tb_lanes.proofs.NumberLemmas.{newest_spawn}
 use Rattle.tb_races.specs.Orders.{Synchronised}
 use Rattle.tb_order.proofs.numbering.tasks_of.Goals as goal
 

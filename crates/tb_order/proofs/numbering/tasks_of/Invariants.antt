@@ -1,4 +1,4 @@
-use Rattle.tb_order.specs.Numbering.{AreNewest, AreNumbered}
+use Rattle.tb_lanes.specs.Numbering.{AreNewest, AreNumbered}
 use Rattle.tb_order.proofs.numbering.tasks_of.Given as goal
 
 -- those of the entries so far

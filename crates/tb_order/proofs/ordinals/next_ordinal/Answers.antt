@@ -1,5 +1,5 @@
 use Rattle.std.proofs.Common.{arith}
-use Rattle.tb_order.proofs.OwnLemmas.{ordinal_here, ordinal_first}
+use Rattle.tb_lanes.proofs.OwnLemmas.{ordinal_here, ordinal_first}
 use Rattle.tb_order.proofs.ordinals.next_ordinal.Goals as goal
 
 pub returns-in-Some-clause-told : goal.returns-in-Some-clause-told

@@ -1,10 +1,10 @@
 use Rattle.std.proofs.Common.{◌≡◌, ◌≤◌, ◌+◌, suc, Some, length, take, slice_get, sym, ap, ◌∙◌, subst}
 use Rattle.std.proofs.lemmas.List.{length-append}
-use Rattle.tb_core.specs.Entries.{Entry}
-use Rattle.tb_core.specs.Scans.{history_of}
+use Rattle.tb_steps.specs.Entries.{Entry}
+use Rattle.tb_steps.specs.Scans.{history_of}
 use Rattle.tb_model.specs.Facts
-use Rattle.tb_order.specs.Clocks.{AreOrdinals}
-use Rattle.tb_order.proofs.TableLemmas.{numbers_more}
+use Rattle.tb_lanes.specs.Clocks.{AreOrdinals}
+use Rattle.tb_lanes.proofs.TableLemmas.{numbers_more}
 use Rattle.tb_order.proofs.ordinals.ordinals_of.Goals as goal
 
 pub loop-at-preserved : goal.loop-at-preserved

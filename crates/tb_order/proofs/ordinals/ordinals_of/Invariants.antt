@@ -1,6 +1,6 @@
 use Rattle.std.proofs.Common.{◌≡◌, ◌<◌, ◌≤◌, ◌+◌, ℕ, length}
 use Rattle.std.specs.Prelude.{slice_index_or}
-use Rattle.tb_order.specs.Clocks.{AreOrdinals}
+use Rattle.tb_lanes.specs.Clocks.{AreOrdinals}
 use Rattle.tb_order.proofs.ordinals.ordinals_of.Given as goal
 
 -- those of the entries so far

@@ -1,11 +1,11 @@
 use Rattle.std.proofs.Common.{◌≡◌, ◌+◌, ◌++◌, ◌∷◌, [], length, take, sym, ap, ap₂, ◌∙◌, subst, arith}
 use Rattle.std.proofs.lemmas.List.{take_all}
-use Rattle.tb_cause.proofs.ConeLemmas.{there}
-use Rattle.tb_order.specs.Clocks.{kept_in}
-use Rattle.tb_order.specs.Kept.{is_load, slot_of}
-use Rattle.tb_order.specs.Needing.{Shares}
+use Rattle.tb_lanes.specs.Clocks.{kept_in}
+use Rattle.tb_lanes.specs.Kept.{is_load, slot_of}
+use Rattle.tb_lanes.specs.Needing.{Shares}
 use Rattle.tb_order.proofs.SharedLemmas.{load_shares, shares_none, shares_rest, write_shares}
 use Rattle.tb_order.proofs.sharing.note_shared.Goals as goal
+use Rattle.tb_steps.proofs.FirstLemmas.{there}
 
 pub returns-in_default : goal.returns-in_default
 returns-in_default c i =

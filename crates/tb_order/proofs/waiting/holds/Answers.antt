@@ -1,9 +1,9 @@
 use Rattle.std.proofs.Common.{◌<◌, ◌∷◌, length, take, sym, ap, ◌∙◌, arith}
 use Rattle.tb_model.specs.Facts
-use Rattle.tb_core.specs.Scans.{history_of}
-use Rattle.tb_cause.proofs.ConeLemmas.{there}
-use Rattle.tb_order.proofs.OwnLemmas.{held_here, held_none}
+use Rattle.tb_steps.specs.Scans.{history_of}
+use Rattle.tb_lanes.proofs.OwnLemmas.{held_here, held_none}
 use Rattle.tb_order.proofs.waiting.holds.Goals as goal
+use Rattle.tb_steps.proofs.FirstLemmas.{there}
 
 pub returns-in-Some : goal.returns-in-Some
 returns-in-Some c v is =

@@ -1,7 +1,7 @@
 use Rattle.std.proofs.Common.{◌≡◌, ◌-◌, sym, ◌∙◌, arith}
-use Rattle.tb_order.specs.Clocks.{origin}
-use Rattle.tb_order.proofs.ClockLemmas.{within_any}
-use Rattle.tb_order.proofs.OwnLemmas.{no_items_told, items_told}
+use Rattle.tb_lanes.specs.Clocks.{origin}
+use Rattle.tb_lanes.proofs.ClockLemmas.{within_any}
+use Rattle.tb_lanes.proofs.OwnLemmas.{no_items_told, items_told}
 use Rattle.tb_order.proofs.waiting.items_of.Goals as goal
 
 pub returns-then-origin-eq0 : goal.returns-then-origin-eq0

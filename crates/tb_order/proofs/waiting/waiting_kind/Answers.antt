@@ -1,12 +1,11 @@
 use Rattle.std.proofs.Common.{◌<◌, List, length, refl, sym, ap₂, ◌∙◌, subst, arith}
 use Rattle.std.proofs.lemmas.Option.{slice_get_read}
-use Rattle.tb_core.proofs.FirstLemmas.{front_legal}
-use Rattle.tb_core.specs.Entries.{Entry}
-use Rattle.tb_core.specs.Scans.{AreLegal, history_of}
-use Rattle.tb_cause.proofs.ConeLemmas.{there}
+use Rattle.tb_steps.proofs.FirstLemmas.{front_legal, there}
+use Rattle.tb_steps.specs.Entries.{Entry}
+use Rattle.tb_steps.specs.Scans.{AreLegal, history_of}
 use Rattle.tb_model.specs.Facts
-use Rattle.tb_order.proofs.LinkLemmas.{end_read}
-use Rattle.tb_order.proofs.OwnLemmas.{got}
+use Rattle.tb_lanes.proofs.LinkLemmas.{end_read}
+use Rattle.tb_lanes.proofs.OwnLemmas.{got}
 use Rattle.tb_order.proofs.waiting.waiting_kind.Goals as goal
 
 pub end_kind-requires-clause-legal : goal.end_kind-requires-clause-legal

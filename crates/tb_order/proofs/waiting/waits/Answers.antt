@@ -1,12 +1,12 @@
 use Rattle.std.proofs.Common.{◌<◌, length, refl, sym, ap, ◌∙◌, arith}
 use Rattle.std.proofs.lemmas.Bool.{or_left}
 use Rattle.std.proofs.lemmas.Option.{slice_get_read}
-use Rattle.tb_cause.proofs.ConeLemmas.{there}
 use Rattle.tb_races.specs.Orders.{counts_some}
-use Rattle.tb_order.specs.Linking.{order_of}
-use Rattle.tb_order.proofs.ClockLemmas.{or_if}
-use Rattle.tb_order.proofs.LinkLemmas.{end_linked}
+use Rattle.tb_lanes.specs.Linking.{order_of}
+use Rattle.tb_lanes.proofs.ClockLemmas.{or_if}
+use Rattle.tb_lanes.proofs.LinkLemmas.{end_linked}
 use Rattle.tb_order.proofs.waiting.waits.Goals as goal
+use Rattle.tb_steps.proofs.FirstLemmas.{there}
 
 pub returns-then-are_of_one : goal.returns-then-are_of_one
 returns-then-are_of_one c end =

@@ -1,5 +1,5 @@
 use Rattle.std.proofs.Common.{◌≡◌, take}
-use Rattle.tb_core.specs.Scans.{history_of}
+use Rattle.tb_steps.specs.Scans.{history_of}
 use Rattle.tb_draft.specs.Written.{Told}
 use Rattle.tb_view.specs.Steps.{AreCounts}
 use Rattle.tb_replies.proofs.HistoryLemmas.{so_far}

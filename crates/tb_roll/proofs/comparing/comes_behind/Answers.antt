@@ -1,10 +1,10 @@
 use Rattle.std.proofs.Common.{◌<◌, length, sym, ◌∙◌, get_or, arith}
 use Rattle.std.proofs.lemmas.Bool.{false≢true}
 use Rattle.std.proofs.lemmas.Option.{slice_get-get_or}
-use Rattle.tb_cause.proofs.ConeLemmas.{there}
 use Rattle.tb_roll.proofs.OrderLemmas.{passes, fails}
 use Rattle.tb_roll.proofs.comparing.comes_behind.Goals.{else-place-places-via-then-place-places+else-needs, else-place-places-via-else-place-places}
 use Rattle.tb_roll.proofs.comparing.comes_behind.Goals as goal
+use Rattle.tb_steps.proofs.FirstLemmas.{there}
 
 pub returns-then-needs : goal.returns-then-needs
 returns-then-needs c others i v matched step here =

@@ -1,8 +1,7 @@
 use Rattle.std.proofs.Common.{◌<◌, length, sym, ◌∙◌, take, arith}
 use Rattle.tb_model.specs.Needs.{step_of}
-use Rattle.tb_core.specs.Scans.{history_of}
-use Rattle.tb_core.proofs.FirstLemmas.{step_read}
-use Rattle.tb_cause.proofs.ConeLemmas.{there}
+use Rattle.tb_steps.specs.Scans.{history_of}
+use Rattle.tb_steps.proofs.FirstLemmas.{step_read, there}
 use Rattle.tb_roll.proofs.OrderLemmas.{ordered_more, ordered_no_more}
 use Rattle.tb_roll.proofs.comparing.is_in_order.Goals as goal
 

@@ -1,7 +1,7 @@
 use Rattle.std.proofs.Common.{◌≡◌, List, true, take}
 use Rattle.tb_model.specs.Ordered.{ordered}
-use Rattle.tb_core.specs.Entries.{Entry}
-use Rattle.tb_core.specs.Scans.{history_of}
+use Rattle.tb_steps.specs.Entries.{Entry}
+use Rattle.tb_steps.specs.Scans.{history_of}
 use Rattle.tb_roll.specs.Comparing.{AreMatched}
 use Rattle.tb_roll.proofs.comparing.is_in_order.Given as goal
 

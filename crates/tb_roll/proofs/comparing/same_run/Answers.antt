@@ -1,6 +1,6 @@
 use Rattle.std.proofs.Common.{ap}
 use Rattle.tb_model.specs.Lines.{events_of}
-use Rattle.tb_core.specs.Scans.{history_of}
+use Rattle.tb_steps.specs.Scans.{history_of}
 use Rattle.tb_core.specs.Seen.{history}
 use Rattle.tb_roll.proofs.OrderLemmas.{answered}
 use Rattle.tb_roll.proofs.comparing.same_run.Goals as goal

@@ -1,9 +1,9 @@
 use Rattle.std.proofs.Common.{◌≡◌, ◌<◌, ◌+◌, ◌-◌, length, sym, ap, ◌∙◌, take, arith}
 use Rattle.tb_model.specs.Facts.{own}
-use Rattle.tb_core.specs.Scans.{history_of}
-use Rattle.tb_cause.proofs.ConeLemmas.{there}
+use Rattle.tb_steps.specs.Scans.{history_of}
 use Rattle.tb_roll.proofs.MatchingLemmas.{behind_within, behind_counted, own_same}
 use Rattle.tb_roll.proofs.matching.behind_last.Goals as goal
+use Rattle.tb_steps.proofs.FirstLemmas.{there}
 
 pub returns-then-is_of-clause-count : goal.returns-then-is_of-clause-count
 returns-then-is_of-clause-count c others matched =

@@ -1,7 +1,7 @@
 use Rattle.std.proofs.Common.{◌<◌, length, sym, ◌∙◌, arith}
-use Rattle.tb_cause.proofs.ConeLemmas.{there}
 use Rattle.tb_roll.proofs.MatchingLemmas.{next_found, own_same}
 use Rattle.tb_roll.proofs.matching.next_of.Goals as goal
+use Rattle.tb_steps.proofs.FirstLemmas.{there}
 
 pub returns-then-is_of-clause-step : goal.returns-then-is_of-clause-step
 returns-then-is_of-clause-step c =

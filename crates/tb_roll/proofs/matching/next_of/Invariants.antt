@@ -1,6 +1,6 @@
 use Rattle.std.proofs.Common.{◌≡◌, take}
 use Rattle.tb_model.specs.Facts.{own}
-use Rattle.tb_core.specs.Scans.{history_of}
+use Rattle.tb_steps.specs.Scans.{history_of}
 use Rattle.tb_roll.proofs.matching.next_of.Given as goal
 
 -- those that were passed are of other tasks

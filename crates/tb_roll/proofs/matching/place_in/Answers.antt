@@ -1,8 +1,8 @@
 use Rattle.std.proofs.Common.{sym, ◌∙◌}
 use Rattle.std.proofs.lemmas.Bool.{false≢true}
-use Rattle.tb_cause.proofs.ConeLemmas.{there}
 use Rattle.tb_roll.proofs.MatchingLemmas.{none_left, found_same, found_other}
 use Rattle.tb_roll.proofs.matching.place_in.Goals as goal
+use Rattle.tb_steps.proofs.FirstLemmas.{there}
 
 pub returns-in_default-clause-absent : goal.returns-in_default-clause-absent
 returns-in_default-clause-absent c =

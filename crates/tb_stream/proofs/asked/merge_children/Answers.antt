@@ -1,5 +1,5 @@
 use Rattle.std.proofs.Common.{inl, refl}
-use Rattle.tb_order.proofs.AskedLemmas.{on_ok_map}
+use Rattle.tb_lanes.proofs.AskedLemmas.{on_ok_map}
 use Rattle.tb_stream.specs.Ends.{IsNoted}
 use Rattle.tb_stream.specs.Joins.{IsChildEnd}
 use Rattle.tb_stream.proofs.MergeLemmas.{merges_so}

@@ -3,8 +3,8 @@ use Rattle.tb_stream.specs.Seen.{Run}
 use Rattle.std.specs.List.{list_any}
 use Rattle.tb_model.specs.declared.kind.Kind.{Kind}
 use Rattle.tb_model.specs.declared.kind.Kind.TheVariants.{In, Out, Inout, Mutexinoutset, Inoutset}
-use Rattle.tb_order.specs.Rows.{items_at, may_meet}
-use Rattle.tb_order.proofs.AskedLemmas.{on_ok_map}
+use Rattle.tb_lanes.specs.Rows.{items_at, may_meet}
+use Rattle.tb_lanes.proofs.AskedLemmas.{on_ok_map}
 use Rattle.tb_stream.specs.Joins.{HasMet, IsChildEnd}
 use Rattle.tb_stream.proofs.MergeLemmas.{merges_so}
 use Rattle.tb_stream.proofs.WaitLemmas.{asked_of, merges_kinds, met_of}

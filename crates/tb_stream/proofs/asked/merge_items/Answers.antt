@@ -4,8 +4,8 @@ use Rattle.std.proofs.lemmas.Bool.{cases_eq}
 use Rattle.tb_model.specs.declared.item.Item.{Item}
 use Rattle.tb_model.specs.declared.kind.Kind.TheVariants.{In}
 use Rattle.tb_model.specs.declared.place.Place.TheVariants.{Cell}
-use Rattle.tb_order.specs.Rows.{items_at, may_meet, some_may_meet}
-use Rattle.tb_order.proofs.AskedLemmas.{any_at}
+use Rattle.tb_lanes.specs.Rows.{items_at, may_meet, some_may_meet}
+use Rattle.tb_lanes.proofs.AskedLemmas.{any_at}
 use Rattle.tb_stream.specs.Joins.{IsChildEnd}
 use Rattle.tb_stream.specs.Seen.{Run}
 use Rattle.tb_stream.proofs.ListLemmas.{get_is}

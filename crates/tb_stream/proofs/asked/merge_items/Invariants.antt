@@ -1,8 +1,8 @@
 use Rattle.std.proofs.Common.{◌≡◌, ◌<◌, ℕ, Some, slice_get, IsTrue}
 use Rattle.std.specs.List.{list_any}
 use Rattle.tb_model.specs.declared.item.Item.{Item}
-use Rattle.tb_order.specs.Clocks.{Lanes}
-use Rattle.tb_order.specs.Rows.{items_at, may_meet}
+use Rattle.tb_lanes.specs.Clocks.{Lanes}
+use Rattle.tb_lanes.specs.Rows.{items_at, may_meet}
 use Rattle.tb_stream.specs.Joins.{AreJoined, IsChildEnd, IsWaiting, Merges}
 use Rattle.tb_stream.specs.Seen.{Run}
 use Rattle.tb_stream.proofs.asked.merge_items.Given as goal

@@ -1,6 +1,6 @@
 use Rattle.std.proofs.Common.{Some, ap, sym, subst, ◌∙◌}
 use Rattle.std.specs.Option.{option_copied}
-use Rattle.tb_order.proofs.AskedLemmas.{on_ok_map}
+use Rattle.tb_lanes.proofs.AskedLemmas.{on_ok_map}
 use Rattle.tb_stream.specs.Ends.{IsNoted, IsRowOf}
 use Rattle.tb_stream.proofs.WaitLemmas.{merges_no_row}
 use Rattle.tb_stream.proofs.asked.merge_key.Goals as goal

@@ -1,6 +1,6 @@
 use Rattle.std.proofs.Common.{◌≡◌, Option, Some, None, sym, subst, ◌∙◌, ⊎_elim, inl, inr}
 use Rattle.tb_model.specs.declared.kind.Kind.{Kind}
-use Rattle.tb_order.proofs.AskedLemmas.{on_ok_map}
+use Rattle.tb_lanes.proofs.AskedLemmas.{on_ok_map}
 use Rattle.tb_stream.specs.Ends.{IsNoted}
 use Rattle.tb_stream.specs.Joins.{HasMet, IsChildEnd}
 use Rattle.tb_stream.proofs.MergeLemmas.{merges_both, merges_none}

@@ -1,8 +1,8 @@
 use Rattle.std.proofs.Common.{◌≡◌, ◌∙◌, ◌||◌, Bool, None, true, false, sym, ap, IsTrue, arith}
 use Rattle.tb_model.specs.declared.action.Action.TheVariants.{Wait}
-use Rattle.tb_order.specs.Clocks.{IsEnd}
-use Rattle.tb_order.specs.Rows.{waits_at}
-use Rattle.tb_order.proofs.AskedLemmas.{on_ok_map, some_items}
+use Rattle.tb_lanes.specs.Clocks.{IsEnd}
+use Rattle.tb_lanes.specs.Rows.{waits_at}
+use Rattle.tb_lanes.proofs.AskedLemmas.{on_ok_map, some_items}
 use Rattle.tb_stream.specs.Seen.{order}
 use Rattle.tb_stream.proofs.MergeLemmas.{merges_none, merges_so}
 use Rattle.tb_stream.proofs.SeenLemmas.{id_at}

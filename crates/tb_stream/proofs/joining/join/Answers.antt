@@ -1,8 +1,8 @@
 use Rattle.std.proofs.Common.{◌≡◌, ◌-◌, ◌||◌, ℕ, suc, false, true, max, nat_lt, refl, sym, ap, ap₂, ◌∙◌, subst, arith}
-use Rattle.tb_order.specs.Bounds.{AreRising, bound_among, bound_in}
-use Rattle.tb_order.specs.Clocks.{Lanes, is_told, origin, reaches, says}
-use Rattle.tb_order.proofs.BoundLemmas.{first_bound, none_rising, says_both}
-use Rattle.tb_order.proofs.JoinLemmas.{adds_all, adds_low, adds_up, joined, joined_end, joined_up, low_more}
+use Rattle.tb_lanes.specs.Bounds.{AreRising, bound_among, bound_in}
+use Rattle.tb_lanes.specs.Clocks.{Lanes, is_told, origin, reaches, says}
+use Rattle.tb_lanes.proofs.BoundLemmas.{first_bound, none_rising, says_both}
+use Rattle.tb_lanes.proofs.JoinLemmas.{adds_all, adds_low, adds_up, joined, joined_end, joined_up, low_more}
 use Rattle.tb_stream.specs.Seen.{AreClocks, IsFull, Run, order}
 use Rattle.tb_stream.proofs.joining.join.Goals as goal
 

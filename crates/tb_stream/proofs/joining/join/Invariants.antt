@@ -1,6 +1,6 @@
 use Rattle.std.proofs.Common.{◌≡◌, ◌<◌, ◌||◌, ℕ}
-use Rattle.tb_order.specs.Bounds.{AreRising, bound_among}
-use Rattle.tb_order.specs.Clocks.{IsLow, Lanes, origin, origin_reaches, reaches, says}
+use Rattle.tb_lanes.specs.Bounds.{AreRising, bound_among}
+use Rattle.tb_lanes.specs.Clocks.{IsLow, Lanes, origin, origin_reaches, reaches, says}
 use Rattle.tb_stream.specs.Seen.{AreClocks, IsFull, Run, order}
 use Rattle.tb_stream.proofs.joining.join.Given as goal
 

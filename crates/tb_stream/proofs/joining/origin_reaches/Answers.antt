@@ -1,5 +1,5 @@
 use Rattle.std.proofs.Common.{Some, None, refl, sym, ◌∙◌, subst, arith}
-use Rattle.tb_order.specs.Clocks.{origin}
+use Rattle.tb_lanes.specs.Clocks.{origin}
 use Rattle.tb_stream.specs.Seen.{IsOf, IsOrigin}
 use Rattle.tb_stream.proofs.ReachLemmas.{origin_reach_none, origin_reach_some}
 use Rattle.tb_stream.proofs.joining.origin_reaches.Goals as goal

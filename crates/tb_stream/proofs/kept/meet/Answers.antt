@@ -1,7 +1,7 @@
 use Rattle.std.proofs.Common.{IsSome, refl, sym, ap, ◌∙◌, subst}
 use Rattle.std.specs.Option.{option_copied_mut}
-use Rattle.tb_order.proofs.AskedLemmas.{on_ok_map}
-use Rattle.tb_order.proofs.NumberLemmas.{on_ok}
+use Rattle.tb_lanes.proofs.AskedLemmas.{on_ok_map}
+use Rattle.tb_lanes.proofs.NumberLemmas.{on_ok}
 use Rattle.tb_stream.specs.Keeping.{AreTouchedSo}
 use Rattle.tb_stream.proofs.TouchLemmas.{added_inside, found_none, if_ok_map, kept_none, all_written, moved_writes, known_is, touched_none}
 use Rattle.tb_stream.proofs.kept.meet.Goals as goal

@@ -1,5 +1,5 @@
 use Rattle.std.proofs.Common.{◌≡◌, ◌⊎◌, inl, inr, ◌+◌, ℕ, Option, Some, sym, ap, ◌∙◌, subst, slice_get, refl}
-use Rattle.tb_order.specs.Kept.{IsCut, IsLarger}
+use Rattle.tb_lanes.specs.Kept.{IsCut, IsLarger}
 use Rattle.tb_stream.specs.declared.access.Access.{Access}
 use Rattle.tb_stream.specs.Keeping.{IsFound, behind, last_in, places}
 use Rattle.tb_stream.specs.Seen.{IsMark, order}

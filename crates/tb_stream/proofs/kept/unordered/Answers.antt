@@ -2,12 +2,12 @@ use Rattle.std.proofs.Common.{◌-◌, ◌+◌, ◌<◌, length, get_or, sym, ap
 use Rattle.std.specs.Prelude.{slice_index_or}
 use Rattle.std.proofs.lemmas.Bool.{cases_eq}
 use Rattle.std.proofs.lemmas.List.{length-map}
-use Rattle.tb_order.specs.Clocks.{reaches}
+use Rattle.tb_lanes.specs.Clocks.{reaches}
 use Rattle.tb_stream.specs.declared.access.Access.{Access}
 use Rattle.tb_stream.specs.Keeping.{places}
 use Rattle.tb_stream.specs.Seen.{order}
 use Rattle.tb_stream.proofs.ListLemmas.{map_read}
-use Rattle.tb_order.proofs.RowLemmas.{got_here}
+use Rattle.tb_lanes.proofs.RowLemmas.{got_here}
 use Rattle.tb_stream.proofs.kept.unordered.Goals as goal
 
 pub back-init : goal.back-init

@@ -1,6 +1,6 @@
 use Rattle.std.proofs.Common.{◌≡◌, ◌+◌, ◌<◌, ◌≤◌, ℕ, Some, length, slice_get, IsTrue}
 use Rattle.std.specs.Prelude.{slice_index_or}
-use Rattle.tb_order.specs.Clocks.{Lanes, reaches}
+use Rattle.tb_lanes.specs.Clocks.{Lanes, reaches}
 use Rattle.tb_stream.specs.declared.access.Access.{Access}
 use Rattle.tb_stream.specs.Keeping.{places}
 use Rattle.tb_stream.specs.Seen.{IsAdded, IsMark, Run, order}

@@ -1,6 +1,6 @@
 use Rattle.std.proofs.Common.{◌≡◌, ◌-◌, ◌<◌, suc, Some, None, Option, true, length, sym, ap, ap₂, ◌∙◌, subst, arith, ⊎_elim, inl, inr}
-use Rattle.tb_order.specs.Bounds.{AreRising, bound_among}
-use Rattle.tb_order.specs.Clocks.{is_told, links_at}
+use Rattle.tb_lanes.specs.Bounds.{AreRising, bound_among}
+use Rattle.tb_lanes.specs.Clocks.{is_told, links_at}
 use Rattle.tb_stream.specs.Ends.{IsLater, IsOfRow}
 use Rattle.tb_stream.specs.Joins.{Merges}
 use Rattle.tb_stream.specs.Seen.{order}

@@ -1,6 +1,6 @@
 use Rattle.std.proofs.Common.{◌≤◌, ℕ, Option, length}
-use Rattle.tb_order.specs.Clocks.{Lanes}
-use Rattle.tb_order.specs.Rows.{Key}
+use Rattle.tb_lanes.specs.Clocks.{Lanes}
+use Rattle.tb_lanes.specs.Rows.{Key}
 use Rattle.tb_stream.specs.Ends.{AreStored, IsLater, IsOfRow}
 use Rattle.tb_stream.specs.Joins.{AreJoined, IsWaiting, Merges}
 use Rattle.tb_stream.specs.Seen.{Run}

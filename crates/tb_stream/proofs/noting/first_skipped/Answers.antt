@@ -1,5 +1,5 @@
 use Rattle.std.proofs.Common.{◌≡◌, ◌-◌, ◌+◌, ◌<◌, true, length, sym, ap, ◌∙◌, arith}
-use Rattle.tb_order.specs.Clocks.{reaches}
+use Rattle.tb_lanes.specs.Clocks.{reaches}
 use Rattle.tb_stream.specs.Ends.{IsMeant}
 use Rattle.tb_stream.specs.Seen.{order}
 use Rattle.tb_stream.proofs.ListLemmas.{get_at}

@@ -1,6 +1,6 @@
 use Rattle.std.proofs.Common.{◌+◌, ◌<◌, ◌≤◌, ℕ, Option, length, IsTrue}
-use Rattle.tb_order.specs.Clocks.{Lanes, end_at, reaches}
-use Rattle.tb_order.specs.Rows.{Key}
+use Rattle.tb_lanes.specs.Clocks.{Lanes, end_at, reaches}
+use Rattle.tb_lanes.specs.Rows.{Key}
 use Rattle.tb_stream.specs.Ends.{AreStored, IsMeant, ends_of}
 use Rattle.tb_stream.specs.Seen.{IsAdded, Run, order}
 use Rattle.tb_stream.proofs.noting.first_skipped.Given as goal

@@ -1,7 +1,7 @@
 use Rattle.std.proofs.Common.{◌+◌, IsSome, Some, refl, sym, ap, ◌∙◌, subst}
 use Rattle.std.specs.Option.{option_copied_mut}
-use Rattle.tb_order.proofs.AskedLemmas.{on_ok_map}
-use Rattle.tb_order.proofs.NumberLemmas.{on_ok}
+use Rattle.tb_lanes.proofs.AskedLemmas.{on_ok_map}
+use Rattle.tb_lanes.proofs.NumberLemmas.{on_ok}
 use Rattle.tb_stream.specs.Ends.{AtStage, IsRowOf}
 use Rattle.tb_stream.proofs.NoteLemmas.{moved_writes, rows_written, stored_none}
 use Rattle.tb_stream.proofs.noting.note.Goals as goal

@@ -2,8 +2,8 @@ use Rattle.std.proofs.Common.{◌≡◌, ◌<◌, ◌+◌, Some, None, get_or, l
 use Rattle.tb_model.specs.declared.item.Item.{Item}
 use Rattle.tb_model.specs.declared.kind.Kind.TheVariants.{In}
 use Rattle.tb_model.specs.declared.place.Place.TheVariants.{Cell}
-use Rattle.tb_order.specs.Rows.{child_key, item_key, items_at}
-use Rattle.tb_order.proofs.RowLemmas.{got_here}
+use Rattle.tb_lanes.specs.Rows.{child_key, item_key, items_at}
+use Rattle.tb_lanes.proofs.RowLemmas.{got_here}
 use Rattle.tb_stream.specs.Ends.{AreRows, IsNoted, SoFar, WithOne}
 use Rattle.tb_stream.proofs.NoteLemmas.{first_back, first_there, last_back, last_there, next_back, next_there, rows_so}
 use Rattle.tb_stream.proofs.noting.note_rows.Goals as goal

@@ -1,6 +1,6 @@
 use Rattle.std.proofs.Common.{◌≡◌, ◌+◌, ℕ}
-use Rattle.tb_order.specs.Clocks.{Lanes}
-use Rattle.tb_order.specs.Rows.{items_at}
+use Rattle.tb_lanes.specs.Clocks.{Lanes}
+use Rattle.tb_lanes.specs.Rows.{items_at}
 use Rattle.tb_stream.specs.Ends.{AreRows, IsNoted, SoFar}
 use Rattle.tb_stream.specs.Seen.{IsAdded, Run}
 use Rattle.tb_stream.proofs.noting.note_rows.Given as goal

@@ -1,8 +1,9 @@
 use Rattle.std.proofs.Common.{refl, sym, ap, ◌∙◌, subst, arith, length, ◌∷◌, [], IsTrue}
 use mathlib.Core.Path.{fun_ext}
-use Rattle.tb_order.specs.Clocks.{IsEnd, IsSound, TellsEnds, is_told}
-use Rattle.tb_order.proofs.SoundLemmas.{no_ends_told}
-use Rattle.tb_order.proofs.TableLemmas.{row_kept}
+use Rattle.tb_lanes.specs.Bounds.{IsRising, bound_in}
+use Rattle.tb_lanes.specs.Clocks.{IsEnd, IsSound, TellsEnds, is_told}
+use Rattle.tb_lanes.proofs.SoundLemmas.{no_ends_told}
+use Rattle.tb_lanes.proofs.TableLemmas.{row_kept}
 use Rattle.std.proofs.lemmas.List.{length-append}
 use Rattle.tb_stream.specs.Ends.{IsNoted}
 use Rattle.tb_stream.specs.Placing.{row_of}
@@ -30,7 +31,7 @@ pub returns-in_ok-mark-in-Some-clause-past : goal.returns-in_ok-mark-in-Some-cla
 returns-in_ok-mark-in-Some-clause-past c r n lanes past now begun =
     let old = c.args.order.now.clocks.rows.items in
     let new = c.go_on.new.clocks.rows.items in
-    let row = c.in_ok-row-in-Some.row in
+    let row = c.shrink_to_fit.new.self in
     let more = c.in_ok-mark-in-Some.ensures.rows in
     let long = ap length more ∙ length-append old (row ∷ []) in record {
       exclusion = past.exclusion;
@@ -44,14 +45,13 @@ returns-in_ok-mark-in-Some-clause-placed c r n lanes past now begun =
     let waited = c.in_ok-joined.ensures r n lanes (record { exclusion = past.exclusion; clocks = past.clocks; ends = past.ends; rows = past.rows }) now begun in
     let end = waited.are.end c.in-Some.end c.in-Some.is in
     let rows = c.in_ok-joined.joined.rows.items in
-    let row = c.in_ok-row-in-Some.row.items in
-    let same = fun_ext (λ j. sym (c.in_ok-row-in-Some.ensures.bounds j)) in
+    let same = fun_ext (λ j. sym (c.in_ok-row-in-Some.ensures.bounds j) ∙ ap (λ xs. bound_in xs j) (sym c.shrink_to_fit.ensures.items)) in
     c.in_ok-mark-in-Some.ensures.placed r n lanes past.clocks (record {
       begun = begun;
       mark = end.full.mark;
       over = end.over;
       told = subst (λ x. IsTrue (is_told (order r) r.entries r.tasks lanes x c.args.step.lane n c.in-Some.end.at)) same end.told;
-      rising = c.in_ok-row-in-Some.ensures.rising waited.are.rising;
+      rising = subst IsRising (sym c.shrink_to_fit.ensures.items) (c.in_ok-row-in-Some.ensures.rising waited.are.rising);
       sound = subst (λ x. IsSound (order r) r.entries r.tasks lanes x c.args.step.lane n) same waited.are.sound;
       ends = subst (λ x. TellsEnds (order r) r.entries r.tasks lanes x c.args.step.lane n) same waited.ends;
     })

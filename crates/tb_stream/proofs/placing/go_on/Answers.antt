@@ -1,7 +1,7 @@
 use Rattle.std.proofs.Common.{refl, ap, ◌∙◌, ◌≡◌, ◌⊎◌, subst, arith, length, ◌∷◌, []}
 use Rattle.std.specs.Prelude.{slice_index_or}
 use Rattle.std.proofs.lemmas.List.{length-append}
-use Rattle.tb_order.proofs.TableLemmas.{row_kept}
+use Rattle.tb_lanes.proofs.TableLemmas.{row_kept}
 use Rattle.tb_stream.proofs.GrowLemmas.{clocks_on}
 use Rattle.tb_stream.proofs.PlaceLemmas.{placed_going}
 use Rattle.tb_stream.proofs.placing.go_on.Goals as goal

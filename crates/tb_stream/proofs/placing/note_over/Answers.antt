@@ -1,5 +1,5 @@
 use Rattle.std.proofs.Common.{◌≡◌, ◌<◌, length, None, true, refl, sym, ◌∙◌, subst, arith}
-use Rattle.tb_order.specs.Clocks.{is_end_at}
+use Rattle.tb_lanes.specs.Clocks.{is_end_at}
 use Rattle.tb_stream.specs.Seen.{IsOf}
 use Rattle.tb_stream.proofs.OverLemmas.{child_is, items_are, order_on, order_over}
 use Rattle.tb_stream.proofs.SeenLemmas.{ends_here, id_at}

@@ -1,7 +1,7 @@
 use Rattle.std.proofs.Common.{◌≡◌, ◌⊎◌, ◌<◌, true, inl, refl, ap, ap₂, sym, ◌∙◌, subst, length, slice_get, Some}
 use Rattle.std.specs.Prelude.{slice_index_or}
-use Rattle.tb_order.specs.Bounds.{IsRising, bound_in}
-use Rattle.tb_order.specs.Clocks.{IsEnd, is_told, row_in}
+use Rattle.tb_lanes.specs.Bounds.{IsRising, bound_in}
+use Rattle.tb_lanes.specs.Clocks.{IsEnd, is_told, row_in}
 use Rattle.tb_stream.specs.Placing.{row_of}
 use Rattle.tb_stream.specs.Seen.{order}
 use Rattle.tb_stream.proofs.ListLemmas.{get_at}

@@ -1,9 +1,9 @@
 use Rattle.std.proofs.Common.{◌≡◌, ℕ, Option, Some, None, sym, ap, ◌∙◌, subst}
 use mathlib.Core.Path.{fun_ext}
-use Rattle.tb_order.specs.Bounds.{IsRising, bound_among, bound_in}
-use Rattle.tb_order.specs.Clocks.{row_in}
-use Rattle.tb_order.proofs.BoundLemmas.{first_bound, none_rising}
-use Rattle.tb_order.proofs.TableLemmas.{sound_same}
+use Rattle.tb_lanes.specs.Bounds.{IsRising, bound_among, bound_in}
+use Rattle.tb_lanes.specs.Clocks.{row_in}
+use Rattle.tb_lanes.proofs.BoundLemmas.{first_bound, none_rising}
+use Rattle.tb_lanes.proofs.TableLemmas.{sound_same}
 use Rattle.tb_stream.specs.declared.mark.Mark.{Mark}
 use Rattle.tb_stream.specs.Placing.{row_of}
 use Rattle.tb_stream.specs.Seen.{order}

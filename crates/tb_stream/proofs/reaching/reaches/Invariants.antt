@@ -1,6 +1,6 @@
 use Rattle.std.proofs.Common.{◌≡◌, ℕ}
-use Rattle.tb_order.specs.Clocks as is
-use Rattle.tb_order.specs.Clocks.{Lanes}
+use Rattle.tb_lanes.specs.Clocks as is
+use Rattle.tb_lanes.specs.Clocks.{Lanes}
 use Rattle.tb_stream.specs.Seen.{AreClocks, IsFull, IsMark, Run, order}
 use Rattle.tb_stream.proofs.reaching.reaches.Given as goal
 

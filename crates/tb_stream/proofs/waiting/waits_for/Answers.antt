@@ -3,8 +3,8 @@ use Rattle.tb_model.specs.Facts.{covers, is_member, own}
 use Rattle.tb_model.specs.Items.{has_no_items, is_before, some_meet}
 use Rattle.tb_races.specs.Kinds.{wait_kind}
 use Rattle.tb_races.specs.Orders.{counts_some}
-use Rattle.tb_order.specs.Linking.{order_of}
-use Rattle.tb_order.proofs.AskedLemmas.{other_waits}
+use Rattle.tb_lanes.specs.Linking.{order_of}
+use Rattle.tb_lanes.proofs.AskedLemmas.{other_waits}
 use Rattle.tb_stream.proofs.AskLemmas.{group_counts, none_counts, wait_counts}
 use Rattle.tb_stream.proofs.waiting.waits_for.Goals as goal
 

@@ -1,7 +1,7 @@
 use Rattle.std.proofs.Common.{◌++◌, ◌∙◌, ap, sym, append-nil}
 use Rattle.std.proofs.lemmas.Bool.{false_from_ne_true, false≢true}
 use Rattle.tb_model.proofs.NumberTextLemmas.{on_ok}
-use Rattle.tb_core.specs.Scans.{history_of}
+use Rattle.tb_steps.specs.Scans.{history_of}
 use Rattle.tb_view.proofs.ReasonLemmas.{line_missing, line_read}
 use Rattle.tb_view.proofs.reasons.append_step.Goals as goal
 

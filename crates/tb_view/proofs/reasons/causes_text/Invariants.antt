@@ -1,5 +1,5 @@
 use Rattle.std.proofs.Common.{◌≡◌, ◌++◌, drop}
-use Rattle.tb_core.specs.Scans.{history_of}
+use Rattle.tb_steps.specs.Scans.{history_of}
 use Rattle.tb_view.specs.Reasons.{cause_lines, causes_text}
 use Rattle.tb_view.proofs.reasons.causes_text.Given as goal
 

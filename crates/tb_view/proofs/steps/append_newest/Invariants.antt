@@ -1,5 +1,5 @@
 use Rattle.std.proofs.Common.{◌≡◌, ◌-◌, ◌++◌, length, take}
-use Rattle.tb_core.specs.Scans.{history_of}
+use Rattle.tb_steps.specs.Scans.{history_of}
 use Rattle.tb_view.specs.Steps.{newest_lines, AreCounts}
 use Rattle.tb_view.proofs.steps.append_newest.Given as goal
 

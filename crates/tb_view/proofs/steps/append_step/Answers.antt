@@ -1,5 +1,5 @@
 use Rattle.std.proofs.Common.{◌≡◌, ◌++◌, ◌∙◌, List, OnOk, ap, subst}
-use Rattle.tb_core.proofs.FirstLemmas.{there}
+use Rattle.tb_steps.proofs.FirstLemmas.{there}
 use Rattle.tb_view.specs.Lines.{event_line}
 use Rattle.tb_view.proofs.ChosenLemmas.{read_as, line_at}
 use Rattle.tb_view.proofs.steps.append_step.Goals as goal

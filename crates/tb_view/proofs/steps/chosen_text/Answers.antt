@@ -1,7 +1,7 @@
 use Rattle.std.proofs.Common.{◌≡◌, ◌<◌, ◌≤◌, ◌++◌, ◌∷◌, ◌∙◌, [], length, take, codes, sym, ap, append_assoc, arith}
 use Rattle.std.specs.Fmt.{decimal}
 use Rattle.std.proofs.lemmas.List.{take_all}
-use Rattle.tb_core.specs.Scans.{history_of}
+use Rattle.tb_steps.specs.Scans.{history_of}
 use Rattle.tb_view.specs.Lines.{line}
 use Rattle.tb_view.specs.Steps.{chosen_lines}
 use Rattle.tb_view.proofs.ChosenLemmas.{all_lines, each_line, line_more, stands_there}

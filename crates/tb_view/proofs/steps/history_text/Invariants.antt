@@ -1,6 +1,6 @@
 use Rattle.std.proofs.Common.{◌≡◌, ◌++◌, length, take, codes}
 use Rattle.std.specs.Fmt.{decimal}
-use Rattle.tb_core.specs.Scans.{history_of}
+use Rattle.tb_steps.specs.Scans.{history_of}
 use Rattle.tb_view.specs.Lines.{line}
 use Rattle.tb_view.specs.Steps.{history_lines, AreCounts}
 use Rattle.tb_view.proofs.steps.history_text.Given as goal

@@ -1,5 +1,5 @@
 use Rattle.std.proofs.Common.{◌≡◌, take}
-use Rattle.tb_core.specs.Scans.{history_of}
+use Rattle.tb_steps.specs.Scans.{history_of}
 use Rattle.tb_view.specs.Tasks.{named_tasks}
 use Rattle.tb_view.proofs.tasks.named_tasks.Given as goal
 

@@ -1,12 +1,12 @@
 use Rattle.std.proofs.Common.{◌<◌, ◌∙◌, ◌∷◌, List, length, take, get_or, sym, ap, subst, arith}
 use Rattle.tb_model.specs.Facts.{is_of, own}
-use Rattle.tb_core.specs.Entries.{Entry}
+use Rattle.tb_steps.specs.Entries.{Entry}
 use Rattle.tb_core.specs.Lending.{IsLast, IsNoneBetween}
-use Rattle.tb_core.specs.Scans.{history_of}
+use Rattle.tb_steps.specs.Scans.{history_of}
 use Rattle.tb_cause.specs.Keys.{held_by}
-use Rattle.tb_cause.proofs.ConeLemmas.{there}
 use Rattle.tb_cause.proofs.StandingLemmas.{newest_own, none_own}
 use Rattle.tb_cause.proofs.indexed.Indexed.held_at.Goals as goal
+use Rattle.tb_steps.proofs.FirstLemmas.{there}
 
 pub action-requires : goal.action-requires
 action-requires c =

@@ -1,5 +1,5 @@
 use Rattle.std.proofs.Common.{◌+◌, List, get_or, sym, ap, ◌∙◌}
-use Rattle.tb_core.specs.Entries.{Entry}
+use Rattle.tb_steps.specs.Entries.{Entry}
 use Rattle.tb_cause.specs.Keys.{has}
 use Rattle.tb_cause.proofs.TaskKeyLemmas.{of_same_task}
 use Rattle.tb_cause.proofs.indexed.Indexed.is_of_earlier.Goals as goal

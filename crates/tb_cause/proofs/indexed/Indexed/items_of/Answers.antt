@@ -1,8 +1,8 @@
 use Rattle.std.proofs.Common.{◌∙◌, List, sym, ap, subst}
 use Rattle.tb_model.specs.Facts.{IsSpawned, items_of}
 use Rattle.tb_model.proofs.StateLemmas.{items_of_spawn}
-use Rattle.tb_core.specs.Entries.{Entry}
-use Rattle.tb_core.specs.Scans.{history_of}
+use Rattle.tb_steps.specs.Entries.{Entry}
+use Rattle.tb_steps.specs.Scans.{history_of}
 use Rattle.tb_cause.proofs.indexed.Indexed.items_of.Goals as goal
 
 pub returns : goal.returns

@@ -2,11 +2,11 @@ use Rattle.std.proofs.Common.{◌≡◌, ◌<◌, ◌+◌, ◌-◌, ◌∙◌, L
 use Rattle.tb_model.specs.declared.action.Action.{Action}
 use Rattle.tb_model.specs.Facts.{is_spawn_of}
 use Rattle.tb_model.specs.State.{spawn_of}
-use Rattle.tb_core.specs.Entries.{Entry}
-use Rattle.tb_core.specs.Scans.{history_of}
-use Rattle.tb_cause.proofs.ConeLemmas.{there}
+use Rattle.tb_steps.specs.Entries.{Entry}
+use Rattle.tb_steps.specs.Scans.{history_of}
 use Rattle.tb_cause.proofs.StandingLemmas.{spawn_here, spawn_not_here}
 use Rattle.tb_cause.proofs.indexed.Indexed.spawn_of.Goals as goal
+use Rattle.tb_steps.proofs.FirstLemmas.{there}
 
 pub returns-then-is_spawn_of-clause-spawn : goal.returns-then-is_spawn_of-clause-spawn
 returns-then-is_spawn_of-clause-spawn c =

@@ -1,6 +1,6 @@
 use Rattle.std.proofs.Common.{◌≡◌, ◌≤◌, length, take}
 use Rattle.tb_model.specs.State.{spawn_of}
-use Rattle.tb_core.specs.Scans.{history_of}
+use Rattle.tb_steps.specs.Scans.{history_of}
 use Rattle.tb_cause.proofs.indexed.Indexed.spawn_of.Given as goal
 
 -- none of those that were asked generates the task

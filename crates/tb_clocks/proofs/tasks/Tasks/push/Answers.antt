@@ -1,5 +1,5 @@
-use Rattle.std.proofs.Common.{◌+◌, ap, inl, length, refl, subst}
-use Rattle.tb_clocks.specs.Steps.{Advances, Stays}
+use Rattle.std.proofs.Common.{◌+◌, ap, inl, length, refl, subst, sym}
+use Rattle.tb_clocks.specs.Steps.{Advances, IsChildRow, Stays}
 use Rattle.tb_clocks.proofs.StepLemmas.{kept, on_err, pushed}
 use Rattle.tb_clocks.proofs.tasks.Tasks.push.Goals as goal
 
@@ -15,9 +15,10 @@ returns-in_err-advance-clause-err c =
     (subst (λ xs. Stays c.args.task xs c.advance.new.rows.items) c.reserve.ensures.items c.in_err-advance.ensures.err) refl)
 
 pub returns-clause-ok : goal.returns-clause-ok
-returns-clause-ok c cells H a l id =
-    pushed cells H c.args.event.now l c.args.self.now a c.args.task id (record { rows = c.add.new.rows; count = c.args.self.now.count + 1 }) c.advance.new.rows.items c.in_ok-child.child
-    c.in_ok-child.ensures
-    (subst (λ xs. Advances c.args.task (length H) c.args.event.now.action xs c.advance.new.rows.items) c.reserve.ensures.items
-    (subst (λ n. Advances c.args.task n c.args.event.now.action c.reserve.new.self.items c.advance.new.rows.items) a.count c.in_ok-advance.ensures.ok))
+returns-clause-ok c cells H v a is l id =
+    pushed cells H v l c.args.self.now a c.args.task id (record { rows = c.add.new.rows; count = c.args.self.now.count + 1 }) c.advance.new.rows.items c.in_ok-child.child
+    (subst (λ b. IsChildRow c.args.task b c.in_ok-child.child) (sym is) c.in_ok-child.ensures)
+    (subst (λ b. Advances c.args.task (length H) b c.args.self.now.rows.items c.advance.new.rows.items) (sym is)
+    (subst (λ xs. Advances c.args.task (length H) c.args.action.now xs c.advance.new.rows.items) c.reserve.ensures.items
+    (subst (λ n. Advances c.args.task n c.args.action.now c.reserve.new.self.items c.advance.new.rows.items) a.count c.in_ok-advance.ensures.ok)))
     c.add.ensures (ap (λ n. n + 1) a.count)

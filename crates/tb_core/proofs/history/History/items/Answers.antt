@@ -1,5 +1,5 @@
 use Rattle.std.proofs.Common.{◌∙◌, map, reverse}
-use Rattle.tb_core.specs.Soundness.{departure}
+use Rattle.tb_steps.specs.Entries.{departure}
 use Rattle.tb_core.specs.Storing.{entries_in}
 use Rattle.tb_core.proofs.LendingLemmas.{items_left}
 use Rattle.tb_core.proofs.history.History.items.Goals as goal

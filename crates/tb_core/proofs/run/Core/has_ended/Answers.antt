@@ -1,5 +1,5 @@
 use Rattle.std.proofs.Common.{◌≡◌, map, reverse, subst}
-use Rattle.tb_core.specs.Soundness.{departure}
+use Rattle.tb_steps.specs.Entries.{departure}
 use Rattle.tb_core.specs.Seen.{Held}
 use Rattle.tb_core.specs.Outcomes.{has_ended}
 use Rattle.tb_core.specs.Storing.{entries_in}

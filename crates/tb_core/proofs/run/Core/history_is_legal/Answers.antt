@@ -1,7 +1,7 @@
 use Rattle.std.proofs.Common.{◌≤◌, length, reverse, subst, arith}
 use Rattle.std.proofs.lemmas.List.{length-map}
 use Rattle.tb_model.specs.Legal.{Legal}
-use Rattle.tb_core.specs.Soundness.{departure}
+use Rattle.tb_steps.specs.Entries.{departure}
 use Rattle.tb_core.specs.Seen.{Held, history}
 use Rattle.tb_core.specs.Storing.{entries_in}
 use Rattle.tb_core.proofs.run.Core.history_is_legal.Goals as goal

@@ -1,7 +1,7 @@
 use Rattle.std.proofs.Common.{arith, length, reverse, ap}
 use Rattle.std.proofs.lemmas.List.{length-map}
 use Rattle.tb_core.specs.Seen.{Held, with_limit}
-use Rattle.tb_core.specs.Soundness.{departure}
+use Rattle.tb_steps.specs.Entries.{departure}
 use Rattle.tb_core.specs.Storing.{entries_in}
 use Rattle.tb_core.proofs.run.Core.set_limit.Goals as goal
 

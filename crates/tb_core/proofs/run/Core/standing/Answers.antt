@@ -1,5 +1,5 @@
 use Rattle.std.proofs.Common.{◌≡◌, map, option_map, reverse, subst}
-use Rattle.tb_core.specs.Soundness.{departure}
+use Rattle.tb_steps.specs.Entries.{departure}
 use Rattle.tb_undo.specs.State.{task_of}
 use Rattle.tb_undo.specs.Standings.{standing_of}
 use Rattle.tb_core.specs.Seen.{Held}

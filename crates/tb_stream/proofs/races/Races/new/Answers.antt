@@ -7,6 +7,6 @@ returns c cells = record {
   ids = c.in_ok-new.ensures cells;
   tasks = c.in_ok-new-2.ensures cells;
   count = refl;
-  strict = c.in_ok-new-3.ensures;
-  loose = c.in_ok-new-4.ensures;
+  halves = c.in_ok-both.ensures.halves;
+  kind = c.in_ok-both.ensures.kind;
 }

@@ -1,0 +1,46 @@
+use Rattle.std.proofs.Common.{◌≡◌, ◌≢◌, ◌-◌, sym, ap, ◌∙◌, arith}
+use Rattle.tb_lanes.specs.Clocks as is
+use Rattle.tb_lanes.specs.Clocks.{lanes_of, origin}
+use Rattle.tb_lanes.proofs.ClockLemmas.{within_any}
+use Rattle.tb_lanes.proofs.JoinLemmas.{not_reached, reached_below, reached_above, reached_not}
+use Rattle.tb_lanes.proofs.clocks.reaches.Goals as goal
+
+pub returns-then-is_below : goal.returns-then-is_below
+returns-then-is_below c o entries n are told late =
+    let l = c.up in
+    let s = l.invariant.same o entries n are told late in
+    sym
+    (s.1
+    ∙ reached_below o entries c.args.tasks.now n (lanes_of c.args.clocks.now) are told.lanes (omega (arith, told.listed, c.requires.listed, are.numbers_listed)) l.at s.0 c.args.early (omega (arith, c.requires.early, late)) (sym (c.is_below.ensures (told.rising l.at s.0)) ∙ c.if-is_below.true))
+
+pub returns-then-index-eq0 : goal.returns-then-index-eq0
+returns-then-index-eq0 c o entries n are told late =
+    let l = c.up in
+    let s = l.invariant.same o entries n are told late in
+    let none : origin c.args.tasks.now l.at ≡ 0 = sym (within_any c.args.tasks.now.origins.items l.at 0 c.index.result.now (omega (arith, l.invariant.listed, c.requires.listed, c.requires.shaped.origins_listed)) c.index.ensures) ∙ c.if-index-eq0.true in
+    sym
+    (s.1
+    ∙ reached_not o entries c.args.tasks.now n (lanes_of c.args.clocks.now) are told.lanes (omega (arith, told.listed, c.requires.listed, are.numbers_listed)) l.at s.0 c.args.early (omega (arith, c.requires.early, late)) (sym (c.is_below.ensures (told.rising l.at s.0)) ∙ c.if-is_below.false) none)
+
+pub up-preserved : goal.up-preserved
+up-preserved c =
+    let l = c.up in
+    let e : c.index-in-up.result.now ≡ origin c.args.tasks.now l.at = within_any c.args.tasks.now.origins.items l.at 0 c.index-in-up.result.now (omega (arith, l.invariant.listed, c.requires.listed, c.requires.shaped.origins_listed)) c.index-in-up.ensures in
+    let some : origin c.args.tasks.now l.at ≢ 0 = λ z. c.if-index-eq0.false (within_any c.args.tasks.now.origins.items l.at 0 c.index.result.now (omega (arith, l.invariant.listed, c.requires.listed, c.requires.shaped.origins_listed)) c.index.ensures ∙ z) in
+    let low = c.requires.shaped.low l.at (omega (arith, l.invariant.listed, c.requires.listed)) in record {
+      listed = omega (arith, e, low, l.invariant.listed);
+      same = λ o entries n are told late.
+          let s = l.invariant.same o entries n are told late in (
+            omega (arith, e, low, s.0),
+            s.1
+                ∙ reached_above o entries c.args.tasks.now n (lanes_of c.args.clocks.now) are told.lanes (omega (arith, told.listed, c.requires.listed, are.numbers_listed)) l.at s.0 c.args.early (omega (arith, c.requires.early, late)) (sym (c.is_below.ensures (told.rising l.at s.0)) ∙ c.if-is_below.false) some
+                ∙ ap (λ m. is.reaches o entries (m - 1) c.args.early) (sym e),
+          );
+    }
+
+pub returns : goal.returns
+returns c o entries n are told late =
+    let l = c.up in
+    sym
+    ((l.invariant.same o entries n are told late).1
+    ∙ not_reached o entries l.at c.args.early (omega (arith, c.up-test.false)) (omega (arith, c.requires.early, c.requires.late, c.requires.listed, are.numbers_listed)))

@@ -1,0 +1,17 @@
+use Rattle.std.proofs.Common.{◌≡◌, ◌<◌, ℕ, List, length}
+use Rattle.tb_steps.specs.Entries.{Entry}
+use Rattle.tb_races.specs.Orders.{Order}
+use Rattle.tb_lanes.specs.Clocks as is
+use Rattle.tb_lanes.specs.Clocks.{AreTasks, AreClocks}
+use Rattle.tb_lanes.proofs.clocks.reaches.Given as goal
+
+-- the step is reached exactly where it is from the one on the way up
+abbrev pub invariant-up : goal.invariant-up
+invariant-up l = record {
+  listed : l.at < length l.clocks.of.items;
+  same : (o : Order) (entries : List Entry) (n : ℕ) → AreTasks entries l.tasks → AreClocks o entries l.tasks n l.clocks → l.late < n
+      → (l.at < n) × (is.reaches o entries l.late l.early ≡ is.reaches o entries l.at l.early);
+}
+
+abbrev pub decreases-up : goal.decreases-up
+decreases-up l = l.at

@@ -1,0 +1,12 @@
+use Rattle.std.proofs.Common.{◌≡◌, take, reverse}
+use Rattle.tb_steps.specs.Scans.{history_of}
+use Rattle.tb_races.specs.Racing
+use Rattle.tb_order.specs.Begun.{Begun}
+use Rattle.tb_order.proofs.racing.races_among.Given as goal
+
+-- those of the entries so far, which the races know
+abbrev pub invariant-loop-at : goal.invariant-loop-at
+invariant-loop-at l = record {
+  found : l.found.items ≡ reverse (Racing.races (history_of (take l.at l.entries)));
+  races : Begun l.entries l.at l.races;
+}

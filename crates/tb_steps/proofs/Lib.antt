@@ -1,0 +1,4 @@
+pub mod ScanLemmas
+pub mod MemberLemmas
+pub mod NeedsLemmas
+pub mod FirstLemmas

@@ -1,0 +1,12 @@
+use Rattle.std.proofs.Common.{refl}
+use Rattle.tb_stream.proofs.races.Races.without_exclusion.Goals as goal
+
+pub returns : goal.returns
+returns c cells = record {
+  legal = tt;
+  ids = c.in_ok-new.ensures cells;
+  tasks = c.in_ok-new-2.ensures cells;
+  count = refl;
+  halves = c.in_ok-one.ensures.halves;
+  kind = c.in_ok-one.ensures.kind;
+}
