@@ -6,3 +6,6 @@ pub mod OrdinalLemmas
 pub mod ListedLemmas
 pub mod RangeLemmas
 pub mod LineLemmas
+mod NamedLemmas
+mod PlainLemmas
+mod SaidLemmas

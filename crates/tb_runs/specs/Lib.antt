@@ -3,3 +3,4 @@ pub mod Reading
 pub mod Actions
 pub mod Lines
 pub mod Memory
+pub mod Plain

@@ -8,6 +8,7 @@ ghost use Rattle.tb_runs.specs.declared.fault.Unread.TheVariants.{Faulty, Memory
 
 use crate::fault::{Fault, Unread};
 use crate::items::{take_args, take_items};
+use crate::plain::plain_verb;
 use crate::taking::{
     take_body, take_cell, take_if, take_number, take_register, take_task, take_word,
 };
@@ -20,6 +21,22 @@ use tb_read::same_word;
 /// The word that says what was done.
 #[inline(always)]
 fn take_verb(words: &mut Words<'_>) -> Result<Verb, Fault>
+    ensures ok { IfOk result (λ verb. verb_in words.old ≡ Ok (verb, words.new)) }
+    ensures err { IfErr result (λ fault. verb_in words.old ≡ Err fault) }
+{
+    match plain_verb(words.bytes()) {
+        Some((verb, rest)) => {
+            *words = Words::of(rest);
+            Ok(verb)
+        }
+        None => any_verb(words),
+    }
+}
+
+/// The word that says what was done, however it is spelled.
+// out of line: a plain one doesn't pay for its stack frame
+#[inline(never)]
+fn any_verb(words: &mut Words<'_>) -> Result<Verb, Fault>
     ensures ok { IfOk result (λ verb. verb_in words.old ≡ Ok (verb, words.new)) }
     ensures err { IfErr result (λ fault. verb_in words.old ≡ Err fault) }
 {

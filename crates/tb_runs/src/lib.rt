@@ -7,6 +7,7 @@ mod items;
 pub mod laws;
 mod line;
 mod name;
+mod plain;
 mod said;
 mod taking;
 mod text;

@@ -200,21 +200,29 @@ pub fn read_line(
 }
 
 /// What a line says after the first event, where there are so many cells. It needs no first
-/// numbers.
+/// numbers. A line that says an event is text, so whether it is is only asked of the others.
+#[tactic(auto, using(crate::proofs::SaidLemmas::event_read))]
 pub fn read_event(alloc: Global, cells: u32, line: &[u8]) -> Result<Option<Said>, Unread>
     ensures ok { IfOk result (λ said. line_said [] (Events cells) line.now ≡ Ok said) }
-    ensures err { (fault : TheFault) → result ≡ Err (Faulty fault) → line_said [] (Events cells) line.now ≡ Err fault }
+    ensures err { (fault : TheFault) → result ≡ Err (Faulty fault)
+        → line_said [] (Events cells) line.now ≡ Err fault }
     ensures memory { result ≡ Err Memory → IsTrue (line_takes (Events cells) line.now) }
 {
     if is_long(line) {
         return Err(Unread::Faulty(Fault::TooLarge));
     }
-    if !is_text_line(line) {
-        return Err(Unread::Faulty(Fault::NotText));
-    }
     let mut words = Words::of(line);
-    if words.peek().is_none() {
-        return Ok(None);
+    match take_whole_event(alloc, &mut words, cells) {
+        Ok(said) => Ok(Some(said)),
+        Err(unread) => {
+            if !is_text_line(line) {
+                return Err(Unread::Faulty(Fault::NotText));
+            }
+            let all = Words::of(line);
+            if all.peek().is_none() {
+                return Ok(None);
+            }
+            Err(unread)
+        }
     }
-    Ok(Some(take_whole_event(alloc, &mut words, cells)?))
 }

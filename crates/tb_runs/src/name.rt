@@ -19,7 +19,7 @@ const LAST_CHILD: u64 = 4_294_967_295;
 const SHORT: usize = 64;
 
 /// The greatest number of a step.
-const LAST_STEP: u64 = 9_999_999_999;
+pub const LAST_STEP: u64 = 9_999_999_999;
 
 /// A step of a task: its next one, or the one with this number.
 #[derive(Debug, Drop)]
@@ -106,7 +106,7 @@ pub fn read_task(alloc: Global, word: &[u8]) -> Result<Option<TaskName>, AllocEr
 }
 
 /// How many bytes come before the first `#`.
-fn hash_at(word: &[u8]) -> usize
+pub fn hash_at(word: &[u8]) -> usize
     ensures len { result ≡ position_or_len is_hash word.now }
     ensures within { result ≤ length word.now }
 {

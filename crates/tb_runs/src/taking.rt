@@ -10,6 +10,7 @@ ghost use Rattle.tb_runs.specs.declared.fault.Unread.TheVariants.{Faulty, Memory
 
 use crate::fault::{Fault, Unread};
 use crate::name::{Id, read_id, read_task};
+use crate::plain::{plain_digits, plain_id};
 use crate::words::Words;
 use std::alloc::Global;
 use tb_model::{Kind, TaskName};
@@ -43,6 +44,22 @@ pub fn take_end(words: &mut Words<'_>) -> Result<(), Fault>
 /// A number.
 #[inline(always)]
 pub fn take_number(words: &mut Words<'_>) -> Result<i64, Fault>
+    ensures ok { IfOk result (λ x. number_in words.old ≡ Ok (x, words.new)) }
+    ensures err { IfErr result (λ fault. number_in words.old ≡ Err fault) }
+{
+    match plain_digits(words.bytes()) {
+        Some((x, rest)) => {
+            *words = Words::of(rest);
+            Ok(x as i64)
+        }
+        None => any_signed(words),
+    }
+}
+
+/// A number, however it is spelled.
+// out of line: a plain one doesn't pay for its stack frame
+#[inline(never)]
+fn any_signed(words: &mut Words<'_>) -> Result<i64, Fault>
     ensures ok { IfOk result (λ x. number_in words.old ≡ Ok (x, words.new)) }
     ensures err { IfErr result (λ fault. number_in words.old ≡ Err fault) }
 {
@@ -128,9 +145,29 @@ pub fn take_task(alloc: Global, words: &mut Words<'_>) -> Result<TaskName, Unrea
 }
 
 /// The name of a step.
+#[inline(always)]
 pub fn take_id(alloc: Global, words: &mut Words<'_>) -> Result<Id, Unread>
     ensures ok { IfOk result (λ id. id_in words.old ≡ Ok (id, words.new)) }
-    ensures err { (fault : TheFault) → result ≡ Err (Faulty fault) → id_in words.old ≡ Err fault }
+    ensures err { (fault : TheFault) → result ≡ Err (Faulty fault)
+        → id_in words.old ≡ Err fault }
+    ensures memory { result ≡ Err Memory → IsTrue (id_takes words.old) }
+{
+    match plain_id(alloc, words.bytes()) {
+        Some((id, rest)) => {
+            *words = Words::of(rest);
+            Ok(id)
+        }
+        None => any_id(alloc, words),
+    }
+}
+
+/// The name of a step, however it is spelled.
+// out of line: a plain one doesn't pay for its stack frame
+#[inline(never)]
+fn any_id(alloc: Global, words: &mut Words<'_>) -> Result<Id, Unread>
+    ensures ok { IfOk result (λ id. id_in words.old ≡ Ok (id, words.new)) }
+    ensures err { (fault : TheFault) → result ≡ Err (Faulty fault)
+        → id_in words.old ≡ Err fault }
     ensures memory { result ≡ Err Memory → IsTrue (id_takes words.old) }
 {
     let word = take_word(words)?;

@@ -74,6 +74,14 @@ impl<'a> Words<'a> {
         Words { rest: line }
     }
 
+    /// The bytes of the line that are left.
+    #[inline(always)]
+    pub fn bytes(&self) -> &'a [u8]
+        ensures { line_words result.now ≡ self.now }
+    {
+        self.rest
+    }
+
     /// Takes the next word.
     pub fn next(&mut self) -> Option<&'a [u8]>
         ensures some { IfSome result (λ word. self.old ≡ word.now ∷ self.new) }
