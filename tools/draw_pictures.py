@@ -15,9 +15,8 @@ from shell.source import Source, split_session
 
 # Each picture: its session, how many of its commands are carried out first, and the step whose rollback is shaded.
 PICTURES: dict[str, tuple[int, str | None]] = {
-    "right_sum": (1, "0.1#4"), "race": (6, "0.2#2"), "order": (5, None), "exclusion": (8, "0.2#1"), "apart": (1, "0.1#1"),
-    "waits": (16, None), "grandchild": (1, "0.1.1#2"),
-    "undeferred": (5, "0.1#3"), "partial_wait": (5, None), "unrelated": (1, "0.1#1"), "needs": (6, "0.1#2"), "breakpoints": (8, "0.2#2"),
+    "right_sum": (1, "0.1#4"), "order": (5, None), "exclusion": (8, "0.2#1"),
+    "waits": (16, None), "unrelated": (1, "0.1#1"), "needs": (6, "0.1#2"),
 }
 
 
