@@ -84,7 +84,7 @@ void Run::access(std::size_t at, const event &e) {
     if (s.pending != NONE)
         return refuse("Undeferred", e.kind == READ ? "reads" : "writes", s, s.pending, e);
     segment_of[at] = s.segment;
-    locks_of[at] = region_copies_.empty() ? s.locks : locks_with_copy(s, e);
+    locks_of[at] = locks_with(s, e);
     chain_of[at] = s.callers;
     if (s.reduction != NONE && e.kind == WRITE && !(e.mark & FREED)) {
         reductions[s.reduction].actor = s.actor;
@@ -92,6 +92,42 @@ void Run::access(std::size_t at, const event &e) {
     }
     if (e.mark & ATOMIC)
         part_ways(s, at);
+}
+
+namespace {
+
+// Where what the event touches begins, and how many bytes are from there to its end.
+std::pair<u64, u64> extent_of(const event &e) {
+    if (e.size != SET)
+        return {e.address, e.size == LARGE ? e.value : e.size};
+    const u64 element = u64{1} << ((e.mark >> ROW_SHIFT) - 1);
+    u64 first = 0, end = 64;
+    while (first < end && !(e.value >> first & 1))
+        first++;
+    while (end > first && !(e.value >> (end - 1) & 1))
+        end--;
+    return {e.address + first * element, (end - first) * element};
+}
+
+}  // namespace
+
+// With those that stand for a reduction, which keeps apart what is done to its variable, and nothing else.
+u32 Run::locks_with(const State &s, const event &e) {
+    u32 held = region_copies_.empty() ? s.locks : locks_with_copy(s, e);
+    if (s.reduced.empty())
+        return held;
+    const auto extent = extent_of(e);
+    for (const auto &reduced : s.reduced)
+        if (extent.first - reduced.first < reduced.second && extent.first + extent.second <= reduced.first + reduced.second)
+            held = locks.with(held, reduced.first, false);
+    return held;
+}
+
+// A task that is part of a reduction, and has the variable itself for its copy.
+void Run::take_part(State &s, u64 address) {
+    const std::pair<u64, u64> reduced{address, sizes_.emplace(address, sizeof(u64)).first->second};
+    if (std::find(s.reduced.begin(), s.reduced.end(), reduced) == s.reduced.end())
+        s.reduced.push_back(reduced);
 }
 
 // A thread whose copy its region's reduction puts together takes part in that itself: a task that has no other copy adds to
@@ -224,6 +260,8 @@ void Run::copy(std::size_t at, const event &e) {
         }
         return;
     }
+    if (e.address == e.value)
+        return take_part(s, e.address);
     auto known = sizes_.find(e.value);
     u64 size = known == sizes_.end() ? 8 : known->second;
     sizes_[e.address] = size;

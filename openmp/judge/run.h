@@ -159,6 +159,7 @@ struct State {
     std::unique_ptr<Siblings> siblings;
     std::map<u64, u32> running;      // children that exclude others, by address
     std::vector<Item> wait_items;
+    std::vector<std::pair<u64, u64>> reduced;   // what it has no copy of, though it takes part in the reduction: address, size
     // Of the static loops of this phase, by their shapes, the segments of the thread's units.
     std::map<std::array<u64, 2>, std::unordered_map<u64, u32>> statics;
 };
@@ -273,6 +274,8 @@ private:
     void acquire(const event &e);
     void note(const event &e);
     void copy(std::size_t at, const event &e);
+    void take_part(State &s, u64 address);
+    u32 locks_with(const State &s, const event &e);
     u32 locks_with_copy(const State &s, const event &e);
     void access(std::size_t at, const event &e);
     void part_ways(const State &s, std::size_t at);

@@ -110,8 +110,10 @@ void Run::start(const event &e, u32 thread) {
     actor.start = node;
     actor.thread = thread;
     s.segment = add_segment(s.actor, node, 0);
-    if (actor.flags & Actor::IS_UNDEFERRED)
+    if (actor.flags & Actor::IS_UNDEFERRED) {
         s.locks = parent.locks;
+        s.reduced = parent.reduced;
+    }
 }
 
 // A task that a cancellation discards before it starts ends there, and whoever waits for it goes on.

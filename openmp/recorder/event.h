@@ -30,7 +30,8 @@ enum kind {
                        team's threads put their parts together there */
     UNLOCK,         /* task; address: the lock */
     NOTE,           /* task; value: one of enum note; place */
-    COPY,           /* address: a thread's copy of a reduced variable; value: the variable; with a size, its own */
+    COPY,           /* address: a thread's copy of a reduced variable; value: the variable, which is its own copy where the
+                       thread is alone; with a size, its own */
     CHUNK,          /* the first of each piece of the file; address: the thread's number; value: of a packed piece the
                        bytes that follow; it has no stamp */
     ENDED,          /* the program has come to its end */

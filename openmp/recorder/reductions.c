@@ -55,11 +55,7 @@ void *__wrap___kmpc_task_reduction_get_th_data(int32_t thread, void *group, void
     void *copy = __real___kmpc_task_reduction_get_th_data(thread, group, item);
     speak(own, before);
     begin_part(own);
-    /* A thread that is alone has no copies: what its tasks add up is kept apart by the reduction. */
-    if (copy == item)
-        taskback_note(own, LOCK, own->task, (uint64_t)item, 1, PLACE);
-    else
-        taskback_note(own, COPY, own->task, (uint64_t)copy, (uint64_t)item, PLACE);
+    taskback_note(own, COPY, own->task, (uint64_t)copy, (uint64_t)item, PLACE);
     return copy;
 }
 

@@ -128,6 +128,8 @@ class Run:
         self._implicit: dict[int, tuple[Region, int]] = {}     # number: (region, phase)
         self._busy: set[int] = set()   # the numbers that have touched memory since their last barrier
         self._locks: dict[int, frozenset[int]] = {}
+        # What a task has no copy of, though it takes part in the reduction: addresses and sizes.
+        self._reduced: dict[int, dict[int, int]] = {}
         self._wait_items: dict[int, list[tuple[int, int]]] = {}
         self._blocks: dict[int, int] = {}      # the sizes of blocks, by their addresses
         self._sizes: dict[int, int] = {}
@@ -258,7 +260,15 @@ class Run:
             event = event._replace(size=t.LARGE, value=self._blocks.get(event.address, 1))
         if event.size != t.SET:
             self._numbers[whose] = event.value
-        self.accesses += [Access(element, actor, locks) for element in elements(event, self._numbers.get(whose, 0))]
+        self.accesses += [Access(element, actor, locks | self._reductions(element))
+                          for element in elements(event, self._numbers.get(whose, 0))]
+
+    def _reductions(self, event: t.Event) -> frozenset[int]:
+        """What stands as a lock for the reduction that the element is part of."""
+        reduced = self._reduced.get(event.task)
+        if not reduced:
+            return NO_LOCKS
+        return frozenset(address for address, size in reduced.items() if 0 <= event.address - address < size)
 
     def _lock(self, event: t.Event) -> None:
         self.counts["reductions" if event.value else "critical sections and locks"] += 1
@@ -276,7 +286,10 @@ class Run:
             return
         size = self._sizes.get(event.value, 8)
         self._sizes[event.address] = size
-        self.copies[event.address] = size
+        if event.address == event.value:
+            self._reduced.setdefault(event.task, {})[event.address] = size
+        else:
+            self.copies[event.address] = size
 
     # ---- parts
 
