@@ -31,6 +31,13 @@ struct Race {
     bool is_sure = true;      // else only where the place is no other one for each thread
 };
 
+// Which of a place's eight bytes these are.
+inline u8 mask_of(u64 place, u64 address, u64 size) {
+    u64 begin = address > place * 8 ? address - place * 8 : 0;
+    u64 end = address + size - place * 8;
+    return static_cast<u8>((end >= 8 ? 0xff : (1u << end) - 1) & ~((1u << begin) - 1));
+}
+
 class Memory {
 public:
     // `is_plain`: each access is compared with all before it at its place, which shows that the short cuts lose nothing.
@@ -54,6 +61,7 @@ private:
         bool is_write, is_atomic;
     };
     static constexpr u64 GRANULE = 8, PAGE = 512;
+    static constexpr u32 MOST_RACES = 16;    // of one place: then it isn't looked at any more
     using Page = std::array<u32, PAGE>;
 
     struct Now {
