@@ -44,6 +44,7 @@ void Memory::take(std::size_t at) {
     if (e.size != SET && size <= sizeof(u64) && !(e.mark & FREED))
         handover_.see(at, e);
     touch_all(at, e);
+    tell_late(at);
 }
 
 // Each thread of a team may put its part of a reduction into the variable when it has come to its end.

@@ -90,6 +90,7 @@ private:
     bool is_handed_over(const Now &now, const Touch &earlier);
     bool is_on_stack(u32 part, u64 address) const;
     bool is_private(u32 part, u64 address) const;
+    void tell_late(std::size_t at);
     void look_for_copies(const Now &now);
     void meet_copies(Now now, bool is_sure, bool has_number);
     void tell_copies();
@@ -107,6 +108,7 @@ private:
     std::vector<Bucket> buckets_;
     std::vector<Touch> touches_;
     u32 free_bucket_ = NONE, free_touch_ = NONE;
+    std::size_t next_late_ = 0;
     struct Key {
         u64 places, kinds;
         bool operator==(const Key &o) const { return places == o.places && kinds == o.kinds; }

@@ -71,6 +71,8 @@ void Run::begin_barrier(const event &e) {
         return;
     leave_unit(s);
     phases[s.phase].arrivals.push_back(node_of(s));
+    s.barrier = now_;
+    s.barrier_end = e.value;
 }
 
 // The first thread to go on shows that all have come, and that the tasks of the phase have ended.

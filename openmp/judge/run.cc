@@ -77,12 +77,14 @@ void Run::take(std::size_t at) {
             return refuse("Undeferred", e.kind == END ? "ends" : "goes on", s, s.pending, e);
     }
     take_sync(at, e);
+    state_of(e).seen = at;
 }
 
 void Run::access(std::size_t at, const event &e) {
     State &s = state_of(e);
     if (s.pending != NONE)
         return refuse("Undeferred", e.kind == READ ? "reads" : "writes", s, s.pending, e);
+    s.seen = at;
     segment_of[at] = s.segment;
     locks_of[at] = locks_with(s, e);
     chain_of[at] = s.callers;
@@ -92,6 +94,10 @@ void Run::access(std::size_t at, const event &e) {
     }
     if (e.mark & ATOMIC)
         part_ways(s, at);
+    if (e.mark & FRAME && e.mark & FREED)
+        end_frame(s, at, e);
+    else if (!lives_.is_empty())
+        find_late(s, at, e);
 }
 
 namespace {
@@ -155,11 +161,15 @@ void Run::take_sync(std::size_t at, const event &e) {
     case START:
         start(e, trace.thread(at));
         segment_of[at] = state_of(e).segment;
-        if (e.mark == STACK)
+        if (e.mark == STACK) {
             forget_released(e);
+            take_stack(state_of(e), at, e);
+        }
         return;
     case END:
         segment_of[at] = state_of(e).segment;
+        if (e.mark == STACK)
+            give_back_stack(at, e.address + e.value);
         return end(e);
     case RESUME: actors[state_of(e).actor].thread = trace.thread(at); return;
     case FULFIL: return fulfil(e);
@@ -169,7 +179,10 @@ void Run::take_sync(std::size_t at, const event &e) {
     case GROUP_OPEN: return open_group(e);
     case GROUP_CLOSE: return close_group(at, e);
     case REGION_BEGIN: return begin_region(e);
-    case REGION_END: return end_region(e);
+    case REGION_END:
+        // Of a team's first task the runtime doesn't tell the end.
+        give_back_stack(at, lives_.base_of(trace.thread(at), state_of(e).actor) - 1);
+        return end_region(e);
     case IMPLICIT_BEGIN: return begin_part(e, trace.thread(at));
     case BARRIER_BEGIN: return begin_barrier(e);
     case BARRIER_END: return end_barrier(e);
@@ -181,6 +194,10 @@ void Run::take_sync(std::size_t at, const event &e) {
     case MEMORY:
         segment_of[at] = state_of(e).segment;
         forget_released(e);
+        if (e.mark == STACK)
+            take_stack(state_of(e), at, e);
+        else if (lives_.is_stack(trace.thread(at), e.address))
+            give_back_stack(at, e.address + e.value);
         return;
     case LANE:
         segment_of[at] = state_of(e).segment;

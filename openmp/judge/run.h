@@ -11,6 +11,7 @@
 
 #include "depends.h"
 #include "graph.h"
+#include "lives.h"
 #include "locks.h"
 #include "trace.h"
 
@@ -110,6 +111,13 @@ struct Reduction {
     std::vector<std::size_t> writes;
 };
 
+// A touch of a variable whose function has ended.
+struct Late {
+    std::size_t at, ended;  // the two events
+    std::size_t taken;      // the event from which on another one has the memory
+    u32 taker;              // in this segment; NONE: nobody has it
+};
+
 struct Fault {
     std::string rule, step;
     u32 actor = NONE, other = NONE;
@@ -150,6 +158,12 @@ struct State {
     u32 masked_unit = NONE; // its first masked block
     std::map<std::array<u64, 3>, u32> static_units;     // in which it made tasks
     u32 unsettled = NONE;   // the last child, while its items come
+    std::vector<FrameEnd> frames;   // that have ended while children may still come
+    u32 under_way = 0;      // how many children haven't ended
+    std::size_t seen = 0;   // its last event
+    std::size_t barrier = 0;    // the one by which it has come to a barrier last
+    u64 barrier_end = 0;        // below there it has nothing on the stack while it is there
+    bool leaves = false;    // some child has ended in front of its own
     bool is_next_team_one = false;
     bool is_next_one = false;   // the next region has one thread by a clause
     bool is_one = false;        // so have those that no clause gives more, by the program's words
@@ -208,6 +222,7 @@ public:
     std::map<std::size_t, std::size_t> reduced_at;  // by the event that closes a group: the one that says what it reduces
     std::vector<Reduction> reductions;
     std::map<std::size_t, u32> reduction_at;    // by the event at which a thread gives its part
+    std::vector<Late> late;
     bool has_ended = false;
     u32 open_regions = 0, team_most = 1, explicit_tasks = 0;
 
@@ -278,11 +293,18 @@ private:
     u32 locks_with(const State &s, const event &e);
     u32 locks_with_copy(const State &s, const event &e);
     void access(std::size_t at, const event &e);
+    void take_stack(const State &s, std::size_t at, const event &e);
+    void give_back_stack(std::size_t at, u64 base);
+    void end_frame(State &s, std::size_t at, const event &e);
+    bool comes_from(u32 actor, u32 other) const;
+    bool is_gone(const Gone &gone, const Holder *holder, const State &s, Late &found);
+    void find_late(const State &s, std::size_t at, const event &e);
     void part_ways(const State &s, std::size_t at);
     Shared *next_shared(State &s);
     void finish();
 
     Graph graph_;
+    Lives lives_;
     std::vector<std::shared_ptr<State>> states_;   // 0 is the program's first thread, which others may stand for too
     std::unordered_map<u64, u32> region_of_;
     // What was released at an address: by all, and by those that don't count down.

@@ -39,6 +39,7 @@ void Run::create(const event &e) {
     s.group = parent.group;
     s.is_one = parent.is_one;
     parent.children.push_back(child);
+    parent.under_way++;
     if (parent.group != NONE)
         groups[parent.group].members.push_back(child);
     if (parent.phase != NONE)
@@ -148,6 +149,8 @@ void Run::end(const event &e) {
         graph_.lead(s.fulfilled, actor.end);
     }
     State &parent = state(number_of_[actor.parent]);
+    parent.under_way--;
+    parent.leaves = parent.leaves || s.leaves || s.under_way != 0;
     for (const Item &item : actor.items)
         if (item.type == Item::MUTEXINOUTSET)
             parent.running.erase(item.address);

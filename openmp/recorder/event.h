@@ -19,8 +19,9 @@ enum kind {
     REGION_END,     /* the same */
     IMPLICIT_BEGIN, /* task: the implicit task; address: its region, 0 for the initial task; value: its index; size: of
                        the team; mark: TEAMS where it is the first task of a team of a league, whose teams that counts */
-    BARRIER_BEGIN,  /* task: an implicit task; address: its region */
-    BARRIER_END,    /* the same */
+    BARRIER_BEGIN,  /* task: an implicit task; address: its region; value: below there its functions have nothing on the
+                       stack, 0 where that isn't known */
+    BARRIER_END,    /* task, address */
     READ,           /* task; address; value: the number read; size; place; mark. Of elements that one place touches in
                        their order it is one event: the size is that of all, the number that of the first; so it is of
                        a SET of elements, whose numbers aren't kept: the address is that of the first of 64 */

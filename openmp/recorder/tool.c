@@ -168,6 +168,15 @@ static void on_schedule(ompt_data_t *prior, ompt_task_status_t status, ompt_data
         go_on(own, next, met);
 }
 
+static ompt_get_task_info_t task_info;
+
+/* Where the runtime's frames begin, which the thread's task has called; 0: not known. */
+static uint64_t end_of_frames(void) {
+    ompt_frame_t *frame = 0;
+    int known = task_info ? task_info(0, 0, 0, &frame, 0, 0) : 0;
+    return known && frame ? (uint64_t)frame->enter_frame.ptr : 0;
+}
+
 static void on_sync(ompt_sync_region_t kind, ompt_scope_endpoint_t end, ompt_data_t *region, ompt_data_t *task,
                     const void *place) {
     struct own *own = own_state();
@@ -185,7 +194,10 @@ static void on_sync(ompt_sync_region_t kind, ompt_scope_endpoint_t end, ompt_dat
     case ompt_sync_region_reduction:
         break;
     default:
-        note(own, end == ompt_scope_begin ? BARRIER_BEGIN : BARRIER_END, number, where, 0, (uint64_t)place);
+        if (end == ompt_scope_begin)
+            note(own, BARRIER_BEGIN, number, where, end_of_frames(), (uint64_t)place);
+        else
+            note(own, BARRIER_END, number, where, 0, (uint64_t)place);
         break;
     }
 }
@@ -267,6 +279,7 @@ static int begin(ompt_function_lookup_t look_up, int device, ompt_data_t *data) 
     (void)device, (void)data;
     ompt_set_callback_t set = (ompt_set_callback_t)look_up("ompt_set_callback");
     taskback_has_tool = 1;
+    task_info = (ompt_get_task_info_t)look_up("ompt_get_task_info");
     set(ompt_callback_task_create, (ompt_callback_t)on_create);
     set(ompt_callback_task_schedule, (ompt_callback_t)on_schedule);
     set(ompt_callback_sync_region, (ompt_callback_t)on_sync);

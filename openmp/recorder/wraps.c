@@ -17,9 +17,60 @@ void __real___kmpc_taskloop(void *, int32_t, void *, int32_t, uint64_t *, uint64
 void *__real___kmpc_task_allow_completion_event(void *, int32_t, void *);
 enum { HAS_PRIORITY = 0x20 };
 
+/* The runtime's record of a task begins so. */
+struct task_record {
+    const uint64_t *shared;
+    const void *entry;
+};
+
+/* In front of the pointers to what the task shares: the function that it runs, and how many bytes the pointers have. */
+typedef int32_t entry_function(int32_t, void *);
+struct entered {
+    entry_function *entry;
+    uint64_t size;
+};
+
+static struct entered *entered_of(const void *record) {
+    return (struct entered *)((const struct task_record *)record)->shared - 1;
+}
+
+/* How far that may be below a task's first frame which it knows of: what it shares, and what a pointer of its own leads to,
+   which may be one that it hasn't set yet. */
+enum { FARTHEST = 1 << 16, FAR = 1 << 11, MOST_OWN = 32, LEAST_STACK = 1 << 18 };
+
+static uint64_t gap_among(const uint64_t *pointers, uint64_t count, uint64_t here, uint64_t farthest) {
+    uint64_t gap = 0;
+    for (uint64_t i = 0; i < count; i++)
+        if (here - pointers[i] < farthest && here - pointers[i] > gap)
+            gap = here - pointers[i];
+    return gap;
+}
+
+/* How far below `here` a variable stands that the task knows of; there it belongs to a function that has ended. */
+static uint64_t gap_below(uint64_t here, const void *record) {
+    const struct entered *entered = entered_of(record);
+    const uint64_t *own = (const uint64_t *)((const char *)record + RECORD_HEAD);
+    uint64_t count = (uint64_t)((const uint64_t *)entered - own);
+    uint64_t of_shared = gap_among((const uint64_t *)(entered + 1), entered->size / sizeof *own, here, FARTHEST);
+    uint64_t of_own = gap_among(own, count < MOST_OWN ? count : MOST_OWN, here, FAR);
+    uint64_t gap = of_shared > of_own ? of_shared : of_own;
+    return gap && here - own_state()->stack_low > LEAST_STACK ? gap : 0;
+}
+
+/* A task's frames begin below such a variable: else what touches it couldn't be told from what touches their own. */
+static int32_t enter_task(int32_t thread, void *record) {
+    void *gap = __builtin_alloca(gap_below((uint64_t)__builtin_frame_address(0), record));
+    __asm__ volatile("" : : "r"(gap) : "memory");
+    int32_t result = entered_of(record)->entry(thread, record);
+    __asm__ volatile("" : : "r"(gap) : "memory");
+    return result;
+}
+
 /* The creator fills the record of a task that is still to come: nobody else can see it until then. */
 void *__wrap___kmpc_omp_task_alloc(void *at, int32_t thread, int32_t flags, size_t size, size_t shared, void *entry) {
-    void *record = __real___kmpc_omp_task_alloc(at, thread, flags, size, shared, entry);
+    size += sizeof(struct entered);
+    void *record = __real___kmpc_omp_task_alloc(at, thread, flags, size, shared ? shared : sizeof(uint64_t), (void *)enter_task);
+    *entered_of(record) = (struct entered){(entry_function *)entry, shared};
     struct own *own = own_state();
     taskback_fill_record(own, (uint64_t)record, (size + 15) / 8 * 8 + shared);
     if (flags & HAS_PRIORITY)
@@ -168,12 +219,6 @@ struct copied {
 
 static struct copied *all_copied;
 
-/* The runtime's record of a task begins so. */
-struct task_record {
-    void *shared;
-    const void *entry;
-};
-
 static struct copied *find_copied(const void *entry) {
     struct copied *found = __atomic_load_n(&all_copied, __ATOMIC_ACQUIRE);
     while (found && found->entry != entry)
@@ -193,7 +238,7 @@ static void keep_copied(const void *entry, copy_function *copy, uint64_t size) {
 }
 
 static void copy_record(void *to, void *from, int32_t is_last) {
-    const struct copied *found = find_copied(((struct task_record *)from)->entry);
+    const struct copied *found = find_copied((const void *)entered_of(from)->entry);
     struct own *own = own_state();
     uint32_t muted = own->muted;
     taskback_fill_record(own, (uint64_t)to, found ? found->size : 0);
@@ -207,7 +252,7 @@ static void copy_record(void *to, void *from, int32_t is_last) {
 void __wrap___kmpc_taskloop(void *at, int32_t thread, void *task, int32_t deferred, uint64_t *low, uint64_t *high,
                             int64_t stride, int32_t no_group, int32_t schedule, uint64_t grain, void *copy) {
     struct own *own = own_state();
-    keep_copied(((struct task_record *)task)->entry, (copy_function *)copy, own->record_size);
+    keep_copied((const void *)entered_of(task)->entry, (copy_function *)copy, own->record_size);
     struct call call = enter(PLACE, !deferred);
     keep_items(call.own, 0, 0, 0, 0);
     __real___kmpc_taskloop(at, thread, task, deferred, low, high, stride, no_group, schedule, grain, (void *)copy_record);
