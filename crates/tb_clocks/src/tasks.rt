@@ -28,6 +28,8 @@ pub struct Tasks {
 }
 
 /// The row of the child that the action of this task generates, if it generates one.
+// out of line: other actions don't pay for its stack frame
+#[inline(never)]
 fn child_row(alloc: Global, task: usize, action: &Action) -> Result<Option<Row>, AllocError>
     ensures { IfOk result (IsChildRow task action.now) }
 {

@@ -1,13 +1,13 @@
 -- What is kept of each cell and of the output has the newest step with which a later one races.
 use Rattle.std.proofs.Common.{◌≡◌, ◌≢◌, ◌<◌, ◌≤◌, ◌+◌, ◌-◌, ℕ, suc, List, [], ◌∷◌, ◌++◌, Bool, true, false, not, ◌||◌, ◌&&◌, cond, length, take, refl, sym, ap, ap₂, ◌∙◌, subst, arith, Option, Some, None, is_some, get_or, slice_get, ◌⊎◌, inl, inr, ⊎_elim, map, set, get_or-set_same, get_or-set_other, Vec, Global}
-use Rattle.std.proofs.lemmas.Bool.{and_parts, and_from, or_left, or_right, false≢true, false_from_ne_true, true_from_ne_false, both_ways, cases_eq, cases_lt, eq-eqb, ne_eqb}
+use Rattle.std.proofs.lemmas.Bool.{and_parts, and_from, or_left, or_right, false≢true, true_from_ne_false, both_ways, cases_eq, cases_lt, eq-eqb, ne_eqb}
 use Rattle.std.proofs.lemmas.List.{get_or-take, get_or_append_left, length-take, length-append, map-set, length-map, get_or-map}
 use Rattle.std.proofs.Math.Seq.{get_or-append_seam}
 use Rattle.std.proofs.lemmas.Option.{slice_get_read}
 use Rattle.tb_steps.specs.Entries.{Entry}
 use Rattle.tb_races.specs.Orders.{Order}
 use Rattle.tb_lanes.specs.Clocks.{kept_in, reaches}
-use Rattle.tb_lanes.specs.Kept.{AreRows, HasLater, IsCut, IsLarger, IsNewest, IsRow, in_so, is_in, is_in_at, is_load, loads_at, loads_so, newest_of, shares_at, shares_so, slot_of}
+use Rattle.tb_lanes.specs.Kept.{AreRows, IsCovered, IsCut, IsLarger, IsNewest, IsRow, in_so, is_in, is_in_at, is_load, loads_at, loads_so, newest_of, shares_at, shares_so, slot_of}
 use Rattle.tb_lanes.proofs.AfterLemmas.{at, at_read, reached, reaches_so, reach_on}
 use Rattle.tb_lanes.proofs.ClockLemmas.{zero_eqb}
 use Rattle.tb_lanes.proofs.SharingLemmas.{shared_told, shared_none, in_slot, in_no_slot}
@@ -44,8 +44,8 @@ pub kept_none : (o : Order) (entries : List Entry) (i : ℕ) (writes loads : Lis
 kept_none o entries i writes loads a b = record {
   writes_in = subst (IsRow entries 0 i false) (sym a) (row_none entries i false);
   loads_in = subst (IsRow entries 0 i true) (sym b) (row_none entries i true);
-  writes_left = λ p x l m k. absurd (omega (arith, k));
-  loads_left = λ p x l m k. absurd (omega (arith, k));
+  writes_left = λ x k. absurd (omega (arith, k));
+  loads_left = λ x k. absurd (omega (arith, k));
 }
 
 -- ---- one row
@@ -84,11 +84,10 @@ module _ (row : List ℕ) (count n : ℕ) (few : count ≤ length row) where
   top_some d = ap (λ b. cond b 0 (suc (get_or row (count - 1) 0))) (zero_eqb count d)
 
 module _ (o : Order) (entries : List Entry) (n : ℕ) (w : n < length entries) (i : ℕ) where
-  -- what doesn't come after one that comes before n doesn't come after n
-  past : (p y : ℕ) → p < length entries → y < length entries → reaches o entries p y ≡ false → reaches o entries n y ≡ true → reaches o entries p n ≡ false
-  past p y l m none h =
-      false_from_ne_true (reaches o entries p n) (λ g.
-      both_ways (reaches o entries p y) none (reaches_so o entries p y (reach_on o entries p n y (reached o entries p n l w g) (reached o entries n y w m h))))
+  -- n comes after what comes before one that comes before n
+  past : (y x : ℕ) → y < n → x < n → reaches o entries n y ≡ true → reaches o entries y x ≡ true → reaches o entries n x ≡ true
+  past y x l m h g =
+      reaches_so o entries n x (reach_on o entries n y x (reached o entries n y w (omega (arith, l, w)) h) (reached o entries y x (omega (arith, l, w)) (omega (arith, m, w)) g))
 
   module _ (loads : Bool) (row : List ℕ) (is : IsRow entries n i loads row) where
     row_same : IsRow entries (n + 1) i loads row
@@ -133,21 +132,21 @@ module _ (o : Order) (entries : List Entry) (n : ℕ) (w : n < length entries) (
       -- ---- what isn't in the row any more
 
       module _ (passed : (j : ℕ) → count ≤ j → j < length row → reaches o entries n (get_or row j 0) ≡ true) where
-        cut : (p x : ℕ) → p < length entries → HasLater o entries p x row → HasLater o entries p x (take count row) ⊎ (reaches o entries p n ≡ false)
-        cut p x l h = by (cases_lt h.0 count)
+        cut : (x : ℕ) → x < n → IsCovered o entries x row → IsCovered o entries x (take count row) ⊎ (reaches o entries n x ≡ true)
+        cut x l h = by (cases_lt h.0 count)
           where
-            by : (h.0 < count) ⊎ (count ≤ h.0) → HasLater o entries p x (take count row) ⊎ (reaches o entries p n ≡ false)
+            by : (h.0 < count) ⊎ (count ≤ h.0) → IsCovered o entries x (take count row) ⊎ (reaches o entries n x ≡ true)
             by (inl a) =
                 let e = cut_here row count n few h.0 a in
-                inl (h.0, omega (arith, a, cut_length row count n few), omega (arith, e, h.2), subst (λ y. reaches o entries p y ≡ false) (sym e) h.3)
-            by (inr b) = inr (past p (get_or row h.0 0) l (omega (arith, is.low h.0 h.1, w)) h.3 (passed h.0 b h.1))
+                inl (h.0, omega (arith, a, cut_length row count n few), omega (arith, e, h.2), subst (λ y. reaches o entries y x ≡ true) (sym e) h.3)
+            by (inr b) = inr (past (get_or row h.0 0) x (is.low h.0 h.1) l (passed h.0 b h.1) h.3)
 
         -- one that isn't in front of n, and isn't newer than it, is behind the last
-        above : (x : ℕ) → HasLater o entries n x row → newest_of row count ≤ x → ⊥
-        above x h l = by (cases_lt h.0 count)
+        above : (x : ℕ) → x < n → reaches o entries n x ≡ false → IsCovered o entries x row → newest_of row count ≤ x → ⊥
+        above x m none h l = by (cases_lt h.0 count)
           where
             by : (h.0 < count) ⊎ (count ≤ h.0) → ⊥
-            by (inr b) = both_ways (reaches o entries n (get_or row h.0 0)) h.3 (passed h.0 b h.1)
+            by (inr b) = both_ways (reaches o entries n x) none (past (get_or row h.0 0) x (is.low h.0 h.1) m (passed h.0 b h.1) h.3)
             by (inl a) = last (cases_eq h.0 (count - 1))
               where
                 top : newest_of row count ≡ suc (get_or row (count - 1) 0)
@@ -157,16 +156,19 @@ module _ (o : Order) (entries : List Entry) (n : ℕ) (w : n < length entries) (
                 last (inl e) = omega (arith, l, top, h.2, ap (λ m. get_or row m 0) e)
                 last (inr d) = omega (arith, l, top, h.2, is.rising h.0 (count - 1) (omega (arith, a, d)) (omega (arith, a, few)))
 
-      kept_on : (p x : ℕ) → HasLater o entries p x (take count row) → HasLater o entries p x (take count row ++ n ∷ [])
-      kept_on p x h =
+      kept_on : (x : ℕ) → IsCovered o entries x (take count row) → IsCovered o entries x (take count row ++ n ∷ [])
+      kept_on x h =
           let a : h.0 < count = omega (arith, h.1, cut_length row count n few) in
           let e = more_here row count n few h.0 a ∙ sym (cut_here row count n few h.0 a) in
-          (h.0, omega (arith, a, cut_length row count n few, length-append (take count row) (n ∷ [])), omega (arith, e, h.2), subst (λ y. reaches o entries p y ≡ false) (sym e) h.3)
+          (h.0, omega (arith, a, cut_length row count n few, length-append (take count row) (n ∷ [])), omega (arith, e, h.2), subst (λ y. reaches o entries y x ≡ true) (sym e) h.3)
 
-      last_on : (p x : ℕ) → x ≤ n → reaches o entries p n ≡ false → HasLater o entries p x (take count row ++ n ∷ [])
-      last_on p x l h =
+      last_on : (x : ℕ) → x ≤ n → reaches o entries n x ≡ true → IsCovered o entries x (take count row ++ n ∷ [])
+      last_on x l h =
           let e = more_last row count n few in
-          (count, omega (arith, cut_length row count n few, length-append (take count row) (n ∷ [])), omega (arith, e, l), subst (λ y. reaches o entries p y ≡ false) (sym e) h)
+          (count, omega (arith, cut_length row count n few, length-append (take count row) (n ∷ [])), omega (arith, e, l), subst (λ y. reaches o entries y x ≡ true) (sym e) h)
+
+  itself : (x : ℕ) → x ≡ n → reaches o entries n x ≡ true
+  itself x e = reaches_so o entries n x (inl (sym e))
 
   -- ---- one step more
 
@@ -175,8 +177,8 @@ module _ (o : Order) (entries : List Entry) (n : ℕ) (w : n < length entries) (
     kept_same other = record {
       writes_in = row_same false writes is.writes_in;
       loads_in = row_same true loads is.loads_in;
-      writes_left = λ p x l m k s t h. is.writes_left p x l (omega (arith, m)) (older x k s) s t h;
-      loads_left = λ p x l m k s t h. is.loads_left p x l (omega (arith, m)) (older x k s) s t h;
+      writes_left = λ x k s t. is.writes_left x (older x k s) s t;
+      loads_left = λ x k s t. is.loads_left x (older x k s) s t;
     }
       where
         older : (x : ℕ) → x < n + 1 → is_in_at entries i x ≡ true → x < n
@@ -187,48 +189,49 @@ module _ (o : Order) (entries : List Entry) (n : ℕ) (w : n < length entries) (
       kept_load it = record {
         writes_in = row_same false writes is.writes_in;
         loads_in = row_more true loads is.loads_in many few sharing it;
-        writes_left = λ p x l m k s t h. is.writes_left p x l (omega (arith, m)) (older x k t) s t h;
-        loads_left = λ p x l m k s t h. left p x l m s t h (cases_eq x n) k;
+        writes_left = λ x k s t. is.writes_left x (older x k t) s t;
+        loads_left = λ x k s t. left x s t (cases_eq x n) k;
       }
         where
           older : (x : ℕ) → x < n + 1 → loads_at entries x ≡ false → x < n
           older x k t = ⊎_elim (λ e. absurd (both_ways (loads_at entries n) (subst (λ y. loads_at entries y ≡ false) e t) it)) (λ d. omega (arith, k, d)) (cases_eq x n)
 
-          left : (p x : ℕ) → p < length entries → n + 1 ≤ p → is_in_at entries i x ≡ true → loads_at entries x ≡ true → reaches o entries p x ≡ false → (x ≡ n) ⊎ (x ≢ n) → x < n + 1 → HasLater o entries p x writes ⊎ HasLater o entries p x (take many loads ++ n ∷ [])
-          left p x l m s t h (inl e) k = inr (last_on true loads is.loads_in many few p x (omega (arith, e)) (subst (λ y. reaches o entries p y ≡ false) e h))
-          left p x l m s t h (inr d) k =
+          left : (x : ℕ) → is_in_at entries i x ≡ true → loads_at entries x ≡ true → (x ≡ n) ⊎ (x ≢ n) → x < n + 1 → IsCovered o entries x writes ⊎ IsCovered o entries x (take many loads ++ n ∷ [])
+          left x s t (inl e) k = inr (last_on true loads is.loads_in many few x (omega (arith, e)) (itself x e))
+          left x s t (inr d) k =
+              let l : x < n = omega (arith, k, d) in
               ⊎_elim (λ a. inl a)
               (λ b.
-              ⊎_elim (λ c. inr (kept_on true loads is.loads_in many few p x c)) (λ c. inr (last_on true loads is.loads_in many few p x (omega (arith, k)) c))
-              (cut true loads is.loads_in many few passed p x l b))
-              (is.loads_left p x l (omega (arith, m)) (omega (arith, k, d)) s t h)
+              ⊎_elim (λ c. inr (kept_on true loads is.loads_in many few x c)) (λ c. inr (last_on true loads is.loads_in many few x (omega (arith, k)) c))
+              (cut true loads is.loads_in many few passed x l b))
+              (is.loads_left x l s t)
 
       module _ (count : ℕ) (less : count ≤ length writes) (gone : (j : ℕ) → count ≤ j → j < length writes → reaches o entries n (get_or writes j 0) ≡ true) where
         pub kept_write : loads_at entries n ≡ false → AreRows o entries (n + 1) i (take count writes ++ n ∷ []) (take many loads)
         kept_write it = record {
           writes_in = row_more false writes is.writes_in count less sharing it;
           loads_in = row_less true loads is.loads_in many few;
-          writes_left = λ p x l m k s t h. left p x l m s t h (cases_eq x n) k;
-          loads_left = λ p x l m k s t h. covered p x l m (is.loads_left p x l (omega (arith, m)) (older x k t) s t h) k;
+          writes_left = λ x k s t. left x s t (cases_eq x n) k;
+          loads_left = λ x k s t. let l = older x k t in covered x l (is.loads_left x l s t);
         }
           where
             older : (x : ℕ) → x < n + 1 → loads_at entries x ≡ true → x < n
             older x k t = ⊎_elim (λ e. absurd (both_ways (loads_at entries n) it (subst (λ y. loads_at entries y ≡ true) e t))) (λ d. omega (arith, k, d)) (cases_eq x n)
 
-            on : (p x : ℕ) → p < length entries → x ≤ n → HasLater o entries p x writes → HasLater o entries p x (take count writes ++ n ∷ [])
-            on p x l k a =
-                ⊎_elim (λ c. kept_on false writes is.writes_in count less p x c) (λ c. last_on false writes is.writes_in count less p x k c)
-                (cut false writes is.writes_in count less gone p x l a)
+            on : (x : ℕ) → x < n → IsCovered o entries x writes → IsCovered o entries x (take count writes ++ n ∷ [])
+            on x l a =
+                ⊎_elim (λ c. kept_on false writes is.writes_in count less x c) (λ c. last_on false writes is.writes_in count less x (omega (arith, l)) c)
+                (cut false writes is.writes_in count less gone x l a)
 
-            left : (p x : ℕ) → p < length entries → n + 1 ≤ p → is_in_at entries i x ≡ true → loads_at entries x ≡ false → reaches o entries p x ≡ false → (x ≡ n) ⊎ (x ≢ n) → x < n + 1 → HasLater o entries p x (take count writes ++ n ∷ [])
-            left p x l m s t h (inl e) k = last_on false writes is.writes_in count less p x (omega (arith, e)) (subst (λ y. reaches o entries p y ≡ false) e h)
-            left p x l m s t h (inr d) k = on p x l (omega (arith, k)) (is.writes_left p x l (omega (arith, m)) (omega (arith, k, d)) s t h)
+            left : (x : ℕ) → is_in_at entries i x ≡ true → loads_at entries x ≡ false → (x ≡ n) ⊎ (x ≢ n) → x < n + 1 → IsCovered o entries x (take count writes ++ n ∷ [])
+            left x s t (inl e) k = last_on false writes is.writes_in count less x (omega (arith, e)) (itself x e)
+            left x s t (inr d) k = let l : x < n = omega (arith, k, d) in on x l (is.writes_left x l s t)
 
-            covered : (p x : ℕ) → p < length entries → n + 1 ≤ p → HasLater o entries p x writes ⊎ HasLater o entries p x loads → x < n + 1 → HasLater o entries p x (take count writes ++ n ∷ []) ⊎ HasLater o entries p x (take many loads)
-            covered p x l m (inl a) k = inl (on p x l (omega (arith, k)) a)
-            covered p x l m (inr b) k =
-                ⊎_elim (λ c. inr c) (λ c. inl (last_on false writes is.writes_in count less p x (omega (arith, k)) c))
-                (cut true loads is.loads_in many few passed p x l b)
+            covered : (x : ℕ) → x < n → IsCovered o entries x writes ⊎ IsCovered o entries x loads → IsCovered o entries x (take count writes ++ n ∷ []) ⊎ IsCovered o entries x (take many loads)
+            covered x l (inl a) = inl (on x l a)
+            covered x l (inr b) =
+                ⊎_elim (λ c. inr c) (λ c. inl (last_on false writes is.writes_in count less x (omega (arith, l)) c))
+                (cut true loads is.loads_in many few passed x l b)
 
     -- ---- the newest
 
@@ -285,7 +288,7 @@ module _ (o : Order) (entries : List Entry) (n : ℕ) (w : n < length entries) (
         no_write : (x : ℕ) → write ≤ x → x < n → is_in_at entries i x ≡ true → loads_at entries x ≡ false → reaches o entries n x ≡ true
         no_write x l m s t =
             true_from_ne_false (reaches o entries n x) (λ h.
-            above false writes is.writes_in count less gone x (is.writes_left n x w (omega arith) m s t h) l)
+            above false writes is.writes_in count less gone x m h (is.writes_left x m s t) l)
 
         writes_candidate : IsCandidate write
         writes_candidate = candidate false writes is.writes_in count less with_write last
@@ -310,8 +313,8 @@ module _ (o : Order) (entries : List Entry) (n : ℕ) (w : n < length entries) (
             none x l k m s false t = no_write x l m (and_parts (is_in_at entries i x) _ (sym (sharing x m) ∙ s)).0 t
             none x l k m s true t =
                 true_from_ne_false (reaches o entries n x) (λ h.
-                ⊎_elim (λ a. above false writes is.writes_in count less gone x a l) (λ b. above true loads is.loads_in many few passed x b k)
-                (is.loads_left n x w (omega arith) m (and_parts (is_in_at entries i x) _ (sym (sharing x m) ∙ s)).0 t h))
+                ⊎_elim (λ a. above false writes is.writes_in count less gone x m h a l) (λ b. above true loads is.loads_in many few passed x m h b k)
+                (is.loads_left x m (and_parts (is_in_at entries i x) _ (sym (sharing x m) ∙ s)).0 t))
 
             by : IsLarger write load m → IsNewest o entries n m
             by (inl a) =

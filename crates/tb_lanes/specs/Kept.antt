@@ -88,17 +88,17 @@ pub record IsCut (o : Order) (entries : List Entry) (p : ℕ) (row : List ℕ) (
   pub last : 0 < count → reaches o entries p (slice_index_or row (count - 1) 0) ≡ false
   pub passed : (j : ℕ) → count ≤ j → j < length row → IsTrue (reaches o entries p (slice_index_or row j 0))
 
--- the row has a step that doesn't come before the one at p, x or a newer one
-abbrev pub HasLater : Order → List Entry → ℕ → ℕ → List ℕ → Type 0
-HasLater o entries p x row = (j : ℕ) × (j < length row) × (x ≤ slice_index_or row j 0) × (reaches o entries p (slice_index_or row j 0) ≡ false)
+-- the row has the step at x, or a newer one that comes after it
+abbrev pub IsCovered : Order → List Entry → ℕ → List ℕ → Type 0
+IsCovered o entries x row = (j : ℕ) × (j < length row) × (x ≤ slice_index_or row j 0) × IsTrue (reaches o entries (slice_index_or row j 0) x)
 
--- of the first n steps that share this the rows have all with which a later step may race: it races with a newer one of the rows
--- if it races with one that they don't have
+-- of the first n steps that share this the rows have all with which a later step may race: one that they don't have comes before
+-- a newer one that they have, so who races with it races with that as well
 pub record AreRows (o : Order) (entries : List Entry) (n i : ℕ) (writes loads : List ℕ) : Type 0 where
   pub writes_in : IsRow entries n i false writes
   pub loads_in : IsRow entries n i true loads
-  pub writes_left : (p x : ℕ) → p < length entries → n ≤ p → x < n → IsTrue (is_in_at entries i x) → loads_at entries x ≡ false → reaches o entries p x ≡ false → HasLater o entries p x writes
-  pub loads_left : (p x : ℕ) → p < length entries → n ≤ p → x < n → IsTrue (is_in_at entries i x) → loads_at entries x ≡ true → reaches o entries p x ≡ false → HasLater o entries p x writes ⊎ HasLater o entries p x loads
+  pub writes_left : (x : ℕ) → x < n → IsTrue (is_in_at entries i x) → loads_at entries x ≡ false → IsCovered o entries x writes
+  pub loads_left : (x : ℕ) → x < n → IsTrue (is_in_at entries i x) → loads_at entries x ≡ true → IsCovered o entries x writes ⊎ IsCovered o entries x loads
 
 -- so it is with all that is shared
 abbrev pub AreKept : Order → List Entry → ℕ → Kept → Type 0

@@ -45,6 +45,7 @@ pub fn slot_of(action: &Action) -> Option<usize>
     }
 }
 
+/// Whether the action loads from a cell.
 pub fn is_load(action: &Action) -> bool
     ensures { result ≡ sharing.is_load action.now }
 {
@@ -72,7 +73,7 @@ pub fn cut(rows: &mut Vec<Vec<usize>>, slot: usize, count: usize)
     rows[slot].truncate(count);
 }
 
-/// And this one is added.
+/// Of the row of this number the first places stay, as many as are told, and `at` is added behind them.
 pub fn put(
     rows: &mut Vec<Vec<usize>>,
     slot: usize,

@@ -1,6 +1,6 @@
 //! How far one lane is in front.
 
-ghost use Rattle.std.specs.Prelude.{◌≡◌, ◌+◌, IfSome};
+ghost use Rattle.std.specs.Prelude.{◌≡◌, ◌<◌, ◌≤◌, ◌+◌, IfSome, IsSome};
 
 /// The greatest index and the most lanes that a bound speaks of.
 const MOST: usize = 4_294_967_295;
@@ -15,7 +15,8 @@ pub struct LaneBound {
 impl LaneBound {
     /// The lane up to the step at this index, with it. There is none beyond 32 bits.
     pub fn up_to(lane: usize, at: usize) -> Option<LaneBound>
-        ensures { IfSome result (λ bound. (bound.lane ≡ lane) × (bound.to ≡ at + 1)) }
+        ensures some { IfSome result (λ bound. (bound.lane ≡ lane) × (bound.to ≡ at + 1)) }
+        ensures succeeds { lane ≤ 4294967295 → at < 4294967295 → IsSome result }
     {
         if lane > MOST || at >= MOST {
             return None;

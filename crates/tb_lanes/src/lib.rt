@@ -2,6 +2,7 @@
 //! that store it, and the definitions by which their contracts speak of a history.
 #![tactic(auto)]
 
+mod asking;
 mod bounds;
 mod clocks;
 mod ends;
@@ -14,6 +15,7 @@ mod step;
 mod tasks;
 mod waiter;
 
+pub use asking::{covers, kind_asked, waits_by_itself};
 pub use bounds::{add_row, bound, bound_among, merged, whole};
 pub use clocks::{Clocks, reaches, row};
 pub use ends::{Ends, no_ends, note_end};

@@ -2,4 +2,3 @@ pub mod Told
 pub mod Edges
 pub mod Walked
 pub mod AllNeeds
-pub mod Begun

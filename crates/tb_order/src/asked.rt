@@ -1,20 +1,19 @@
 //! About which ends a step is asked whether it waits for them.
 
-ghost use Rattle.std.specs.Prelude.{◌≡◌, ◌<◌, ℕ, Some, None, length, slice_get, if◌then◌else◌, IsTrue, OnOk};
+ghost use Rattle.std.specs.Prelude.{◌≡◌, ◌<◌, ℕ, Some, slice_get, IsTrue, OnOk};
 ghost use Rattle.std.specs.List.{list_any};
 ghost use Rattle.tb_model.specs.declared.item.Item.{Item as AnItem};
 ghost use Rattle.tb_model.specs.declared.place.Place.TheVariants.{Cell};
 ghost use Rattle.tb_model.specs.Items.{same_place};
 ghost use Rattle.tb_lanes.specs.Clocks.{IsEnd, links_at};
 ghost use Rattle.tb_lanes.specs.Linking.{order_of};
-ghost use Rattle.tb_lanes.specs.Rows as is;
 ghost use Rattle.tb_lanes.specs.Rows.{AreJoined, IsAsked, IsNoted, IsTold, IsWaiting, JoinsMore, items_at, may_meet, some_may_meet, waits_at};
 
 use crate::merging::merge;
 use crate::waiting::{is_held, items_of};
 use std::alloc::AllocError;
 use tb_core::History;
-use tb_lanes::{Joined, Key, Past, Tasks, Waiter, item_key, row_of};
+use tb_lanes::{Joined, Key, Past, Tasks, Waiter, item_key, kind_asked, row_of};
 use tb_model::{Action, Item, Kind, Place};
 
 /// Adds the ends to which the step is linked, with all that is in front of them.
@@ -149,19 +148,6 @@ fn merge_item(
     merge_kind(joined, waiter, entries, tasks, past, (asked, cell))?;
     let asked = kind_asked(exclusion, item.kind, Kind::Inoutset);
     merge_kind(joined, waiter, entries, tasks, past, (asked, cell))
-}
-
-/// The kind of the earlier item, where one of the new kind may meet it.
-fn kind_asked(exclusion: bool, new: Kind, old: Kind) -> Option<Kind>
-    ensures { result ≡ (if is.asks exclusion new old then Some old else None) }
-{
-    let asked = match (new, old) {
-        (Kind::In, Kind::In) => false,
-        (Kind::Mutexinoutset, Kind::Mutexinoutset) => exclusion,
-        (Kind::Inoutset, Kind::Inoutset) => false,
-        _ => true,
-    };
-    if asked { Some(old) } else { None }
 }
 
 /// Adds the ends of children with an item of this kind at this cell or at all memory, if there is a

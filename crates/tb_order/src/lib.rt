@@ -4,7 +4,6 @@
 mod asked;
 mod asking;
 mod edge;
-mod exclusion;
 mod grouping;
 mod immediate;
 mod immediate_all;

@@ -1,12 +1,11 @@
 //! For which ends a step waits.
 
-ghost use Rattle.std.specs.Prelude.{◌≡◌, ◌<◌, ◌≤◌, ◌∷◌, ◌||◌, ℕ, List, Bool, length, take, slice_get, IsFalse, IsTrue, Some, false};
+ghost use Rattle.std.specs.Prelude.{◌≡◌, ◌<◌, ◌≤◌, ◌∷◌, ℕ, List, Bool, length, take, slice_get, IsFalse, IsTrue, Some, false};
 ghost use Rattle.tb_model.specs.declared.action.Action.{Action};
 ghost use Rattle.tb_steps.specs.Entries.{Entry};
 ghost use Rattle.tb_steps.specs.Scans.{AreLegal, history_of};
 ghost use Rattle.tb_model.specs.Facts;
 ghost use Rattle.tb_model.specs.Names.{Name};
-ghost use Rattle.tb_model.specs.Items.{has_no_items, is_before, some_meet};
 ghost use Rattle.tb_model.specs.State.{items_in};
 ghost use Rattle.tb_races.specs.Kinds;
 ghost use Rattle.tb_lanes.specs.Clocks.{AreTasks, both_at, is_end_at, links_at, of_one};
@@ -15,7 +14,7 @@ ghost use Rattle.tb_lanes.specs.Linking.{order_of};
 
 use crate::kinds::{counts, shared};
 use tb_core::{History, is_member};
-use tb_lanes::{Tasks, step_before};
+use tb_lanes::{Tasks, covers, step_before, waits_by_itself};
 use tb_model::{Action, Item, TaskName, some_apart, some_before};
 use tb_races::NeedKind;
 
@@ -29,18 +28,6 @@ pub fn may_wait(entries: &History<'_>, tasks: &Tasks, at: usize) -> bool
 {
     let items = items_of(entries, tasks, at);
     waits_by_itself(entries.action(at), items) || is_held(entries, tasks, at)
-}
-
-/// Whether the action, of a task with these depend items, is one that waits.
-fn waits_by_itself(action: &Action, items: &[Item]) -> bool
-    ensures { IsFalse result → (H : Facts.History) (t u : Name) → items.now ≡ Facts.items_of t H
-        → Kinds.wait_kind H t action.now u ≡ None }
-{
-    match action {
-        Action::Start => !items.is_empty(),
-        Action::Wait { .. } | Action::Close => true,
-        _ => false,
-    }
 }
 
 /// Whether the task generated an undeferred child right in front of the step at this place.
@@ -220,13 +207,6 @@ fn wait_kind(
     }
 }
 
-/// Whether a `taskwait` with these items waits for a child with the others.
-fn covers(items: &[Item], others: &[Item]) -> bool
-    ensures { result ≡ (has_no_items items.now || some_meet is_before items.now others.now) }
-{
-    items.is_empty() || some_before(items, others)
-}
-
 /// Why the start of `t` waits for the end of `u`.
 fn start_kind(
     front: &History<'_>,
@@ -274,7 +254,7 @@ fn named_items<'a>(entries: &History<'a>, at: usize) -> &'a [Item]
 }
 
 /// The depend items that the action gives to a child.
-pub fn action_items(action: &Action) -> &[Item]
+fn action_items(action: &Action) -> &[Item]
     ensures { result.now ≡ items_in (Some action.now) }
 {
     match action {

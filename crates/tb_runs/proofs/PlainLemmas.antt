@@ -1,11 +1,10 @@
 -- Words that are read as they stand in a line: where they end, and what they say.
-use Rattle.std.proofs.Common.{◌≡◌, ◌⊎◌, inl, inr, ℕ, suc, ◌+◌, ◌*◌, ◌<◌, ◌≤◌, ◌^◌, ◌==◌, ◌&&◌, not, nat_lt, nat_le, Bool, true, false, cond, List, [], ◌∷◌, ◌++◌, take, drop, length, codes, refl, sym, ap, ◌∙◌, subst, arith, append_assoc, length-append, drop_of_length-le, eqb-true, nat_eq, Option, Some, None, Ok, ℤ}
+use Rattle.std.proofs.Common.{◌≡◌, ◌⊎◌, inl, inr, ℕ, suc, ◌+◌, ◌*◌, ◌<◌, ◌≤◌, ◌^◌, ◌==◌, ◌&&◌, not, nat_lt, nat_le, Bool, true, false, cond, List, [], ◌∷◌, ◌++◌, take, drop, length, codes, refl, sym, ap, ◌∙◌, subst, arith, append_assoc, length-append, drop_of_length-le, eqb-true, Option, Some, None, Ok, ℤ}
 use Rattle.std.proofs.lemmas.Bool.{and_from, and_parts, false≢true}
 use Rattle.std.proofs.lemmas.Bool.Decides.{nat_tests}
-use Rattle.std.proofs.lemmas.List.{take-append-drop}
 use Rattle.std.proofs.lemmas.List.Folds.{list_all-append}
 use Rattle.std.proofs.Math.Seq.{take-append_seam}
-use Rattle.std.specs.Cmp.Lexicographic.{pointwise, same_text}
+use Rattle.std.specs.Cmp.Lexicographic.{same_text}
 use Rattle.std.specs.Char.{is_ascii_digit, digit_value}
 use Rattle.std.specs.List.{list_all, position_or_len}
 use Rattle.std.specs.Str.Parse.{digits_value, digits_value_after}
@@ -248,10 +247,3 @@ id_led bytes rest digits at k t e behind begins number some few task =
         by : (less : Bool) → nat_lt (position_or_len is_hash bytes) (length bytes) ≡ less → position_or_len is_hash bytes < length bytes
         by true h = grind (arith, nat_tests)
         by false h = absurd (none_behind (suc (position_or_len is_hash bytes)) bytes (grind (arith, nat_tests)) b)
-
--- ---- a front that is cut off
-
-pub front_cut : (bytes text rest : List ℕ) → pointwise nat_eq (take (length text) bytes) text ≡ true → rest ≡ drop (length text) bytes → bytes ≡ text ++ rest
-front_cut bytes text rest same behind =
-    sym (take-append-drop (length text) bytes) ∙ ap (λ l. l ++ drop (length text) bytes) (same_text (take (length text) bytes) text (sym same)) ∙ ap
-    (λ l. text ++ l) (sym behind)

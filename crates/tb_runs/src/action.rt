@@ -96,6 +96,8 @@ fn take_test(words: &mut Words<'_>) -> Result<Action, Fault>
     }
 }
 
+// out of line: other actions don't pay for its stack frame
+#[inline(never)]
 fn take_wait(alloc: Global, words: &mut Words<'_>, cells: u32) -> Result<Action, Unread>
     ensures ok { IfOk result (λ action. wait_in cells words.old ≡ Ok (action, words.new)) }
     ensures err { (fault : TheFault) → result ≡ Err (Faulty fault) → wait_in cells words.old ≡ Err fault }
@@ -106,6 +108,8 @@ fn take_wait(alloc: Global, words: &mut Words<'_>, cells: u32) -> Result<Action,
 }
 
 /// The child, with a body that isn't kept, since a run has none.
+// out of line: other actions don't pay for its stack frame
+#[inline(never)]
 fn take_spawn(alloc: Global, words: &mut Words<'_>, cells: u32) -> Result<Action, Unread>
     ensures ok { IfOk result (λ action. spawn_in cells words.old ≡ Ok (action, words.new)) }
     ensures err { (fault : TheFault) → result ≡ Err (Faulty fault) → spawn_in cells words.old ≡ Err fault }

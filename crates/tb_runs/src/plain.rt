@@ -1,7 +1,7 @@
 //! Words as most lines spell them, read from the bytes of the line: no end is looked for first. What
 //! is spelled another way isn't read here.
 
-ghost use Rattle.std.specs.Prelude.{◌≡◌, ◌<◌, ◌^◌, ◌++◌, IfSome, Ok, Some, pos};
+ghost use Rattle.std.specs.Prelude.{◌≡◌, ◌<◌, ◌^◌, IfSome, Ok, Some, pos};
 ghost use Rattle.tb_read.specs.Text.{line_words};
 ghost use Rattle.tb_runs.specs.Actions.{verb_in};
 ghost use Rattle.tb_runs.specs.Names.{task_of};
@@ -15,8 +15,8 @@ use std::alloc::Global;
 use tb_model::TaskName;
 use tb_read::same_word;
 
-/// A number to which a digit may be put.
-const ROOM: u64 = 900_000_000_000_000_000;
+/// Numbers below this one may get a digit more.
+const MOST_BEFORE_A_DIGIT: u64 = 900_000_000_000_000_000;
 
 /// The number whose digits come first, up to a blank or the end, and what comes after it. A very
 /// long one isn't read.
@@ -34,7 +34,7 @@ fn leading_digits(bytes: &[u8]) -> Option<(u64, &[u8])>
             }
             return None;
         }
-        if ROOM <= value {
+        if MOST_BEFORE_A_DIGIT <= value {
             return None;
         }
         value = value * 10 + (*b - b'0') as u64;
@@ -78,15 +78,6 @@ pub fn plain_digits(bytes: &[u8]) -> Option<(u64, &[u8])>
     Some((value, rest))
 }
 
-/// What comes after this text, where the bytes begin with it.
-#[inline(always)]
-#[tactic(auto, using(crate::proofs::PlainLemmas::front_cut))]
-fn rest_after<'a>(bytes: &'a [u8], text: &[u8]) -> Option<&'a [u8]>
-    ensures { IfSome result (λ rest. bytes.now ≡ text.now ++ rest.now) }
-{
-    bytes.strip_prefix(text)
-}
-
 /// The first word of what most events say.
 #[inline(always)]
 #[tactic(auto, using(crate::proofs::PlainLemmas::load_led, crate::proofs::PlainLemmas::store_led, crate::proofs::PlainLemmas::let_led))]
@@ -94,16 +85,12 @@ pub fn plain_verb(bytes: &[u8]) -> Option<(Verb, &[u8])>
     ensures { IfSome result
         (λ r. verb_in (line_words bytes.now) ≡ Ok (r.0, line_words r.1.now)) }
 {
-    if let Some(rest) = rest_after(bytes, b"load ") {
-        return Some((Verb::Load, rest));
+    match bytes {
+        [b'l', b'o', b'a', b'd', b' ', rest @ ..] => Some((Verb::Load, rest)),
+        [b's', b't', b'o', b'r', b'e', b' ', rest @ ..] => Some((Verb::Store, rest)),
+        [b'l', b'e', b't', b' ', rest @ ..] => Some((Verb::Let, rest)),
+        _ => None,
     }
-    if let Some(rest) = rest_after(bytes, b"store ") {
-        return Some((Verb::Store, rest));
-    }
-    if let Some(rest) = rest_after(bytes, b"let ") {
-        return Some((Verb::Let, rest));
-    }
-    None
 }
 
 /// The task that the bytes name, where memory suffices.

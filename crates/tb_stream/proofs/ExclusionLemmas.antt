@@ -24,14 +24,13 @@ use Rattle.tb_races.specs.Kinds.{some_if, shared, end_kind}
 use Rattle.tb_races.specs.Orders.{Synchronised, WithExclusion, counts_some, links, followers, comes_after}
 use Rattle.tb_steps.specs.Entries.{Entry}
 use Rattle.tb_steps.specs.Scans.{history_of, step_at}
-use Rattle.tb_lanes.specs.Clocks.{Lanes, after_so, is_after, reaches}
+use Rattle.tb_lanes.specs.Clocks.{after_so, is_after, reaches}
 use Rattle.tb_lanes.specs.Kept as kept
 use Rattle.tb_lanes.specs.Linking.{order_of}
 use Rattle.tb_stream.specs.declared.access.Access.{Access}
 use Rattle.tb_stream.specs.declared.half.Half.{Half}
 use Rattle.tb_stream.specs.Exclusion.{is_exclusive, has_exclusive, excludes_some}
 use Rattle.tb_stream.specs.Halves.{IsFound, IsHalf, IsLoose}
-use Rattle.tb_stream.specs.Keeping as keeping
 use Rattle.tb_stream.specs.Keeping.{behind}
 use Rattle.tb_stream.specs.Seen.{Run, front}
 use Rattle.tb_stream.proofs.HalfLemmas.{front_is}
@@ -143,7 +142,7 @@ after_same entries p q h = at (slice_get entries p) (step_at entries q)
     at (Some v) None = refl
     at (Some v) (Some e) = comes_same e (history_of (take p entries)) v.event h
 
-reaches_same : (entries : List Entry) (p q : ℕ) → excludes_some (history_of (take p entries)) ≡ false → reaches Synchronised entries p q ≡ reaches WithExclusion entries p q
+pub reaches_same : (entries : List Entry) (p q : ℕ) → excludes_some (history_of (take p entries)) ≡ false → reaches Synchronised entries p q ≡ reaches WithExclusion entries p q
 reaches_same entries p q h = ap (λ b. p == q || b) (after_same entries p q h)
 
 -- ---- the newest step with which the next one races
@@ -158,7 +157,7 @@ module _ (entries : List Entry) (p n : ℕ) (none : excludes_some (history_of (t
   }
 
 -- the order in which exclusion counts
-abbrev strict : Run → Run
+abbrev pub strict : Run → Run
 strict r = record { exclusion = true; entries = r.entries; tasks = r.tasks; legal = r.legal; by_task = r.by_task }
 
 -- where no tasks exclude each other, it is the same by both orders

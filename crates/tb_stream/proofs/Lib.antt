@@ -13,3 +13,5 @@ pub mod RunLemmas
 pub mod HalfLemmas
 pub mod NewLemmas
 pub mod ExclusionLemmas
+pub mod LooseLemmas
+pub mod CopyLemmas

@@ -1,5 +1,5 @@
 -- What is kept of a history, by both orders.
-use Rattle.std.specs.Prelude.{ℕ, suc, ◌≡◌, ◌≤◌, ◌∷◌, Bool, true, false, ⊤, Option, Some, None, is_some, length}
+use Rattle.std.specs.Prelude.{ℕ, suc, ◌≡◌, ◌≤◌, ◌∷◌, Bool, true, false, Option, Some, None, length}
 use Rattle.tb_clocks.specs.Ids.{AreIds}
 use Rattle.tb_clocks.specs.Known as known
 use Rattle.tb_clocks.specs.Known.{HasId}
@@ -10,7 +10,6 @@ use Rattle.tb_model.specs.declared.event.Event.{Event}
 use Rattle.tb_model.specs.Facts.{History, own}
 use Rattle.tb_model.specs.Names.{Name}
 use Rattle.tb_model.specs.Legal.{Cells, Legal}
-use Rattle.tb_model.specs.State.{items_in}
 use Rattle.tb_races.specs.declared.conflict.Conflict.{Conflict}
 use Rattle.tb_races.specs.declared.conflict.Conflict.TheVariants.{Cell, Print as Prints}
 use Rattle.tb_lanes.specs.Clocks.{Lanes}
@@ -18,7 +17,7 @@ use Rattle.tb_stream.specs.declared.access.Access.{Access}
 use Rattle.tb_stream.specs.declared.half.Half.{Half}
 use Rattle.tb_stream.specs.declared.halves.Halves.{Halves}
 use Rattle.tb_stream.specs.declared.races.Races.{Races}
-use Rattle.tb_stream.specs.Exclusion.{excludes_some, has_exclusive}
+use Rattle.tb_stream.specs.Exclusion.{excludes_some}
 use Rattle.tb_stream.specs.Joins.{IsOrder}
 use Rattle.tb_stream.specs.Keeping as keeping
 use Rattle.tb_stream.specs.Keeping.{AreKept}
@@ -73,19 +72,10 @@ pub record AreHalves (H : History) (halves : Halves) : Type 0 where
   pub strict : IsHalf true H halves.strict
   pub loose : IsLoose H halves.loose
 
--- the action may be the next one: it generates no task that may exclude others where one order alone is kept
-abbrev pub MayFollow : (both : Bool) → Action → Type 0
-MayFollow true a = ⊤
-MayFollow false a = has_exclusive (items_in (Some a)) ≡ false
-
--- of these events, by both orders, or by one alone
-pub record AreRacesOf (both : Bool) (cells : Cells) (H : History) (races : Races) : Type 0 where
+-- of these events
+pub record AreRaces (cells : Cells) (H : History) (races : Races) : Type 0 where
   pub legal : Legal cells H
   pub ids : AreIds cells H races.ids
   pub tasks : known.AreTasks cells H races.tasks
   pub count : races.count ≡ length H
   pub halves : AreHalves H races.halves
-  pub kind : is_some races.halves.loose ≡ both
-
-abbrev pub AreRaces : Cells → History → Races → Type 0
-AreRaces cells H races = AreRacesOf true cells H races

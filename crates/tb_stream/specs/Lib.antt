@@ -5,3 +5,4 @@ pub mod Placing
 pub mod Keeping
 pub mod Exclusion
 pub mod Halves
+pub mod Copies

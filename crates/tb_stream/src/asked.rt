@@ -1,11 +1,10 @@
 //! About which ends a step is asked whether it waits for them.
 
-ghost use Rattle.std.specs.Prelude.{◌≡◌, ℕ, Some, None, if◌then◌else◌, IsTrue, OnOk};
+ghost use Rattle.std.specs.Prelude.{ℕ, IsTrue, OnOk};
 ghost use Rattle.std.specs.List.{list_any};
 ghost use Rattle.tb_lanes.specs.Clocks.{IsEnd, Lanes};
-ghost use Rattle.tb_lanes.specs.Rows as is;
 ghost use Rattle.tb_lanes.specs.Rows.{items_at, may_meet, some_may_meet, waits_at};
-ghost use Rattle.tb_stream.specs.Ends.{IsChild, IsNoted};
+ghost use Rattle.tb_stream.specs.Ends.{IsNoted};
 ghost use Rattle.tb_stream.specs.Joins.{AreJoined, HasMet, IsChildEnd, IsWaiting, Merges};
 ghost use Rattle.tb_stream.specs.Seen.{Run, order as order_of_run};
 
@@ -14,7 +13,7 @@ use crate::merging::merge;
 use crate::order::{Order, row_of};
 use crate::waiter::Waiter;
 use std::alloc::AllocError;
-use tb_lanes::{Key, item_key};
+use tb_lanes::{Key, item_key, kind_asked};
 use tb_model::{Action, Item, Kind, Place};
 
 /// Adds the ends to which the step is linked, with all that is in front of them.
@@ -122,19 +121,6 @@ fn merge_item(
     merge_kind(joined, waiter, order, asked, cell)?;
     let asked = kind_asked(exclusion, item.kind, Kind::Inoutset);
     merge_kind(joined, waiter, order, asked, cell)
-}
-
-/// The kind of the earlier item, where one of the new kind may meet it.
-fn kind_asked(exclusion: bool, new: Kind, old: Kind) -> Option<Kind>
-    ensures { result ≡ (if is.asks exclusion new old then Some old else None) }
-{
-    let asked = match (new, old) {
-        (Kind::In, Kind::In) => false,
-        (Kind::Mutexinoutset, Kind::Mutexinoutset) => exclusion,
-        (Kind::Inoutset, Kind::Inoutset) => false,
-        _ => true,
-    };
-    if asked { Some(old) } else { None }
 }
 
 /// Adds the ends of children with an item of this kind at this cell or at all memory, if there is a

@@ -1,12 +1,14 @@
 //! The races by one order.
 
-ghost use Rattle.std.specs.Prelude.{◌≡◌, ◌∷◌, [], Bool, None, IfOk, OnOk};
+ghost use Rattle.std.specs.Prelude.{◌≡◌, ◌∷◌, [], Bool, None, IfOk, OnOk, false, true};
 ghost use Rattle.tb_model.specs.declared.event.Event.{Event};
 ghost use Rattle.tb_model.specs.Facts.{History};
+ghost use Rattle.tb_stream.specs.Exclusion.{excludes_some};
 ghost use Rattle.tb_stream.specs.Halves.{IsFound, IsHalf, Takes};
 
 use crate::access::Access;
 use crate::clocks::Clocks;
+use crate::copying::copy_clocks;
 use crate::kept::{Kept, meet};
 use crate::order::Order;
 use crate::placing::place;
@@ -58,6 +60,28 @@ impl Half {
             order,
             kept: IndexMap::new(alloc),
         })
+    }
+
+    /// What is kept by the order with exclusion, as that by the order without it, of a run in which no
+    /// tasks exclude each other.
+    pub fn without_exclusion(&self) -> Result<Half, AllocError>
+        ensures { IfOk result (λ half. (H : History) → excludes_some H ≡ false
+            → IsHalf true H self.now → IsHalf false H half) }
+    {
+        let alloc = self.order.alloc;
+        let clocks = copy_clocks(alloc, &self.order.clocks)?;
+        let ends = self.order.ends.clone()?;
+        let rows = self.order.rows.clone()?;
+        let kept = self.kept.clone()?;
+        let order = Order {
+            alloc,
+            exclusion: false,
+            clocks,
+            ends,
+            rows,
+            free: self.order.free,
+        };
+        Ok(Half { order, kept })
     }
 
     /// Adds the next step, and returns the newest with which it races by the order.

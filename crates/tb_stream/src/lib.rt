@@ -4,6 +4,7 @@
 mod access;
 mod asked;
 mod clocks;
+mod copying;
 mod end;
 mod half;
 mod halves;

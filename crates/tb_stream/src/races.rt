@@ -1,10 +1,10 @@
 //! The races of a run.
 
-ghost use Rattle.std.specs.Prelude.{◌≡◌, ◌∷◌, ◌<◌, [], Bool, IfOk, IsFalse, OnOk, false};
+ghost use Rattle.std.specs.Prelude.{◌≡◌, ◌∷◌, ◌<◌, [], IfOk, IsFalse, OnOk};
 ghost use Rattle.tb_model.specs.Facts.{History};
 ghost use Rattle.tb_model.specs.Legal.{Cells, Legal};
 ghost use Rattle.tb_races.specs.Racing;
-ghost use Rattle.tb_stream.specs.Halves.{AreRaces, AreRacesOf, MayFollow, event_of};
+ghost use Rattle.tb_stream.specs.Halves.{AreRaces, event_of};
 
 use crate::halves::Halves;
 use crate::racing::race_of;
@@ -45,21 +45,7 @@ impl Races {
             ids: Ids::new(alloc)?,
             tasks: Tasks::new(alloc)?,
             count: 0,
-            halves: Halves::both(alloc)?,
-        })
-    }
-
-    /// Of no events of a run in which no task will have a `mutexinoutset` item: only half as much is
-    /// kept.
-    pub fn without_exclusion(alloc: Global) -> Result<Races, AllocError>
-        ensures { IfOk result (λ races. (cells : Cells) → AreRacesOf false cells [] races) }
-    {
-        Ok(Races {
-            alloc,
-            ids: Ids::new(alloc)?,
-            tasks: Tasks::new(alloc)?,
-            count: 0,
-            halves: Halves::one(alloc)?,
+            halves: Halves::new(alloc)?,
         })
     }
 
@@ -84,13 +70,12 @@ impl Races {
         name: &TaskName,
         action: &Action,
     ) -> Result<Option<Race>, AllocError>
-        ensures race { IfOk result (λ race. (both : Bool) (cells : Cells) (H : History)
-            → AreRacesOf both cells H self.old → Legal cells (event_of name.now action.now ∷ H)
+        ensures race { IfOk result (λ race. (cells : Cells) (H : History)
+            → AreRaces cells H self.old → Legal cells (event_of name.now action.now ∷ H)
             → race ≡ Racing.race_of H (event_of name.now action.now)) }
-        ensures more { OnOk result ((both : Bool) (cells : Cells) (H : History)
-            → AreRacesOf both cells H self.old → Legal cells (event_of name.now action.now ∷ H)
-            → MayFollow both action.now
-            → AreRacesOf both cells (event_of name.now action.now ∷ H) self.new) }
+        ensures more { OnOk result ((cells : Cells) (H : History)
+            → AreRaces cells H self.old → Legal cells (event_of name.now action.now ∷ H)
+            → AreRaces cells (event_of name.now action.now ∷ H) self.new) }
     {
         let Some(task) = self.ids.id(name) else {
             return Err(AllocError);

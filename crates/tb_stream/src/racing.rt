@@ -1,6 +1,6 @@
 //! The race that is named for a step.
 
-ghost use Rattle.std.specs.Prelude.{◌≡◌, ◌∷◌, Bool, IfOk, length, suc, true, false, not};
+ghost use Rattle.std.specs.Prelude.{◌≡◌, ◌∷◌, Bool, IfOk, Some, length, suc, true, false, not};
 ghost use Rattle.tb_model.specs.Facts.{History, own};
 ghost use Rattle.tb_model.specs.Legal.{Cells};
 ghost use Rattle.tb_stream.specs.Seen.{Run};
@@ -49,7 +49,8 @@ pub fn race_of(
     }
 }
 
-/// The race of the step with this earlier one.
+/// The race of the step with this earlier one, if there is one.
+#[inline(always)]
 fn race_with(
     ids: &Ids,
     name: &TaskName,
@@ -63,9 +64,28 @@ fn race_with(
         → k ≡ suc (length (own name.now H)) → IsFound exclusion H (event_of name.now action.now) earlier
         → apart ≡ not exclusion → o ≡ Racing.newest_race (order_of exclusion) H (event_of name.now action.now) H) }
 {
-    let Some(access) = earlier else {
-        return Ok(None);
-    };
+    match earlier {
+        Some(access) => race_at(ids, name, action, k, access, apart),
+        None => Ok(None),
+    }
+}
+
+/// The race of the step with this earlier one.
+// out of line: a step that races with none doesn't pay for its stack frame
+#[inline(never)]
+fn race_at(
+    ids: &Ids,
+    name: &TaskName,
+    action: &Action,
+    k: u32,
+    access: Access,
+    apart: bool,
+) -> Result<Option<Race>, AllocError>
+    ensures { IfOk result (λ o. (cells : Cells) (H : History) (exclusion : Bool) (r : Run)
+        → AreIds cells H ids.now → Begins exclusion (event_of name.now action.now ∷ H) r
+        → k ≡ suc (length (own name.now H)) → IsFound exclusion H (event_of name.now action.now) (Some access)
+        → apart ≡ not exclusion → o ≡ Racing.newest_race (order_of exclusion) H (event_of name.now action.now) H) }
+{
     let Some(conflict) = conflict_of(action) else {
         return Ok(None);
     };

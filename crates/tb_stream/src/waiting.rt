@@ -1,10 +1,9 @@
 //! For which ends a step waits.
 
-ghost use Rattle.std.specs.Prelude.{◌≡◌, ◌<◌, ◌≤◌, ◌||◌, ◌&&◌, ℕ, Bool, IsFalse, IsTrue, None, Some, slice_get};
+ghost use Rattle.std.specs.Prelude.{◌≡◌, ◌<◌, ◌≤◌, ◌||◌, ◌&&◌, ℕ, IsFalse, IsTrue, Some, slice_get};
 ghost use Rattle.tb_clocks.specs.Known.{AreTasks, HasId};
 ghost use Rattle.tb_steps.specs.Entries.{Entry};
 ghost use Rattle.tb_model.specs.Facts;
-ghost use Rattle.tb_model.specs.Items.{has_no_items, is_before, some_meet};
 ghost use Rattle.tb_model.specs.Legal.{Cells};
 ghost use Rattle.tb_model.specs.Names.{Name};
 ghost use Rattle.tb_races.specs.Kinds;
@@ -17,7 +16,8 @@ ghost use Rattle.tb_stream.specs.Seen.{IsId, IsOf, Run, order};
 use crate::mark::Mark;
 use crate::waiter::Waiter;
 use tb_clocks::Tasks;
-use tb_model::{Action, Item, some_apart, some_before};
+use tb_lanes::{covers, waits_by_itself};
+use tb_model::{Action, some_apart, some_before};
 
 /// Whether the task's next step, with this action, may wait for others. A start without depend items
 /// doesn't.
@@ -29,18 +29,6 @@ pub fn may_wait(tasks: &Tasks, task: usize, action: &Action) -> bool
 {
     let waits = waits_by_itself(action, tasks.items(task));
     either(waits, tasks.is_held(task))
-}
-
-/// Whether the action, of a task with these depend items, is one that waits.
-fn waits_by_itself(action: &Action, items: &[Item]) -> bool
-    ensures { IsFalse result → (H : Facts.History) (t u : Name) → items.now ≡ Facts.items_of t H
-        → Kinds.wait_kind H t action.now u ≡ None }
-{
-    match action {
-        Action::Start => !items.is_empty(),
-        Action::Wait { .. } | Action::Close => true,
-        _ => false,
-    }
 }
 
 /// For whose children it may wait: a start for those of its parent, others for their own.
@@ -97,13 +85,6 @@ fn waits_for(exclusion: bool, tasks: &Tasks, action: &Action, task: usize, other
         Action::Close => tasks.is_member(task, other),
         _ => false,
     }
-}
-
-/// Whether a `taskwait` with these items waits for a child with the others.
-fn covers(items: &[Item], others: &[Item]) -> bool
-    ensures { result ≡ (has_no_items items.now || some_meet is_before items.now others.now) }
-{
-    items.is_empty() || some_before(items, others)
 }
 
 /// Whether the start of the task waits for the other task.

@@ -63,13 +63,20 @@ impl TextJudge {
         match verdict {
             LineVerdict::Taken { event } => Ok(event),
             LineVerdict::Ends { ending } => {
-                *self = TextJudge::Ended {
-                    line: *lines,
-                    ending,
-                };
+                let line = *lines;
+                self.end(line, ending);
                 Ok(None)
             }
         }
+    }
+
+    /// The judgement ends at the line with this number.
+    // out of line: the lines before it don't pay for its stack frame
+    #[inline(never)]
+    fn end(&mut self, line: u64, ending: Ending)
+        ensures { self.new ≡ Ended line ending }
+    {
+        *self = TextJudge::Ended { line, ending };
     }
 
     /// Whether the judgement has ended.

@@ -7,6 +7,5 @@ returns c cells = record {
   ids = c.in_ok-new.ensures cells;
   tasks = c.in_ok-new-2.ensures cells;
   count = refl;
-  halves = c.in_ok-both.ensures.halves;
-  kind = c.in_ok-both.ensures.kind;
+  halves = c.in_ok-new-3.ensures;
 }

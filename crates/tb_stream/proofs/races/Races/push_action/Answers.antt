@@ -1,11 +1,11 @@
-use Rattle.std.proofs.Common.{◌≡◌, ◌<◌, ◌∷◌, ◌^◌, ◌+◌, Bool, suc, length, true, false, refl, arith, is_some, subst, sym, ◌∙◌}
+use Rattle.std.proofs.Common.{◌≡◌, ◌<◌, ◌∷◌, ◌^◌, ◌+◌, suc, length, true, false, refl, arith}
 use Rattle.tb_model.specs.Facts.{own}
-use Rattle.tb_stream.specs.Halves.{MayFollow, event_of}
+use Rattle.tb_stream.specs.Halves.{event_of}
 use Rattle.tb_stream.proofs.RunLemmas.{a_run}
 use Rattle.tb_stream.proofs.races.Races.push_action.Goals as goal
 
 pub returns-clause-race : goal.returns-clause-race
-returns-clause-race c both cells H a l =
+returns-clause-race c cells H a l =
     let v = event_of c.args.name.now c.args.action.now in
     let id = c.id.ensures.some cells H c.in-Some.task a.ids c.in-Some.is in
     let number : c.steps-steps.result + 1 ≡ suc (length (own v.task H)) = omega (arith, c.steps-steps.ensures cells H v.task a.tasks id) in
@@ -17,7 +17,7 @@ returns-clause-race c both cells H a l =
     (c.in_ok-strict.ensures.loose H v a.halves (record { cells = cells; facts = a.tasks; legal = l; action_is = refl; at_is = a.count; id = id; number = number }))
 
 pub returns-clause-more : goal.returns-clause-more
-returns-clause-more c both cells H a l may =
+returns-clause-more c cells H a l =
     let v = event_of c.args.name.now c.args.action.now in
     let id = c.id.ensures.some cells H c.in-Some.task a.ids c.in-Some.is in
     let number : c.steps-steps.result + 1 ≡ suc (length (own v.task H)) = omega (arith, c.steps-steps.ensures cells H v.task a.tasks id) in
@@ -26,7 +26,5 @@ returns-clause-more c both cells H a l may =
       ids = c.in_ok-push-2.ensures.ok cells H v a.ids refl l;
       tasks = c.in_ok-push.ensures.ok cells H v a.tasks refl l id;
       count = omega (arith, a.count);
-      halves = c.in_ok-strict.ensures.halves H v a.halves (record { cells = cells; facts = a.tasks; legal = l; action_is = refl; at_is = a.count; id = id; number = number })
-          (subst (λ b. MayFollow b c.args.action.now) (sym a.kind) may);
-      kind = c.in_ok-strict.ensures.kind ∙ a.kind;
+      halves = c.in_ok-strict.ensures.halves H v a.halves (record { cells = cells; facts = a.tasks; legal = l; action_is = refl; at_is = a.count; id = id; number = number });
     }

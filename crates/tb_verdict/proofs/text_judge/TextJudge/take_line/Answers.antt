@@ -14,7 +14,7 @@ pub returns-in-Ends-clause-ok : goal.returns-in-Ends-clause-ok
 returns-in-Ends-clause-ok c lines judged =
     let has = subst (λ j. IsJudged j lines) c.in-Open.is judged in
     let judges = subst (Judges has.sofar c.args.line.now c.take_line.new.self) c.in-Ends.is (c.in_ok-verdict.ensures.ok has.sofar has.behind) in
-    ends_there c.in-Open.lines c.in-Open.judge c.take_line.new.self lines c.args.line.now has c.in-Ends.ending judges
+    subst (λ j. IsJudged j (lines ++ c.args.line.now ∷ [])) (sym c.end.ensures) (ends_there c.in-Open.lines c.in-Open.judge c.take_line.new.self lines c.args.line.now has c.in-Ends.ending judges)
 
 pub returns-in-Taken-clause-ok : goal.returns-in-Taken-clause-ok
 returns-in-Taken-clause-ok c lines judged =

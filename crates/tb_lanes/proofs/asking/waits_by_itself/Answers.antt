@@ -1,7 +1,7 @@
 use Rattle.std.proofs.Common.{◌∙◌, ap}
 use Rattle.tb_races.specs.Kinds
 use Rattle.tb_lanes.proofs.StartLemmas.{none_listed, waits_for_none}
-use Rattle.tb_order.proofs.waiting.waits_by_itself.Goals as goal
+use Rattle.tb_lanes.proofs.asking.waits_by_itself.Goals as goal
 
 pub returns-in-Start : goal.returns-in-Start
 returns-in-Start c none H t u is =
