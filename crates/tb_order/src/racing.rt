@@ -11,7 +11,8 @@ use tb_core::History;
 use tb_races::Race;
 use tb_stream::Races;
 
-/// What is to be kept of a history of these entries: one order, where no tasks exclude each other.
+/// What is to be stored of a history of these stored steps: one order, where no tasks exclude each
+/// other.
 fn races_for(alloc: Global, entries: &History<'_>) -> Result<Races, AllocError>
     ensures { IfOk result (λ races. Begun entries.now 0 races) }
 {
@@ -23,7 +24,7 @@ fn races_for(alloc: Global, entries: &History<'_>) -> Result<Races, AllocError>
     Ok(one)
 }
 
-/// The race of each entry that has one.
+/// The race of each stored step that has one.
 pub fn races_among(alloc: Global, entries: &History<'_>) -> Result<Vec<Race>, AllocError>
     requires { AreLegal entries.now }
     ensures { IfOk result (λ races.

@@ -19,7 +19,8 @@ use tb_lanes::{Tasks, step_before};
 use tb_model::{Action, Item, TaskName, some_apart, some_before};
 use tb_races::NeedKind;
 
-/// Whether the step at this place may be linked to ends of others. A start without depend items isn't.
+/// Whether the step at this index may be linked to ends of others. A start without depend items
+/// isn't.
 pub fn may_wait(entries: &History<'_>, tasks: &Tasks, at: usize) -> bool
     requires legal { AreLegal entries.now }
     requires tasks { AreTasks entries.now tasks.now }
@@ -43,7 +44,7 @@ fn waits_by_itself(action: &Action, items: &[Item]) -> bool
     }
 }
 
-/// Whether the task generated an undeferred child right in front of the step at this place.
+/// Whether the task generated an undeferred child right in front of the step at this index.
 pub fn is_held(entries: &History<'_>, tasks: &Tasks, at: usize) -> bool
     requires tasks { AreTasks entries.now tasks.now }
     requires at { at < length entries.now }
@@ -65,7 +66,7 @@ fn holds_some(action: &Action) -> bool
     }
 }
 
-/// Whether the task of the step at this place stood at its undeferred child `u`.
+/// Whether the task of the step at this index was at its undeferred child `u`.
 fn holds(entries: &History<'_>, tasks: &Tasks, at: usize, u: &TaskName) -> bool
     requires tasks { AreTasks entries.now tasks.now }
     requires at { at < length entries.now }
@@ -90,7 +91,7 @@ fn is_undeferred(action: &Action, u: &TaskName) -> bool
     }
 }
 
-/// Whether the step at this place is linked to the end at the other, where exclusion counts or
+/// Whether the step at this index is linked to the end at the other, where exclusion counts or
 /// doesn't.
 pub fn waits(exclusion: bool, entries: &History<'_>, tasks: &Tasks, at: usize, end: usize) -> bool
     requires legal { AreLegal entries.now }
@@ -105,7 +106,7 @@ pub fn waits(exclusion: bool, entries: &History<'_>, tasks: &Tasks, at: usize, e
     counts(exclusion, waiting_kind(entries, tasks, at, end))
 }
 
-/// Why the step at this place needs the one at the other directly.
+/// Why the step at this index needs the one at the other directly.
 pub fn kind_at(entries: &History<'_>, tasks: &Tasks, at: usize, earlier: usize) -> Option<NeedKind>
     requires legal { AreLegal entries.now }
     requires tasks { AreTasks entries.now tasks.now }
@@ -131,7 +132,7 @@ pub fn kind_at(entries: &History<'_>, tasks: &Tasks, at: usize, earlier: usize) 
     }
 }
 
-/// Why the step at this place comes behind the end of the task of the step at the other.
+/// Why the step at this index comes after the end of the task of the step at the other.
 fn waiting_kind(entries: &History<'_>, tasks: &Tasks, at: usize, end: usize) -> Option<NeedKind>
     requires legal { AreLegal entries.now }
     requires tasks { AreTasks entries.now tasks.now }
@@ -157,7 +158,7 @@ fn waiting_kind(entries: &History<'_>, tasks: &Tasks, at: usize, end: usize) -> 
     )
 }
 
-/// Why the action of `t` comes behind the end of `u`, where these are their items, and `t` stood at
+/// Why the action of `t` comes after the end of `u`, where these are their items, and `t` was at
 /// `u` or didn't.
 fn end_kind(
     front: &History<'_>,
@@ -251,7 +252,7 @@ fn start_kind(
     }
 }
 
-/// The depend items of the task of the step at this place.
+/// The depend items of the task of the step at this index.
 pub fn items_of<'a>(entries: &History<'a>, tasks: &Tasks, at: usize) -> &'a [Item]
     requires legal { AreLegal entries.now }
     requires tasks { AreTasks entries.now tasks.now }

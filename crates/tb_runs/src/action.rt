@@ -105,7 +105,7 @@ fn take_wait(alloc: Global, words: &mut Words<'_>, cells: u32) -> Result<Action,
     Ok(Action::Wait { items })
 }
 
-/// The child, with a body that isn't kept, since a run has none.
+/// The child, with a body that isn't stored, since a run has none.
 fn take_spawn(alloc: Global, words: &mut Words<'_>, cells: u32) -> Result<Action, Unread>
     ensures ok { IfOk result (λ action. spawn_in cells words.old ≡ Ok (action, words.new)) }
     ensures err { (fault : TheFault) → result ≡ Err (Faulty fault) → spawn_in cells words.old ≡ Err fault }
